@@ -1,0 +1,19 @@
+//! The outside of the parser: shelves, from which named bytes are fetched, and sinks, which take
+//! bytes. Each has an implementation in memory, whose faults are chosen beforehand.
+//!
+//! A shelf or a sink that tells what it holds or got promises exact answers. One that tells
+//! nothing, as over files, promises only what its counts show: a call fails only where the count
+//! of faults rose, and every other answer leaves that count as it was.
+#![tactic(auto)]
+
+mod memory_shelf;
+mod memory_sink;
+mod shelf;
+mod sink;
+#[cfg(test)]
+mod tests;
+
+pub use memory_shelf::MemoryShelf;
+pub use memory_sink::MemorySink;
+pub use shelf::{FetchFault, Shelf};
+pub use sink::{Sink, SinkFault};

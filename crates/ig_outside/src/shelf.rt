@@ -1,0 +1,50 @@
+//! The trait of what named bytes are fetched from.
+ghost use Rattle.std.specs.Prelude.{◌≡◌, ℕ, ◌≤◌, List};
+ghost use Rattle.ig_outside.specs.Counts.{last_count, risen};
+ghost use Rattle.ig_outside.specs.Told.{Told};
+ghost use Rattle.ig_outside.specs.Fetch.{AnswersFetch, CausesFetch};
+
+use std::alloc::Global;
+
+/// Why a fetch gave no bytes.
+#[derive(Debug, Clone, Copy, PartialEq, Eq, Drop)]
+pub enum FetchFault {
+    /// The shelf could not read. Its count of faults rose.
+    Failed,
+    /// There are more bytes than were asked for.
+    Long,
+    /// There was no memory for the bytes.
+    Memory,
+    /// The shelf holds nothing under the name.
+    Missing,
+}
+
+/// What named bytes are fetched from.
+pub trait Shelf {
+    /// What the shelf tells of each name, which is given by its bytes.
+    ghost holds: { Self → List ℕ → Told };
+
+    /// How many faults there were. It never falls, and stands still at its last value.
+    ghost faults: { Self → ℕ };
+
+    /// How many fetches there were. It stands still at its last value.
+    ghost fetches: { Self → ℕ };
+
+    /// Fetches the bytes under `name`, of which there are to be at most `most`. A shelf that tells
+    /// gives exactly what it holds; one that does not may give any bytes, but no more than `most`.
+    ///
+    /// Refused with
+    /// - `Failed` only where the count of faults rose in this call, in place of any other answer;
+    /// - `Long`, where the shelf tells, exactly where there are more than `most` bytes;
+    /// - `Memory` for want of memory, at any call;
+    /// - `Missing` exactly where the shelf tells that it holds nothing under the name.
+    ///
+    /// Every answer but `Failed` leaves the count of faults as it was. No answer changes what the
+    /// shelf holds, and each call is counted.
+    fn fetch(&mut self, alloc: Global, name: &str, most: u64) -> Result<Vec<u8>, FetchFault>
+        ensures answer { AnswersFetch (holds self.old name.now) most result }
+        ensures cause { CausesFetch (faults self.old) (faults self.new) result }
+        ensures bounded { (faults self.old ≤ last_count) × (faults self.new ≤ last_count) }
+        ensures counted { fetches self.new ≡ risen (fetches self.old) }
+        ensures same { (n : List ℕ) → holds self.new n ≡ holds self.old n };
+}
