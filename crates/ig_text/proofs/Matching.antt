@@ -1,0 +1,37 @@
+-- A word matches at a place exactly where the rest of the text from there begins with the word.
+use Rattle.std.proofs.Common.{◌≡◌, ℕ, ◌+◌, ◌-◌, ◌≤◌, List, ◌++◌, length, take, drop, Bool, true, sym, ◌∙◌, ap, subst, arith, length-drop, length-append}
+use Rattle.std.specs.Prelude.{nat_eq}
+use Rattle.std.specs.List.{starts_with}
+use Rattle.std.proofs.Math.Seq.{take-append_seam}
+use Rattle.std.proofs.lemmas.List.{take-append-drop}
+use Rattle.std.proofs.lemmas.Slice.Eq.{starts_is}
+use Rattle.std.proofs.lemmas.Bool.Decides.{Decides-eqb}
+use Rattle.ig_text.specs.Place.{Spells}
+
+begins : (word rest : List ℕ) (r : Bool) → r ≡ starts_with nat_eq rest word → r ≡ true →
+    rest ≡ word ++ drop (length word) rest
+begins word rest r e t = (starts_is Decides-eqb rest word r e).0 t
+
+cut : (word rest more : List ℕ) (n : ℕ) → n ≡ length word → rest ≡ word ++ more → take n rest ≡ word
+cut word rest more n e h = rw (e, h) (take-append_seam word more)
+
+pub spells_by_start : (text word rest : List ℕ) (i : ℕ) (r : Bool) → rest ≡ drop i text → i ≤ length text →
+    r ≡ starts_with nat_eq rest word → r ≡ true → Spells text word i (i + length word)
+spells_by_start text word rest i r e h s t =
+    let b = begins word rest r s t in
+    let len : length rest ≡ length word + length (drop (length word) rest) =
+    ap length b ∙ length-append word (drop (length word) rest) in
+    let whole : length rest ≡ length text - i = ap length e ∙ length-drop i text in
+    record {
+      onward = omega arith;
+      within = omega (arith, len, whole);
+      letters =
+          subst (λ (z : List ℕ). take (i + length word - i) z ≡ word) e
+          (cut word rest (drop (length word) rest) (i + length word - i) (omega arith) b);
+    }
+
+pub start_by_spells : (text word rest : List ℕ) (i j : ℕ) (r : Bool) → rest ≡ drop i text →
+    r ≡ starts_with nat_eq rest word → Spells text word i j → r ≡ true
+start_by_spells text word rest i j r e s sp =
+    (starts_is Decides-eqb rest word r s).1 (drop (j - i) rest)
+    (sym (take-append-drop (j - i) rest) ∙ ap (λ (z : List ℕ). z ++ drop (j - i) rest) (rw e sp.letters))
