@@ -1,0 +1,3 @@
+pub mod Derivation
+pub mod Permitted
+pub mod Names
