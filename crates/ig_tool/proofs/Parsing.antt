@@ -1,0 +1,59 @@
+-- What a run of the core grammar says of the grammar.
+use Rattle.std.proofs.Common.{◌≡◌, ℕ, List, subst, Result, Ok, Err, Vec, Global}
+use Rattle.ig_text.specs.Tree.{Tree}
+use Rattle.ig_grammar.specs.declared.grammar.Grammar.{Grammar}
+use Rattle.ig_grammar.specs.Names.{AreDistinct, names}
+use Rattle.ig_grammar.specs.Permitted.{Permitted}
+use Rattle.ig_tool.specs.declared.core_grammar.Core.{Core}
+use Rattle.ig_tool.specs.declared.forest.Forest.{Forest}
+use Rattle.ig_tool.specs.declared.stop.Stop.{Stop}
+use Rattle.ig_tool.specs.declared.stop.Stop.TheVariants as halt
+use Rattle.ig_tool.specs.CoreOf.{core_of}
+use Rattle.ig_tool.specs.Items.{MoreThan, RootIsComplete}
+use Rattle.ig_tool.specs.Whole.{IsWhole}
+use Rattle.ig_tool.specs.Outcome.{IsForestOf, budget}
+use Rattle.ig_tool.specs.Stops.{Shows, Parses, over_budget, no_parse, IsOverBudget}
+use Rattle.ig_tool.proofs.CoreLaw.{same_trees, one_root}
+use Rattle.ig_tool.proofs.ForestLaw.{unfolds_to_core_trees}
+use Rattle.ig_tool.proofs.ItemTrees.{trees_by_items}
+
+-- the whole forest of the core grammar unfolds to the permitted trees
+pub is_forest_of : (g : Grammar) (input : List ℕ) (f : Forest) → AreDistinct (names g.decls) →
+    IsWhole (core_of g) input f → IsForestOf g input f
+is_forest_of g input f distinct whole =
+    record {
+      whole = whole;
+      unfolds = λ d t.
+          let forest = unfolds_to_core_trees (core_of g) input f d t (one_root g) whole in
+          let trees = same_trees g input t distinct in
+          (λ u. let c = forest.0 u in (trees.0 c.0, c.1), λ p. forest.1 (trees.1 p.0, p.1));
+    }
+
+-- where the root is not complete, no tree is permitted
+pub none_permitted : (g : Grammar) (input : List ℕ) → AreDistinct (names g.decls) →
+    (RootIsComplete (core_of g) input → ⊥) → (t : Tree) → Permitted g input t → ⊥
+none_permitted g input distinct none t p =
+    none ((trees_by_items (core_of g) input (one_root g)).1 (t, (same_trees g input t distinct).1 p))
+
+shown_parses : (g : Grammar) (input : List ℕ) (r : Result (Vec ℕ Global) Stop) → AreDistinct (names g.decls) →
+    (MoreThan (core_of g) input budget → ⊥) → Shows (core_of g) input r → Parses g input r
+shown_parses g input (Ok text) distinct few h =
+    record { suffices = few; forest = h.0; is = is_forest_of g input h.0 distinct h.1; text_is = h.2 }
+shown_parses g input (Err (halt.Note s line)) distinct few h =
+    no_parse s line.items few (none_permitted g input distinct h.2) h.0 h.1
+shown_parses g input (Err halt.Memory) distinct few h = tt
+
+pub parses_shown : (g : Grammar) (input : List ℕ) (core : Core) (r : Result (Vec ℕ Global) Stop) →
+    AreDistinct (names g.decls) → core ≡ core_of g → (MoreThan core input budget → ⊥) → Shows core input r →
+    Parses g input r
+parses_shown g input core r distinct e few h =
+    let P : Core → Type 0 = λ z. MoreThan z input budget → ⊥ in
+    let Q : Core → Type 0 = λ z. Shows z input r in
+    shown_parses g input r distinct (subst P e few) (subst Q e h)
+
+pub parses_over_budget : (g : Grammar) (input : List ℕ) (core : Core) (stop : Stop) → core ≡ core_of g →
+    MoreThan core input budget → IsOverBudget stop → Parses g input (Err stop)
+parses_over_budget g input core (halt.Note s line) e more h =
+    let P : Core → Type 0 = λ z. MoreThan z input budget in
+    over_budget s line.items (subst P e more) h.0 h.1
+parses_over_budget g input core halt.Memory e more h = tt

@@ -1,0 +1,58 @@
+-- The main theorem: which trees the printed forest has, and when there is none.
+use Rattle.std.specs.Prelude.{◌≡◌, ℕ, ◌⊎◌, List, []}
+use Rattle.ig_text.specs.Tree.{Tree}
+use Rattle.ig_text.specs.Decoding.{IsDecoded}
+use Rattle.ig_outside.specs.Counts.{Rose}
+use Rattle.ig_outside.specs.Told.{Told, bytes}
+use Rattle.ig_grammar.specs.declared.grammar.Grammar.{Grammar}
+use Rattle.ig_grammar.specs.Permitted.{Permitted}
+use Rattle.ig_tool.specs.declared.forest.Forest.{Forest}
+use Rattle.ig_tool.specs.declared.status.Status.{Status}
+use Rattle.ig_tool.specs.declared.status.Status.TheVariants as status
+use Rattle.ig_tool.specs.Commands.{IsForest}
+use Rattle.ig_tool.specs.CoreOf.{core_of}
+use Rattle.ig_tool.specs.ForestText.{forest_text}
+use Rattle.ig_tool.specs.Items.{MoreThan}
+use Rattle.ig_tool.specs.Whole.{IsWhole}
+use Rattle.ig_tool.specs.PlainText.{Reads}
+use Rattle.ig_tool.specs.Outcome.{IsForestOf, Sunk, Got, Untouched, budget, budget_note, no_parse_note}
+
+-- the words name two files, and the shelf tells that it holds them: the first reads as the grammar,
+-- the second is the input
+pub record Asks (words : List (List ℕ)) (holds : List ℕ → Told) (g : Grammar) (input : List ℕ) : Type 0 where
+  pub grammar_name : List ℕ
+  pub input_name : List ℕ
+  pub command : IsForest words grammar_name input_name
+  pub grammar_bytes : List ℕ
+  pub holds_grammar : holds grammar_name ≡ bytes grammar_bytes
+  pub reads : Reads grammar_bytes g
+  pub input_bytes : List ℕ
+  pub holds_input : holds input_name ≡ bytes input_bytes
+  pub decoded : IsDecoded input_bytes input
+
+-- the status, out's text and notes' line, from the grammar as it is written and the input
+pub data Outcome (g : Grammar) (input : List ℕ) : Status → List ℕ → List ℕ → Type 0 where
+  -- more items are reachable than the budget allows
+  over_budget : MoreThan (core_of g) input budget → Outcome g input status.Budget [] budget_note
+  -- no tree is permitted
+  no_parse : (MoreThan (core_of g) input budget → ⊥) → ((t : Tree) → Permitted g input t → ⊥) →
+      Outcome g input status.NoParse [] no_parse_note
+  -- out gets the text of the one whole forest, which at every depth unfolds to exactly the
+  -- permitted trees of at most that height
+  parsed : (f : Forest) → (MoreThan (core_of g) input budget → ⊥) → IsForestOf g input f →
+      ((other : Forest) → IsWhole (core_of g) input other → other ≡ f) →
+      Outcome g input status.Done (forest_text (core_of g) f) []
+
+-- the answer is the outcome; or memory ran out, and out got nothing
+abbrev pub Says : Grammar → List ℕ → Sunk → Sunk → Status → Type 0
+Says g input out notes answer =
+    ((answer ≡ status.NoMemory) × Untouched out) ⊎
+    ((text : List ℕ) × ((note : List ℕ) × (Outcome g input answer text note × Got out text × Got notes note)))
+
+-- where the shelf tells both files, the grammar and the input are accepted and no count of faults
+-- rose, the answer is the outcome, or memory ran out
+abbrev pub Headline : List (List ℕ) → (List ℕ → Told) → ℕ → ℕ → Sunk → Sunk → Status → Type 0
+Headline words holds old new out notes answer =
+    (g : Grammar) (input : List ℕ) → Asks words holds g input → (Rose old new → ⊥) →
+    (Rose out.faults_before out.faults_after → ⊥) → (Rose notes.faults_before notes.faults_after → ⊥) →
+    Says g input out notes answer

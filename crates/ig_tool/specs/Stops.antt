@@ -1,0 +1,148 @@
+-- Where a command stops before it has a text for out.
+use Rattle.std.specs.Prelude.{◌≡◌, ◌≢◌, ℕ, ◌≤◌, ◌⊎◌, List, [], ◌++◌, Result, Ok, Err, Vec}
+use Rattle.std.specs.declared.alloc.Global.{Global}
+use Rattle.ig_text.specs.Decoding.{IsDecoded, IsFaulty}
+use Rattle.ig_text.specs.declared.text.Text.{Text}
+use Rattle.ig_text.specs.declared.text.TextFault.{TextFault}
+use Rattle.ig_text.specs.declared.text.TextFault.TheVariants as text_fault
+use Rattle.ig_outside.specs.Counts.{Rose}
+use Rattle.ig_outside.specs.Told.{Told, nothing}
+use Rattle.ig_grammar.specs.declared.grammar.Grammar.{Grammar}
+use Rattle.ig_grammar.specs.Permitted.{Permitted}
+use Rattle.ig_text.specs.Tree.{Tree}
+use Rattle.ig_tool.specs.declared.core_grammar.Core.{Core}
+use Rattle.ig_tool.specs.declared.forest.Forest.{Forest}
+use Rattle.ig_tool.specs.declared.stop.Stop.{Stop}
+use Rattle.ig_tool.specs.declared.stop.Stop.TheVariants as halt
+use Rattle.ig_tool.specs.declared.status.Status.{Status}
+use Rattle.ig_tool.specs.declared.status.Status.TheVariants as status
+use Rattle.ig_tool.specs.CoreOf.{core_of}
+use Rattle.ig_tool.specs.ForestText.{forest_text, line_end}
+use Rattle.ig_tool.specs.Items.{MoreThan, RootIsComplete}
+use Rattle.ig_tool.specs.PlainText.{Reads}
+use Rattle.ig_tool.specs.Whole.{IsWhole}
+use Rattle.ig_tool.specs.Outcome.{MayGive, budget, budget_note, cannot_read_note, cannot_write_note, input_note, no_memory_note, no_parse_note, not_built_note, IsForestOf, Decided, raised, Sunk, Got, Failed, Untouched, Noted, Stood}
+
+-- a line of two pieces
+abbrev pub IsLine : List ℕ → List ℕ → Vec ℕ Global → Type 0
+IsLine front back line = line.items ≡ (front ++ back) ++ line_end
+
+-- the stop has that status and that line; want of memory may come at any time
+abbrev pub StopsWith : Status → List ℕ → Stop → Type 0
+StopsWith s note (halt.Note t line) = (t ≡ s) × (line.items ≡ note)
+StopsWith s note halt.Memory = Unit {0}
+
+abbrev pub IsStop : Status → List ℕ → List ℕ → Stop → Type 0
+IsStop s front back = StopsWith s ((front ++ back) ++ line_end)
+
+abbrev pub IsNotBuilt : Stop → Type 0
+IsNotBuilt = StopsWith status.Grammar not_built_note
+
+abbrev pub IsCannotRead : List ℕ → Stop → Type 0
+IsCannotRead name = StopsWith status.ReadFault (cannot_read_note name)
+
+abbrev pub IsTooLong : Stop → Type 0
+IsTooLong = StopsWith status.Input (input_note text_fault.TooLong)
+
+abbrev pub IsBadAt : ℕ → Stop → Type 0
+IsBadAt at = StopsWith status.Input (input_note (text_fault.NotUtf8 at))
+
+-- the bytes read as no grammar
+pub record IsNoGrammar (xs : List ℕ) (s : Status) (note : List ℕ) : Type 0 where
+  pub reads_not : (g : Grammar) → Reads xs g → ⊥
+  pub status_is : s ≡ status.Grammar
+  pub note_is : note ≡ not_built_note
+
+-- the bytes read as the grammar, or as none
+abbrev pub ReadsGrammar : List ℕ → Result Grammar Stop → Type 0
+ReadsGrammar xs (Ok g) = Reads xs g
+ReadsGrammar xs (Err (halt.Note s line)) = IsNoGrammar xs s line.items
+ReadsGrammar xs (Err halt.Memory) = Unit {0}
+
+-- why an input is refused
+pub record IsRefused (xs : List ℕ) (s : Status) (note : List ℕ) : Type 0 where
+  pub fault : TextFault
+  pub faulty : IsFaulty xs fault
+  pub cause : fault ≢ text_fault.Memory
+  pub status_is : s ≡ status.Input
+  pub note_is : note ≡ input_note fault
+
+-- the bytes are the text, or none
+abbrev pub ReadsInput : List ℕ → Result Text Stop → Type 0
+ReadsInput xs (Ok text) = IsDecoded xs text
+ReadsInput xs (Err (halt.Note s line)) = IsRefused xs s line.items
+ReadsInput xs (Err halt.Memory) = Unit {0}
+
+-- why a file that was to be fetched gave nothing, by what the shelf tells of it and its counts of
+-- faults; `Refused` says which bytes are refused with a status and a line
+pub data StopsAt (told : Told) (name : List ℕ) (old new : ℕ) (Refused : List ℕ → Status → List ℕ → Type 0) : Status → List ℕ → Type 0 where
+  missing : (s : Status) (note : List ℕ) → new ≡ old → told ≡ nothing → s ≡ status.ReadFault →
+      note ≡ cannot_read_note name → StopsAt told name old new Refused s note
+  unread : (s : Status) (note : List ℕ) → Rose old new → s ≡ status.ReadFault → note ≡ cannot_read_note name →
+      StopsAt told name old new Refused s note
+  refused : (s : Status) (note xs : List ℕ) → new ≡ old → MayGive told xs → Refused xs s note →
+      StopsAt told name old new Refused s note
+
+abbrev pub LoadsGrammar : Told → List ℕ → ℕ → ℕ → Result Grammar Stop → Type 0
+LoadsGrammar told name old new (Ok g) = (new ≡ old) × ((xs : List ℕ) × MayGive told xs × Reads xs g)
+LoadsGrammar told name old new (Err (halt.Note s line)) = StopsAt told name old new IsNoGrammar s line.items
+LoadsGrammar told name old new (Err halt.Memory) = Stood old new
+
+abbrev pub LoadsInput : Told → List ℕ → ℕ → ℕ → Result Text Stop → Type 0
+LoadsInput told name old new (Ok text) = (new ≡ old) × ((xs : List ℕ) × MayGive told xs × IsDecoded xs text)
+LoadsInput told name old new (Err (halt.Note s line)) = StopsAt told name old new IsRefused s line.items
+LoadsInput told name old new (Err halt.Memory) = Stood old new
+
+abbrev pub IsOverBudget : Stop → Type 0
+IsOverBudget = StopsWith status.Budget budget_note
+
+abbrev pub IsUnparsed : Stop → Type 0
+IsUnparsed = StopsWith status.NoParse no_parse_note
+
+-- the text is that of the whole forest, or the root is not complete
+abbrev pub Shows : Core → List ℕ → Result (Vec ℕ Global) Stop → Type 0
+Shows core input (Ok text) = (f : Forest) × IsWhole core input f × (text.items ≡ forest_text core f)
+Shows core input (Err (halt.Note s line)) =
+    (s ≡ status.NoParse) × (line.items ≡ no_parse_note) × (RootIsComplete core input → ⊥)
+Shows core input (Err halt.Memory) = Unit {0}
+
+-- why there is no forest
+pub data StopsParse (g : Grammar) (input : List ℕ) : Status → List ℕ → Type 0 where
+  over_budget : (s : Status) (note : List ℕ) → MoreThan (core_of g) input budget → s ≡ status.Budget →
+      note ≡ budget_note → StopsParse g input s note
+  no_parse : (s : Status) (note : List ℕ) → (MoreThan (core_of g) input budget → ⊥) →
+      ((t : Tree) → Permitted g input t → ⊥) → s ≡ status.NoParse → note ≡ no_parse_note → StopsParse g input s note
+
+-- the text is that of the forest of the permitted trees
+pub record IsParse (g : Grammar) (input text : List ℕ) : Type 0 where
+  pub suffices : MoreThan (core_of g) input budget → ⊥
+  pub forest : Forest
+  pub is : IsForestOf g input forest
+  pub text_is : text ≡ forest_text (core_of g) forest
+
+abbrev pub Parses : Grammar → List ℕ → Result (Vec ℕ Global) Stop → Type 0
+Parses g input (Ok text) = IsParse g input text.items
+Parses g input (Err (halt.Note s line)) = StopsParse g input s line.items
+Parses g input (Err halt.Memory) = Unit {0}
+
+-- what is decided before anything is written; at most two files are fetched
+abbrev pub Decides : List (List ℕ) → (List ℕ → Told) → ℕ → ℕ → ℕ → ℕ → Result (Vec ℕ Global) Stop → Type 0
+Decides words holds old new before after (Ok text) =
+    (k : ℕ) × Decided words holds old new status.Done text.items [] k × (after ≡ raised k before)
+Decides words holds old new before after (Err (halt.Note s line)) =
+    (k : ℕ) × Decided words holds old new s [] line.items k × (after ≡ raised k before) × (s ≢ status.Done)
+Decides words holds old new before after (Err halt.Memory) =
+    (k : ℕ) × (k ≤ 2) × (after ≡ raised k before) × Stood old new
+
+-- the sinks got what was decided, as far as they took it
+abbrev pub WritesText : List ℕ → Sunk → Sunk → Status → Type 0
+WritesText text out notes answer =
+    ((answer ≡ status.Done) × Got out text × Untouched notes) ⊎
+    ((answer ≡ status.WriteFault) × Failed out text × Noted notes cannot_write_note)
+
+abbrev pub WritesNote : Status → List ℕ → Sunk → Status → Type 0
+WritesNote s line notes answer =
+    ((answer ≡ s) × Got notes line) ⊎ ((answer ≡ status.WriteFault) × Failed notes line)
+
+abbrev pub GivesUp : Sunk → Status → Type 0
+GivesUp notes answer = (answer ≡ status.NoMemory) × Noted notes no_memory_note

@@ -1,0 +1,85 @@
+//! The top call.
+ghost use Rattle.std.specs.Prelude.{◌≡◌, ℕ, List, map, string_bytes};
+ghost use Rattle.ig_tool.specs.Outcome.{Answers};
+ghost use Rattle.ig_tool.specs.Headline.{Headline};
+ghost use Rattle.ig_tool.specs.Stops.{Decides, GivesUp, WritesNote, WritesText};
+
+use crate::command::forest_names;
+use crate::load::{load_grammar, load_input};
+use crate::parse::parse;
+use crate::status::Status;
+use crate::stop::{Stop, stop_with};
+use ig_outside::{Shelf, Sink};
+use std::alloc::Global;
+
+/// Does all that the program does: parses the words, fetches the files that they name from the
+/// shelf, puts the output on out, or one line on notes, and answers how that ended.
+///
+/// The words come without the program's name. All memory is taken before the first put.
+pub fn iguana<F: Shelf, O: Sink, N: Sink>(
+    alloc: Global,
+    words: &[String],
+    shelf: &mut F,
+    out: &mut O,
+    notes: &mut N,
+) -> Status
+    ensures answer { Answers (map string_bytes words.now) (F.holds shelf.old) (F.faults shelf.old) (F.faults shelf.new) (F.fetches shelf.old) (F.fetches shelf.new) (record { told_before = O.got out.old; told_after = O.got out.new; faults_before = O.faults out.old; faults_after = O.faults out.new }) (record { told_before = N.got notes.old; told_after = N.got notes.new; faults_before = N.faults notes.old; faults_after = N.faults notes.new }) result }
+    ensures headline { Headline (map string_bytes words.now) (F.holds shelf.old) (F.faults shelf.old) (F.faults shelf.new) (record { told_before = O.got out.old; told_after = O.got out.new; faults_before = O.faults out.old; faults_after = O.faults out.new }) (record { told_before = N.got notes.old; told_after = N.got notes.new; faults_before = N.faults notes.old; faults_after = N.faults notes.new }) result }
+    ensures same { (n : List ℕ) → F.holds shelf.new n ≡ F.holds shelf.old n }
+{
+    match decide(alloc, words, shelf) {
+        Ok(text) => write_text(&text, out, notes),
+        Err(Stop::Note(status, line)) => write_note(status, &line, notes),
+        Err(Stop::Memory) => give_up(notes),
+    }
+}
+
+/// The text for out, or why there is none. Writes nothing.
+fn decide<F: Shelf>(alloc: Global, words: &[String], shelf: &mut F) -> Result<Vec<u8>, Stop>
+    ensures answer { Decides (map string_bytes words.now) (F.holds shelf.old) (F.faults shelf.old) (F.faults shelf.new) (F.fetches shelf.old) (F.fetches shelf.new) result }
+    ensures same { (n : List ℕ) → F.holds shelf.new n ≡ F.holds shelf.old n }
+{
+    let Some((grammar_name, input_name)) = forest_names(words) else {
+        return Err(stop_with(alloc, Status::Usage, b"usage", b""));
+    };
+    let grammar = match load_grammar(alloc, shelf, grammar_name) {
+        Ok(grammar) => grammar,
+        Err(stop) => return Err(stop),
+    };
+    let input = match load_input(alloc, shelf, input_name) {
+        Ok(input) => input,
+        Err(stop) => return Err(stop),
+    };
+    parse(alloc, &grammar, &input)
+}
+
+/// Puts the text on out. Where out fails, notes get a line of their own.
+fn write_text<O: Sink, N: Sink>(text: &[u8], out: &mut O, notes: &mut N) -> Status
+    ensures { WritesText text.now (record { told_before = O.got out.old; told_after = O.got out.new; faults_before = O.faults out.old; faults_after = O.faults out.new }) (record { told_before = N.got notes.old; told_after = N.got notes.new; faults_before = N.faults notes.old; faults_after = N.faults notes.new }) result }
+{
+    match out.put(text) {
+        Ok(()) => Status::Done,
+        Err(_) => {
+            let _ = notes.put(b"cannot write\n");
+            Status::WriteFault
+        }
+    }
+}
+
+/// Puts the line on notes.
+fn write_note<N: Sink>(status: Status, line: &[u8], notes: &mut N) -> Status
+    ensures { WritesNote status line.now (record { told_before = N.got notes.old; told_after = N.got notes.new; faults_before = N.faults notes.old; faults_after = N.faults notes.new }) result }
+{
+    match notes.put(line) {
+        Ok(()) => status,
+        Err(_) => Status::WriteFault,
+    }
+}
+
+/// Notes that memory ran out.
+fn give_up<N: Sink>(notes: &mut N) -> Status
+    ensures { GivesUp (record { told_before = N.got notes.old; told_after = N.got notes.new; faults_before = N.faults notes.old; faults_after = N.faults notes.new }) result }
+{
+    let _ = notes.put(b"out of memory\n");
+    Status::NoMemory
+}
