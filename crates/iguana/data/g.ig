@@ -1,0 +1,1 @@
+start S; syntax S = "a";

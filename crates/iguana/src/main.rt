@@ -1,0 +1,57 @@
+//! The program Iguana: it prints the forest of a grammar and an input.
+//!
+//! `iguana forest GRAMMAR INPUT` reads the two files that it names. The forest goes to standard
+//! output, a note on why there is none to standard error, and the exit status says which it was.
+//! What the program does with its words is the top call of `ig_tool`; here are the adapters that it
+//! runs over: a shelf over files and a sink over a stream, each proved against its trait.
+#![tactic(auto)]
+
+mod file_shelf;
+mod stream_sink;
+mod words;
+
+ghost use Rattle.std.specs.Prelude.{◌≡◌, map, string_bytes};
+ghost use Rattle.std.specs.Process.{exit_status};
+ghost use Rattle.ig_tool.specs.Outcome.{number_of};
+ghost use Rattle.iguana.specs.Ending.{MayEnd};
+
+use crate::file_shelf::FileShelf;
+use crate::stream_sink::StreamSink;
+use crate::words::words;
+use ig_tool::iguana;
+use ig_tool::status::Status;
+use std::alloc::Global;
+use std::io::Write;
+use std::process::ExitCode;
+use std::rt::Files;
+
+fn main(rt: HostRuntime) -> ExitCode {
+    let status = match words(&rt) {
+        Ok(words) => run(rt.alloc(), words.as_slice(), &rt, rt.stdout(), rt.stderr()),
+        Err(status) => status,
+    };
+    exit_code(status)
+}
+
+/// Runs the top call over files and the two streams.
+fn run<R: Files, O: Write + Drop, N: Write + Drop>(
+    alloc: Global,
+    words: &[String],
+    files: &R,
+    out: O,
+    notes: N,
+) -> Status
+    ensures { MayEnd (map string_bytes words.now) result }
+{
+    let mut shelf = FileShelf::new(files);
+    let mut out = StreamSink::new(out);
+    let mut notes = StreamSink::new(notes);
+    iguana(alloc, words, &mut shelf, &mut out, &mut notes)
+}
+
+/// The exit code with the number of the status.
+fn exit_code(status: Status) -> ExitCode
+    ensures { exit_status result ≡ number_of status }
+{
+    ExitCode::from(status.number())
+}

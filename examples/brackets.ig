@@ -1,0 +1,2 @@
+start B;
+syntax B = | "(" B ")" B | "[" B "]" B;

@@ -1,0 +1,2 @@
+start E;
+syntax E = E "+" E | "a";
