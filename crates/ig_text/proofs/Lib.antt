@@ -1,1 +1,6 @@
 pub mod Matching
+pub mod NormalForm
+pub mod Joining
+pub mod LineTable
+pub mod Spelling
+pub mod Ascending

@@ -1,17 +1,29 @@
-//! Texts, words and the tags of trees: what all other crates speak of.
+//! Texts and what matches in them: what all other crates speak of.
 //!
 //! A [`Text`] and a [`Word`] are lists of characters. Positions count characters, from 0.
-//! [`Text::decode`] gives the characters of UTF-8 bytes or names what is wrong with them, and
-//! [`Word::ends_at`] says where a match of a word ends. A [`Sequence`] is a list at whose end
-//! `push` adds. `specs/Tree.antt` defines derivation trees and their height.
+//! [`Text::decode`] gives the characters of UTF-8 bytes or names what is wrong with them. A text
+//! tells the line and the column of a position, both from 1, and compares spans. A [`Pattern`] is a
+//! word or a [`Class`] of characters, and `ends_at` says where its match ends. A [`Sequence`] is a
+//! list at whose end `push` adds, and [`Copied`] makes an equal value of one that owns memory.
+//! `specs/Tree.antt` defines derivation trees and their height.
 #![tactic(auto)]
 
+mod class;
+mod copied;
+mod lines;
+mod pattern;
 mod sequence;
 mod tag;
 mod text;
 mod word;
 
+pub use class::{Class, Ranges, normal_form_is_single};
+pub use copied::Copied;
+pub use pattern::{Pattern, Patterns};
 pub use sequence::Sequence;
 pub use tag::Tag;
 pub use text::{Span, Text, TextFault};
 pub use word::{Word, Words};
+
+#[cfg(test)]
+mod tests;

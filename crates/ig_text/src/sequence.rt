@@ -1,5 +1,6 @@
 ghost use Rattle.std.specs.Prelude.{◌≡◌, [], ◌∷◌, ◌++◌, OnOk, OnErr, IfErr};
 
+use crate::copied::Copied;
 use std::alloc::{AllocError, Global};
 use std::marker::Model;
 
@@ -52,5 +53,15 @@ impl<T> Sequence<T> {
         ensures { result.now ≡ self.now }
     {
         self.cells.as_slice()
+    }
+}
+
+impl<T: Copied> Copied for Sequence<T> {
+    fn copy(&self, alloc: Global) -> Result<Sequence<T>, AllocError> {
+        let mut cells = Vec::with_capacity(alloc, self.cells.len())?;
+        for cell in &self.cells {
+            cells.push(cell.copy(alloc)?)?;
+        }
+        Ok(Sequence { cells })
     }
 }

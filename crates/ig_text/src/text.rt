@@ -1,12 +1,16 @@
-ghost use Rattle.std.specs.Prelude.{◌≡◌, ◌<◌, ◌≤◌, ℕ, IfOk, IfErr, MatchOption, drop, length, slice_get};
+ghost use Rattle.std.specs.Prelude.{◌≡◌, ◌+◌, ◌<◌, ◌≤◌, ◌↔◌, ℕ, IfOk, IfErr, IsTrue, MatchOption, chars, drop, length, slice_get, slice_range};
 ghost use Rattle.ig_text.specs.Decoding.{IsDecoded, IsFaulty};
+ghost use Rattle.ig_text.specs.Lines.{line_at, column_at, column_of};
+ghost use Rattle.ig_text.specs.Place.{IsInside, Spells, AreSame};
 
+use crate::lines;
 use std::alloc::{AllocError, Global};
 use std::marker::Model;
 use std::str;
 
-/// A part of a text: the positions at which it begins and ends, in characters from 0.
-#[derive(Clone, Copy, PartialEq, Eq, Debug)]
+/// A part of a text: the positions at which it begins and ends, in characters from 0. Spans are
+/// ordered by their begin, and then by their end.
+#[derive(Clone, Copy, PartialEq, Eq, PartialOrd, Ord, Hash, Debug)]
 pub struct Span {
     pub begin: u32,
     pub end: u32,
@@ -33,20 +37,23 @@ impl From<AllocError> for TextFault {
     }
 }
 
-/// A text of at most 1,048,576 characters.
+/// A text of at most 1,048,576 characters. It keeps the positions at which its lines begin, so that
+/// lines and columns are found in logarithmic time.
 #[derive(Drop)]
 pub struct Text {
     characters: Vec<char>,
+    line_starts: Vec<u32>,
 }
 
 impl Model for Text {
-    ghost use Rattle.std.specs.Prelude.{◌≤◌, List, ℕ, length};
+    ghost use Rattle.std.specs.Prelude.{List, ℕ};
+    ghost use Rattle.ig_text.specs.LineTable.{IsIndexed};
 
     ghost Value = { List ℕ };
 
     ghost view = { λ t. t.characters.items };
 
-    ghost invariant = { λ t. length t.characters.items ≤ 1048576 };
+    ghost invariant = { λ t. IsIndexed t.characters.items t.line_starts.items };
 }
 
 /// The most bytes that a text may have.
@@ -83,7 +90,11 @@ impl Text {
         if characters.len() > MOST_CHARACTERS {
             return Err(TextFault::TooLong);
         }
-        Ok(Text { characters })
+        let line_starts = lines::starts_of(alloc, characters.as_slice())?;
+        Ok(Text {
+            characters,
+            line_starts,
+        })
     }
 
     /// The number of characters. Takes no memory.
@@ -102,10 +113,99 @@ impl Text {
         self.characters.get(position as usize).copied()
     }
 
+    /// The line of a position: 1 plus the number of line feeds before it; `None` exactly where the
+    /// position is greater than the length. Takes no memory.
+    pub fn line(&self, position: u32) -> Option<u32>
+        ensures { result ≡ line_at self.now position }
+    {
+        if position > self.len() {
+            return None;
+        }
+        Some(lines::count_up_to(self.line_starts.as_slice(), position) as u32)
+    }
+
+    /// The column of a position: 1 plus the number of characters since the last line feed before
+    /// it, or since the start; 0 for -1. `None` exactly where the position is less than -1 or
+    /// greater than the length. Takes no memory.
+    pub fn column(&self, position: i64) -> Option<i64>
+        ensures { result ≡ column_at self.now position }
+    {
+        if position == -1 {
+            Some(0)
+        } else if 0 <= position && position <= i64::from(self.len()) {
+            Some(i64::from(self.column_of(position as u32)))
+        } else {
+            None
+        }
+    }
+
+    /// The column of a position, which is at most the length.
+    fn column_of(&self, position: u32) -> u32
+        requires { position ≤ length self.now }
+        ensures { result ≡ column_of self.now position }
+    {
+        let line = lines::count_up_to(self.line_starts.as_slice(), position);
+        position - self.line_starts[line - 1] + 1
+    }
+
+    /// Whether both spans lie in the text and have equal characters. A span lies in the text where
+    /// its begin is at most its end, and its end at most the length. Takes no memory.
+    pub fn same(&self, a: Span, b: Span) -> bool
+        ensures { IsTrue result ↔ AreSame self.now a b }
+    {
+        match (self.letters(a), self.letters(b)) {
+            (Some(first), Some(second)) => first == second,
+            _ => false,
+        }
+    }
+
+    /// Whether the span lies in the text and its characters are those of the string. Takes no
+    /// memory.
+    pub fn spells(&self, a: Span, text: &str) -> bool
+        ensures { IsTrue result ↔ Spells self.now (chars text.now) a.begin a.end }
+    {
+        match self.letters(a) {
+            Some(letters) => are_letters_of(letters, text),
+            None => false,
+        }
+    }
+
+    /// The characters of a span; `None` exactly where it doesn't lie in the text.
+    fn letters(&self, span: Span) -> Option<&[char]>
+        ensures { MatchOption result (IsInside self.now span → ⊥)
+            (λ r. IsInside self.now span × (r.now ≡ slice_range self.now span.begin span.end)) }
+    {
+        self.characters.get(span.begin as usize..span.end as usize)
+    }
+
+    /// The character at a position, and the position behind it; `None` exactly where the position
+    /// isn't below the length.
+    pub(crate) fn step(&self, position: u32) -> Option<(char, u32)>
+        ensures { MatchOption result (slice_get self.now position ≡ None)
+            (λ r. (slice_get self.now position ≡ Some r.0) × (r.1 ≡ position + 1)) }
+    {
+        let character = self.characters.get(position as usize)?;
+        Some((*character, position + 1))
+    }
+
     /// The characters from a position on; `None` exactly where the position is past the end.
     pub(crate) fn from(&self, position: u32) -> Option<&[char]>
-        ensures { MatchOption result (length self.now < position) (λ r. (position ≤ length self.now) × (r.now ≡ drop position self.now) × (length self.now ≤ 1048576)) }
+        ensures { MatchOption result (length self.now < position)
+            (λ r. (position ≤ length self.now) × (r.now ≡ drop position self.now) × (length self.now ≤ 1048576)) }
     {
         self.characters.get(position as usize..)
     }
+}
+
+/// Whether the letters are the characters of the string. Takes no memory.
+fn are_letters_of(letters: &[char], text: &str) -> bool
+    ensures { IsTrue result ↔ (letters.now ≡ chars text.now) }
+{
+    let mut rest = text.chars();
+    for letter in letters {
+        if rest.next() != Some(*letter) {
+            return false;
+        }
+    }
+    rest.next().is_none()
 }

@@ -1,6 +1,7 @@
 ghost use Rattle.std.specs.Prelude.{◌≡◌, ℕ, IfOk, MatchOption, chars};
 ghost use Rattle.ig_text.specs.Place.{Spells};
 
+use crate::copied::Copied;
 use crate::sequence::Sequence;
 use crate::text::Text;
 use std::alloc::{AllocError, Global};
@@ -47,7 +48,8 @@ impl Word {
     /// The position at which a match of the word at this position ends; `None` exactly where the
     /// word doesn't match there. Takes no memory.
     pub fn ends_at(&self, text: &Text, position: u32) -> Option<u32>
-        ensures { MatchOption result ((j : ℕ) → Spells text.now self.now position j → ⊥) (Spells text.now self.now position) }
+        ensures { MatchOption result ((j : ℕ) → Spells text.now self.now position j → ⊥)
+            (Spells text.now self.now position) }
     {
         let rest = text.from(position)?;
         let word = self.characters.as_slice();
@@ -56,5 +58,13 @@ impl Word {
         } else {
             None
         }
+    }
+}
+
+impl Copied for Word {
+    fn copy(&self, alloc: Global) -> Result<Word, AllocError> {
+        let text = String::from_str(alloc, self.text.as_str())?;
+        let characters = Vec::from_slice(alloc, self.characters.as_slice())?;
+        Ok(Word { text, characters })
     }
 }

@@ -1,0 +1,108 @@
+ghost use Rattle.std.specs.Prelude.{◌≡◌, ◌+◌, ◌<◌, ◌↔◌, IfOk, IsTrue};
+ghost use Rattle.ig_text.specs.Ranges.{NoneFalls, Ascends, is_among, IsNormalFormOf, HasOneNormalForm};
+ghost use Rattle.ig_text.specs.Class.{is_in_class, IsClassOf};
+
+use crate::copied::Copied;
+use crate::sequence::Sequence;
+use std::alloc::{AllocError, Global};
+
+/// Ranges of characters: pairs of a first and a last character, both of which belong to it.
+pub type Ranges = Sequence<(char, char)>;
+
+/// A set of characters.
+#[derive(Drop)]
+pub enum Class {
+    /// The characters in some range, or with `negated` all others.
+    Ranges { negated: bool, ranges: Ranges },
+    /// The characters with which a Unicode identifier may begin.
+    XidStart,
+    /// The characters with which a Unicode identifier may go on.
+    XidContinue,
+    /// Every character.
+    Any,
+}
+
+impl Class {
+    /// The class of the characters in some pair, or with `negated` of all others. Its ranges are in
+    /// normal form: sorted, and those joined that overlap or of which one begins at the number after
+    /// the other's end. In no pair may the first character be greater than the last.
+    pub fn ranges(alloc: Global, negated: bool, pairs: &[(char, char)]) -> Result<Class, AllocError>
+        requires { NoneFalls pairs.now }
+        ensures { IfOk result (IsClassOf negated pairs.now) }
+    {
+        let mut sorted = Vec::from_slice(alloc, pairs)?;
+        sorted.sort_unstable();
+        let ranges = joined(alloc, sorted.as_slice())?;
+        Ok(Class::Ranges { negated, ranges })
+    }
+
+    /// Whether the character is in the class. Takes no memory.
+    pub fn has(&self, c: char) -> bool
+        ensures { result ≡ is_in_class self.now c }
+    {
+        match self {
+            Class::Ranges { negated, ranges } => is_in_some(ranges.as_slice(), c) != *negated,
+            Class::XidStart => unicode_ident::is_xid_start(c),
+            Class::XidContinue => unicode_ident::is_xid_continue(c),
+            Class::Any => true,
+        }
+    }
+}
+
+/// Whether the character is in some range. Takes no memory.
+fn is_in_some(ranges: &[(char, char)], c: char) -> bool
+    ensures { result ≡ is_among ranges.now c }
+{
+    ranges.iter().any(|(first, last)| *first <= c && c <= *last)
+}
+
+/// The normal form of pairs whose first characters ascend.
+fn joined(alloc: Global, pairs: &[(char, char)]) -> Result<Ranges, AllocError>
+    requires { Ascends 0 pairs.now }
+    ensures { IfOk result (IsNormalFormOf pairs.now) }
+{
+    let mut ranges = Vec::new(alloc);
+    let Some((first, rest)) = pairs.split_first() else {
+        return Ok(Ranges::from_vec(ranges));
+    };
+    let mut open = *first;
+    for pair in rest {
+        if is_apart(open, *pair) {
+            ranges.push(open)?;
+            open = *pair;
+        } else if pair.1 > open.1 {
+            open.1 = pair.1;
+        }
+    }
+    ranges.push(open)?;
+    Ok(Ranges::from_vec(ranges))
+}
+
+/// Whether some number lies between the end of the first range and the begin of the second.
+fn is_apart(first: (char, char), second: (char, char)) -> bool
+    ensures { IsTrue result ↔ (first.1 + 1 < second.0) }
+{
+    first.1 as u32 + 1 < second.0 as u32
+}
+
+impl Copied for Class {
+    fn copy(&self, alloc: Global) -> Result<Class, AllocError> {
+        match self {
+            Class::Ranges { negated, ranges } => {
+                let ranges = ranges.copy(alloc)?;
+                Ok(Class::Ranges {
+                    negated: *negated,
+                    ranges,
+                })
+            }
+            Class::XidStart => Ok(Class::XidStart),
+            Class::XidContinue => Ok(Class::XidContinue),
+            Class::Any => Ok(Class::Any),
+        }
+    }
+}
+
+/// Pairs have one normal form at most: this law, proved for all pairs, computes nothing.
+pub fn normal_form_is_single()
+    ensures { HasOneNormalForm }
+{}
