@@ -1,0 +1,6 @@
+pub mod Words
+pub mod Equality
+pub mod Patterns
+pub mod Spans
+pub mod Sought
+pub mod Numbers

@@ -1,0 +1,12 @@
+pub mod Expression
+pub mod Stored
+pub mod View
+pub mod Names
+pub mod Kinds
+pub mod Operations
+pub mod Reading
+pub mod Digits
+pub mod Matching
+pub mod Blocks
+pub mod Evaluation
+pub mod Laws

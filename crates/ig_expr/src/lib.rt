@@ -1,0 +1,27 @@
+//! Values and expressions of a grammar: their kinds, and how they are evaluated.
+//!
+//! Contracts see an [`Expr`] as the syntax tree that `expression_of` of `specs/View.antt` gives, and
+//! an [`Operand`] as that tree itself. [`kind_of`] answers the kind that `specs/Kinds.antt` defines,
+//! and [`evaluate`] the value of `specs/Evaluation.antt`, over whole numbers without bound. Neither
+//! takes memory, and both leave a wrong kind without an answer. [`Values`] is a short list of values
+//! that are kept inline.
+#![tactic(auto)]
+
+mod blocks;
+mod evaluation;
+mod expression;
+mod kind;
+mod matching;
+mod names;
+mod operation;
+mod operator;
+mod reading;
+#[cfg(test)]
+mod tests;
+mod value;
+
+pub use evaluation::{evaluate, tests_look_for_matches};
+pub use expression::{Expr, Exprs, Operand};
+pub use kind::{Kind, Kinds, kind_of};
+pub use operator::{Function, Op};
+pub use value::{Value, Values};

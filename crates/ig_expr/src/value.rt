@@ -1,0 +1,119 @@
+ghost use Rattle.std.specs.Prelude.{◌≡◌, ◌↔◌, [], ◌∷◌, ◌++◌, IsTrue, OnOk, OnErr, IfErr};
+
+use ig_text::{Copied, Span};
+use smallvec::SmallVec;
+use std::alloc::{AllocError, Global};
+use std::hash::{Hash, Hasher};
+use std::marker::Model;
+
+/// What an expression gives. Values of one kind are ordered: integers by size, false before true,
+/// spans by their begin and then by their end.
+#[derive(Clone, Copy, PartialEq, Eq, PartialOrd, Ord, Hash, Debug)]
+pub enum Value {
+    /// An integer.
+    Int(i64),
+    /// A truth value.
+    Bool(bool),
+    /// A part of the text, given by its positions alone: it may lie outside, or fall.
+    Span(Span),
+}
+
+/// The integer 0: it stands in the places of a short list that aren't used.
+impl Default for Value {
+    fn default() -> Value {
+        Value::Int(0)
+    }
+}
+
+/// A list of values, which serves as a key of hash maps. Up to four values need no allocation.
+#[derive(Drop)]
+pub struct Values {
+    cells: SmallVec<Value, 4>,
+}
+
+impl Model for Values {
+    ghost use Rattle.std.specs.Prelude.{List};
+    ghost use Rattle.ig_expr.specs.declared.value.Value as element;
+
+    ghost Value = { List element.Value };
+
+    ghost view = { λ v. v.cells.items };
+}
+
+impl Values {
+    /// The empty list. Takes no memory.
+    pub fn new(alloc: Global) -> Values
+        ensures { result ≡ [] }
+    {
+        Values {
+            cells: SmallVec::new(alloc),
+        }
+    }
+
+    /// Adds the value at the end. Refused for want of memory, it hands the value back, and the
+    /// list is as before.
+    pub fn push(&mut self, value: Value) -> Result<(), (Value, AllocError)>
+        ensures ok { OnOk result (self.new ≡ self.old ++ value ∷ []) }
+        ensures err { OnErr result (self.new ≡ self.old) }
+        ensures value_returned { IfErr result (λ e. e.0 ≡ value) }
+    {
+        match self.cells.push(value) {
+            Ok(()) => Ok(()),
+            Err(full) => Err((full.value, AllocError)),
+        }
+    }
+
+    /// The values, in order. Takes no memory.
+    pub fn as_slice(&self) -> &[Value]
+        ensures { result.now ≡ self.now }
+    {
+        self.cells.as_slice()
+    }
+}
+
+impl Copied for Values {
+    fn copy(&self, alloc: Global) -> Result<Values, AllocError> {
+        let cells = SmallVec::from_slice(alloc, self.cells.as_slice())?;
+        Ok(Values { cells })
+    }
+}
+
+impl PartialEq for Values {
+    ghost use Rattle.std.specs.Cmp.Lexicographic.{pointwise, lists_per};
+
+    ghost eq = { pointwise ⟦<Value as PartialEq>⟧.eq };
+
+    ghost use Rattle.ig_expr.specs.contracts.value.ValuePartialEq.TheImpl.Laws as values;
+
+    ghost laws = { lists_per values.laws-law };
+
+    /// Whether both lists have equal values.
+    fn eq(&self, other: &Values) -> bool
+        ensures value { result ≡ ⟦<Values as PartialEq>⟧.eq self.now other.now }
+        ensures exact { IsTrue result ↔ (self.now ≡ other.now) }
+    {
+        self.as_slice() == other.as_slice()
+    }
+}
+
+impl Eq for Values {
+    ghost use Rattle.std.proofs.lemmas.Cmp.{lists_equiv};
+    ghost use Rattle.ig_expr.specs.contracts.value.ValueEq.TheImpl.Laws as values;
+
+    ghost laws = { lists_equiv values.laws-law };
+}
+
+impl Hash for Values {
+    ghost use Rattle.std.specs.Hash as fed;
+    ghost use Rattle.std.specs.Hash.{items_Alike};
+
+    ghost hash_input = { fed.slice ⟦<Value as Hash>⟧.hash_input };
+
+    ghost use Rattle.ig_expr.specs.contracts.value.ValueHash.TheImpl.Laws as values;
+
+    ghost respects_eq = { (items_Alike (record { fed = values.respects_eq-law })).fed };
+
+    fn hash<H: Hasher>(&self, state: &mut H) {
+        self.as_slice().hash(state);
+    }
+}
