@@ -12,11 +12,8 @@ use Rattle.ig_tool.specs.declared.core_grammar.Step.TheVariants as step
 use Rattle.ig_text.specs.declared.tag.Tag.TheVariants.{Root}
 use Rattle.ig_tool.specs.Core.{alternative_of}
 use Rattle.ig_tool.specs.CoreOf.{core_of, core_alt_of, core_alts_of, nonterminal_of, nonterminals_of, root_alts_of, step_of, number_of}
-use Rattle.ig_tool.specs.PlainText.{alt_dots, dots}
+use Rattle.ig_tool.specs.PlainText.{alt_dots, decl_dots, dots}
 use Rattle.ig_tool.specs.Saturation.{FitsNumbers}
-
-abbrev decl_dots : Decl → ℕ
-decl_dots decl = sum_by alt_dots decl.alts
 
 alts_length : (decls : List Decl) (d k : ℕ) (alts : List Alt) → length (core_alts_of decls d k alts) ≡ length alts
 alts_length decls d k [] = refl

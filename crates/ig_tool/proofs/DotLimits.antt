@@ -5,8 +5,7 @@ use Rattle.std.proofs.lemmas.List.Sums.{sum_by-cons, get_or-le-sum_by}
 use Rattle.ig_grammar.specs.declared.grammar.Grammar.{Grammar}
 use Rattle.ig_grammar.specs.declared.grammar.Decl.{Decl}
 use Rattle.ig_grammar.specs.declared.grammar.Alt.{Alt}
-use Rattle.ig_tool.specs.PlainText.{alt_dots, dots}
-use Rattle.ig_tool.specs.Reader.{decl_dots}
+use Rattle.ig_tool.specs.PlainText.{alt_dots, decl_dots, dots}
 
 alts_within : (alts : List Alt) → length alts ≤ sum_by alt_dots alts
 alts_within [] = omega arith

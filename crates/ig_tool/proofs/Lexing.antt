@@ -11,7 +11,7 @@ use Rattle.ig_tool.specs.declared.token.Token.TheVariants.{Start, Syntax, Semico
 use Rattle.ig_tool.specs.PlainText.{Tokens, nothing, separator, sign, word, quoted, IsSeparator, IsLetter, IsWordCharacter, IsWord, letter, EndsWord, WordToken, start, syntax, name, SignToken, semicolon, equals, bar, IsLiteralCharacter, keywords}
 use Rattle.ig_tool.specs.declared.lexer.Run.{Run}
 use Rattle.ig_tool.specs.declared.lexer.Run.TheVariants.{OfWord, OfLiteral}
-use Rattle.ig_tool.specs.Reading.{Ends, ReadsAs, Begins, Belongs, IsSplit, Advances}
+use Rattle.ig_tool.specs.LexerParts.{Ends, ReadsAs, Begins, Belongs, IsSplit, Advances}
 
 ends_not : (P : ℕ → Type 0) (c : ℕ) (cs r : List ℕ) → Ends P r → P c → r ≡ c ∷ cs → ⊥
 ends_not P c cs r h p e = (subst (Ends P) e h) p
@@ -243,17 +243,6 @@ pub literal_none : (inside rest : List ℕ) → All IsLiteralCharacter inside �
     (ts : List Token) → Tokens (34 ∷ (inside ++ rest)) ts → ⊥
 literal_none inside rest a h n ts u =
     let b = by_literal inside rest a h ts u in n b.first b.others b.behind b.spelled b.closed
-
-none_first : (c : ℕ) (cs : List ℕ) (ts : List Token) → (IsSeparator c → ⊥) → ((t : Token) → SignToken c t → ⊥) →
-    (c ≡ 34 → ⊥) → (IsLetter c → ⊥) → First c cs ts → ⊥
-none_first c cs ts a b d e (a_separator k r) = a k
-none_first c cs ts a b d e (a_sign u more k r p) = b u k
-none_first c cs ts a b d e (a_word front u rest more w h k r p q) = e (word_first w c cs rest p)
-none_first c cs ts a b d e (a_literal f inside rest more h r p q) = d (let z : c ≡ 34 = cc in z)
-
-pub none_reads : (c : ℕ) (cs : List ℕ) → (IsSeparator c → ⊥) → ((t : Token) → SignToken c t → ⊥) →
-    (c ≡ 34 → ⊥) → (IsLetter c → ⊥) → (ts : List Token) → Tokens (c ∷ cs) ts → ⊥
-none_reads c cs a b d e ts u = none_first c cs ts a b d e (first_of u)
 
 pub reads_nothing : (text : List ℕ) → ReadsAs text [] text
 reads_nothing text = record { forth = λ ts u. u; back = λ ts u. (ts, refl, u) }

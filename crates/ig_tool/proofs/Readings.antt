@@ -4,12 +4,12 @@ use Rattle.std.specs.Prelude.{chars}
 use Rattle.ig_grammar.specs.declared.grammar.Grammar.{Grammar}
 use Rattle.ig_grammar.specs.Names.{HasNames}
 use Rattle.ig_tool.specs.declared.token.Token.{Token}
-use Rattle.ig_tool.specs.PlainText.{Tokens, FollowsRules, Reads}
-use Rattle.ig_tool.specs.Reader.{IsOnlyReading, IsSmall}
+use Rattle.ig_tool.specs.PlainText.{Tokens, FollowsRules, IsSmall, Reads}
+use Rattle.ig_tool.specs.Reader.{OneReading}
 use Rattle.ig_tool.proofs.Lexing.{tokens_one}
 use Rattle.ig_tool.proofs.RuleTokens.{grammar_one}
 
-pub only_reading : IsOnlyReading
+pub only_reading : OneReading
 only_reading bytes g h a b =
     grammar_one a.ts g h a.follows
     (subst (λ (z : List Token). FollowsRules z h) (sym (tokens_one a.tokens b.ts b.tokens)) b.follows)
@@ -27,8 +27,8 @@ no_rules bytes ts t n g r =
 pub not_small : (bytes : List ℕ) (ts : List Token) (g : Grammar) → Tokens (chars bytes) ts → FollowsRules ts g →
     (IsSmall g → ⊥) → (h : Grammar) → Reads bytes h → ⊥
 not_small bytes ts g t f n h r =
-    n (subst IsSmall (reading_is bytes ts g h t f r) (record { few_decls = r.few_decls; few_dots = r.few_dots }))
+    n (subst IsSmall (reading_is bytes ts g h t f r) r.accepted.small)
 
 pub no_names : (bytes : List ℕ) (ts : List Token) (g : Grammar) → Tokens (chars bytes) ts → FollowsRules ts g →
     (HasNames g → ⊥) → (h : Grammar) → Reads bytes h → ⊥
-no_names bytes ts g t f n h r = n (subst HasNames (reading_is bytes ts g h t f r) r.named)
+no_names bytes ts g t f n h r = n (subst HasNames (reading_is bytes ts g h t f r) r.accepted.named)

@@ -89,14 +89,6 @@ ways ts (a ∷ b ∷ alts) rest h =
     (h.tokens ∙ append_assoc (map symbol_token a.symbols) (Bar ∷ alts_tokens (b ∷ alts)) rest)
     (record { some = λ e. cc; tokens = refl })
 
-pub by_last : (ts : List Token) (a : Alt) (rest : List Token) → BeginsAlt ts a altend.Semicolon rest →
-    BeginsAlts ts (a ∷ []) rest
-by_last ts a rest h =
-    record {
-      some = λ e. cc;
-      tokens = h ∙ sym (append_assoc (map symbol_token a.symbols) (Semicolon ∷ []) rest);
-    }
-
 pub by_another : (ts : List Token) (a : Alt) (left : List Token) (alts : List Alt) (rest : List Token) →
     BeginsAlt ts a altend.Bar left → BeginsAlts left alts rest → BeginsAlts ts (a ∷ alts) rest
 by_another ts a left [] rest h k = absurd (k.some refl)
@@ -112,9 +104,6 @@ by_another ts a left (b ∷ alts) rest h k =
 pub record AltsSoFar (ts : List Token) (read : List Alt) (now : List Token) : Type 0 where
   pub forth : (alts : List Alt) (rest : List Token) → BeginsAlts now alts rest → BeginsAlts ts (read ++ alts) rest
   pub back : (alts : List Alt) (rest : List Token) → BeginsAlts ts alts rest → (more : List Alt) × BeginsAlts now more rest
-
-pub alts_begin : (ts : List Token) → AltsSoFar ts [] ts
-alts_begin ts = record { forth = λ alts rest h. h; back = λ alts rest h. (alts, h) }
 
 bar_back : (now : List Token) (a : Alt) (left : List Token) → BeginsAlt now a altend.Bar left → (alts : List Alt)
     (rest : List Token) → Ways now alts rest → (more : List Alt) × BeginsAlts left more rest
@@ -185,16 +174,6 @@ alts_of_decl ts d name left rest e h =
     let f = h.tokens in
     ((let z : d.name ≡ name = cc in z), record { some = h.some; tokens = (let z : left ≡ alts_tokens d.alts ++ rest = cc in z) })
 
-pub decl_of_alts : (ts : List Token) (d : Decl) (left rest : List Token) →
-    ts ≡ Syntax ∷ Name d.name ∷ Equals ∷ left → BeginsAlts left d.alts rest → BeginsDecl ts d rest
-decl_of_alts ts d left rest e h =
-    record { some = h.some; tokens = e ∙ ap (λ (z : List Token). Syntax ∷ Name d.name ∷ Equals ∷ z) h.tokens }
-
-pub decl_none : (ts : List Token) (name : List ℕ) (left : List Token) → ts ≡ Syntax ∷ Name name ∷ Equals ∷ left →
-    ((alts : List Alt) (rest : List Token) → BeginsAlts left alts rest → ⊥) → (d : Decl) (rest : List Token) →
-    BeginsDecl ts d rest → ⊥
-decl_none ts name left e n d rest h = n d.alts rest (alts_of_decl ts d name left rest e h).1
-
 pub decl_one : (ts : List Token) (d e : Decl) (r s : List Token) → BeginsDecl ts d r → BeginsDecl ts e s → (d ≡ e) × (r ≡ s)
 decl_one ts d e r s h k =
     let p = alts_of_decl ts e d.name (alts_tokens d.alts ++ r) s h.tokens k in
@@ -235,9 +214,6 @@ first_decl ts d ds h =
 pub record DeclsSoFar (ts : List Token) (read : List Decl) (now : List Token) : Type 0 where
   pub forth : (ds : List Decl) → AreDecls now ds → AreDecls ts (read ++ ds)
   pub back : (ds : List Decl) → AreDecls ts ds → (more : List Decl) × AreDecls now more
-
-pub decls_begin : (ts : List Token) → DeclsSoFar ts [] ts
-decls_begin ts = record { forth = λ ds h. h; back = λ ds h. (ds, h) }
 
 decl_back : (now : List Token) (d : Decl) (left : List Token) → (length now ≡ 0 → ⊥) →
     BeginsDecl now d left → (ds : List Decl) → AreDecls now ds → (more : List Decl) × AreDecls left more

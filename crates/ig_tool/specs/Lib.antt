@@ -18,7 +18,7 @@ pub mod Laws
 pub mod Nodes
 pub mod ForestLines
 pub mod Assembly
-pub mod Reading
+pub mod LexerParts
 pub mod RuleParts
 pub mod NameTables
 pub mod Reader

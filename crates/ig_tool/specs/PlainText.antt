@@ -98,15 +98,22 @@ pub record FollowsRules (ts : List Token) (g : Grammar) : Type 0 where
 abbrev pub alt_dots : Alt → ℕ
 alt_dots alt = length alt.symbols + 1
 
+abbrev pub decl_dots : Decl → ℕ
+decl_dots decl = sum_by alt_dots decl.alts
+
 -- the dots of the core grammar: those of all alternatives, and two of the root
 abbrev pub dots : Grammar → ℕ
-dots g = sum_by (λ decl. sum_by alt_dots decl.alts) g.decls + 2
+dots g = sum_by decl_dots g.decls + 2
 
--- each name that the grammar uses is declared once, and it keeps the limits
-pub record IsAccepted (g : Grammar) : Type 0 where
-  pub named : HasNames g
+-- within the limits of declarations and dots
+pub record IsSmall (g : Grammar) : Type 0 where
   pub few_decls : length g.decls ≤ 4096
   pub few_dots : dots g ≤ 65536
+
+-- each name that the grammar uses is declared once, and it is within the limits
+pub record IsAccepted (g : Grammar) : Type 0 where
+  pub named : HasNames g
+  pub small : IsSmall g
 
 -- the bytes are a plain grammar text, and the grammar is its reading
 pub record Reads (bytes : List ℕ) (g : Grammar) : Type 0 where
@@ -115,6 +122,4 @@ pub record Reads (bytes : List ℕ) (g : Grammar) : Type 0 where
   pub ts : List Token
   pub tokens : Tokens (chars bytes) ts
   pub follows : FollowsRules ts g
-  pub named : HasNames g
-  pub few_decls : length g.decls ≤ 4096
-  pub few_dots : dots g ≤ 65536
+  pub accepted : IsAccepted g

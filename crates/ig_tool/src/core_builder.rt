@@ -4,7 +4,7 @@ ghost use Rattle.std.specs.Prelude.{◌≡◌, ◌≤◌, length, map, codes, If
 ghost use Rattle.ig_grammar.specs.Names.{AreDistinct, names};
 ghost use Rattle.ig_tool.specs.CoreOf.{core_of, nonterminal_of, root_alts_of, core_alts_of, step_of, number_of};
 ghost use Rattle.ig_tool.specs.NameTables.{Numbers};
-ghost use Rattle.ig_tool.specs.PlainText.{dots};
+ghost use Rattle.ig_tool.specs.PlainText.{IsSmall};
 
 use crate::core_grammar::{Core, CoreAlt, CoreAlts, Nonterminal, Step, Steps};
 use crate::names::{number_names, number_of};
@@ -20,8 +20,7 @@ const ROOT: &str = "$root";
 /// each declaration, numbered from 1 in order.
 pub fn build_core(alloc: Global, grammar: &Grammar) -> Result<Core, AllocError>
     requires distinct { AreDistinct (names grammar.now.decls) }
-    requires few_decls { length grammar.now.decls ≤ 4096 }
-    requires few_dots { dots grammar.now ≤ 65536 }
+    requires small { IsSmall grammar.now }
     ensures { IfOk result (λ core. core ≡ core_of grammar.now) }
 {
     let decls = grammar.decls.as_slice();

@@ -4,7 +4,7 @@ ghost use Rattle.std.specs.Prelude.{◌≡◌, ℕ, ◌∷◌, List, [], IfOk, M
 ghost use Rattle.std.specs.List.{list_any};
 ghost use Rattle.ig_tool.specs.declared.token.Token.{Token};
 ghost use Rattle.ig_tool.specs.PlainText.{Tokens, IsSeparator, IsLetter, SignToken, WordToken, keywords};
-ghost use Rattle.ig_tool.specs.Reading.{Begins, Belongs, IsSplit, Advances};
+ghost use Rattle.ig_tool.specs.LexerParts.{Begins, Belongs, IsSplit, Advances};
 
 use crate::token::Token;
 use ig_text::Word;

@@ -2,8 +2,8 @@
 
 ghost use Rattle.std.specs.Prelude.{◌≡◌, ◌+◌, ◌<◌, ◌≤◌, sum_by, IfOk, IfErr, MatchOption};
 ghost use Rattle.std.specs.Bool.{Decides};
-ghost use Rattle.ig_tool.specs.PlainText.{Reads, alt_dots};
-ghost use Rattle.ig_tool.specs.Reader.{IsReadFault, IsOnlyReading, IsSmall, decl_dots};
+ghost use Rattle.ig_tool.specs.PlainText.{IsSmall, Reads, alt_dots, decl_dots};
+ghost use Rattle.ig_tool.specs.Reader.{IsReadFault, OneReading};
 
 use crate::lexer::tokenize;
 use crate::names::has_names;
@@ -71,7 +71,7 @@ pub fn read(alloc: Global, bytes: &[u8]) -> Result<Grammar, ReadFault>
 
 /// A text has one reading at most.
 pub fn one_reading()
-    ensures { IsOnlyReading }
+    ensures { OneReading }
 {}
 
 /// Whether a grammar has at most 4,096 declarations and 65,536 dots.

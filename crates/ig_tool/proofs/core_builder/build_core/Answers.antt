@@ -11,4 +11,4 @@ unreachable-requires c =
 pub build_nonterminal-requires-clause-few_alts : goal.build_nonterminal-requires-clause-few_alts
 build_nonterminal-requires-clause-few_alts c =
     few_alts c.args.grammar.now c.as_slice-decls.result.now c.loop-index.index c.index-decls-index.result
-    c.as_slice-decls.ensures c.loop-index-test.true c.index-decls-index.is c.requires.few_dots
+    c.as_slice-decls.ensures c.loop-index-test.true c.index-decls-index.is c.requires.small.few_dots

@@ -1,5 +1,5 @@
 use Rattle.std.proofs.Common.{subst, sym, ◌∙◌}
-use Rattle.ig_tool.specs.Reading.{Begins}
+use Rattle.ig_tool.specs.LexerParts.{Begins}
 use Rattle.ig_tool.proofs.Lexing.{begins}
 use Rattle.ig_tool.proofs.lexer.first.Goals as goal
 

@@ -1,6 +1,6 @@
 use Rattle.std.proofs.Common.{refl, length, ◌-◌}
 use Rattle.std.specs.Prelude.{chars}
-use Rattle.ig_tool.specs.Reading.{Ends, Belongs}
+use Rattle.ig_tool.specs.LexerParts.{Ends, Belongs}
 use Rattle.ig_tool.proofs.Lexing.{parted_begin, parted_more, parted_split, parted_seam, parted_length, ends_at_begin, ends_at_end, begins_shorter}
 use Rattle.ig_tool.proofs.lexer.split.Goals as goal
 use Rattle.ig_tool.proofs.lexer.split.Goals.{in-Some+then-not-belongs, in_default}

@@ -2,7 +2,7 @@ use Rattle.std.proofs.Common.{length}
 use Rattle.std.specs.Prelude.{chars}
 use denote.Text.{Utf8}
 use denote.Shadow.{shadow}
-use Rattle.ig_tool.specs.Reading.{ReadsAs}
+use Rattle.ig_tool.specs.LexerParts.{ReadsAs}
 use Rattle.ig_tool.proofs.lexer.tokenize.Given as goal
 
 abbrev pub invariant-loop-c : goal.invariant-loop-c

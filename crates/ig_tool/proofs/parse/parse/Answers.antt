@@ -5,7 +5,7 @@ use Rattle.ig_tool.proofs.Parsing.{parses_shown, parses_over_budget}
 use Rattle.ig_tool.proofs.parse.parse.Goals as goal
 
 pub saturate-requires : goal.saturate-requires
-saturate-requires c = subst FitsNumbers (sym c.in-Ok.ensures) (core_fits c.args.grammar.now c.requires.few_dots)
+saturate-requires c = subst FitsNumbers (sym c.in-Ok.ensures) (core_fits c.args.grammar.now c.requires.small.few_dots)
 
 pub show-requires-clause-members : goal.show-requires-clause-members
 show-requires-clause-members c = rw c.as_slice.ensures c.in-Ok-saturate.ensures.items

@@ -1,6 +1,6 @@
 use Rattle.std.proofs.Common.{◌≡◌, ◌+◌, ◌≤◌, take}
 use Rattle.std.specs.Prelude.{sum_by}
-use Rattle.ig_tool.specs.Reader.{decl_dots}
+use Rattle.ig_tool.specs.PlainText.{decl_dots}
 use Rattle.ig_tool.proofs.reader.has_few_dots.Given as goal
 
 abbrev pub invariant-loop-decl : goal.invariant-loop-decl
