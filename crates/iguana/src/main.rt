@@ -7,6 +7,8 @@
 #![tactic(auto)]
 
 mod file_shelf;
+#[cfg(test)]
+mod rows;
 mod stream_sink;
 mod words;
 
