@@ -1,5 +1,5 @@
 -- A number is read digit by digit.
-use Rattle.std.proofs.Common.{◌≡◌, ◌∙◌, ℕ, suc, ◌+◌, ◌-◌, ◌*◌, ◌^◌, ◌<◌, ◌≤◌, List, [], ◌∷◌, Bool, true, false, ◌&&◌, cond, Option, Some, None, length, take, drop, refl, sym, ap, arith, pos, ltb, leb, length-drop}
+use Rattle.std.proofs.Common.{◌≡◌, ◌∙◌, ℕ, suc, ◌+◌, ◌-◌, ◌*◌, ◌^◌, ◌<◌, ◌≤◌, List, [], ◌∷◌, Bool, true, false, ◌&&◌, cond, Option, Some, None, length, drop, refl, sym, ap, arith, pos, ltb, leb, length-drop}
 use Rattle.std.proofs.Math.ListN.{length-take}
 use Rattle.std.specs.Prelude.{slice_range, slice_get, option_and_then}
 use Rattle.std.specs.List.{list_all}
@@ -7,9 +7,9 @@ use Rattle.std.proofs.lemmas.Option.{slice_get_within, get_or_from_slice_get}
 use Rattle.std.proofs.lemmas.List.{drop_more}
 use Rattle.std.proofs.lemmas.Bool.Decides.{nat_tests}
 use Rattle.ig_text.specs.declared.text.Span.{Span}
-use Rattle.ig_expr.specs.Operations.{whole, fits}
+use Rattle.ig_expr.specs.Operations.{whole}
 use Rattle.ig_expr.specs.Reading.{is_digit, spelled, number_of, letters_of}
-use Rattle.ig_expr.specs.Digits.{digit_of, with_digit, appended}
+use Rattle.ig_expr.specs.Digits.{with_digit, appended}
 
 -- the number that the digits spell behind those of n, each number on the way within 64 bits
 abbrev pub reads : ℕ → List ℕ → Option ℕ

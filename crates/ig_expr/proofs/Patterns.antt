@@ -1,5 +1,5 @@
 -- The tests of a match decide whether there is one.
-use Rattle.std.proofs.Common.{◌≡◌, ◌∙◌, ℕ, ◌+◌, ◌-◌, ◌<◌, ◌≤◌, ◌↔◌, List, Bool, true, false, not, ◌&&◌, Option, Some, None, length, take, drop, refl, sym, ap, subst, arith, leb, T, IsTrue, length-drop}
+use Rattle.std.proofs.Common.{◌≡◌, ℕ, ◌+◌, ◌-◌, ◌≤◌, List, Bool, true, not, Option, Some, None, length, take, drop, refl, ap, subst, arith, leb, length-drop}
 use Rattle.std.specs.Prelude.{slice_range, slice_get, MatchOption, is_some}
 use Rattle.std.specs.Bool.{Decides}
 use Rattle.std.proofs.Math.ListN.{length-take}
@@ -7,7 +7,7 @@ use Rattle.std.specs.Cmp.Lexicographic.{bytes_decides}
 use Rattle.std.proofs.lemmas.Bool.Decides.{same_from_decides, Decides-and, Decides-not, Decides-like, nat_tests}
 use Rattle.ig_text.specs.Class.{is_in_class}
 use Rattle.ig_text.specs.Place.{Spells}
-use Rattle.ig_text.specs.Pattern.{IsOneOf, Matches}
+use Rattle.ig_text.specs.Pattern.{Matches}
 use Rattle.ig_text.specs.declared.class.Class.{Class}
 use Rattle.ig_text.specs.declared.pattern.Pattern.{Pattern}
 use Rattle.ig_text.specs.declared.pattern.Pattern.TheVariants.{Literal, OneOf}

@@ -1,13 +1,12 @@
 -- The tests of a text are true exactly where what they look for is there.
-use Rattle.std.proofs.Common.{◌≡◌, ◌↔◌, ℕ, List, Bool, true, not, Some, ap}
+use Rattle.std.proofs.Common.{◌≡◌, ◌↔◌, Bool, true, not, Some, ap}
 use Rattle.std.specs.Bool.{Decides}
 use Rattle.ig_expr.specs.Operations.{truth}
 use Rattle.ig_expr.specs.Reading.{letters_of, are_equal}
 use Rattle.ig_expr.specs.Matching.{matches_at, matches_before}
-use Rattle.ig_expr.specs.Laws.{IsYes, LooksFor, TestsLookFor}
+use Rattle.ig_expr.specs.Laws.{IsYes, TestsLookFor}
 use Rattle.ig_expr.proofs.Spans.{same_decides, spells_decides}
 use Rattle.ig_expr.proofs.Patterns.{not_begins, not_ends}
-use Rattle.ig_expr.specs.declared.value.Value.TheVariants as value
 
 yes : {P : Type 0} (b : Bool) → Decides b P → IsYes (truth b) ↔ P
 yes b d = (λ e. let is : b ≡ true = cc in d.0 is, λ p. ap truth (d.1 p))

@@ -1,7 +1,7 @@
 -- Expressions stored as trees of labels, from which they are read back: so a proof tells expressions apart.
 use Rattle.std.specs.Prelude.{◌≡◌, ℕ, ℤ, List, Bool, ◌⊎◌, refl}
 use Rattle.std.specs.Coded.{Coded, code_by, coded_ℕ, coded_ℤ, coded_bool, coded_list, coded⊎}
-use Rattle.std.proofs.Common.{inl, inr, ap, sym, ◌∙◌}
+use Rattle.std.proofs.Common.{inl, inr, ap}
 use base.Stored.{Gv, gnil, gcons, coded_unit}
 use Rattle.ig_text.specs.declared.pattern.Pattern.{Pattern}
 use Rattle.ig_text.specs.contracts.pattern.Pattern as pattern
