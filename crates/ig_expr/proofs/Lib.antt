@@ -4,3 +4,4 @@ pub mod Patterns
 pub mod Spans
 pub mod Sought
 pub mod Numbers
+pub mod KindsOfValues

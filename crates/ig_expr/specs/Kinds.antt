@@ -5,10 +5,18 @@ use Rattle.ig_expr.specs.Expression.{Expression}
 use Rattle.ig_expr.specs.Names.{look_up}
 use Rattle.ig_expr.specs.declared.kind.Kind.{Kind}
 use Rattle.ig_expr.specs.declared.kind.Kind.TheVariants as kind
+use Rattle.ig_expr.specs.declared.value.Value.{Value}
+use Rattle.ig_expr.specs.declared.value.Value.TheVariants as value
 use Rattle.ig_expr.specs.declared.operator.Op.{Op}
 use Rattle.ig_expr.specs.declared.operator.Op.TheVariants.{Add, Sub, Mul, Div, Mod, Less, LessEqual, Greater, GreaterEqual, Equal, NotEqual, And, Or}
 use Rattle.ig_expr.specs.declared.operator.Function.{Function}
 use Rattle.ig_expr.specs.declared.operator.Function.TheVariants.{Begin, End, Size, Column, Line, Number}
+
+-- the kind of a value
+abbrev pub kind_of_value : Value → Kind
+kind_of_value (value.Int n) = kind.Int
+kind_of_value (value.Bool b) = kind.Bool
+kind_of_value (value.Span s) = kind.Span
 
 -- whether two kinds are equal
 abbrev pub is_kind : Kind → Kind → Bool

@@ -1,10 +1,13 @@
--- What the tests of a text look for.
-use Rattle.std.specs.Prelude.{◌≡◌, ◌↔◌, ℕ, true, List, Option, Some}
+-- What the tests of a text look for, and the kinds of values.
+use Rattle.std.specs.Prelude.{◌≡◌, ◌↔◌, ℕ, true, List, map, Option, Some}
 use Rattle.ig_text.specs.Place.{Spells, AreSame}
 use Rattle.ig_text.specs.Pattern.{Matches}
 use Rattle.ig_text.specs.declared.text.Span.{Span}
 use Rattle.ig_text.specs.declared.pattern.Pattern.{Pattern}
 use Rattle.ig_expr.specs.Expression as tree
+use Rattle.ig_expr.specs.Expression.{Expression}
+use Rattle.ig_expr.specs.Kinds.{kind_in, kind_of_value}
+use Rattle.ig_expr.specs.declared.kind.Kind.{Kind}
 use Rattle.ig_expr.specs.Reading.{same, spells}
 use Rattle.ig_expr.specs.Evaluation.{value_of}
 use Rattle.ig_expr.specs.declared.value.Value.{Value}
@@ -22,3 +25,10 @@ pub record LooksFor (text : List ℕ) (names : List (List ℕ)) (values : List V
 
 abbrev pub TestsLookFor : Type 0
 TestsLookFor = (text : List ℕ) (names : List (List ℕ)) (values : List Value) (here : ℕ) → LooksFor text names values here
+
+-- where the values of the names have these kinds, the value of an expression has the expression's kind
+abbrev pub ValuesHaveKinds : Type 0
+ValuesHaveKinds =
+    (text : List ℕ) (names : List (List ℕ)) (kinds : List Kind) (values : List Value) (here : ℕ) (e : Expression) (kind : Kind)
+    (v : Value) → map kind_of_value values ≡ kinds → kind_in names kinds e ≡ Some kind →
+    value_of text names values here e ≡ Some v → kind_of_value v ≡ kind

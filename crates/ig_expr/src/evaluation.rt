@@ -1,7 +1,7 @@
 //! The values of expressions.
 ghost use Rattle.std.specs.Prelude.{◌≡◌};
 ghost use Rattle.ig_expr.specs.Evaluation.{value_of};
-ghost use Rattle.ig_expr.specs.Laws.{TestsLookFor};
+ghost use Rattle.ig_expr.specs.Laws.{TestsLookFor, ValuesHaveKinds};
 ghost use Rattle.ig_expr.specs.View.{expression_of};
 
 use crate::expression::Expr;
@@ -71,4 +71,10 @@ pub fn evaluate(e: &Expr, names: &[Word], values: &[Value], here: u32, text: &Te
 /// is no match: this law, proved for all texts, computes nothing.
 pub fn tests_look_for_matches()
     ensures { TestsLookFor }
+{}
+
+/// Where the variables have values of their kinds, an expression has no value of another kind than
+/// its own. This law, proved for all expressions, computes nothing.
+pub fn value_is_of_kind()
+    ensures { ValuesHaveKinds }
 {}

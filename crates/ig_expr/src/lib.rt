@@ -20,7 +20,7 @@ mod reading;
 mod tests;
 mod value;
 
-pub use evaluation::{evaluate, tests_look_for_matches};
+pub use evaluation::{evaluate, tests_look_for_matches, value_is_of_kind};
 pub use expression::{Expr, Exprs, Operand};
 pub use kind::{Kind, Kinds, kind_of};
 pub use operator::{Function, Op};

@@ -1,5 +1,5 @@
 -- Ranges of characters, and their normal form. A character is its number; a range is its first and its last character.
-use Rattle.std.specs.Prelude.{◌≡◌, ℕ, ◌+◌, ◌≤◌, List, [], ◌∷◌, Bool, ◌&&◌, nat_le}
+use Rattle.std.specs.Prelude.{◌≡◌, ℕ, ◌+◌, ◌≤◌, List, [], ◌∷◌, Bool, ◌&&◌, nat_le, nat_lt, min, max, if◌then◌else◌}
 use Rattle.std.specs.List.{All, list_any}
 
 -- no range falls
@@ -33,3 +33,23 @@ pub record IsNormalFormOf (pairs ranges : List (ℕ × ℕ)) : Type 0 where
 abbrev pub HasOneNormalForm : Type 0
 HasOneNormalForm =
     (pairs xs ys : List (ℕ × ℕ)) → IsNormalFormOf pairs xs → IsNormalFormOf pairs ys → xs ≡ ys
+
+-- a range is put among ranges in normal form, and joined with those that it overlaps or touches
+abbrev pub with_range : ℕ × ℕ → List (ℕ × ℕ) → List (ℕ × ℕ)
+with_range r [] = r ∷ []
+with_range r (s ∷ rest) =
+    if nat_lt (r.1 + 1) s.0 then r ∷ s ∷ rest
+    else (if nat_lt (s.1 + 1) r.0 then s ∷ with_range r rest else with_range (min r.0 s.0, max r.1 s.1) rest)
+
+-- the normal form of pairs of which none falls
+abbrev pub normal_form : List (ℕ × ℕ) → List (ℕ × ℕ)
+normal_form [] = []
+normal_form (r ∷ pairs) = with_range r (normal_form pairs)
+
+-- the normal form is in normal form, and has the numbers of the pairs
+abbrev pub NormalFormIsNormal : Type 0
+NormalFormIsNormal = (pairs : List (ℕ × ℕ)) → NoneFalls pairs → IsNormalFormOf pairs (normal_form pairs)
+
+-- ranges in normal form are their own normal form
+abbrev pub NormalRangesStay : Type 0
+NormalRangesStay = (ranges : List (ℕ × ℕ)) → IsNormalFrom 0 ranges → normal_form ranges ≡ ranges

@@ -1,5 +1,6 @@
 ghost use Rattle.std.specs.Prelude.{◌≡◌, ◌+◌, ◌<◌, ◌↔◌, IfOk, IsTrue};
-ghost use Rattle.ig_text.specs.Ranges.{NoneFalls, Ascends, is_among, IsNormalFormOf, HasOneNormalForm};
+ghost use Rattle.ig_text.specs.Ranges.{NoneFalls, Ascends, is_among, IsNormalFormOf, HasOneNormalForm, normal_form, NormalFormIsNormal, NormalRangesStay};
+ghost use Rattle.ig_text.specs.declared.class.Class.TheVariants.{Ranges};
 ghost use Rattle.ig_text.specs.Class.{is_in_class, IsClassOf};
 
 use crate::copied::Copied;
@@ -28,7 +29,8 @@ impl Class {
     /// the other's end. In no pair may the first character be greater than the last.
     pub fn ranges(alloc: Global, negated: bool, pairs: &[(char, char)]) -> Result<Class, AllocError>
         requires { NoneFalls pairs.now }
-        ensures { IfOk result (IsClassOf negated pairs.now) }
+        ensures members { IfOk result (IsClassOf negated pairs.now) }
+        ensures value { IfOk result (λ c. c ≡ Ranges negated (normal_form pairs.now)) }
     {
         let mut sorted = Vec::from_slice(alloc, pairs)?;
         sorted.sort_unstable();
@@ -105,4 +107,16 @@ impl Copied for Class {
 /// Pairs have one normal form at most: this law, proved for all pairs, computes nothing.
 pub fn normal_form_is_single()
     ensures { HasOneNormalForm }
+{}
+
+/// The normal form of pairs of which none falls is in normal form and has their characters: this
+/// law, proved for all such pairs, computes nothing.
+pub fn normal_form_is_normal()
+    ensures { NormalFormIsNormal }
+{}
+
+/// Ranges in normal form are their own normal form: this law, proved for all of them, computes
+/// nothing.
+pub fn normal_ranges_stay()
+    ensures { NormalRangesStay }
 {}

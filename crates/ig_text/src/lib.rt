@@ -17,7 +17,7 @@ mod tag;
 mod text;
 mod word;
 
-pub use class::{Class, Ranges, normal_form_is_single};
+pub use class::{Class, Ranges, normal_form_is_normal, normal_form_is_single, normal_ranges_stay};
 pub use copied::Copied;
 pub use pattern::{Pattern, Patterns};
 pub use sequence::Sequence;

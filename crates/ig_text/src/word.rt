@@ -45,6 +45,13 @@ impl Word {
         self.text.as_str()
     }
 
+    /// The characters of the word. Takes no memory.
+    pub fn as_chars(&self) -> &[char]
+        ensures { result.now ≡ self.now }
+    {
+        self.characters.as_slice()
+    }
+
     /// The position at which a match of the word at this position ends; `None` exactly where the
     /// word doesn't match there. Takes no memory.
     pub fn ends_at(&self, text: &Text, position: u32) -> Option<u32>

@@ -1,5 +1,7 @@
-use Rattle.std.proofs.Common.{refl}
+use Rattle.std.proofs.Common.{refl, ap}
+use Rattle.ig_text.specs.declared.class.Class.TheVariants.{Ranges}
 use Rattle.ig_text.proofs.Ascending.{sorted_ascends, of_permutation}
+use Rattle.ig_text.proofs.Insertion.{class_value}
 use Rattle.ig_text.proofs.class.Class.ranges.Goals as goal
 
 pub joined-requires : goal.joined-requires
@@ -10,9 +12,10 @@ joined-requires c =
 
 pub returns : goal.returns
 returns c =
-    let p = rw c.in_ok-sorted.ensures.items at c.sort_unstable.ensures.permutation in (
-      c.in_ok-ranges.ranges,
-      refl,
-      of_permutation c.args.pairs.now c.sort_unstable.new.self.items c.as_slice.result.now c.in_ok-ranges.ranges
-          c.as_slice.ensures.value p c.in_ok-ranges.ensures,
-    )
+    let p = rw c.in_ok-sorted.ensures.items at c.sort_unstable.ensures.permutation in
+    let n = of_permutation c.args.pairs.now c.sort_unstable.new.self.items c.as_slice.result.now c.in_ok-ranges.ranges
+    c.as_slice.ensures.value p c.in_ok-ranges.ensures in
+    record {
+      members = (c.in_ok-ranges.ranges, refl, n);
+      value = ap (Ranges c.args.negated) (class_value c.args.pairs.now c.in_ok-ranges.ranges c.requires n);
+    }
