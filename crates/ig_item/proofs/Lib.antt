@@ -1,0 +1,10 @@
+pub mod Lists
+pub mod Sums
+pub mod Reachability
+pub mod Positions
+pub mod Dots
+pub mod Environments
+pub mod ItemTrees
+pub mod Fitting
+pub mod Examples
+pub mod FourItems

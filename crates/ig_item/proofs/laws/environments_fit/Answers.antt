@@ -1,0 +1,5 @@
+use Rattle.ig_item.proofs.Environments.{environments}
+use Rattle.ig_item.proofs.laws.environments_fit.Goals as goal
+
+pub returns : goal.returns
+returns c = environments

@@ -1,0 +1,12 @@
+pub mod Step
+pub mod View
+pub mod Core
+pub mod Visible
+pub mod WellKinded
+pub mod Items
+pub mod Tables
+pub mod CoreTrees
+pub mod Report
+pub mod Laws
+pub mod Examples
+pub mod Ascii

@@ -1,0 +1,35 @@
+-- Items that name their instances and environments by number.
+use Rattle.std.specs.Prelude.{ℕ, ◌<◌, List, [], map, length, Contains, slice_index_or}
+use Rattle.ig_expr.specs.declared.value.Value.{Value}
+use Rattle.ig_item.specs.Items.{Item, root_instance}
+use Rattle.ig_item.specs.declared.items.Instance.{Instance}
+use Rattle.ig_item.specs.declared.items.Item as stored
+
+-- a table of instances, one of environments, and items that name them by number
+pub record Tables : Type 0 where
+  pub instances : List Instance
+  pub environments : List (List Value)
+  pub items : List stored.Item
+
+-- what the items name is in the tables, and each table has fewer than 2 to the power of 32 members
+pub record AreTables (tables : Tables) : Type 0 where
+  pub instances_there : (x : stored.Item) → Contains tables.items x → x.instance < length tables.instances
+  pub environments_there : (x : stored.Item) → Contains tables.items x → x.env < length tables.environments
+  pub few_instances : length tables.instances < 4294967296
+  pub few_environments : length tables.environments < 4294967296
+  pub few_items : length tables.items < 4294967296
+
+-- the item, with its instance and environment out of the tables
+abbrev pub item_of : Tables → stored.Item → Item
+item_of tables x =
+    record {
+      instance = slice_index_or tables.instances x.instance root_instance;
+      alternative = x.alternative;
+      dot = x.dot;
+      env = slice_index_or tables.environments x.env [];
+      position = x.position;
+    }
+
+-- the items in order
+abbrev pub items_of : Tables → List Item
+items_of tables = map (item_of tables) tables.items
