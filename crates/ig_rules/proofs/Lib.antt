@@ -1,0 +1,16 @@
+pub mod Spans
+pub mod Back
+pub mod BackDeclarations
+pub mod Begins
+pub mod Clear
+pub mod Running
+pub mod Following
+pub mod Free
+pub mod OneExpression
+pub mod OneSymbol
+pub mod OneGrammar
+pub mod Tails
+pub mod Standing
+pub mod Counting
+pub mod Regularity
+pub mod Moves

@@ -1,0 +1,52 @@
+//! Laws of the rules of the notation: each is the contract of a function that computes nothing.
+#![tactic(auto)]
+
+ghost use Rattle.ig_rules.specs.Laws.{OneReading, ReadRuns, RunStops, StopsOnce};
+ghost use Rattle.ig_rules.specs.Laws.{ReadsAreCounted, ReadsAreRegular, ReadsAreWritten, ReadsStandWell};
+
+/// Tokens read as one grammar at most. This law, proved of all tokens, computes nothing.
+pub fn one_reading()
+    ensures { OneReading }
+{}
+
+/// Where the machine of `specs/Machine.antt` stops, the tokens stop following the rules. This law,
+/// proved of all tokens, computes nothing.
+pub fn run_stops()
+    ensures { RunStops }
+{}
+
+/// The machine takes all tokens that follow the rules. This law, proved of all tokens, computes
+/// nothing.
+pub fn read_runs()
+    ensures { ReadRuns }
+{}
+
+/// Tokens stop following the rules at one place at most. This law, proved of all tokens, computes
+/// nothing.
+pub fn stops_once()
+    ensures { StopsOnce }
+{}
+
+/// A grammar that tokens read as has only forms that can be written. This law, proved of all tokens,
+/// computes nothing.
+pub fn reads_are_written()
+    ensures { ReadsAreWritten }
+{}
+
+/// Labels, marks and filters of a grammar that tokens read as stand where they may, and no literal is
+/// empty if none of the tokens is an empty literal. This law, proved of all tokens, computes nothing.
+pub fn reads_stand_well()
+    ensures { ReadsStandWell }
+{}
+
+/// A grammar that tokens read as has no more declarations, levels, alternatives or symbols than
+/// there are tokens. This law, proved of all tokens, computes nothing.
+pub fn reads_are_counted()
+    ensures { ReadsAreCounted }
+{}
+
+/// A grammar that fewer than 4,294,967,296 tokens, none an empty literal, read as is regular. This
+/// law, proved of all tokens, computes nothing.
+pub fn reads_are_regular()
+    ensures { ReadsAreRegular }
+{}
