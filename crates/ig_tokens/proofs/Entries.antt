@@ -1,0 +1,190 @@
+-- What the tables of the notation have in common.
+use Rattle.std.proofs.Common.{◌≡◌, ◌∙◌, ℕ, ◌<◌, ◌≤◌, List, [], ◌∷◌, Bool, true, false, cond, not, ◌&&◌, ◌||◌, ◌==◌, nat_lt, nat_le, Option, Some, length, refl, arith}
+use Rattle.std.specs.Char.{is_ascii_alphabetic, is_ascii_alphanumeric}
+use Rattle.std.specs.List.{list_all}
+use Rattle.std.proofs.lemmas.Slice.Eq.{bytes_eq-Decides}
+use Rattle.std.proofs.lemmas.Bool.Decides.{nat_tests}
+use Rattle.unicode_ident.specs.Ident.{is_xid_start, is_xid_continue}
+use Rattle.unicode_ident.proofs.IdentLemmas.{is_xid_start-ascii, is_xid_continue-ascii, is_xid_start-is_xid_continue}
+use Rattle.ig_text.specs.declared.class.Class.{Class}
+use Rattle.ig_text.specs.declared.class.Class.TheVariants as class
+use Rattle.ig_expr.specs.Names.{is_word}
+use Rattle.ig_expr.specs.Reading.{is_digit}
+use Rattle.ig_grammar.specs.Token as token
+use Rattle.ig_grammar.specs.Token.{Token}
+use Rattle.ig_grammar.specs.Spelling.{entry, signs, keywords, named_classes, is_one_of, blanks, begins, may_precede, IsWord, word}
+use Rattle.ig_tokens.proofs.Runs.{both}
+
+abbrev pub all_rows : {A : Type 0} → (List ℕ → A → Bool) → List (List ℕ × A) → Bool
+all_rows test [] = true
+all_rows test (row ∷ rows) = test row.0 row.1 && all_rows test rows
+
+one_entry : {A : Type 0} (test : List ℕ → A → Bool) (w text : List ℕ) (x y : A) (r : Option A) (b : Bool) → is_word w text ≡ b →
+    test w x ≡ true → (r ≡ Some y → test text y ≡ true) → cond b (Some x) r ≡ Some y → test text y ≡ true
+one_entry test w text x y r true e t k h =
+    let p : w ≡ text = (bytes_eq-Decides w text).0 e in
+    let q : x ≡ y = let s : Some x ≡ Some y = h in cc in rw (← p, ← q) t
+one_entry test w text x y r false e t k h = k h
+
+-- what holds of all rows holds of the one that is found
+pub entry_all : {A : Type 0} (test : List ℕ → A → Bool) (table : List (List ℕ × A)) (text : List ℕ) (y : A) →
+    all_rows test table ≡ true → entry table text ≡ Some y → test text y ≡ true
+entry_all test [] text y a h = absurd (cc)
+entry_all test (row ∷ rows) text y a h =
+    let k = both (test row.0 row.1) (all_rows test rows) a in
+    one_entry test row.0 text row.1 y (entry rows text) (is_word row.0 text) refl k.0 (entry_all test rows text y k.1) h
+
+-- behind which tokens anything may stand
+abbrev pub is_free : Token → Bool
+is_free (token.Number n) = false
+is_free (token.OneOf c) = false
+is_free t = true
+
+pub free : (t : Token) (rest : List ℕ) → is_free t ≡ true → may_precede t rest ≡ true
+free (token.Number n) rest h = absurd (cc)
+free (token.OneOf c) rest h = absurd (cc)
+free t rest h = refl
+
+pub keyword_free : (text rest : List ℕ) (t : Token) → entry keywords text ≡ Some t → may_precede t rest ≡ true
+unfolding keywords
+keyword_free text rest t h = free t rest (entry_all (λ w u. is_free u) keywords text t refl h)
+
+pub sign_free : (text rest : List ℕ) (t : Token) → entry signs text ≡ Some t → may_precede t rest ≡ true
+unfolding signs
+sign_free text rest t h = free t rest (entry_all (λ w u. is_free u) signs text t refl h)
+
+-- a class with a name has no ranges
+abbrev is_named : Class → Bool
+is_named (class.Ranges n r) = false
+is_named c = true
+
+named_precedes : (c : Class) (rest : List ℕ) → is_named c ≡ true → may_precede (token.OneOf c) rest ≡ not (begins is_xid_continue rest)
+named_precedes (class.Ranges n r) rest h = absurd (cc)
+named_precedes class.Any rest h = refl
+named_precedes class.XidStart rest h = refl
+named_precedes class.XidContinue rest h = refl
+
+pub named_class_precedes : (text rest : List ℕ) (c : Class) → entry named_classes text ≡ Some c →
+    may_precede (token.OneOf c) rest ≡ not (begins is_xid_continue rest)
+unfolding named_classes
+named_class_precedes text rest c h = named_precedes c rest (entry_all (λ w u. is_named u) named_classes text c refl h)
+
+-- words of ASCII characters
+abbrev is_letter : ℕ → Bool
+is_letter c = nat_lt c 128 && is_ascii_alphabetic c
+
+abbrev is_joining : ℕ → Bool
+is_joining c = nat_lt c 128 && (is_ascii_alphanumeric c || (c == 95))
+
+abbrev is_ascii_word : List ℕ → Bool
+is_ascii_word [] = false
+is_ascii_word (c ∷ cs) = is_letter c && list_all is_joining cs
+
+below : (c : ℕ) → nat_lt c 128 ≡ true → c < 128
+below c h = grind (arith, nat_tests)
+
+letter_starts : (c : ℕ) → is_letter c ≡ true → is_xid_start c ≡ true
+letter_starts c h =
+    let k = both (nat_lt c 128) (is_ascii_alphabetic c) h in is_xid_start-ascii c (below c k.0) ∙ k.1
+
+joining_continues : (c : ℕ) → is_joining c ≡ true → is_xid_continue c ≡ true
+joining_continues c h =
+    let k = both (nat_lt c 128) (is_ascii_alphanumeric c || (c == 95)) h in is_xid_continue-ascii c (below c k.0) ∙ k.1
+
+all_continue : (cs : List ℕ) → list_all is_joining cs ≡ true → list_all is_xid_continue cs ≡ true
+all_continue [] h = refl
+all_continue (c ∷ cs) h =
+    let k = both (is_joining c) (list_all is_joining cs) h in rw (joining_continues c k.0) (all_continue cs k.1)
+
+ascii_word : (cs : List ℕ) → is_ascii_word cs ≡ true → IsWord cs
+ascii_word [] h = absurd (cc)
+ascii_word (c ∷ cs) h =
+    let k = both (is_letter c) (list_all is_joining cs) h in word c cs (letter_starts c k.0) (all_continue cs k.1)
+
+pub keyword_word : (text : List ℕ) (t : Token) → entry keywords text ≡ Some t → IsWord text
+unfolding keywords
+keyword_word text t h = ascii_word text (entry_all (λ w u. is_ascii_word w) keywords text t refl h)
+
+pub class_name_continues : (text : List ℕ) (c : Class) → entry named_classes text ≡ Some c → list_all is_xid_continue text ≡ true
+unfolding named_classes
+class_name_continues text c h = all_continue text (entry_all (λ w u. list_all is_joining w) named_classes text c refl h)
+
+pub word_continues : {cs : List ℕ} → IsWord cs → list_all is_xid_continue cs ≡ true
+word_continues (word c cs h k) = rw (is_xid_start-is_xid_continue c h) k
+
+-- a sign has one to three characters, and none begins as anything else does
+abbrev is_sign_start : ℕ → Bool
+is_sign_start c =
+    nat_lt c 128 && (not (is_ascii_alphabetic c) && (not (is_digit c) && (not (is_one_of blanks c) && not (is_one_of (47 ∷ 34 ∷ 91 ∷ 36 ∷ []) c))))
+
+abbrev is_sign : List ℕ → Bool
+is_sign [] = false
+is_sign (c ∷ cs) = is_sign_start c && nat_le (length cs) 2
+
+sign_test : (text : List ℕ) (t : Token) → entry signs text ≡ Some t → is_sign text ≡ true
+unfolding signs
+sign_test text t h = entry_all (λ w u. is_sign w) signs text t refl h
+
+-- the first character of a sign
+pub record SignStart (c : ℕ) : Type 0 where
+  pub no_blank : is_one_of blanks c ≡ false
+  pub no_slash : (c == 47) ≡ false
+  pub no_start : is_xid_start c ≡ false
+  pub no_digit : is_digit c ≡ false
+  pub no_quote : (c == 34) ≡ false
+  pub no_bracket : (c == 91) ≡ false
+  pub no_dollar : (c == 36) ≡ false
+
+negated : (b : Bool) → not b ≡ true → b ≡ false
+negated true e = absurd (cc)
+negated false e = refl
+
+other : (c k : ℕ) → c < 128 → (k == c) ≡ false → (c == k) ≡ false
+other c k h e = grind (arith, nat_tests)
+
+or_both : (a b : Bool) → (a || b) ≡ false → (a ≡ false) × (b ≡ false)
+or_both true b e = absurd (cc)
+or_both false b e = (refl, e)
+
+sign_start : (c : ℕ) → is_sign_start c ≡ true → SignStart c
+sign_start c h =
+    let small = both (nat_lt c 128) _ h in
+    let letter = both (not (is_ascii_alphabetic c)) _ small.1 in
+    let digit = both (not (is_digit c)) _ letter.1 in
+    let blank = both (not (is_one_of blanks c)) (not (is_one_of (47 ∷ 34 ∷ 91 ∷ 36 ∷ []) c)) digit.1 in
+    let n = below c small.0 in
+    let special = or_both (47 == c) _ (negated (is_one_of (47 ∷ 34 ∷ 91 ∷ 36 ∷ []) c) blank.1) in
+    let quote = or_both (34 == c) _ special.1 in
+    let bracket = or_both (91 == c) _ quote.1 in
+    let dollar = or_both (36 == c) false bracket.1 in
+    record {
+      no_blank = negated (is_one_of blanks c) blank.0;
+      no_slash = other c 47 n special.0;
+      no_start = is_xid_start-ascii c n ∙ negated (is_ascii_alphabetic c) letter.0;
+      no_digit = negated (is_digit c) digit.0;
+      no_quote = other c 34 n quote.0;
+      no_bracket = other c 91 n bracket.0;
+      no_dollar = other c 36 n dollar.0;
+    }
+
+pub record IsSignText (text : List ℕ) : Type 0 where
+  pub first : ℕ
+  pub others : List ℕ
+  pub parts : text ≡ first ∷ others
+  pub start : SignStart first
+  pub few : length others ≤ 2
+
+sign_parts : (text : List ℕ) → is_sign text ≡ true → IsSignText text
+sign_parts [] h = absurd (cc)
+sign_parts (c ∷ cs) h =
+    let k = both (is_sign_start c) (nat_le (length cs) 2) h in
+    record {
+      first = c;
+      others = cs;
+      parts = refl;
+      start = sign_start c k.0;
+      few = let e = k.1 in grind (arith, nat_tests);
+    }
+
+pub sign_text : (text : List ℕ) (t : Token) → entry signs text ≡ Some t → IsSignText text
+sign_text text t h = sign_parts text (sign_test text t h)

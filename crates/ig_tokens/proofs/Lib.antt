@@ -1,0 +1,13 @@
+pub mod Reading
+pub mod LetterSteps
+pub mod RangeSteps
+pub mod Tables
+pub mod Runs
+pub mod Spelled
+pub mod SpelledRanges
+pub mod Entries
+pub mod Dispatch
+pub mod Sound
+pub mod Complete
+pub mod Longest
+pub mod Lexed

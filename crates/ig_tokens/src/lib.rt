@@ -1,0 +1,31 @@
+//! The tokens of a grammar text, each with the byte at which it begins.
+//!
+//! `specs/Spelling.antt` of ig_grammar is the table of tokens, `specs/Lexing.antt` says which tokens
+//! a text has, and where one that has none breaks. [`tokenize`] finds them in one pass. A token's
+//! text is a slice of the source; [`literal_text`], [`class_of`] and [`number_of`] give what it means.
+#![tactic(auto)]
+
+mod characters;
+mod classes;
+mod laws;
+mod letters;
+mod literals;
+mod numbers;
+mod signs;
+mod step;
+mod token;
+mod tokenizer;
+mod words;
+
+pub use classes::class_of;
+pub use laws::{
+    break_is_single, longest_token_is_next, texts_lex_or_break, texts_never_do_both,
+    tokens_are_single,
+};
+pub use literals::literal_text;
+pub use numbers::number_of;
+pub use token::{Placed, Token, TokenFault};
+pub use tokenizer::tokenize;
+
+#[cfg(test)]
+mod tests;
