@@ -1,0 +1,11 @@
+pub mod Steps
+pub mod Names
+pub mod Lists
+pub mod ExpressionParts
+pub mod FilterParts
+pub mod SymbolParts
+pub mod DeclarationParts
+pub mod LimitParts
+pub mod Outcomes
+pub mod Readings
+pub mod Regularity

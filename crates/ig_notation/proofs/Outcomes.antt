@@ -1,0 +1,80 @@
+-- What the tests of a text find.
+use Rattle.std.proofs.Common.{◌≡◌, ℕ, zero, suc, ◌≤◌, ◌<◌, List, [], ◌∷◌, length, get_or, refl, sym, ap, subst, arith}
+use Rattle.std.specs.Prelude.{Result, Ok, Err, IfErr, chars}
+use Rattle.std.specs.Result.{IsErrAnd}
+use Rattle.ig_grammar.specs.Rules.{FollowsRules}
+use Rattle.ig_grammar.specs.Lexing.{Lexes}
+use Rattle.ig_grammar.specs.Stops.{Stops}
+use Rattle.ig_grammar.specs.declared.grammar.Grammar.{Grammar}
+use Rattle.ig_tokens.specs.View.{token_of, tokens_of}
+use Rattle.ig_tokens.specs.Faults.{IsFault}
+use Rattle.ig_tokens.specs.declared.token.Placed.{Placed}
+use Rattle.ig_tokens.specs.declared.token.TokenFault.{TokenFault}
+use Rattle.ig_tokens.specs.declared.token.TokenFault.TheVariants.{Broken, Memory as OutOfMemory}
+use Rattle.ig_rules.specs.Laws.{AreOfGrammar, RunStops}
+use Rattle.ig_rules.specs.Machine as want
+use Rattle.ig_notation.specs.declared.fault.RuleFault.{RuleFault}
+use Rattle.ig_notation.specs.declared.fault.RuleFault.TheVariants.{Unexpected, Memory}
+use Rattle.ig_notation.specs.declared.fault.ReadFault.{ReadFault}
+use Rattle.ig_notation.specs.declared.fault.ReadFault.TheVariants as faults
+use Rattle.ig_notation.specs.declared.fault.Large.TheVariants as large
+use Rattle.ig_notation.specs.Limits.{NumbersFit, IsShallow}
+use Rattle.ig_notation.specs.Outcome.{unplaced, HasTokens, IsRead, byte_of, fault_of, refusal_of, IsReadFault, no_token, large_number, deep, against_rules, no_memory}
+use Rattle.ig_notation.specs.Readers.{meanings, FailsAt}
+
+same_tokens : (placed : List Placed) → meanings placed ≡ unplaced (tokens_of placed)
+same_tokens [] = refl
+same_tokens (p ∷ placed) = ap (λ z. token_of p.token ∷ z) (same_tokens placed)
+
+-- the text and its tokens, as the tests find them
+pub has_tokens : (source : List ℕ) (items placed : List Placed) → length source ≤ 262144 → Lexes 0 (chars source) (tokens_of items) → placed ≡ items →
+    HasTokens source (tokens_of placed)
+has_tokens source items placed l h e = record { bytes = l; lexed = subst (λ z. Lexes 0 (chars source) (tokens_of z)) (sym e) h }
+
+pub token_fault : (source : List ℕ) (fault : TokenFault) → length source ≤ 262144 → IsFault (chars source) fault → IsReadFault source (fault_of fault)
+token_fault source (Broken at) l h = no_token at l h
+token_fault source OutOfMemory l h = no_memory
+
+pub number_fault : (source : List ℕ) (placed : List Placed) → HasTokens source (tokens_of placed) → (NumbersFit (meanings placed) → ⊥) →
+    IsReadFault source (faults.TooLarge large.Number)
+number_fault source placed h f = large_number (tokens_of placed) h (subst (λ z. NumbersFit z → ⊥) (same_tokens placed) f)
+
+pub nesting_fault : (source : List ℕ) (placed : List Placed) → HasTokens source (tokens_of placed) → NumbersFit (meanings placed) →
+    (IsShallow (meanings placed) → ⊥) → IsReadFault source (faults.TooLarge large.Nesting)
+nesting_fault source placed h n f =
+    deep (tokens_of placed) h (subst NumbersFit (same_tokens placed) n) (subst (λ z. IsShallow z → ⊥) (same_tokens placed) f)
+
+pub rule_fault : (source : List ℕ) (placed : List Placed) (fault : RuleFault) → HasTokens source (tokens_of placed) → NumbersFit (meanings placed) →
+    IsShallow (meanings placed) → RunStops → FailsAt want.grammar (meanings placed) 0 fault →
+    IsReadFault source (refusal_of (length source) (tokens_of placed) fault)
+rule_fault source placed (Unexpected n) h f s law r =
+    against_rules (tokens_of placed) n (byte_of (length source) (tokens_of placed) n) h (subst NumbersFit (same_tokens placed) f)
+    (subst IsShallow (same_tokens placed) s) (subst (λ z. Stops AreOfGrammar z n) (same_tokens placed) (law (meanings placed) n r)) refl
+rule_fault source placed Memory h f s law r = no_memory
+
+pub is_read : (source : List ℕ) (placed : List Placed) (g : Grammar) → HasTokens source (tokens_of placed) → NumbersFit (meanings placed) →
+    IsShallow (meanings placed) → FollowsRules (meanings placed) g → IsRead source g
+is_read source placed g h f s r = record {
+  tokens = tokens_of placed;
+  are_tokens = h;
+  numbers = subst NumbersFit (same_tokens placed) f;
+  shallow = subst IsShallow (same_tokens placed) s;
+  follows = subst (λ z. FollowsRules z g) (same_tokens placed) r;
+}
+
+-- the byte of a token
+pub byte_there : (end : ℕ) (placed : List Placed) (i : ℕ) (p : Placed) → i < length placed → ((d : Placed) → p ≡ get_or placed i d) →
+    p.at ≡ byte_of end (tokens_of placed) i
+byte_there end [] i p l e = absurd (omega arith)
+byte_there end (q ∷ qs) zero p l e = ap (λ z. z.at) (e q)
+byte_there end (q ∷ qs) (suc i) p l e = byte_there end qs i p (omega arith) e
+
+pub byte_past : (end : ℕ) (placed : List Placed) (i : ℕ) → length placed ≤ i → end ≡ byte_of end (tokens_of placed) i
+byte_past end [] i l = refl
+byte_past end (q ∷ qs) zero l = absurd (omega arith)
+byte_past end (q ∷ qs) (suc i) l = byte_past end qs i (omega arith)
+
+pub exits_with : {X : Type 0} (source : List ℕ) (r : Result X ReadFault) (fault : TokenFault) → IsErrAnd r (λ y. y ≡ fault_of fault) →
+    IsReadFault source (fault_of fault) → IfErr r (IsReadFault source)
+exits_with source (Ok x) fault h f = tt
+exits_with source (Err y) fault h f = subst (IsReadFault source) (sym h) f

@@ -1,0 +1,86 @@
+use Rattle.std.proofs.Common.{rules, refl}
+use Rattle.std.proofs.lemmas.Result.{IfOk-weaker, IfErr-weaker}
+use Rattle.ig_expr.specs.Expression.{Truth}
+use Rattle.ig_expr.specs.Expression as tree
+use Rattle.std.specs.Prelude.{true, false}
+use Rattle.ig_grammar.specs.Rules as rule
+use Rattle.ig_notation.proofs.Steps.{stands_as, stop_later, exits, by_itself}
+use Rattle.ig_notation.proofs.ExpressionParts.{opposite, negative, unsigned, plain_expression, alone, operation, second_stops, applies, same, spells, numeral, no_larger, variable, in_brackets, called, called_stops}
+use Rattle.ig_notation.proofs.expressions.+expressions.Goals as goal
+
+pub read_expression-returns-in_ok-new-in-Not-clause-ok : goal.read_expression-returns-in_ok-new-in-Not-clause-ok
+read_expression-returns-in_ok-new-in-Not-clause-ok t c =
+    opposite _ _ _ _ _ (stands_as _ _ _ _ c.in_ok-ahead.ensures.ok c.in-Not.is) c.in_ok-operand-in-Not.ensures.ok c.in_ok-new-in-Not.ensures
+
+pub read_expression-returns-in_ok-new-in-Minus-clause-ok : goal.read_expression-returns-in_ok-new-in-Minus-clause-ok
+read_expression-returns-in_ok-new-in-Minus-clause-ok t c =
+    negative _ _ _ _ _ (stands_as _ _ _ _ c.in_ok-ahead.ensures.ok c.in-Minus.is) c.in_ok-operand-in-Minus.ensures.ok c.in_ok-new-in-Minus.ensures
+
+pub read_expression-returns-in_default : goal.read_expression-returns-in_default
+read_expression-returns-in_default t c =
+    let r = unsigned _ _ _ c.in_ok-ahead.ensures.ok (search rules) in
+    record {
+      ok = IfOk-weaker _ _ _ (λ x g. plain_expression _ _ _ _ r g) c.read_operation.ensures.ok;
+      err = IfErr-weaker _ _ _ (λ e s. stop_later _ _ _ _ _ e r s) c.read_operation.ensures.err;
+    }
+
+pub read_function-returns-in_ok-new-in-One-clause-ok : goal.read_function-returns-in_ok-new-in-One-clause-ok
+read_function-returns-in_ok-new-in-One-clause-ok t c =
+    applies _ _ _ _ _ _ _ c.in-One.is c.in_ok-operand-in-One.ensures.ok c.in_ok-new-in-One.ensures
+
+pub read_operation-returns-in_default-clause-ok : goal.read_operation-returns-in_default-clause-ok
+read_operation-returns-in_default-clause-ok t c = alone _ _ _ _ c.in_ok-left.ensures.ok c.in_default.ensures
+
+pub read_operation-returns-in_err-right-clause-err : goal.read_operation-returns-in_err-right-clause-err
+read_operation-returns-in_err-right-clause-err t c =
+    exits _ _ _ c.from_residual-in_err-right.ensures.1 (second_stops _ _ _ _ _ _ c.in_ok-left.ensures.ok c.in-Some.ensures c.in_err-right.ensures.err)
+
+pub read_operation-returns-clause-ok : goal.read_operation-returns-clause-ok
+read_operation-returns-clause-ok t c =
+    operation _ _ _ _ _ _ _ _ _ c.in_ok-left.ensures.ok c.in-Some.ensures c.in_ok-right.ensures.ok c.in_ok-left-2.ensures c.in_ok-right-2.ensures
+
+pub read_same-returns-clause-ok : goal.read_same-returns-clause-ok
+read_same-returns-clause-ok t c =
+    same _ _ _ _ _ _ _ _ _ c.in_ok-first.ensures.ok c.in_ok-end.ensures.ok c.in_ok-second.ensures.ok c.in_ok-first-2.ensures c.in_ok-second-2.ensures
+
+pub read_spells-returns-clause-ok : goal.read_spells-returns-clause-ok
+read_spells-returns-clause-ok t c =
+    spells _ _ _ _ _ _ _ _ c.in_ok-operand.ensures.ok c.in_ok-end.ensures.ok c.in_ok-text.ensures.ok c.in_ok-end-2.ensures.ok c.in_ok-operand-2.ensures
+
+pub read_term-unreachable-requires : goal.read_term-unreachable-requires
+read_term-unreachable-requires t c =
+    no_larger _ _ _ c.requires (stands_as _ _ _ _ c.in_ok-digits.ensures.ok c.in-Number.is) c.in-None.ensures
+
+pub read_term-returns-in-Some-clause-ok : goal.read_term-returns-in-Some-clause-ok
+read_term-returns-in-Some-clause-ok t c = numeral _ _ _ _ (stands_as _ _ _ _ c.in_ok-digits.ensures.ok c.in-Number.is) (search rules)
+
+pub read_term-returns-in-True-clause-ok : goal.read_term-returns-in-True-clause-ok
+read_term-returns-in-True-clause-ok t c =
+    by_itself _ _ _ _ _ _ (Truth true) (stands_as _ _ _ _ c.in_ok-digits.ensures.ok c.in-True.is) refl (λ r. rule.truth r)
+
+pub read_term-returns-in-False-clause-ok : goal.read_term-returns-in-False-clause-ok
+read_term-returns-in-False-clause-ok t c =
+    by_itself _ _ _ _ _ _ (Truth false) (stands_as _ _ _ _ c.in_ok-digits.ensures.ok c.in-False.is) refl (λ r. rule.falsehood r)
+
+pub read_term-returns-in-Here-clause-ok : goal.read_term-returns-in-Here-clause-ok
+read_term-returns-in-Here-clause-ok t c =
+    by_itself _ _ _ _ _ _ tree.Here (stands_as _ _ _ _ c.in_ok-digits.ensures.ok c.in-Here.is) refl (λ r. rule.here r)
+
+pub read_term-returns-in_ok-new-in-Name-clause-ok : goal.read_term-returns-in_ok-new-in-Name-clause-ok
+read_term-returns-in_ok-new-in-Name-clause-ok t c =
+    variable _ _ _ _ (stands_as _ _ _ _ c.in_ok-digits.ensures.ok c.in-Name.is) c.in_ok-new-in-Name.ensures
+
+pub read_term-returns-in-Open-clause-ok : goal.read_term-returns-in-Open-clause-ok
+read_term-returns-in-Open-clause-ok t c =
+    let s = stands_as _ _ _ _ c.in_ok-digits.ensures.ok c.in-Open.is in
+    IfOk-weaker _ _ _ (λ x g. in_brackets _ _ _ _ s g) c.read_closed.ensures.ok
+
+pub read_term-returns-in-Some-function_named-clause-ok : goal.read_term-returns-in-Some-function_named-clause-ok
+read_term-returns-in-Some-function_named-clause-ok t c =
+    let s = stands_as _ _ _ _ c.in_ok-digits.ensures.ok c.in-Head.is in
+    IfOk-weaker _ _ _ (λ x g. called _ _ _ _ _ _ s c.in-Some-function_named.ensures g) c.read_function.ensures.ok
+
+pub read_term-returns-in-Some-function_named-clause-err : goal.read_term-returns-in-Some-function_named-clause-err
+read_term-returns-in-Some-function_named-clause-err t c =
+    let s = stands_as _ _ _ _ c.in_ok-digits.ensures.ok c.in-Head.is in
+    IfErr-weaker _ _ _ (λ e h. called_stops _ _ _ _ e s c.in-Some-function_named.ensures h) c.read_function.ensures.err

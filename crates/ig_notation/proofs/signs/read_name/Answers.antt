@@ -1,0 +1,6 @@
+use Rattle.std.proofs.Common.{refl, rules}
+use Rattle.ig_notation.specs.Readers.{at_token}
+use Rattle.ig_notation.proofs.signs.read_name.Goals as goal
+
+pub returns-in_default : goal.returns-in_default
+returns-in_default c = record { ok = tt; err = record { misses = at_token _ c.in_ok-name.ensures.ok (search rules); is_fault = refl } }

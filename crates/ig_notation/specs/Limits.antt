@@ -1,0 +1,32 @@
+-- The limits that the tokens of a grammar text keep.
+use Rattle.std.specs.Prelude.{◌≡◌, ℕ, ◌+◌, ◌-◌, ◌^◌, ◌<◌, ◌≤◌, List, [], ◌∷◌, ◌++◌, All}
+use Rattle.ig_grammar.specs.Token.{Token, Head, Number, Open, Close, OpenBrace, CloseBrace}
+
+-- a number is at most 9,223,372,036,854,775,807
+abbrev pub NumberFits : Token → Type 0
+NumberFits (Number n) = n < 2 ^ 63
+NumberFits t = Unit {0}
+
+abbrev pub NumbersFit : List Token → Type 0
+NumbersFit tokens = All NumberFits tokens
+
+-- how many brackets are open behind a token, of n that are open before it: a closing one where none is open changes nothing
+abbrev pub opened : ℕ → Token → ℕ
+opened n (Head x) = n + 1
+opened n Open = n + 1
+opened n OpenBrace = n + 1
+opened n Close = n - 1
+opened n CloseBrace = n - 1
+opened n t = n
+
+-- and behind some tokens
+abbrev pub open_behind : ℕ → List Token → ℕ
+open_behind n [] = n
+open_behind n (t ∷ tokens) = open_behind (opened n t) tokens
+
+-- nowhere are more than 64 open, where n are open at the front
+abbrev pub IsShallowFrom : ℕ → List Token → Type 0
+IsShallowFrom n tokens = (front rest : List Token) → tokens ≡ front ++ rest → open_behind n front ≤ 64
+
+abbrev pub IsShallow : List Token → Type 0
+IsShallow tokens = IsShallowFrom 0 tokens

@@ -1,0 +1,82 @@
+-- Which texts are read, and why others aren't.
+use Rattle.std.specs.Prelude.{◌≡◌, ℕ, zero, suc, ◌<◌, ◌≤◌, List, [], ◌∷◌, length, map, chars, IsUtf8}
+use Rattle.ig_grammar.specs.Token.{Token}
+use Rattle.ig_grammar.specs.Rules.{FollowsRules}
+use Rattle.ig_grammar.specs.Lexing.{Lexes, Breaks}
+use Rattle.ig_grammar.specs.Stops.{Stops}
+use Rattle.ig_grammar.specs.Regular.{IsRegular, HasFewerThan}
+use Rattle.ig_grammar.specs.declared.grammar.Grammar.{Grammar}
+use Rattle.ig_rules.specs.Laws.{AreOfGrammar}
+use Rattle.ig_notation.specs.Limits.{NumbersFit, IsShallow}
+use Rattle.ig_tokens.specs.declared.token.TokenFault.{TokenFault}
+use Rattle.ig_tokens.specs.declared.token.TokenFault.TheVariants.{Broken, Memory as OutOfMemory}
+use Rattle.ig_notation.specs.declared.fault.RuleFault.{RuleFault}
+use Rattle.ig_notation.specs.declared.fault.RuleFault.TheVariants.{Unexpected, Memory}
+use Rattle.ig_notation.specs.declared.fault.ReadFault.{ReadFault}
+use Rattle.ig_notation.specs.declared.fault.ReadFault.TheVariants as faults
+use Rattle.ig_notation.specs.declared.fault.Large.TheVariants as large
+
+-- the tokens without their places
+abbrev pub unplaced : List (Token × ℕ) → List Token
+unplaced tokens = map (λ p. p.0) tokens
+
+-- the text has at most 262,144 bytes, and these tokens
+pub record HasTokens (source : List ℕ) (tokens : List (Token × ℕ)) : Type 0 where
+  pub bytes : length source ≤ 262144
+  pub lexed : Lexes 0 (chars source) tokens
+
+-- a text, by its bytes, reads as the grammar
+pub record IsRead (source : List ℕ) (g : Grammar) : Type 0 where
+  pub tokens : List (Token × ℕ)
+  pub are_tokens : HasTokens source tokens
+  pub numbers : NumbersFit (unplaced tokens)
+  pub shallow : IsShallow (unplaced tokens)
+  pub follows : FollowsRules (unplaced tokens) g
+
+-- the first byte of the token of this number, or the end of the text where there is none
+abbrev pub byte_of : ℕ → List (Token × ℕ) → ℕ → ℕ
+byte_of end [] number = end
+byte_of end (p ∷ tokens) zero = p.1
+byte_of end (p ∷ tokens) (suc number) = byte_of end tokens number
+
+-- the fault of a text that isn't a sequence of tokens, and of one whose tokens don't follow the rules
+abbrev pub fault_of : TokenFault → ReadFault
+fault_of (Broken at) = faults.Syntax at
+fault_of OutOfMemory = faults.Memory
+
+abbrev pub refusal_of : ℕ → List (Token × ℕ) → RuleFault → ReadFault
+refusal_of end tokens (Unexpected number) = faults.Syntax (byte_of end tokens number)
+refusal_of end tokens Memory = faults.Memory
+
+-- why a text isn't read: the first of these tests that fails
+pub data IsReadFault (source : List ℕ) : ReadFault → Type 0 where
+  -- it has more than 262,144 bytes
+  too_many_bytes : 262144 < length source → IsReadFault source (faults.TooLarge large.Bytes)
+  -- behind some separators and tokens neither begins
+  no_token : (at : ℕ) → length source ≤ 262144 → Breaks 0 (chars source) at → IsReadFault source (faults.Syntax at)
+  -- a number is too large
+  large_number : (tokens : List (Token × ℕ)) → HasTokens source tokens → (NumbersFit (unplaced tokens) → ⊥) →
+      IsReadFault source (faults.TooLarge large.Number)
+  -- more than 64 brackets are open at one place
+  deep : (tokens : List (Token × ℕ)) → HasTokens source tokens → NumbersFit (unplaced tokens) →
+      (IsShallow (unplaced tokens) → ⊥) → IsReadFault source (faults.TooLarge large.Nesting)
+  -- the tokens stop following the rules
+  against_rules : (tokens : List (Token × ℕ)) (number at : ℕ) → HasTokens source tokens → NumbersFit (unplaced tokens) →
+      IsShallow (unplaced tokens) → Stops AreOfGrammar (unplaced tokens) number → at ≡ byte_of (length source) tokens number →
+      IsReadFault source (faults.Syntax at)
+  -- want of memory may come at any time
+  no_memory : IsReadFault source faults.Memory
+
+-- a text reads as one grammar at most
+abbrev pub OneReading : Type 0
+OneReading = (source : List ℕ) (g h : Grammar) → IsRead source g → IsRead source h → g ≡ h
+
+-- a text that is read has no other fault than want of memory
+abbrev pub ReadOrRefused : Type 0
+ReadOrRefused =
+    (source : List ℕ) (g : Grammar) (fault : ReadFault) → IsRead source g → IsReadFault source fault → fault ≡ faults.Memory
+
+-- a grammar that is read is regular, and has at most 262,144 declarations, levels, alternatives and symbols
+abbrev pub ReadGrammarsAreRegular : Type 0
+ReadGrammarsAreRegular =
+    (source : List ℕ) (g : Grammar) → IsUtf8 source → IsRead source g → IsRegular g × HasFewerThan 262145 g

@@ -1,0 +1,76 @@
+//! Why a text gave no grammar.
+
+ghost use Rattle.std.specs.Prelude.{◌≡◌, [], ◌∷◌, ◌++◌, OnOk, IfErr};
+
+use ig_tokens::TokenFault;
+use std::alloc::AllocError;
+use thiserror::Error;
+
+/// What a grammar text may be too large in.
+#[derive(Clone, Copy, PartialEq, Eq, Debug)]
+pub enum Large {
+    /// It has more than 262,144 bytes.
+    Bytes,
+    /// A number in it is greater than 9,223,372,036,854,775,807.
+    Number,
+    /// More than 64 brackets are open at one place.
+    Nesting,
+}
+
+/// Why a text gave no grammar.
+#[derive(Debug, Drop, Error)]
+pub enum ReadFault {
+    /// At that byte no token begins, or a token stands that no rule lets follow those before it.
+    #[error("syntax at byte {at}")]
+    Syntax { at: u32 },
+    /// The text passes a limit.
+    #[error("too large")]
+    TooLarge { which: Large },
+    /// Memory ran out.
+    #[error("out of memory")]
+    Memory,
+}
+
+impl From<TokenFault> for ReadFault {
+    ghost use Rattle.ig_notation.specs.Outcome.{fault_of};
+
+    ghost from_gives = { λ fault result. result ≡ fault_of fault };
+
+    fn from(fault: TokenFault) -> ReadFault {
+        match fault {
+            TokenFault::Broken { at } => ReadFault::Syntax { at },
+            TokenFault::Memory => ReadFault::Memory,
+        }
+    }
+}
+
+/// Why tokens gave no part of a grammar.
+#[derive(Clone, Copy, PartialEq, Eq, Debug)]
+pub(crate) enum RuleFault {
+    /// The token of this number, counted from 0, can't stand here; or the tokens end, and theirs is
+    /// the number.
+    Unexpected { token: usize },
+    /// Memory ran out.
+    Memory,
+}
+
+impl From<AllocError> for RuleFault {
+    ghost use Rattle.ig_notation.specs.declared.fault.RuleFault.TheVariants.{Memory};
+
+    ghost from_gives = { λ _ fault. fault ≡ Memory };
+
+    fn from(_error: AllocError) -> RuleFault {
+        RuleFault::Memory
+    }
+}
+
+/// Adds the value at the end of the list.
+pub(crate) fn add<T: Drop>(list: &mut Vec<T>, value: T) -> Result<(), RuleFault>
+    ensures ok { OnOk result (list.new.items ≡ list.old.items ++ value ∷ []) }
+    ensures err { IfErr result (λ e. e ≡ RuleFault.Memory) }
+{
+    match list.push(value) {
+        Ok(()) => Ok(()),
+        Err(_) => Err(RuleFault::Memory),
+    }
+}

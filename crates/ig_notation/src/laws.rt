@@ -1,0 +1,26 @@
+//! Laws of reading: each is the contract of a function that computes nothing.
+
+ghost use Rattle.ig_notation.specs.Outcome.{OneReading, ReadGrammarsAreRegular, ReadOrRefused};
+
+/// A text reads as one grammar at most. This law, proved of all texts, computes nothing.
+pub fn one_reading()
+    ensures { OneReading }
+{
+    ig_tokens::tokens_are_single();
+    ig_rules::one_reading();
+}
+
+/// A text that reads as a grammar has no fault but want of memory. This law, proved of all texts,
+/// computes nothing.
+pub fn texts_are_read_or_refused()
+    ensures { ReadOrRefused }
+{
+    ig_tokens::tokens_are_single();
+    ig_tokens::texts_never_do_both();
+}
+
+/// A grammar that is read is regular, and has at most as many declarations as a grammar text may have
+/// bytes. This law, proved of all texts, computes nothing.
+pub fn read_grammars_are_regular()
+    ensures { ReadGrammarsAreRegular }
+{}

@@ -1,0 +1,74 @@
+//! Reading a grammar text.
+
+ghost use Rattle.std.specs.Prelude.{◌≡◌, ◌≤◌, IfOk, IfErr, length};
+ghost use Rattle.ig_tokens.specs.View.{tokens_of};
+ghost use Rattle.ig_notation.specs.Outcome.{IsRead, IsReadFault, byte_of, refusal_of};
+
+use crate::declarations::read_grammar;
+use crate::fault::{Large, ReadFault, RuleFault};
+use crate::limits::{is_shallow, numbers_fit};
+use ig_grammar::Grammar;
+use ig_tokens::{Placed, tokenize};
+use std::alloc::Global;
+
+/// The most bytes that a grammar text may have.
+pub const MOST_BYTES: usize = 262_144;
+
+/// The grammar that a text reads as. The first test that fails decides: more than 262,144 bytes are
+/// `TooLarge`; a text that is no sequence of tokens is `Syntax` at the byte at which, after the
+/// separators and tokens before it, neither a separator nor a token begins; a number greater than
+/// 9,223,372,036,854,775,807 is `TooLarge`; more than 64 brackets open at one place are `TooLarge`;
+/// tokens against the rules are `Syntax` at the first byte of the first token such that no sequence
+/// of tokens that follows the rules begins with the tokens up to and including it, and at the length
+/// of the text where there is no such token.
+pub fn read(alloc: Global, source: &str) -> Result<Grammar, ReadFault>
+    ensures ok { IfOk result (IsRead source.now) }
+    ensures fault { IfErr result (IsReadFault source.now) }
+{
+    if source.len() > MOST_BYTES {
+        return Err(ReadFault::TooLarge {
+            which: Large::Bytes,
+        });
+    }
+    let found = tokenize(alloc, source)?;
+    let tokens = found.as_slice();
+    if !numbers_fit(tokens) {
+        return Err(ReadFault::TooLarge {
+            which: Large::Number,
+        });
+    }
+    if !is_shallow(tokens) {
+        return Err(ReadFault::TooLarge {
+            which: Large::Nesting,
+        });
+    }
+    ig_rules::run_stops();
+    match read_grammar(alloc, tokens) {
+        Ok(grammar) => Ok(grammar),
+        Err(fault) => Err(refusal(tokens, fault, source)),
+    }
+}
+
+/// The fault of the text, of which the tokens are at fault by the rules.
+fn refusal(tokens: &[Placed], fault: RuleFault, source: &str) -> ReadFault
+    requires { length source.now ≤ 262144 }
+    ensures { result ≡ refusal_of (length source.now) (tokens_of tokens.now) fault }
+{
+    match fault {
+        RuleFault::Unexpected { token } => ReadFault::Syntax {
+            at: byte_of(tokens, token, source),
+        },
+        RuleFault::Memory => ReadFault::Memory,
+    }
+}
+
+/// The first byte of the token of that number, or the length of the text where there is none.
+fn byte_of(tokens: &[Placed], number: usize, source: &str) -> u32
+    requires { length source.now ≤ 262144 }
+    ensures { result ≡ byte_of (length source.now) (tokens_of tokens.now) number }
+{
+    match tokens.get(number) {
+        Some(placed) => placed.at,
+        None => source.len() as u32,
+    }
+}

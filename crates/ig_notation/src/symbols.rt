@@ -1,0 +1,362 @@
+//! Reading the symbols of alternatives. Each function reads from the token of number `at`, and
+//! returns what it read with the number of the first token behind it.
+
+ghost use Rattle.std.specs.Prelude.{◌≡◌, ◌≤◌, ◌<◌, [], ◌∷◌, ◌++◌, length, true, false, Some, is_some, IfOk, IfErr, OnOk, MatchOption};
+ghost use Rattle.ig_text.specs.declared.pattern.Pattern.{Pattern as SpecPattern};
+ghost use Rattle.ig_tokens.specs.View.{token_of};
+ghost use Rattle.ig_grammar.specs.Token as spec;
+ghost use Rattle.ig_grammar.specs.Symbol as tree;
+ghost use Rattle.ig_grammar.specs.Symbol.{gathered};
+ghost use Rattle.ig_grammar.specs.Alternative.{gathered_alternatives};
+ghost use Rattle.ig_grammar.specs.View.{symbol_of};
+ghost use Rattle.ig_grammar.specs.Rules.{ReadsSymbol, ReadsMarked, ReadsPost, ReadsAtom, ReadsAlternative, ReadsAlternatives};
+ghost use Rattle.ig_rules.specs.Machine as want;
+ghost use Rattle.ig_rules.specs.Machine.{after_symbol, alternatives_wants};
+ghost use Rattle.ig_rules.specs.Reading.{Goes};
+ghost use Rattle.ig_notation.specs.Limits.{NumbersFit};
+ghost use Rattle.ig_notation.specs.Readers.{meanings, Stands, Misses, MissesAt, Finds, StopsAt, Behind, ReadsBare, terminal_of, repetition_token, repeated_of, list_token, separated_of};
+
+use crate::expressions::{read_arguments, read_closed};
+use crate::fault::RuleFault;
+use crate::filters::{pattern_of, read_filters};
+use crate::signs::{Sign, ahead, read_name, read_sign, stands_at, token_at};
+use ig_expr::Exprs;
+use ig_grammar::{Alt, Alts, Inner, Symbol, Symbols};
+use ig_text::{Pattern, Word};
+use ig_tokens::{Placed, Token};
+use std::alloc::Global;
+
+/// What stands behind an option or a list.
+#[derive(Clone, Copy)]
+pub(crate) enum Repetition {
+    Opt,
+    Star,
+    Plus,
+}
+
+/// What stands behind a separated list.
+#[derive(Clone, Copy)]
+pub(crate) enum ListSign {
+    Star,
+    Plus,
+}
+
+/// Reads alternatives, with `|` between them.
+#[cycle(symbols)]
+pub(crate) fn read_alternatives(
+    alloc: Global,
+    tokens: &[Placed],
+    at: usize,
+) -> Result<(Alts, usize), RuleFault>
+    requires fit { NumbersFit (meanings tokens.now) }
+    requires within { at ≤ length (meanings tokens.now) }
+    ensures ok { IfOk result (λ r. Goes tree.Alternatives ReadsAlternatives alternatives_wants [] (meanings tokens.now) at r.1 (gathered_alternatives r.0)) }
+    ensures err { IfErr result (StopsAt alternatives_wants (meanings tokens.now) at) }
+{
+    let mut alternatives = Alts::new(alloc);
+    let mut end = at;
+    loop {
+        let (symbols, next) = read_alternative(alloc, tokens, end)?;
+        add_alternative(&mut alternatives, Alt { symbols })?;
+        if !stands_at(tokens, next, Sign::Bar) {
+            return Ok((alternatives, next));
+        }
+        end = next + 1;
+    }
+}
+
+/// Reads the symbols of an alternative.
+#[cycle(symbols)]
+fn read_alternative(
+    alloc: Global,
+    tokens: &[Placed],
+    at: usize,
+) -> Result<(Symbols, usize), RuleFault>
+    requires fit { NumbersFit (meanings tokens.now) }
+    requires within { at ≤ length (meanings tokens.now) }
+    ensures ok { IfOk result (λ r. Goes tree.Symbols ReadsAlternative (want.alternative ∷ []) [] (meanings tokens.now) at r.1 (gathered r.0)) }
+    ensures err { IfErr result (StopsAt (want.alternative ∷ []) (meanings tokens.now) at) }
+{
+    let mut symbols = Symbols::new(alloc);
+    let mut end = at;
+    while begins_symbol(tokens, end) {
+        let (symbol, next) = read_symbol(alloc, tokens, end)?;
+        add_symbol(&mut symbols, symbol)?;
+        end = next;
+    }
+    Ok((symbols, end))
+}
+
+/// Whether a symbol begins with the token that stands there.
+fn begins_symbol(tokens: &[Placed], at: usize) -> bool
+    ensures yes { result ≡ true → Finds (λ t. is_some (after_symbol t) ≡ true) (meanings tokens.now) at }
+    ensures no { result ≡ false → Misses want.alternative (meanings tokens.now) at }
+{
+    match token_at(tokens, at) {
+        Some(token) => begins(token),
+        None => false,
+    }
+}
+
+/// Whether a symbol begins with the token.
+fn begins(token: Token) -> bool
+    ensures { result ≡ is_some (after_symbol (token_of token.entry)) }
+{
+    match token {
+        Token::When => true,
+        Token::Let => true,
+        Token::Offside => true,
+        Token::Ignore => true,
+        Token::Align => true,
+        Token::OpenBrace => true,
+        Token::Open => true,
+        Token::Name(_) => true,
+        Token::Head(_) => true,
+        Token::Literal(_) => true,
+        Token::Ranges(_) => true,
+        Token::Any => true,
+        Token::XidStart => true,
+        Token::XidContinue => true,
+        _ => false,
+    }
+}
+
+/// Reads a symbol.
+#[cycle(symbols)]
+fn read_symbol(alloc: Global, tokens: &[Placed], at: usize) -> Result<(Symbol, usize), RuleFault>
+    requires { NumbersFit (meanings tokens.now) }
+    ensures ok { IfOk result (λ r. Goes tree.Symbol ReadsSymbol (want.symbol ∷ []) [] (meanings tokens.now) at r.1 (symbol_of r.0)) }
+    ensures progress { IfOk result (λ r. at < r.1) }
+    ensures err { IfErr result (StopsAt (want.symbol ∷ []) (meanings tokens.now) at) }
+{
+    match ahead(tokens, at)? {
+        Token::When => read_guard(alloc, tokens, at + 1),
+        Token::Let => read_let(alloc, tokens, at + 1),
+        Token::Name(name) => {
+            if !stands_at(tokens, at + 1, Sign::Colon) {
+                return read_marked(alloc, tokens, at);
+            }
+            let name = Word::new(alloc, name)?;
+            let (symbol, end) = read_marked(alloc, tokens, at + 2)?;
+            Ok((Symbol::Label(name, Inner::new(alloc, symbol)?), end))
+        }
+        _ => read_marked(alloc, tokens, at),
+    }
+}
+
+/// Reads what stands behind `when`: a condition in brackets.
+fn read_guard(alloc: Global, tokens: &[Placed], at: usize) -> Result<(Symbol, usize), RuleFault>
+    requires { NumbersFit (meanings tokens.now) }
+    ensures ok { IfOk result (λ r. Goes tree.Symbol (Behind spec.When ReadsSymbol) (want.open_bracket ∷ want.expression ∷ want.close_bracket ∷ []) [] (meanings tokens.now) at r.1 (symbol_of r.0)) }
+    ensures err { IfErr result (StopsAt (want.open_bracket ∷ want.expression ∷ want.close_bracket ∷ []) (meanings tokens.now) at) }
+{
+    let inside = read_sign(tokens, at, Sign::Open)?;
+    let (condition, end) = read_closed(alloc, tokens, inside)?;
+    Ok((Symbol::Guard(condition), end))
+}
+
+/// Reads what stands behind `let`: a name, `=`, and an expression in brackets.
+fn read_let(alloc: Global, tokens: &[Placed], at: usize) -> Result<(Symbol, usize), RuleFault>
+    requires { NumbersFit (meanings tokens.now) }
+    ensures ok { IfOk result (λ r. Goes tree.Symbol (Behind spec.Let ReadsSymbol) (want.name ∷ want.equals ∷ want.open_bracket ∷ want.expression ∷ want.close_bracket ∷ []) [] (meanings tokens.now) at r.1 (symbol_of r.0)) }
+    ensures err { IfErr result (StopsAt (want.name ∷ want.equals ∷ want.open_bracket ∷ want.expression ∷ want.close_bracket ∷ []) (meanings tokens.now) at) }
+{
+    let name = read_name(tokens, at)?;
+    let open = read_sign(tokens, at + 1, Sign::Equals)?;
+    let inside = read_sign(tokens, open, Sign::Open)?;
+    let name = Word::new(alloc, name)?;
+    let (value, end) = read_closed(alloc, tokens, inside)?;
+    Ok((Symbol::Let(name, value), end))
+}
+
+/// Reads a symbol with a mark before it or none.
+#[cycle(symbols)]
+fn read_marked(alloc: Global, tokens: &[Placed], at: usize) -> Result<(Symbol, usize), RuleFault>
+    requires { NumbersFit (meanings tokens.now) }
+    ensures ok { IfOk result (λ r. Goes tree.Symbol ReadsMarked (want.marked ∷ []) [] (meanings tokens.now) at r.1 (symbol_of r.0)) }
+    ensures progress { IfOk result (λ r. at < r.1) }
+    ensures err { IfErr result (StopsAt (want.marked ∷ []) (meanings tokens.now) at) }
+{
+    match ahead(tokens, at)? {
+        Token::Offside => {
+            let (symbol, end) = read_filtered(alloc, tokens, at + 1)?;
+            Ok((Symbol::Offside(Inner::new(alloc, symbol)?), end))
+        }
+        Token::Ignore => {
+            let (symbol, end) = read_filtered(alloc, tokens, at + 1)?;
+            Ok((Symbol::Ignore(Inner::new(alloc, symbol)?), end))
+        }
+        Token::Align => {
+            let (symbol, end) = read_filtered(alloc, tokens, at + 1)?;
+            Ok((Symbol::Align(Inner::new(alloc, symbol)?), end))
+        }
+        _ => read_filtered(alloc, tokens, at),
+    }
+}
+
+/// Reads a symbol without a mark, and the filters behind it.
+#[cycle(symbols)]
+fn read_filtered(alloc: Global, tokens: &[Placed], at: usize) -> Result<(Symbol, usize), RuleFault>
+    requires { NumbersFit (meanings tokens.now) }
+    ensures ok { IfOk result (λ r. Goes tree.Symbol ReadsPost (want.post ∷ []) [] (meanings tokens.now) at r.1 (symbol_of r.0)) }
+    ensures progress { IfOk result (λ r. at < r.1) }
+    ensures err { IfErr result (StopsAt (want.post ∷ []) (meanings tokens.now) at) }
+{
+    let (symbol, behind) = read_bare(alloc, tokens, at)?;
+    let (filters, end) = read_filters(alloc, tokens, behind)?;
+    if filters.as_slice().is_empty() {
+        return Ok((symbol, end));
+    }
+    Ok((Symbol::Filtered(Inner::new(alloc, symbol)?, filters), end))
+}
+
+/// Reads a separated list, or an atom and the sign behind it.
+#[cycle(symbols)]
+fn read_bare(alloc: Global, tokens: &[Placed], at: usize) -> Result<(Symbol, usize), RuleFault>
+    requires { NumbersFit (meanings tokens.now) }
+    ensures ok { IfOk result (λ r. Goes tree.Symbol ReadsBare (want.post ∷ []) (want.filters ∷ []) (meanings tokens.now) at r.1 (symbol_of r.0)) }
+    ensures progress { IfOk result (λ r. at < r.1) }
+    ensures err { IfErr result (StopsAt (want.post ∷ []) (meanings tokens.now) at) }
+{
+    match ahead(tokens, at)? {
+        Token::OpenBrace => read_separated(alloc, tokens, at + 1),
+        _ => read_repeated(alloc, tokens, at),
+    }
+}
+
+/// Reads an atom and the sign behind it, where there is one.
+#[cycle(symbols)]
+fn read_repeated(alloc: Global, tokens: &[Placed], at: usize) -> Result<(Symbol, usize), RuleFault>
+    requires { NumbersFit (meanings tokens.now) }
+    ensures ok { IfOk result (λ r. Goes tree.Symbol ReadsBare (want.atom ∷ want.sign ∷ []) [] (meanings tokens.now) at r.1 (symbol_of r.0)) }
+    ensures progress { IfOk result (λ r. at < r.1) }
+    ensures err { IfErr result (StopsAt (want.atom ∷ want.sign ∷ []) (meanings tokens.now) at) }
+{
+    let (atom, end) = read_atom(alloc, tokens, at)?;
+    let Some(repetition) = repetition_at(tokens, end) else {
+        return Ok((atom, end));
+    };
+    let atom = Inner::new(alloc, atom)?;
+    Ok((repeated(repetition, atom), end + 1))
+}
+
+/// Reads a separated list behind its `{`.
+#[cycle(symbols)]
+fn read_separated(alloc: Global, tokens: &[Placed], at: usize) -> Result<(Symbol, usize), RuleFault>
+    requires { NumbersFit (meanings tokens.now) }
+    ensures ok { IfOk result (λ r. Goes tree.Symbol (Behind spec.OpenBrace ReadsBare) (want.marked ∷ want.marked ∷ want.close_brace ∷ want.list_sign ∷ []) [] (meanings tokens.now) at r.1 (symbol_of r.0)) }
+    ensures err { IfErr result (StopsAt (want.marked ∷ want.marked ∷ want.close_brace ∷ want.list_sign ∷ []) (meanings tokens.now) at) }
+{
+    let (item, next) = read_marked(alloc, tokens, at)?;
+    let item = Inner::new(alloc, item)?;
+    let (separator, close) = read_marked(alloc, tokens, next)?;
+    let separator = Inner::new(alloc, separator)?;
+    let end = read_sign(tokens, close, Sign::CloseBrace)?;
+    let sign = read_list_sign(tokens, end)?;
+    Ok((separated(sign, item, separator), end + 1))
+}
+
+/// Reads a literal, a class, a call or a group.
+#[cycle(symbols)]
+fn read_atom(alloc: Global, tokens: &[Placed], at: usize) -> Result<(Symbol, usize), RuleFault>
+    requires { NumbersFit (meanings tokens.now) }
+    ensures ok { IfOk result (λ r. Goes tree.Symbol ReadsAtom (want.atom ∷ []) [] (meanings tokens.now) at r.1 (symbol_of r.0)) }
+    ensures progress { IfOk result (λ r. at < r.1) }
+    ensures err { IfErr result (StopsAt (want.atom ∷ []) (meanings tokens.now) at) }
+{
+    match ahead(tokens, at)? {
+        Token::Name(name) => {
+            let name = Word::new(alloc, name)?;
+            Ok((Symbol::Call(name, Exprs::new(alloc)), at + 1))
+        }
+        Token::Head(name) => {
+            let name = Word::new(alloc, name)?;
+            let (arguments, end) = read_arguments(alloc, tokens, at + 1)?;
+            Ok((Symbol::Call(name, arguments), end))
+        }
+        Token::Open => {
+            let (alternatives, close) = read_alternatives(alloc, tokens, at + 1)?;
+            let end = read_sign(tokens, close, Sign::Close)?;
+            Ok((Symbol::Group(alternatives), end))
+        }
+        token => match pattern_of(alloc, token)? {
+            Some(pattern) => Ok((terminal(pattern), at + 1)),
+            None => Err(RuleFault::Unexpected { token: at }),
+        },
+    }
+}
+
+/// A pattern as a symbol.
+fn terminal(pattern: Pattern) -> Symbol
+    ensures { symbol_of result ≡ terminal_of pattern }
+{
+    match pattern {
+        Pattern::Literal(text) => Symbol::Literal(text),
+        Pattern::OneOf(class) => Symbol::Class(class),
+    }
+}
+
+/// The sign of an option or a list that stands there; `None` exactly where none does.
+fn repetition_at(tokens: &[Placed], at: usize) -> Option<Repetition>
+    ensures { MatchOption result (Misses want.sign (meanings tokens.now) at) (λ s. Stands (meanings tokens.now) at (repetition_token s)) }
+{
+    match token_at(tokens, at)? {
+        Token::Question => Some(Repetition::Opt),
+        Token::Star => Some(Repetition::Star),
+        Token::Plus => Some(Repetition::Plus),
+        _ => None,
+    }
+}
+
+fn repeated(repetition: Repetition, atom: Inner) -> Symbol
+    ensures { symbol_of result ≡ repeated_of repetition atom }
+{
+    match repetition {
+        Repetition::Opt => Symbol::Opt(atom),
+        Repetition::Star => Symbol::Star(atom),
+        Repetition::Plus => Symbol::Plus(atom),
+    }
+}
+
+/// The sign of a separated list that stands there, in front of the token of the next number.
+fn read_list_sign(tokens: &[Placed], at: usize) -> Result<ListSign, RuleFault>
+    ensures ok { IfOk result (λ s. Stands (meanings tokens.now) at (list_token s)) }
+    ensures err { IfErr result (MissesAt want.list_sign (meanings tokens.now) at) }
+{
+    match ahead(tokens, at)? {
+        Token::Star => Ok(ListSign::Star),
+        Token::Plus => Ok(ListSign::Plus),
+        _ => Err(RuleFault::Unexpected { token: at }),
+    }
+}
+
+fn separated(sign: ListSign, item: Inner, separator: Inner) -> Symbol
+    ensures { symbol_of result ≡ separated_of sign item separator }
+{
+    match sign {
+        ListSign::Star => Symbol::SepStar(item, separator),
+        ListSign::Plus => Symbol::SepPlus(item, separator),
+    }
+}
+
+/// Adds a symbol at the end.
+fn add_symbol(symbols: &mut Symbols, symbol: Symbol) -> Result<(), RuleFault>
+    ensures ok { OnOk result (symbols.new ≡ symbols.old ++ symbol_of symbol ∷ []) }
+    ensures err { IfErr result (λ e. e ≡ RuleFault.Memory) }
+{
+    match symbols.push(symbol) {
+        Ok(()) => Ok(()),
+        Err(_) => Err(RuleFault::Memory),
+    }
+}
+
+/// Adds an alternative at the end.
+fn add_alternative(alternatives: &mut Alts, alternative: Alt) -> Result<(), RuleFault>
+    ensures ok { OnOk result (alternatives.new ≡ alternatives.old ++ alternative ∷ []) }
+    ensures err { IfErr result (λ e. e ≡ RuleFault.Memory) }
+{
+    match alternatives.push(alternative) {
+        Ok(()) => Ok(()),
+        Err(_) => Err(RuleFault::Memory),
+    }
+}
