@@ -1,0 +1,105 @@
+-- The numbers of places in a regular grammar fit in 32 bits.
+use Rattle.std.proofs.Common.{inl, inr, ◌≡◌, ℕ, zero, suc, ◌<◌, ◌≤◌, ◌+◌, List, [], ◌∷◌, ◌++◌, length, get_or, ap, arith, length-append}
+use Rattle.std.specs.Prelude.{Contains, sum_by}
+use Rattle.std.proofs.lemmas.List.Sums.{sum_by-cons}
+use Rattle.std.proofs.lemmas.List.Elements.{Contains-append_cases}
+use Rattle.std.proofs.lemmas.List.Concat.{length-flat_map}
+use Rattle.ig_grammar.specs.Numbering.{alternatives}
+use Rattle.ig_grammar.specs.Symbol.{Symbol, Literal, OneOf, Call, Label, Guard, Let, Opt, Star, Plus, SepStar, SepPlus, Group, Offside, Ignore, Align, Filtered, Seq, Entry}
+use Rattle.ig_grammar.specs.Symbol.{Symbols, no_symbols, next_symbol, Alternatives, no_alternatives, next_alternative, gathered}
+use Rattle.ig_grammar.specs.Alternative.{gathered_alternatives}
+use Rattle.ig_grammar.specs.Regular.{IsRegular, parts, parts_of_symbols, parts_of_alternatives, alternatives_among}
+use Rattle.ig_grammar.specs.Visible.{Visible, at, inside, inside_sequence, inside_choices, binds, replaced, parameters}
+use Rattle.ig_grammar.specs.declared.symbol.Alt.{Alt}
+use Rattle.ig_grammar.specs.declared.declaration.Level.{Level}
+use Rattle.ig_grammar.specs.declared.declaration.Decl.{Decl}
+use Rattle.ig_grammar.specs.declared.grammar.Grammar.{Grammar}
+use Rattle.ig_scope.specs.Told.{FitsAll}
+
+mutual
+  inside_parts : (v : Visible) (x : Symbol) → length (inside v x) + 1 ≤ parts x
+  inside_parts v (Literal word) = omega arith
+  inside_parts v (OneOf class) = omega arith
+  inside_parts v (Call name arguments) = omega arith
+  inside_parts v (Label name x) = let h = inside_parts v x in omega arith
+  inside_parts v (Guard e) = omega arith
+  inside_parts v (Let name e) = omega arith
+  inside_parts v (Opt x) = let h = inside_parts v x in omega arith
+  inside_parts v (Star x) = let h = inside_parts v x in omega arith
+  inside_parts v (Plus x) = let h = inside_parts v x in omega arith
+  inside_parts v (SepStar x s) =
+      let h = inside_parts v x in let k = inside_parts v s in let l = length-append (at v x ∷ inside v x) (at v s ∷ inside v s) in omega arith
+  inside_parts v (SepPlus x s) =
+      let h = inside_parts v x in let k = inside_parts v s in let l = length-append (at v x ∷ inside v x) (at v s ∷ inside v s) in omega arith
+  inside_parts v (Group choices) = let h = choices_parts v choices in omega arith
+  inside_parts v (Offside x) = let h = inside_parts v x in omega arith
+  inside_parts v (Ignore x) = let h = inside_parts v x in omega arith
+  inside_parts v (Align x) = let h = inside_parts v x in omega arith
+  inside_parts v (Filtered x filters) = let h = inside_parts v x in omega arith
+  inside_parts v (Seq xs) = let h = sequence_parts v xs in omega arith
+  inside_parts v (Entry bindings x) = let h = inside_parts (replaced v v bindings) x in omega arith
+
+  sequence_parts : (v : Visible) (xs : Symbols) → length (inside_sequence v xs) ≤ parts_of_symbols xs
+  sequence_parts v no_symbols = omega arith
+  sequence_parts v (next_symbol x xs) =
+      let h = inside_parts v x in let k = sequence_parts (v ++ binds v x) xs in
+      let l = length-append (at v x ∷ inside v x) (inside_sequence (v ++ binds v x) xs) in omega arith
+
+  choices_parts : (v : Visible) (ys : Alternatives) → length (inside_choices v ys) ≤ parts_of_alternatives ys
+  choices_parts v no_alternatives = omega arith
+  choices_parts v (next_alternative xs ys) =
+      let h = sequence_parts v xs in let k = choices_parts v ys in let l = length-append (inside_sequence v xs) (inside_choices v ys) in omega arith
+
+member_sum : {X : Type 0} (f : X → ℕ) (xs : List X) (x : X) → Contains xs x → f x ≤ sum_by f xs
+member_sum f [] x m = let l = m.1 in let z : ⊥ = omega arith in absurd z
+member_sum f (y ∷ xs) x m = go m.0 m.1 m.2 (member_sum f xs x)
+  where
+    go : (k : ℕ) → k < length (y ∷ xs) → get_or (y ∷ xs) k x ≡ x → (Contains xs x → f x ≤ sum_by f xs) → f x ≤ sum_by f (y ∷ xs)
+    go zero l e h = let s = sum_by-cons f y xs in let z : f y ≡ f x = ap f e in omega arith
+    go (suc k) l e h = let s = sum_by-cons f y xs in let z = h (k, omega arith, e) in omega arith
+
+sum_less : {X : Type 0} (f g : X → ℕ) (xs : List X) → ((x : X) → f x ≤ g x) → sum_by f xs ≤ sum_by g xs
+sum_less f g [] h = omega arith
+sum_less f g (x ∷ xs) h = let a = sum_by-cons f x xs in let b = sum_by-cons g x xs in let c = sum_less f g xs h in let d = h x in omega arith
+
+fewer : (alts : List Alt) → length alts ≤ alternatives_among (gathered_alternatives alts)
+fewer [] = omega arith
+fewer (a ∷ alts) = let h = fewer alts in omega arith
+
+parts_at : (alts : List Alt) (a : Alt) → Contains alts a → parts_of_symbols (gathered a.symbols) ≤ parts_of_alternatives (gathered_alternatives alts)
+parts_at [] a m = let l = m.1 in let z : ⊥ = omega arith in absurd z
+parts_at (b ∷ alts) a m = go m.0 m.1 m.2 (parts_at alts a)
+  where
+    go : (k : ℕ) → k < length (b ∷ alts) → get_or (b ∷ alts) k a ≡ a → (Contains alts a → parts_of_symbols (gathered a.symbols) ≤ parts_of_alternatives (gathered_alternatives alts)) →
+        parts_of_symbols (gathered a.symbols) ≤ parts_of_alternatives (gathered_alternatives (b ∷ alts))
+    go zero l e h = let z : parts_of_symbols (gathered b.symbols) ≡ parts_of_symbols (gathered a.symbols) = ap (λ (y : Alt). parts_of_symbols (gathered y.symbols)) e in omega arith
+    go (suc k) l e h = let z = h (k, omega arith, e) in omega arith
+
+parts_among : (levels : List Level) (a : Alt) → Contains (alternatives levels) a →
+    parts_of_symbols (gathered a.symbols) ≤ sum_by (λ level. parts_of_alternatives (gathered_alternatives level.alts)) levels
+parts_among [] a m = let l = m.1 in let z : ⊥ = omega arith in absurd z
+parts_among (level ∷ levels) a m =
+    let s = sum_by-cons (λ (l : Level). parts_of_alternatives (gathered_alternatives l.alts)) level levels in
+    elim (Contains-append_cases level.alts (alternatives levels) a m) [
+      | inl x ↦ (let h = parts_at level.alts a x in omega arith)
+      | inr x ↦ (let h = parts_among levels a x in omega arith)
+    ]
+
+pub regular_fits : (g : Grammar) → IsRegular g → FitsAll g.decls
+regular_fits g r = record {
+  declarations = r.counted.declarations;
+  each = λ decl m. record {
+    count =
+        let n = member_sum (λ (d : Decl). sum_by (λ level. alternatives_among (gathered_alternatives level.alts)) d.levels) g.decls decl m in
+        let a = r.counted.alternatives in
+        let l = length-flat_map (λ (level : Level). level.alts) decl.levels in
+        let s = sum_less (λ (level : Level). length level.alts) (λ (level : Level). alternatives_among (gathered_alternatives level.alts)) decl.levels (λ level. fewer level.alts) in
+        omega arith;
+    symbols = λ a k.
+        let n = member_sum (λ (d : Decl). sum_by (λ level. parts_of_alternatives (gathered_alternatives level.alts)) d.levels) g.decls decl m in
+        let p = r.counted.symbols in
+        let q = parts_among decl.levels a k in
+        let s = sequence_parts (parameters decl.params) (gathered a.symbols) in
+        omega arith;
+  };
+}

@@ -1,0 +1,178 @@
+-- From the parts of a grammar to the whole of it.
+use Rattle.std.proofs.Common.{◌≡◌, ℕ, zero, suc, ◌<◌, ◌≤◌, ◌+◌, ◌⊎◌, inl, inr, List, [], ◌∷◌, ◌++◌, length, get_or, take, Option, Some, Bool, true, false, cond, refl, sym, ◌∙◌, ap, subst, arith, Result, Ok, Err}
+use Rattle.std.specs.Prelude.{Contains, IsTrue, ◌↔◌, slice_get, count_by}
+use Rattle.std.specs.Result.{IsErrAnd}
+use Rattle.std.proofs.lemmas.List.{take_more}
+use Rattle.std.proofs.lemmas.List.Sums.{count_by_more_yes, count_by_more_no}
+use Rattle.std.proofs.lemmas.List.Elements.{Contains-push, Contains-push_cases, Contains-append_left}
+use Rattle.std.proofs.lemmas.Option.{slice_get-get_or}
+use Rattle.ig_grammar.specs.Numbering.{alternatives}
+use Rattle.ig_grammar.specs.Name.{is_name}
+use Rattle.ig_grammar.specs.Condition.{Condition, HeadMeets, StartMeets, too_many_parameters, TooManyParameters, named_parameters}
+use Rattle.ig_grammar.specs.WellScoped.{IsLeast, IsFirst, IsBefore, GrammarHas, DeclarationHas, AlternativeHas}
+use Rattle.ig_grammar.specs.declared.symbol.Alt.{Alt}
+use Rattle.ig_grammar.specs.declared.declaration.DeclKind.TheVariants.{Layout}
+use Rattle.ig_grammar.specs.declared.declaration.Decl.{Decl}
+use Rattle.ig_grammar.specs.declared.grammar.Grammar.{Grammar}
+use Rattle.ig_grammar.specs.declared.place.Place.{Place}
+use Rattle.ig_scope.specs.Causes.{condition_of, NoneHolds}
+use Rattle.ig_scope.specs.Heads.{HasLayout}
+use Rattle.ig_scope.specs.Told.{FirstIn, FirstPair, AlternativeFree, AlternativeCaught, TellsAlternatives, TellsDeclaration, AreFree, TellsDeclarations, TellsGrammar}
+use Rattle.ig_scope.specs.declared.fault.ScopeFault.{ScopeFault}
+use Rattle.ig_scope.specs.declared.fault.ScopeFault.TheVariants.{Broken, Memory}
+use Rattle.ig_scope.proofs.Firsts.{first_there, first_before, free_at}
+use Rattle.ig_scope.proofs.Walks.{fault_passed}
+
+one : {X : Type 0} (r : Option X) (x y : X) → r ≡ Some x → r ≡ Some y → x ≡ y
+one r x y e f = let z : Some x ≡ Some y = sym e ∙ f in cc
+
+module _ (decls : List Decl) (index : ℕ) (decl : Decl) where
+  pub head_told : (c : Condition) → IsLeast (HeadMeets decls index decl) c → FirstPair (DeclarationHas decls index decl) 0 0 c
+  head_told c h = record { there = h; none_before = λ b t other l m. go b t l }
+    where
+      go : (b t : ℕ) → (b < 0) ⊎ ((b ≡ 0) × (t < 0)) → ⊥
+      go b t (inl l) = omega arith
+      go b t (inr l) = let z = l.1 in omega arith
+
+  -- a declaration with few parameters, where nothing holds at its head
+  pub few_parameters : NoneHolds (HeadMeets decls index decl) → is_name decl.name ≡ true → named_parameters decl ≤ 16
+  few_parameters n e = go (named_parameters decl) (λ l. n TooManyParameters (too_many_parameters e l))
+    where
+      go : (k : ℕ) → (16 < k → ⊥) → k ≤ 16
+      go k f = grind (arith, f)
+
+  caught_alternative : (k s : ℕ) (c : Condition) → NoneHolds (HeadMeets decls index decl) →
+      FirstIn (AlternativeFree decls decl) (AlternativeCaught decls decl s c) (alternatives decl.levels) k → FirstPair (DeclarationHas decls index decl) (suc k) s c
+  caught_alternative k s c n f =
+      let t = first_there (AlternativeFree decls decl) (AlternativeCaught decls decl s c) (alternatives decl.levels) k f in
+      record {
+        there = record {
+          holds = (t.0, t.1, t.2.there.holds);
+          least = λ other h. t.2.there.least other (subst (λ a. AlternativeHas decls decl a s other) (one (slice_get (alternatives decl.levels) k) h.0 t.0 h.1 t.1) h.2);
+        };
+        none_before = λ b u other l h. go b u other l h t;
+      }
+    where
+      go : (b u : ℕ) (other : Condition) → (b < suc k) ⊎ ((b ≡ suc k) × (u < s)) → DeclarationHas decls index decl b u other →
+          (a : Alt) × (slice_get (alternatives decl.levels) k ≡ Some a) × AlternativeCaught decls decl s c a → ⊥
+      go zero zero other l h t = n other h
+      go zero (suc u) other l h t = h
+      go (suc j) u other (inl l) h t =
+          first_before (AlternativeFree decls decl) (AlternativeCaught decls decl s c) (alternatives decl.levels) k f j h.0 (omega arith) h.1 u other h.2
+      go (suc j) u other (inr l) h t =
+          let same : j ≡ k = (let z = l.0 in omega arith) in
+          let a = one (slice_get (alternatives decl.levels) k) h.0 t.0 (ap (slice_get (alternatives decl.levels)) (sym same) ∙ h.1) t.1 in
+          t.2.none_before u other l.1 (subst (λ a. AlternativeHas decls decl a u other) a h.2)
+
+  pub declaration_told : (r : Result (Unit {0}) ScopeFault) → NoneHolds (HeadMeets decls index decl) → TellsAlternatives decls decl (index + 1) r →
+      TellsDeclaration decls decl index r
+  declaration_told (Ok done) n h = λ a s c m. go a s c m
+    where
+      go : (a s : ℕ) (c : Condition) → DeclarationHas decls index decl a s c → ⊥
+      go zero zero c m = n c m
+      go zero (suc s) c m = m
+      go (suc j) s c m = free_at (AlternativeFree decls decl) (AlternativeFree decls decl) (alternatives decl.levels) h j m.0 m.1 s c m.2
+  declaration_told (Err (Broken cause place)) n h = (
+    h.1,
+    subst (λ k. FirstPair (DeclarationHas decls index decl) k place.symbol (condition_of cause)) (let e = h.2 in let z : suc h.0 ≡ place.alt = omega arith in z)
+        (caught_alternative h.0 place.symbol (condition_of cause) n h.3),
+  )
+  declaration_told (Err Memory) n h = tt
+
+pub free_more : (decls : List Decl) (i : ℕ) (decl : Decl) → i < length decls → decl ≡ get_or decls i decl → AreFree decls i →
+    ((a s : ℕ) → NoneHolds (DeclarationHas decls i decl a s)) → AreFree decls (i + 1)
+free_more decls i decl l e f h k d a s c m g p =
+    elim (split k i m) [
+      | inl r ↦ f k d a s c r g p
+      | inr r ↦
+          let same = one (slice_get decls i) d decl (ap (slice_get decls) (sym r) ∙ g) (slice_get-get_or decls i decl l ∙ ap Some (sym e)) in
+          h a s c (subst (λ z. DeclarationHas decls i z a s c) same (subst (λ z. DeclarationHas decls z d a s c) r p))
+    ]
+  where
+    split : (k i : ℕ) → k < i + 1 → (k < i) ⊎ (k ≡ i)
+    split k zero l = inr (omega arith)
+    split zero (suc i) l = inl (omega arith)
+    split (suc k) (suc i) l = elim (split k i (omega arith)) [ inl r ↦ inl (omega arith) | inr r ↦ inr (ap suc r) ]
+
+pub declarations_stopped : (decls : List Decl) (i : ℕ) (decl : Decl) (fault : ScopeFault) (r : Result (Unit {0}) ScopeFault) → IsErrAnd r (λ f. f ≡ fault) →
+    i < length decls → decl ≡ get_or decls i decl → AreFree decls i → TellsDeclaration decls decl i {T = Unit {0}} (Err fault) → TellsDeclarations decls r
+declarations_stopped decls i decl (Broken cause place) r p l e f h =
+    subst (TellsDeclarations decls) (sym (fault_passed r (Broken cause place) p))
+    (i, decl, slice_get-get_or decls i decl l ∙ ap Some (sym e), h.0, h.1, f)
+declarations_stopped decls i decl Memory r p l e f h = subst (TellsDeclarations decls) (sym (fault_passed r Memory p)) tt
+
+pub named_more : (decls : List Decl) (i n m : ℕ) (decl : Decl) (b : Bool) → i < length decls → decl ≡ get_or decls i decl → b ≡ is_name decl.name →
+    n ≡ count_by (λ d. is_name d.name) (take i decls) → m ≡ cond b (n + 1) n → m ≡ count_by (λ d. is_name d.name) (take (i + 1) decls)
+named_more decls i n m decl true l e b h k =
+    k ∙ ap (λ z. z + 1) h ∙ sym (count_by_more_yes (λ (d : Decl). is_name d.name) decls i decl l (ap (λ (d : Decl). is_name d.name) (sym e) ∙ sym b))
+named_more decls i n m decl false l e b h k =
+    k ∙ h ∙ sym (count_by_more_no (λ (d : Decl). is_name d.name) decls i decl l (ap (λ (d : Decl). is_name d.name) (sym e) ∙ sym b))
+
+layouts : (decls : List Decl) (i : ℕ) (decl : Decl) → i < length decls → decl ≡ get_or decls i decl → take (i + 1) decls ≡ take i decls ++ decl ∷ []
+layouts decls i decl l e = take_more decls i decl l ∙ ap (λ z. take i decls ++ z ∷ []) (sym e)
+
+pub layout_found : (decls : List Decl) (i : ℕ) (decl : Decl) → i < length decls → decl ≡ get_or decls i decl → decl.kind ≡ Layout →
+    IsTrue true ↔ HasLayout (take (i + 1) decls)
+layout_found decls i decl l e k = ((λ _. (decl, subst (λ z. Contains z decl) (sym (layouts decls i decl l e)) (Contains-push (take i decls) decl), k)), (λ _. refl))
+
+pub layout_kept : (decls : List Decl) (i : ℕ) (decl : Decl) (b : Bool) → i < length decls → decl ≡ get_or decls i decl → (decl.kind ≡ Layout → ⊥) →
+    IsTrue b ↔ HasLayout (take i decls) → IsTrue b ↔ HasLayout (take (i + 1) decls)
+layout_kept decls i decl b l e k h = (
+  (λ t. let z = h.0 t in (z.0, subst (λ x. Contains x z.0) (sym (layouts decls i decl l e)) (Contains-append_left (take i decls) (decl ∷ []) z.0 z.1), z.2)),
+  (λ z. elim (Contains-push_cases (take i decls) decl z.0 (subst (λ x. Contains x z.0) (layouts decls i decl l e) z.1)) [
+    | inl m ↦ h.1 (z.0, m, z.2)
+    | inr s ↦ absurd (k (ap (λ (d : Decl). d.kind) s ∙ z.2))
+  ]),
+)
+
+module _ (g : Grammar) where
+  pub start_told : (c : Condition) (place : Place) → place ≡ record { decl = 0; alt = 0; symbol = 0 } → IsLeast (StartMeets g) c → IsFirst g place c
+  start_told c place e h =
+      subst (λ p. IsFirst g p c) (sym e) (record { there = h; none_before = λ p other l m. go p l })
+    where
+      go : (p : Place) → IsBefore p (record { decl = 0; alt = 0; symbol = 0 }) → ⊥
+      go p (inl l) = omega arith
+      go p (inr (l, inl m)) = omega arith
+      go p (inr (l, inr m)) = let z = m.1 in omega arith
+
+  caught_declaration : (index a s : ℕ) (decl : Decl) (c : Condition) → NoneHolds (StartMeets g) → slice_get g.decls index ≡ Some decl →
+      FirstPair (DeclarationHas g.decls index decl) a s c → AreFree g.decls index → IsFirst g (record { decl = suc index; alt = a; symbol = s }) c
+  caught_declaration index a s decl c n at f free = record {
+    there = record {
+      holds = (decl, at, f.there.holds);
+      least = λ other h. f.there.least other (subst (λ d. DeclarationHas g.decls index d a s other) (one (slice_get g.decls index) h.0 decl h.1 at) h.2);
+    };
+    none_before = λ p other l h. go p.decl p.alt p.symbol other l h;
+  }
+    where
+      go : (d b t : ℕ) (other : Condition) → (d < suc index) ⊎ ((d ≡ suc index) × ((b < a) ⊎ ((b ≡ a) × (t < s)))) → GrammarHas g d b t other → ⊥
+      go zero zero zero other l h = n other h
+      go zero zero (suc t) other l h = h
+      go zero (suc b) t other l h = h
+      go (suc j) b t other (inl l) h = free j h.0 b t other (omega arith) h.1 h.2
+      go (suc j) b t other (inr l) h =
+          let same : j ≡ index = (let z = l.0 in omega arith) in
+          let d = one (slice_get g.decls index) h.0 decl (ap (slice_get g.decls) (sym same) ∙ h.1) at in
+          f.none_before b t other l.1 (subst (λ z. DeclarationHas g.decls index z b t other) d (subst (λ z. DeclarationHas g.decls z h.0 b t other) same h.2))
+
+  pub grammar_told : (r : Result (Unit {0}) ScopeFault) → NoneHolds (StartMeets g) → TellsDeclarations g.decls r → TellsGrammar g r
+  grammar_told (Ok done) n h = λ place c m. go place.decl place.alt place.symbol c m
+    where
+      within : (decls : List Decl) (k : ℕ) (d : Decl) → slice_get decls k ≡ Some d → k < length decls
+      within [] k d e = cc
+      within (x ∷ decls) zero d e = omega arith
+      within (x ∷ decls) (suc k) d e = let w = within decls k d e in omega arith
+
+      go : (d b t : ℕ) (c : Condition) → GrammarHas g d b t c → ⊥
+      go zero zero zero c m = n c m
+      go zero zero (suc t) c m = m
+      go zero (suc b) t c m = m
+      go (suc j) b t c m = h j m.0 b t c (within g.decls j m.0 m.1) m.1 m.2
+  grammar_told (Err (Broken cause place)) n h =
+      subst (λ p. IsFirst g p (condition_of cause)) (place_is place (h.0 + 1) h.3 ∙ refl)
+      (subst (λ k. IsFirst g (record { decl = k; alt = place.alt; symbol = place.symbol }) (condition_of cause)) (let z : suc h.0 ≡ h.0 + 1 = omega arith in z)
+      (caught_declaration h.0 place.alt place.symbol h.1 (condition_of cause) n h.2 h.4 h.5))
+    where
+      place_is : (p : Place) (k : ℕ) → p.decl ≡ k → record { decl = k; alt = p.alt; symbol = p.symbol } ≡ p
+      place_is p k e = ap (λ n. record { decl = n; alt = p.alt; symbol = p.symbol }) (sym e)
+  grammar_told (Err Memory) n h = tt

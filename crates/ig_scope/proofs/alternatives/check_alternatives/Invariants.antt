@@ -1,0 +1,9 @@
+use Rattle.std.proofs.Common.{◌≡◌, take, Ok}
+use Rattle.ig_grammar.specs.Numbering.{alternatives}
+use Rattle.ig_grammar.specs.Visible.{parameters}
+use Rattle.ig_scope.specs.Told.{TellsLevel}
+use Rattle.ig_scope.proofs.alternatives.check_alternatives.Given as goal
+
+abbrev pub invariant-loop-level : goal.invariant-loop-level
+invariant-loop-level l =
+    TellsLevel l.fn.declarations l.decl l.number 0 (alternatives (take l.level-index l.level-items)) (Ok l.before) × (l.variables ≡ parameters l.decl.params)

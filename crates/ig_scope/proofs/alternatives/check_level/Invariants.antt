@@ -1,0 +1,9 @@
+use Rattle.std.proofs.Common.{◌≡◌, ◌+◌, take}
+use Rattle.std.specs.Prelude.{All}
+use Rattle.ig_scope.specs.Told.{AlternativeFree}
+use Rattle.ig_scope.proofs.alternatives.check_level.Given as goal
+
+abbrev pub invariant-loop-alternative : goal.invariant-loop-alternative
+invariant-loop-alternative l =
+    (l.next ≡ l.before + l.alternative-index) × All (AlternativeFree l.numbered.declarations.now l.numbered.decl.now) (take l.alternative-index l.alts) ×
+    (l.variables ≡ l.initial.variables)

@@ -1,0 +1,15 @@
+use Rattle.ig_expr.specs.View.{expression_of}
+use Rattle.ig_scope.proofs.SymbolCauses.{guard_unknown, guard_mismatched, guard_free}
+use Rattle.ig_scope.proofs.Members.{refuted}
+use Rattle.ig_scope.proofs.symbols.guard_cause.Goals as goal
+
+pub returns-then-names_unknown : goal.returns-then-names_unknown
+returns-then-names_unknown c = guard_unknown c.args.around.now.declarations.now c.args.around.now.kind c.args.variables.now (expression_of c.args.condition.now) (c.names_unknown.ensures.0 c.if-names_unknown.true)
+
+pub returns-then-not-gives : goal.returns-then-not-gives
+returns-then-not-gives c =
+    guard_mismatched c.args.around.now.declarations.now c.args.around.now.kind c.args.variables.now (expression_of c.args.condition.now) (refuted _ c.names_unknown.ensures c.if-names_unknown.false) (refuted _ c.gives.ensures c.if-not-gives.true)
+
+pub returns : goal.returns
+returns c =
+    guard_free c.args.around.now.declarations.now c.args.around.now.kind c.args.variables.now (expression_of c.args.condition.now) (refuted _ c.names_unknown.ensures c.if-names_unknown.false) (c.gives.ensures.0 c.if-not-gives.false)

@@ -1,0 +1,14 @@
+use Rattle.std.proofs.lemmas.List.{take_all}
+use Rattle.ig_expr.specs.View.{expression_of}
+use Rattle.ig_grammar.specs.Condition.{NamesUnknown}
+use Rattle.ig_scope.proofs.Members.{found_none, all_more, refuted}
+use Rattle.ig_scope.proofs.symbols.have_unknown.Goals as goal
+
+pub returns : goal.returns
+returns c =
+    found_none expression_of (NamesUnknown c.args.variables.now) c.args.expressions.now _ (take_all c.loop-e.e-index c.args.expressions.now c.loop-e-test.false) c.loop-e.invariant
+
+pub loop-e-preserved : goal.loop-e-preserved
+loop-e-preserved c =
+    all_more (λ e. NamesUnknown c.args.variables.now (expression_of e) → ⊥) c.args.expressions.now c.loop-e.e-index c.e-item.result c.loop-e-test.true
+    c.e-item.is c.loop-e.invariant (refuted c.names_unknown.result c.names_unknown.ensures c.if-names_unknown.false)

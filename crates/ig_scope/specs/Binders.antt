@@ -1,0 +1,12 @@
+-- Labels and lets with names of the notation, and the room for them.
+use Rattle.std.specs.Prelude.{◌≡◌, ℕ, ◌+◌, ◌<◌, List, count_by, Option, Some, None}
+use Rattle.ig_grammar.specs.Visible.{Occurrence}
+use Rattle.ig_grammar.specs.Condition.{binds_name}
+
+abbrev pub binders : List Occurrence → ℕ
+binders os = count_by (λ o. binds_name o.symbol) os
+
+-- what is left of a room after so many; none where there are more
+abbrev pub Leaves : ℕ → ℕ → Option ℕ → Type 0
+Leaves room n None = room < n
+Leaves room n (Some left) = left + n ≡ room

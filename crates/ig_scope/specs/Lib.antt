@@ -1,0 +1,6 @@
+pub mod Tables
+pub mod Causes
+pub mod Told
+pub mod Binders
+pub mod Room
+pub mod Heads

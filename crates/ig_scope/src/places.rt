@@ -1,0 +1,33 @@
+ghost use Rattle.std.specs.Prelude.{◌≡◌, ◌+◌, ◌<◌};
+ghost use Rattle.ig_scope.specs.declared.fault.ScopeFault.{ScopeFault};
+
+use crate::declarations::Declarations;
+use crate::fault::{ScopeCause, ScopeFault};
+use ig_grammar::{DeclKind, Place};
+
+/// The alternative in which symbols stand, and the declarations that they call.
+#[derive(Clone, Copy)]
+pub(crate) struct Surroundings<'a> {
+    pub(crate) declarations: &'a Declarations<'a>,
+    /// What the declaration of the alternative is.
+    pub(crate) kind: DeclKind,
+    /// The number of that declaration.
+    pub(crate) decl: u32,
+    /// The number of the alternative.
+    pub(crate) alt: u32,
+}
+
+impl Surroundings<'_> {
+    /// The fault at the symbol that has so many before it in the alternative.
+    pub(crate) fn fault(&self, cause: ScopeCause, before: u32) -> ScopeFault
+        requires { before + 1 < 4294967296 }
+        ensures { result ≡ ScopeFault.Broken cause (record { decl = self.now.decl; alt = self.now.alt; symbol = before + 1 }) }
+    {
+        let place = Place {
+            decl: self.decl,
+            alt: self.alt,
+            symbol: before + 1,
+        };
+        ScopeFault::Broken { cause, place }
+    }
+}

@@ -1,0 +1,226 @@
+//! What holds at a symbol itself, apart from the symbols inside it.
+
+ghost use Rattle.std.specs.Prelude.{◌≡◌, ◌↔◌, IsTrue, MatchOption, map, length};
+ghost use Rattle.ig_expr.specs.View.{expression_of};
+ghost use Rattle.ig_grammar.specs.View.{symbol_of};
+ghost use Rattle.ig_grammar.specs.Symbol as tree;
+ghost use Rattle.ig_grammar.specs.Condition.{IsInLexical, IsListed, SymbolMeets};
+ghost use Rattle.ig_scope.specs.Causes.{Tells};
+ghost use Rattle.ig_scope.specs.Told.{HasUnknown, HasUnkinded, IsMismatched};
+
+use crate::expressions::names_unknown;
+use crate::fault::ScopeCause;
+use crate::places::Surroundings;
+use crate::variables::Variables;
+use ig_expr::{Expr, Exprs, Kind};
+use ig_grammar::{DeclKind, Lets, Param, Symbol};
+use ig_text::Word;
+
+/// Of the conditions that hold at the symbol itself the one of the least number; `None` exactly
+/// where none holds there.
+pub(crate) fn symbol_cause(
+    around: &Surroundings,
+    variables: &Variables,
+    symbol: &Symbol,
+) -> Option<ScopeCause>
+    ensures { Tells (SymbolMeets around.now.declarations.now around.now.kind variables.now (symbol_of symbol.now)) result }
+{
+    match symbol {
+        Symbol::Call(name, arguments) => call_cause(around, variables, name, arguments),
+        Symbol::Label(name, _) => {
+            if variables.sees(name) {
+                Some(ScopeCause::DuplicateVariable)
+            } else {
+                None
+            }
+        }
+        Symbol::Guard(condition) => guard_cause(around, variables, condition),
+        Symbol::Let(name, value) => let_cause(around, variables, name, value),
+        Symbol::Offside(_) => mark_cause(around.kind),
+        Symbol::Ignore(_) => mark_cause(around.kind),
+        Symbol::Align(inner) => {
+            if is_listed(inner.as_symbol()) {
+                mark_cause(around.kind)
+            } else {
+                Some(ScopeCause::AlignNotList)
+            }
+        }
+        Symbol::Entry(bindings, _) => entry_cause(around, variables, bindings),
+        _ => None,
+    }
+}
+
+/// The cause at a call.
+fn call_cause(
+    around: &Surroundings,
+    variables: &Variables,
+    name: &Word,
+    arguments: &Exprs,
+) -> Option<ScopeCause>
+    ensures { Tells (SymbolMeets around.now.declarations.now around.now.kind variables.now (tree.Call name.now arguments.now)) result }
+{
+    let Some(callee) = around.declarations.find(name) else {
+        return Some(ScopeCause::UnknownName);
+    };
+    let arguments = arguments.as_slice();
+    let params = callee.params.as_slice();
+    if arguments.len() != params.len() {
+        return Some(ScopeCause::WrongArity);
+    }
+    if have_unknown(variables, arguments) {
+        return Some(ScopeCause::UnknownVariable);
+    }
+    if are_mismatched(variables, arguments, params) {
+        return Some(ScopeCause::KindMismatch);
+    }
+    if is_syntax_in_lexical(around.kind, callee.kind) {
+        return Some(ScopeCause::SyntaxInLexical);
+    }
+    None
+}
+
+/// The cause at a guard.
+fn guard_cause(around: &Surroundings, variables: &Variables, condition: &Expr) -> Option<ScopeCause>
+    ensures { Tells (SymbolMeets around.now.declarations.now around.now.kind variables.now (tree.Guard (expression_of condition.now))) result }
+{
+    if names_unknown(variables, condition) {
+        return Some(ScopeCause::UnknownVariable);
+    }
+    if !variables.gives(condition, Kind::Bool) {
+        return Some(ScopeCause::KindMismatch);
+    }
+    None
+}
+
+/// The cause at a let.
+fn let_cause(
+    around: &Surroundings,
+    variables: &Variables,
+    name: &Word,
+    value: &Expr,
+) -> Option<ScopeCause>
+    ensures { Tells (SymbolMeets around.now.declarations.now around.now.kind variables.now (tree.Let name.now (expression_of value.now))) result }
+{
+    if names_unknown(variables, value) {
+        return Some(ScopeCause::UnknownVariable);
+    }
+    if variables.sees(name) {
+        return Some(ScopeCause::DuplicateVariable);
+    }
+    if variables.kind_of(value).is_none() {
+        return Some(ScopeCause::KindMismatch);
+    }
+    None
+}
+
+/// The cause at bindings that are seen only inside a symbol.
+fn entry_cause(around: &Surroundings, variables: &Variables, bindings: &Lets) -> Option<ScopeCause>
+    ensures { (x : tree.Symbol) → Tells (SymbolMeets around.now.declarations.now around.now.kind variables.now (tree.Entry bindings.now x)) result }
+{
+    let bindings = bindings.as_slice();
+    if values_have_unknown(variables, bindings) {
+        return Some(ScopeCause::UnknownVariable);
+    }
+    if values_have_unkinded(variables, bindings) {
+        return Some(ScopeCause::KindMismatch);
+    }
+    None
+}
+
+/// The cause at a mark that stands where it may.
+fn mark_cause(kind: DeclKind) -> Option<ScopeCause>
+    ensures { MatchOption result (IsInLexical kind → ⊥) (λ cause. (cause ≡ ScopeCause.MarkInLexical) × IsInLexical kind) }
+{
+    if is_in_lexical(kind) {
+        Some(ScopeCause::MarkInLexical)
+    } else {
+        None
+    }
+}
+
+/// Whether a syntax declaration is called in a lexical or a layout one.
+fn is_syntax_in_lexical(within: DeclKind, callee: DeclKind) -> bool
+    ensures { IsTrue result ↔ (IsInLexical within × (callee ≡ DeclKind.Syntax)) }
+{
+    match callee {
+        DeclKind::Syntax => is_in_lexical(within),
+        DeclKind::Lexical => false,
+        DeclKind::Layout => false,
+        DeclKind::Plain => false,
+    }
+}
+
+/// Whether a declaration is a lexical or a layout one.
+fn is_in_lexical(kind: DeclKind) -> bool
+    ensures { IsTrue result ↔ IsInLexical kind }
+{
+    match kind {
+        DeclKind::Lexical => true,
+        DeclKind::Layout => true,
+        DeclKind::Syntax => false,
+        DeclKind::Plain => false,
+    }
+}
+
+/// Whether the symbol is a star, plus or separated list, filters aside.
+fn is_listed(symbol: &Symbol) -> bool
+    ensures { IsTrue result ↔ IsListed (symbol_of symbol.now) }
+{
+    match symbol {
+        Symbol::Star(_) => true,
+        Symbol::Plus(_) => true,
+        Symbol::SepStar(_, _) => true,
+        Symbol::SepPlus(_, _) => true,
+        Symbol::Filtered(inner, _) => is_listed(inner.as_symbol()),
+        _ => false,
+    }
+}
+
+/// Whether some expression names a variable that isn't visible.
+fn have_unknown(variables: &Variables, expressions: &[Expr]) -> bool
+    ensures { IsTrue result ↔ HasUnknown variables.now (map expression_of expressions.now) }
+{
+    for e in expressions {
+        if names_unknown(variables, e) {
+            return true;
+        }
+    }
+    false
+}
+
+/// Whether the expression of some binding names a variable that isn't visible.
+fn values_have_unknown(variables: &Variables, bindings: &[(Word, Expr)]) -> bool
+    ensures { IsTrue result ↔ HasUnknown variables.now (map (λ b. expression_of b.1) bindings.now) }
+{
+    for binding in bindings {
+        if names_unknown(variables, &binding.1) {
+            return true;
+        }
+    }
+    false
+}
+
+/// Whether the expression of some binding has no kind.
+fn values_have_unkinded(variables: &Variables, bindings: &[(Word, Expr)]) -> bool
+    ensures { IsTrue result ↔ HasUnkinded variables.now (map (λ b. expression_of b.1) bindings.now) }
+{
+    for binding in bindings {
+        if variables.kind_of(&binding.1).is_none() {
+            return true;
+        }
+    }
+    false
+}
+
+/// Whether some argument hasn't the kind of its parameter.
+fn are_mismatched(variables: &Variables, arguments: &[Expr], params: &[Param]) -> bool
+    requires { length arguments.now ≡ length params.now }
+    ensures { IsTrue result ↔ IsMismatched variables.now (map expression_of arguments.now) params.now }
+{
+    for (place, argument) in arguments.iter().enumerate() {
+        if !variables.gives(argument, params[place].kind) {
+            return true;
+        }
+    }
+    false
+}
