@@ -1,0 +1,10 @@
+use Rattle.std.proofs.Common.{◌∷◌, refl}
+use Rattle.std.specs.Str.{chars}
+use Rattle.ig_grammar.specs.Token.{Comma, Close}
+use Rattle.ig_show.specs.Pieces.{token, blank}
+use Rattle.ig_show.proofs.Steps.{if_ok, adds, says}
+use Rattle.ig_show.proofs.expressions.push_word_behind.Goals as goal
+
+pub returns : goal.returns
+unfolding chars
+returns c = if_ok c.push_text-2.result c.push_text-2.ensures (λ h. adds (says (λ ps. token Comma ∷ blank ∷ ps) c.in_ok-push_text.ensures (λ _. refl)) (adds c.in_ok-push_literal.ensures (says (λ ps. token Close ∷ ps) h (λ _. refl))))

@@ -1,0 +1,13 @@
+use Rattle.std.proofs.Common.{◌∷◌, refl}
+use Rattle.std.specs.Str.{chars}
+use Rattle.ig_grammar.specs.Token.{Semicolon, Start}
+use Rattle.ig_show.specs.Pieces.{token, blank, line_end}
+use Rattle.ig_show.proofs.Steps.{if_ok, adds, says}
+use Rattle.ig_show.proofs.grammar.push_start_line.Goals as goal
+
+pub returns : goal.returns
+unfolding chars
+returns c =
+    if_ok c.push_text-2.result c.push_text-2.ensures
+    (λ h. adds (says (λ ps. token Start ∷ blank ∷ ps) c.in_ok-push_text.ensures (λ _. refl))
+    (adds c.in_ok-push_name.ensures (says (λ ps. token Semicolon ∷ line_end ∷ ps) h (λ _. refl))))

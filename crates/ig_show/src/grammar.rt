@@ -1,0 +1,173 @@
+//! Grammars and their declarations.
+
+ghost use Rattle.std.specs.Prelude.{◌≡◌, ◌++◌, ◌∷◌, [], OnOk, IfOk, Some, IsUtf8, map, chars, string_bytes};
+ghost use Rattle.ig_expr.specs.View.{expression_of};
+ghost use Rattle.ig_grammar.specs.Token.{Name, Head, Semicolon};
+ghost use Rattle.ig_show.specs.Pieces.{token, blank, line_end};
+ghost use Rattle.ig_show.specs.CanonicalText.{text_of, expression_text, pattern_text, associativity_pieces, level_pieces, levels_pieces, parameter_pieces, head_pieces, joined, comma, declaration_token, declaration_pieces, separated, start_pieces};
+ghost use Rattle.ig_show.specs.Writing.{Adds, IsText};
+
+use crate::expressions::push_expression;
+use crate::spelling::{push_head, push_name, push_pattern, push_text};
+use crate::symbols::push_alternatives;
+use ig_expr::{Expr, Kind};
+use ig_grammar::{Assoc, Decl, DeclKind, Grammar, Level, Param};
+use ig_text::{Pattern, Word};
+use std::alloc::{AllocError, Global};
+
+/// Adds an associativity and a space, and nothing where there is none.
+fn push_associativity(out: &mut String, assoc: Assoc) -> Result<(), AllocError>
+    ensures { OnOk result (Adds (string_bytes out.old) (string_bytes out.new) (associativity_pieces assoc)) }
+{
+    match assoc {
+        Assoc::Free => Ok(()),
+        Assoc::Left => push_text(out, "left "),
+        Assoc::Right => push_text(out, "right "),
+        Assoc::Nonassoc => push_text(out, "nonassoc "),
+    }
+}
+
+/// Adds a level.
+fn push_level(out: &mut String, level: &Level) -> Result<(), AllocError>
+    ensures { OnOk result (Adds (string_bytes out.old) (string_bytes out.new) (level_pieces level.now)) }
+{
+    push_associativity(out, level.assoc)?;
+    push_alternatives(out, &level.alts)
+}
+
+/// Adds levels, with ` > ` between two.
+fn push_levels(out: &mut String, levels: &[Level]) -> Result<(), AllocError>
+    ensures { OnOk result (Adds (string_bytes out.old) (string_bytes out.new) (levels_pieces levels.now)) }
+{
+    let Some((first, others)) = levels.split_first() else {
+        return Ok(());
+    };
+    push_level(out, first)?;
+    for other in others {
+        push_text(out, " > ")?;
+        push_level(out, other)?;
+    }
+    Ok(())
+}
+
+/// Adds a parameter: its name, `: ` and its kind.
+fn push_parameter(out: &mut String, param: &Param) -> Result<(), AllocError>
+    ensures { OnOk result (Adds (string_bytes out.old) (string_bytes out.new) (parameter_pieces param.now)) }
+{
+    push_name(out, &param.name)?;
+    match param.kind {
+        Kind::Int => push_text(out, ": int"),
+        Kind::Bool => push_text(out, ": bool"),
+        Kind::Span => push_text(out, ": span"),
+    }
+}
+
+/// Adds parameters, with `, ` between two.
+fn push_parameters(out: &mut String, params: &[Param]) -> Result<(), AllocError>
+    ensures { OnOk result (Adds (string_bytes out.old) (string_bytes out.new) (joined comma parameter_pieces params.now)) }
+{
+    let Some((first, others)) = params.split_first() else {
+        return Ok(());
+    };
+    push_parameter(out, first)?;
+    for other in others {
+        push_text(out, ", ")?;
+        push_parameter(out, other)?;
+    }
+    Ok(())
+}
+
+/// Adds a declared name, and the parameters in parentheses where there are any.
+fn push_declared(out: &mut String, name: &Word, params: &[Param]) -> Result<(), AllocError>
+    ensures { OnOk result (Adds (string_bytes out.old) (string_bytes out.new) (head_pieces name.now params.now)) }
+{
+    if params.is_empty() {
+        return push_name(out, name);
+    }
+    push_head(out, name)?;
+    push_parameters(out, params)?;
+    push_text(out, ")")
+}
+
+/// Adds the kind of a declaration and a space.
+fn push_kind(out: &mut String, kind: DeclKind) -> Result<(), AllocError>
+    ensures { OnOk result (Adds (string_bytes out.old) (string_bytes out.new) (λ ps. token (declaration_token kind) ∷ blank ∷ ps)) }
+{
+    match kind {
+        DeclKind::Syntax => push_text(out, "syntax "),
+        DeclKind::Lexical => push_text(out, "lexical "),
+        DeclKind::Layout => push_text(out, "layout "),
+        DeclKind::Plain => push_text(out, "plain "),
+    }
+}
+
+/// Adds a declaration as a line.
+fn push_declaration(out: &mut String, decl: &Decl) -> Result<(), AllocError>
+    ensures { OnOk result (Adds (string_bytes out.old) (string_bytes out.new) (declaration_pieces decl.now)) }
+{
+    push_kind(out, decl.kind)?;
+    push_declared(out, &decl.name, decl.params.as_slice())?;
+    push_text(out, " = ")?;
+    push_levels(out, decl.levels.as_slice())?;
+    push_text(out, ";\n")
+}
+
+/// Adds declarations.
+fn push_declarations(out: &mut String, decls: &[Decl]) -> Result<(), AllocError>
+    ensures { OnOk result (Adds (string_bytes out.old) (string_bytes out.new) (separated [] declaration_pieces decls.now)) }
+{
+    for decl in decls {
+        push_declaration(out, decl)?;
+    }
+    Ok(())
+}
+
+/// Adds the line of a start symbol, where there is one.
+fn push_start(out: &mut String, start: &Option<Word>) -> Result<(), AllocError>
+    ensures { OnOk result (Adds (string_bytes out.old) (string_bytes out.new) (start_pieces start.now)) }
+{
+    match start {
+        None => Ok(()),
+        Some(name) => push_start_line(out, name),
+    }
+}
+
+/// Adds the line of a start symbol.
+fn push_start_line(out: &mut String, name: &Word) -> Result<(), AllocError>
+    ensures { OnOk result (Adds (string_bytes out.old) (string_bytes out.new) (start_pieces (Some name.now))) }
+{
+    push_text(out, "start ")?;
+    push_name(out, name)?;
+    push_text(out, ";\n")
+}
+
+/// The canonical text of a grammar, as UTF-8: the line `start NAME;` where there is a start, and a
+/// line for each declaration. Reading it gives the grammar again, where some text does. Refuses only
+/// for want of memory.
+pub fn show_grammar(alloc: Global, grammar: &Grammar) -> Result<Vec<u8>, AllocError>
+    ensures { IfOk result (λ bytes. IsText bytes.items (text_of grammar.now)) }
+{
+    let mut out = String::new(alloc);
+    push_start(&mut out, &grammar.start)?;
+    push_declarations(&mut out, grammar.decls.as_slice())?;
+    Ok(out.into_bytes())
+}
+
+/// The canonical text of an expression, as UTF-8. Refuses only for want of memory.
+pub fn show_expression(alloc: Global, expression: &Expr) -> Result<Vec<u8>, AllocError>
+    ensures { IfOk result (λ bytes. IsText bytes.items (expression_text (expression_of expression.now))) }
+{
+    let mut out = String::new(alloc);
+    push_expression(&mut out, expression)?;
+    Ok(out.into_bytes())
+}
+
+/// The canonical text of a pattern, as UTF-8: a literal in quotes, or a class. Refuses only for want
+/// of memory.
+pub fn show_pattern(alloc: Global, pattern: &Pattern) -> Result<Vec<u8>, AllocError>
+    ensures { IfOk result (λ bytes. IsText bytes.items (pattern_text pattern.now)) }
+{
+    let mut out = String::new(alloc);
+    push_pattern(&mut out, pattern)?;
+    Ok(out.into_bytes())
+}

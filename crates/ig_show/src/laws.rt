@@ -1,0 +1,13 @@
+ghost use Rattle.ig_show.specs.Laws.{CanonicalTokensFollow, CanonicalTextReadsBack};
+
+/// The tokens of the canonical text of a grammar follow the rules of the notation as that grammar,
+/// where any tokens do. This law, proved of every grammar, computes nothing.
+pub fn canonical_tokens_follow()
+    ensures { CanonicalTokensFollow }
+{}
+
+/// The canonical text of a grammar reads as that grammar, where any text does. This law, proved of
+/// every grammar, computes nothing.
+pub fn canonical_text_reads_back()
+    ensures { CanonicalTextReadsBack }
+{}
