@@ -1,30 +1,20 @@
 -- The numbers of the core grammar of an accepted grammar fit in 32 bits.
-use Rattle.std.proofs.Common.{◌≡◌, ℕ, zero, suc, ◌+◌, ◌<◌, ◌≤◌, ◌^◌, List, [], ◌∷◌, length, refl, sym, ap, subst, arith, Option, Some, None}
+use Rattle.std.proofs.Common.{◌≡◌, ℕ, zero, suc, ◌+◌, ◌<◌, ◌≤◌, ◌^◌, List, [], ◌∷◌, length, refl, sym, subst, arith, Option, Some, None}
 use Rattle.std.specs.Prelude.{slice_get, sum_by, codes}
 use Rattle.std.proofs.lemmas.List.{length-map}
 use Rattle.std.proofs.lemmas.List.Sums.{sum_by-cons}
 use Rattle.ig_grammar.specs.declared.grammar.Grammar.{Grammar}
-use Rattle.ig_grammar.specs.declared.grammar.Decl.{Decl}
-use Rattle.ig_grammar.specs.declared.grammar.Alt.{Alt}
+use Rattle.ig_grammar.specs.declared.declaration.Decl.{Decl}
+use Rattle.ig_grammar.specs.declared.symbol.Alt.{Alt}
 use Rattle.ig_tool.specs.declared.core_grammar.Nonterminal.{Nonterminal}
 use Rattle.ig_tool.specs.declared.core_grammar.CoreAlt.{CoreAlt}
 use Rattle.ig_tool.specs.declared.core_grammar.Step.TheVariants as step
 use Rattle.ig_text.specs.declared.tag.Tag.TheVariants.{Root}
 use Rattle.ig_tool.specs.Core.{alternative_of}
-use Rattle.ig_tool.specs.CoreOf.{core_of, core_alt_of, core_alts_of, nonterminal_of, nonterminals_of, root_alts_of, step_of, number_of}
-use Rattle.ig_tool.specs.PlainText.{alt_dots, decl_dots, dots}
+use Rattle.ig_tool.specs.CoreOf.{core_of, alternatives, core_alt_of, core_alts_of, nonterminal_of, nonterminals_of, root_alts_of, step_of, number_of}
+use Rattle.ig_tool.specs.Accepted.{alt_dots, decl_dots, dots}
 use Rattle.ig_tool.specs.Saturation.{FitsNumbers}
-
-alts_length : (decls : List Decl) (d k : ℕ) (alts : List Alt) → length (core_alts_of decls d k alts) ≡ length alts
-alts_length decls d k [] = refl
-alts_length decls d k (alt ∷ alts) = ap suc (alts_length decls d (suc k) alts)
-
-alts_few : (alts : List Alt) → length alts ≤ sum_by alt_dots alts
-alts_few [] = omega arith
-alts_few (alt ∷ alts) =
-    let i : length alts ≤ sum_by alt_dots alts = alts_few alts in
-    let j : sum_by alt_dots (alt ∷ alts) ≡ length alt.symbols + 1 + sum_by alt_dots alts = sum_by-cons alt_dots alt alts in
-    omega (arith, i, j)
+use Rattle.ig_tool.proofs.LevelAlternatives.{few_alternatives, dots_of_alternatives, alts_length}
 
 within : {X : Type 0} (f : X → ℕ) (xs : List X) (n : ℕ) (x : X) → slice_get xs n ≡ Some x → f x ≤ sum_by f xs
 within f [] n x e = cc
@@ -77,9 +67,9 @@ alternatives_few g zero made e =
 alternatives_few g (suc n) made e =
     let at = nonterminal_at g.decls 1 g.decls n made e in
     let inside : decl_dots at.0 ≤ sum_by decl_dots g.decls = within decl_dots g.decls n at.0 at.1 in
-    let few : length at.0.alts ≤ decl_dots at.0 = alts_few at.0.alts in
-    let same : length (core_alts_of g.decls at.2.0 1 at.0.alts) ≡ length at.0.alts =
-    alts_length g.decls at.2.0 1 at.0.alts in
+    let few : length (alternatives at.0.levels) ≤ decl_dots at.0 = few_alternatives at.0.levels in
+    let same : length (core_alts_of g.decls at.2.0 1 (alternatives at.0.levels)) ≡ length (alternatives at.0.levels) =
+    alts_length g.decls at.2.0 1 (alternatives at.0.levels) in
     subst (λ (z : Nonterminal). length z.alternatives ≤ dots g) at.2.1 (omega arith)
 
 steps_few : (g : Grammar) (n a : ℕ) (made : Nonterminal) (alt : CoreAlt) →
@@ -94,10 +84,12 @@ steps_few g zero a made alt e f =
 steps_few g (suc n) a made alt e f =
     let at = nonterminal_at g.decls 1 g.decls n made e in
     let inside : decl_dots at.0 ≤ sum_by decl_dots g.decls = within decl_dots g.decls n at.0 at.1 in
-    let there : slice_get (core_alts_of g.decls at.2.0 1 at.0.alts) a ≡ Some alt =
+    let there : slice_get (core_alts_of g.decls at.2.0 1 (alternatives at.0.levels)) a ≡ Some alt =
     subst (λ (z : Nonterminal). slice_get z.alternatives a ≡ Some alt) (sym at.2.1) f in
-    let of = alt_at g.decls at.2.0 1 at.0.alts a alt there in
-    let among : alt_dots of.0 ≤ decl_dots at.0 = within alt_dots at.0.alts a of.0 of.1 in
+    let of = alt_at g.decls at.2.0 1 (alternatives at.0.levels) a alt there in
+    let among : alt_dots of.0 ≤ sum_by alt_dots (alternatives at.0.levels) =
+    within alt_dots (alternatives at.0.levels) a of.0 of.1 in
+    let whole : sum_by alt_dots (alternatives at.0.levels) ≡ decl_dots at.0 = dots_of_alternatives at.0.levels in
     let same : length alt.steps ≡ length of.0.symbols = of.2 in
     omega arith
 

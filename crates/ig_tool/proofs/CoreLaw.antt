@@ -3,26 +3,29 @@ use Rattle.std.proofs.Common.{◌≡◌, ℕ, zero, suc, ◌+◌, List, [], ◌�
 use Rattle.std.proofs.lemmas.Slice.Eq.{bytes_eq-Decides}
 use Rattle.std.proofs.lemmas.Option.{same_Some, slice_get-map}
 use Rattle.ig_text.specs.declared.tag.Tag.TheVariants.{Rule, Root}
-use Rattle.ig_text.specs.Tree.{Tree, Trees, Leaf, Node, more, one, join}
-use Rattle.ig_text.specs.Place.{Spells}
+use Rattle.std.specs.Prelude.{All}
+use Rattle.std.proofs.lemmas.List.Elements.{All-nil, All-cons, All-head, All-tail}
+use Rattle.ig_text.specs.Tree.{Tree, Trees, Leaf, Node, more}
 use Rattle.ig_grammar.specs.declared.grammar.Grammar.{Grammar}
-use Rattle.ig_grammar.specs.declared.grammar.Decl.{Decl}
-use Rattle.ig_grammar.specs.declared.grammar.Alt.{Alt}
-use Rattle.ig_grammar.specs.declared.grammar.Symbol.{Symbol}
-use Rattle.ig_grammar.specs.declared.grammar.Symbol.TheVariants as symbol
+use Rattle.ig_grammar.specs.declared.declaration.Decl.{Decl}
+use Rattle.ig_grammar.specs.declared.symbol.Alt.{Alt}
+use Rattle.ig_grammar.specs.Symbol.{Symbol, Literal, Call}
 use Rattle.ig_grammar.specs.Names.{names, AreDistinct}
-use Rattle.ig_grammar.specs.Derivation as derivation
-use Rattle.ig_grammar.specs.Derivation.{Covers, Derives, Declares, IsAlternative}
-use Rattle.ig_grammar.specs.Permitted.{Permitted, root}
+use Rattle.ig_grammar.specs.Numbering.{Levelled, IsDeclaration, IsAlternative}
+use Rattle.ig_grammar.specs.Built.{IsBuilt, IsBuiltGrammar}
+use Rattle.ig_grammar.specs.ContextFree as plain
+use Rattle.ig_grammar.specs.ContextFree.{HaveTrees, IsRootTree}
+use Rattle.ig_grammar.proofs.ContextFree.{context_free}
 use Rattle.ig_tool.specs.declared.core_grammar.Nonterminal.{Nonterminal}
 use Rattle.ig_tool.specs.declared.core_grammar.CoreAlt.{CoreAlt}
 use Rattle.ig_tool.specs.declared.core_grammar.Step.{Step}
 use Rattle.ig_tool.specs.declared.core_grammar.Step.TheVariants as step
 use Rattle.ig_tool.specs.Core.{alternative_of, alternative_at}
-use Rattle.ig_tool.specs.CoreOf.{place, number_of, step_of, core_alt_of, core_alts_of, nonterminal_of, nonterminals_of, root_alts_of, core_of}
+use Rattle.ig_tool.specs.CoreOf.{place, number_of, alternatives, step_of, core_alt_of, core_alts_of, nonterminal_of, nonterminals_of, root_alts_of, core_of}
 use Rattle.ig_tool.specs.CoreTrees as core_trees
 use Rattle.ig_tool.specs.CoreTrees.{Leads, HasTree, CoreTree}
 use Rattle.ig_tool.specs.Laws.{SameTrees, CoreHasOneRoot}
+use Rattle.ig_tool.proofs.LevelAlternatives.{with_level, without_level}
 
 -- a name's place has a declaration of that name, or none
 found_at : (d : Decl) (ds : List Decl) (name : List ℕ) (decl : Decl) (same : Bool) → bytes_eq d.name name ≡ same →
@@ -151,11 +154,12 @@ owner (Some nonterminal) a alternative e = record { nonterminal = nonterminal; i
 -- what an alternative of the nonterminal of a name comes from
 record Source (g : Grammar) (name : List ℕ) (a : ℕ) (alternative : CoreAlt) : Type 0 where
   decl : Decl
-  alt : Alt
+  levelled : Levelled
   d : ℕ
-  declares : Declares g name d decl
-  is_alternative : IsAlternative decl (1 + a) alt
-  same : alternative ≡ core_alt_of g.decls d (1 + a) alt
+  numbered : IsDeclaration g d decl
+  named : decl.name ≡ name
+  is_alternative : IsAlternative decl (1 + a) levelled
+  same : alternative ≡ core_alt_of g.decls d (1 + a) levelled.alternative
 
 source : (g : Grammar) (name : List ℕ) (a : ℕ) (alternative : CoreAlt) →
     alternative_at (core_of g) (number_of g.decls name) a ≡ Some alternative → Source g name a alternative
@@ -164,88 +168,107 @@ source g name a alternative e =
     let own = owner (slice_get (nonterminals_of g.decls 1 g.decls) p) a alternative e in
     let declared = nonterminal_from g.decls 1 g.decls p own.nonterminal own.is in
     let written =
-    alternative_from g.decls (1 + p) 1 declared.decl.alts a alternative
+    alternative_from g.decls (1 + p) 1 (alternatives declared.decl.levels) a alternative
     (ap (λ (z : Nonterminal). slice_get z.alternatives a) (sym declared.same) ∙ own.has) in
+    let levelled = with_level declared.decl.levels a written.alt written.has in
     record {
       decl = declared.decl;
-      alt = written.alt;
+      levelled = levelled.0;
       d = 1 + p;
-      declares = record { from_one = (p, omega arith, declared.has); named = found g.decls name declared.decl declared.has };
-      is_alternative = (a, omega arith, written.has);
-      same = written.same;
+      numbered = (p, omega arith, declared.has);
+      named = found g.decls name declared.decl declared.has;
+      is_alternative = (a, omega arith, levelled.1);
+      same = written.same ∙ ap (λ (z : Alt). core_alt_of g.decls (1 + p) (1 + a) z) (sym levelled.2);
     }
 
 -- what an alternative of a declaration becomes
 target_at : (g : Grammar) (name : List ℕ) (before a : ℕ) (decl : Decl) (alt : Alt) → AreDistinct (names g.decls) →
-    decl.name ≡ name → slice_get g.decls before ≡ Some decl → slice_get decl.alts a ≡ Some alt →
+    decl.name ≡ name → slice_get g.decls before ≡ Some decl → slice_get (alternatives decl.levels) a ≡ Some alt →
     alternative_at (core_of g) (number_of g.decls name) a ≡ Some (core_alt_of g.decls (1 + before) (1 + a) alt)
 target_at g name before a decl alt distinct named has_decl has_alt =
     let there : place g.decls name ≡ before =
     ap (place g.decls) (sym named) ∙ placed g.decls before decl distinct has_decl in
     ap (λ (n : ℕ). alternative_of (slice_get (nonterminals_of g.decls 1 g.decls) n) a) there ∙
     ap (λ (o : Option Nonterminal). alternative_of o a) (nonterminal_to g.decls 1 g.decls before decl has_decl) ∙
-    alternative_to g.decls (1 + before) 1 decl.alts a alt has_alt
+    alternative_to g.decls (1 + before) 1 (alternatives decl.levels) a alt has_alt
 
-target : (g : Grammar) (name : List ℕ) (d k : ℕ) (decl : Decl) (alt : Alt) → AreDistinct (names g.decls) →
-    Declares g name d decl → IsAlternative decl k alt →
-    (a : ℕ) × (alternative_at (core_of g) (number_of g.decls name) a ≡ Some (core_alt_of g.decls d k alt))
-target g name d k decl alt distinct declares is_alternative =
-    let before = declares.from_one.0 in
+target : (g : Grammar) (name : List ℕ) (d k : ℕ) (decl : Decl) (levelled : Levelled) → AreDistinct (names g.decls) →
+    IsDeclaration g d decl → decl.name ≡ name → IsAlternative decl k levelled →
+    (a : ℕ) × (alternative_at (core_of g) (number_of g.decls name) a ≡ Some (core_alt_of g.decls d k levelled.alternative))
+target g name d k decl levelled distinct numbered named is_alternative =
+    let before = numbered.0 in
     let a = is_alternative.0 in
-    let d_is : 1 + before ≡ d = omega (arith, declares.from_one.1) in
+    let d_is : 1 + before ≡ d = omega (arith, numbered.1) in
     let k_is : 1 + a ≡ k = omega (arith, is_alternative.1) in (
       a,
-      target_at g name before a decl alt distinct declares.named declares.from_one.2 is_alternative.2 ∙
-          ap₂ (λ (m n : ℕ). Some (core_alt_of g.decls m n alt)) d_is k_is,
+      target_at g name before a decl levelled.alternative distinct named numbered.2
+          (without_level decl.levels a levelled is_alternative.2) ∙
+          ap₂ (λ (m n : ℕ). Some (core_alt_of g.decls m n levelled.alternative)) d_is k_is,
     )
 
-module _ (g : Grammar) (text : List ℕ) where
+-- the built symbol whose step it is
+term_is : (decls : List Decl) (x : Symbol) (word : List ℕ) → IsBuilt x → step.Term word ≡ step_of decls x → x ≡ Literal word
+term_is decls (Literal w) word ok e = cc
+term_is decls (Call name arguments) word ok e = cc
+term_is decls x word ok e = absurd ok
+
+call_is : (decls : List Decl) (x : Symbol) (callee : ℕ) → IsBuilt x → step.Call callee ≡ step_of decls x →
+    (name : List ℕ) × (x ≡ Call name []) × (callee ≡ number_of decls name)
+call_is decls (Literal w) callee ok e = cc
+call_is decls (Call name arguments) callee ok e = (name, ap (Call name) ok, (cc))
+call_is decls x callee ok e = absurd ok
+
+module _ (g : Grammar) (text : List ℕ) (built : IsBuiltGrammar g) where
   mutual
     leads_to : {steps : List Step} {i j : ℕ} {ts : Trees} → Leads (core_of g) text steps i j ts →
-        (symbols : List Symbol) → steps ≡ map (step_of g.decls) symbols → Covers g text symbols i j ts
-    leads_to (core_trees.done i) [] e = derivation.empty i
-    leads_to (core_trees.done i) (x ∷ symbols) e = cc
-    leads_to (core_trees.terminal word others i h j ts us spells leads u) [] e = cc
-    leads_to (core_trees.terminal word others i h j ts us spells leads u) (symbol.Literal w ∷ symbols) e =
-        derivation.symbol (symbol.Literal w) symbols i h j (one (Leaf i h)) ts us
-        (derivation.literal w i h (subst (λ (z : List ℕ). Spells text z i h) (cc) spells)) (leads_to leads symbols cc) u
-    leads_to (core_trees.terminal word others i h j ts us spells leads u) (symbol.Call name ∷ symbols) e = cc
-    leads_to (core_trees.call callee others i h j t ts us tree leads u) [] e = cc
-    leads_to (core_trees.call callee others i h j t ts us tree leads u) (symbol.Literal w ∷ symbols) e = cc
-    leads_to (core_trees.call callee others i h j t ts us tree leads u) (symbol.Call name ∷ symbols) e =
-        derivation.symbol (symbol.Call name) symbols i h j (one t) ts us (tree_to tree name cc)
-        (leads_to leads symbols cc) u
+        (symbols : List Symbol) → All IsBuilt symbols → steps ≡ map (step_of g.decls) symbols → HaveTrees g text symbols i j ts
+    leads_to (core_trees.done i) [] all e = plain.nothing i
+    leads_to (core_trees.done i) (x ∷ symbols) all e = cc
+    leads_to (core_trees.terminal word others i h j ts us spells leads u) [] all e = cc
+    leads_to (core_trees.terminal word others i h j ts us spells leads u) (x ∷ symbols) all e =
+        let is = term_is g.decls x word (All-head IsBuilt x symbols all) (cc) in
+        let rest = leads_to leads symbols (All-tail IsBuilt x symbols all) (cc) in
+        subst (HaveTrees g text (x ∷ symbols) i j) (sym u)
+        (subst (λ (z : Symbol). HaveTrees g text (z ∷ symbols) i j (more (Leaf i h) ts)) (sym is)
+        (plain.further (Literal word) symbols i h j (Leaf i h) ts (plain.leaf word i h spells) rest))
+    leads_to (core_trees.call callee others i h j t ts us tree leads u) [] all e = cc
+    leads_to (core_trees.call callee others i h j t ts us tree leads u) (x ∷ symbols) all e =
+        let is = call_is g.decls x callee (All-head IsBuilt x symbols all) (cc) in
+        let rest = leads_to leads symbols (All-tail IsBuilt x symbols all) (cc) in
+        subst (HaveTrees g text (x ∷ symbols) i j) (sym u)
+        (subst (λ (z : Symbol). HaveTrees g text (z ∷ symbols) i j (more t ts)) (sym is.1)
+        (plain.further (Call is.0 []) symbols i h j t ts (tree_to tree is.0 is.2) rest))
 
     tree_to : {n i j : ℕ} {t : Tree} → HasTree (core_of g) text n i j t → (name : List ℕ) →
-        n ≡ number_of g.decls name → Derives g text (symbol.Call name) i j (one t)
+        n ≡ number_of g.decls name → plain.HasTree g text (Call name []) i j t
     tree_to (core_trees.node nonterminal a alternative i j ts t at leads e) name n =
         let s =
         source g name a alternative
         (subst (λ (m : ℕ). alternative_at (core_of g) m a ≡ Some alternative) n at) in
         let same : t ≡ Node (Rule s.d (1 + a)) i j ts = e ∙ ap (λ (z : CoreAlt). Node z.tag i j ts) s.same in
-        subst (λ (z : Tree). Derives g text (symbol.Call name) i j (one z)) (sym same)
-        (derivation.call name s.d (1 + a) s.decl s.alt i j ts s.declares s.is_alternative
-        (leads_to leads s.alt.symbols (ap (λ (z : CoreAlt). z.steps) s.same)))
+        let all = (context_free g text built).forms s.d (1 + a) s.decl s.levelled s.numbered s.is_alternative in
+        subst (plain.HasTree g text (Call name []) i j) (sym same)
+        (plain.node name s.d (1 + a) s.decl s.levelled i j ts s.numbered s.named s.is_alternative
+        (leads_to leads s.levelled.alternative.symbols all (ap (λ (z : CoreAlt). z.steps) s.same)))
 
 module _ (g : Grammar) (text : List ℕ) (distinct : AreDistinct (names g.decls)) where
   mutual
-    covers_from : {symbols : List Symbol} {i j : ℕ} {ts : Trees} → Covers g text symbols i j ts →
+    leads_from : {symbols : List Symbol} {i j : ℕ} {ts : Trees} → HaveTrees g text symbols i j ts →
         Leads (core_of g) text (map (step_of g.decls) symbols) i j ts
-    covers_from (derivation.empty i) = core_trees.done i
-    covers_from (derivation.symbol x others i h j ts us vs derives covers e) =
-        subst (Leads (core_of g) text (map (step_of g.decls) (x ∷ others)) i j) (sym e)
-        (derives_from derives (map (step_of g.decls) others) j us (covers_from covers))
+    leads_from (plain.nothing i) = core_trees.done i
+    leads_from (plain.further x others i h j t ts first rest) =
+        tree_from first (map (step_of g.decls) others) j ts (leads_from rest)
 
-    derives_from : {x : Symbol} {i h : ℕ} {ts : Trees} → Derives g text x i h ts → (rest : List Step) (j : ℕ)
-        (us : Trees) → Leads (core_of g) text rest h j us →
-        Leads (core_of g) text (step_of g.decls x ∷ rest) i j (join ts us)
-    derives_from (derivation.literal word i h spells) rest j us leads =
-        core_trees.terminal word rest i h j us (more (Leaf i h) us) spells leads refl
-    derives_from (derivation.call name d k decl alt i h ts declares is_alternative covers) rest j us leads =
-        let t = Node (Rule d k) i h ts in
-        let a = target g name d k decl alt distinct declares is_alternative in
-        core_trees.call (number_of g.decls name) rest i h j t us (more t us)
-        (core_trees.node (number_of g.decls name) a.0 (core_alt_of g.decls d k alt) i h ts t a.1 (covers_from covers) refl)
+    tree_from : {x : Symbol} {i h : ℕ} {t : Tree} → plain.HasTree g text x i h t → (rest : List Step) (j : ℕ)
+        (ts : Trees) → Leads (core_of g) text rest h j ts →
+        Leads (core_of g) text (step_of g.decls x ∷ rest) i j (more t ts)
+    tree_from (plain.leaf word i h spells) rest j ts leads =
+        core_trees.terminal word rest i h j ts (more (Leaf i h) ts) spells leads refl
+    tree_from (plain.node name d k decl levelled i h us numbered named is_alternative covered) rest j ts leads =
+        let t = Node (Rule d k) i h us in
+        let a = target g name d k decl levelled distinct numbered named is_alternative in
+        core_trees.call (number_of g.decls name) rest i h j t ts (more t ts)
+        (core_trees.node (number_of g.decls name) a.0 (core_alt_of g.decls d k levelled.alternative) i h us t a.1 (leads_from covered) refl)
         leads refl
 
 abbrev root_alternative : List Decl → List ℕ → CoreAlt
@@ -265,42 +288,39 @@ root_from decls (Some name) zero alternative e =
     record { name = name; is = refl; first = refl; same = sym (same_Some (root_alternative decls name) alternative e) }
 root_from decls (Some name) (suc a) alternative e = cc
 
--- the parts of a tree of the root
-record RootTree (g : Grammar) (text : List ℕ) (i j : ℕ) (t : Tree) : Type 0 where
-  name : List ℕ
-  started : g.start ≡ Some name
-  ts : Trees
-  covers : Covers g text (symbol.Call name ∷ []) i j ts
-  same : t ≡ Node Root i j ts
-
-root_tree : (g : Grammar) (text : List ℕ) {n i j : ℕ} {t : Tree} → HasTree (core_of g) text n i j t → n ≡ 0 →
-    RootTree g text i j t
-root_tree g text (core_trees.node nonterminal a alternative i j ts t at leads e) n =
+-- a tree of the root calls the start symbol
+root_to : (g : Grammar) (text : List ℕ) → IsBuiltGrammar g → {n i j : ℕ} {t : Tree} → HasTree (core_of g) text n i j t →
+    n ≡ 0 → i ≡ 0 → j ≡ length text → IsRootTree g text t
+root_to g text built (core_trees.node nonterminal a alternative i j ts t at leads e) n begin end =
     let s =
     root_from g.decls g.start a alternative
     (subst (λ (m : ℕ). alternative_at (core_of g) m a ≡ Some alternative) n at) in
+    let all = All-cons IsBuilt (Call s.name []) [] refl (All-nil IsBuilt) in
+    let covered : HaveTrees g text (Call s.name [] ∷ []) i j ts =
+    leads_to g text built leads (Call s.name [] ∷ []) all (ap (λ (z : CoreAlt). z.steps) s.same) in
+    let from_begin : HaveTrees g text (Call s.name [] ∷ []) 0 j ts =
+    subst (λ (m : ℕ). HaveTrees g text (Call s.name [] ∷ []) m j ts) begin covered in
     record {
-      name = s.name;
+      start = s.name;
       started = s.is;
-      ts = ts;
-      covers = leads_to g text leads (symbol.Call s.name ∷ []) (ap (λ (z : CoreAlt). z.steps) s.same);
-      same = e ∙ ap (λ (z : CoreAlt). Node z.tag i j ts) s.same;
+      children = ts;
+      covered = subst (λ (m : ℕ). HaveTrees g text (Call s.name [] ∷ []) 0 m ts) end from_begin;
+      whole =
+          e ∙ ap (λ (z : CoreAlt). Node z.tag i j ts) s.same ∙
+          ap₂ (λ (m p : ℕ). Node Root m p ts) begin end;
     }
 
-permitted_to : (g : Grammar) (text : List ℕ) (t : Tree) → CoreTree (core_of g) text t → Permitted g text t
-permitted_to g text t tree =
-    let r = root_tree g text tree refl in
-    subst (Permitted g text) (sym r.same) (root r.name r.ts r.started r.covers)
-
-permitted_from : (g : Grammar) (text : List ℕ) → AreDistinct (names g.decls) → {t : Tree} → Permitted g text t →
+root_back : (g : Grammar) (text : List ℕ) → AreDistinct (names g.decls) → (t : Tree) → IsRootTree g text t →
     CoreTree (core_of g) text t
-permitted_from g text distinct (root start ts started covers) =
-    core_trees.node 0 0 (root_alternative g.decls start) 0 (length text) ts (Node Root 0 (length text) ts)
-    (ap (λ (o : Option (List ℕ)). slice_get (root_alts_of g.decls o) 0) started) (covers_from g text distinct covers)
-    refl
+root_back g text distinct t root =
+    core_trees.node 0 0 (root_alternative g.decls root.start) 0 (length text) root.children t
+    (ap (λ (o : Option (List ℕ)). slice_get (root_alts_of g.decls o) 0) root.started)
+    (leads_from g text distinct root.covered) root.whole
 
 pub same_trees : SameTrees
-same_trees g text t distinct = (permitted_to g text t, permitted_from g text distinct)
+same_trees g text t built distinct =
+    let permitted = (context_free g text built).texts t in
+    (λ tree. permitted.1 (root_to g text built tree refl refl refl), λ p. root_back g text distinct t (permitted.0 p))
 
 pub one_root : CoreHasOneRoot
 one_root g a alternative e = (root_from g.decls g.start a alternative e).first

@@ -1,122 +1,196 @@
 -- What the top call decides, from what was loaded and run, and what it answers.
-use Rattle.std.proofs.Common.{◌≡◌, ◌≢◌, ℕ, List, [], inl, inr, refl, sym, ◌∙◌, ap, subst, arith, Result, Ok, Err, Vec, Global}
+use Rattle.std.proofs.Common.{◌≡◌, ◌≢◌, ℕ, suc, ◌<◌, ◌≤◌, List, length, [], inl, inr, refl, sym, ◌∙◌, ap, subst, arith, Result, Ok, Err, Vec, Global}
 use Rattle.ig_text.specs.declared.text.Text.{Text}
+use Rattle.ig_text.specs.Decoding.{IsDecoded}
 use Rattle.ig_outside.specs.Counts.{risen}
 use Rattle.ig_outside.specs.Told.{Told}
+use Rattle.ig_grammar.specs.Checked.{CheckedGrammar}
 use Rattle.ig_grammar.specs.declared.grammar.Grammar.{Grammar}
+use Rattle.ig_notation.proofs.Regularity.{read_counted}
 use Rattle.ig_tool.specs.declared.stop.Stop.{Stop}
 use Rattle.ig_tool.specs.declared.stop.Stop.TheVariants as halt
 use Rattle.ig_tool.specs.declared.status.Status.{Status}
 use Rattle.ig_tool.specs.declared.status.Status.TheVariants as status
-use Rattle.ig_tool.specs.Commands.{IsForest}
-use Rattle.ig_tool.specs.PlainText.{Reads}
-use Rattle.ig_tool.specs.Outcome.{MayGive, HasFiles, Decided, usage, grammar_missing, grammar_unread, grammar_refused, input_missing, input_unread, input_refused, over_budget, no_parse, parsed, raised, usage_note, Sunk, Untouched, Answers, written, noted, unwritten, unnoted, no_memory, Stood}
+use Rattle.ig_tool.specs.Commands.{Request, check, show, forest, grammar_name, IsCommand, file_count, never, for_names}
+use Rattle.ig_tool.specs.Accepted.{IsAccepted, IsRunnable}
+use Rattle.ig_tool.specs.Outcome as decided
+use Rattle.ig_tool.specs.Outcome.{MayGive, HasFiles, Decided, usage, grammar_missing, grammar_unread, grammar_refused, checked, shown, input_missing, input_unread, input_refused, over_budget, no_parse, parsed, raised, usage_note, not_built_text, Sunk, Untouched, Answers, written, noted, unwritten, unnoted, no_memory, Stood}
 use Rattle.ig_tool.specs.Stops as stops
-use Rattle.ig_tool.specs.Stops.{StopsAt, IsNoGrammar, IsRefused, LoadsGrammar, LoadsInput, StopsWith, IsParse, StopsParse, Parses, Decides, WritesText, WritesNote, GivesUp}
+use Rattle.ig_tool.specs.Stops.{StopsAt, IsNoGrammar, IsNoInput, LoadsGrammar, LoadsInput, StopsWith, RefusesWith, IsParse, StopsParse, Parses, StopsForest, HasForest, RunsForest, SaysOk, ShowsGrammar, Decides, WritesText, WritesNote, GivesUp}
 
 -- the words are no command
 pub decides_usage : (words : List (List ℕ)) (holds : List ℕ → Told) (n fetches : ℕ) (stop : Stop) →
-    ((g i : List ℕ) → IsForest words g i → ⊥) → StopsWith status.Usage usage_note stop →
+    ((request : Request) → IsCommand words request → ⊥) → StopsWith status.Usage usage_note stop →
     Decides words holds n n fetches fetches (Err stop)
 decides_usage words holds n fetches (halt.Note s line) none h =
     let P : Status → Type 0 = λ z. Decides words holds n n fetches fetches (Err (halt.Note z line)) in
     subst P (sym h.0)
     (0, subst (λ (z : List ℕ). Decided words holds n n status.Usage [] z 0) (sym h.1) (usage refl none), refl, λ e. cc)
-decides_usage words holds n fetches halt.Memory none h = (0, omega arith, refl, inl refl)
+decides_usage words holds n fetches halt.Memory none h = (0, never, refl, inl refl)
+
+-- each command names a file
+one_file : (request : Request) → 1 ≤ file_count request
+one_file (check grammar) = omega arith
+one_file (show grammar) = omega arith
+one_file (forest grammar input) = omega arith
 
 -- the grammar stops the command
-stopped_at_grammar : (words : List (List ℕ)) (holds : List ℕ → Told) (old new : ℕ) (g i : List ℕ) (s : Status)
-    (note : List ℕ) → IsForest words g i → StopsAt (holds g) g old new IsNoGrammar s note →
+stopped_at_grammar : (words : List (List ℕ)) (holds : List ℕ → Told) (old new : ℕ) (request : Request) (s : Status)
+    (note : List ℕ) → IsCommand words request →
+    StopsAt (holds (grammar_name request)) (grammar_name request) old new IsNoGrammar s note →
     Decided words holds old new s [] note 1 × (s ≢ status.Done)
-stopped_at_grammar words holds old new g i s note command (stops.missing z line e n p q) =
-    (rw (p, q) (grammar_missing g i e command n), λ d. cc)
-stopped_at_grammar words holds old new g i s note command (stops.unread z line rose p q) =
-    (rw (p, q) (grammar_unread g i rose command), λ d. cc)
-stopped_at_grammar words holds old new g i s note command (stops.refused z line xs e gives not) =
-    (rw (not.status_is, not.note_is) (grammar_refused g i xs e command gives not.reads_not), λ d. let p = not.status_is in cc)
-
-pub decides_at_grammar : (words : List (List ℕ)) (holds : List ℕ → Told) (old new before after : ℕ) (g i : List ℕ)
-    (stop : Stop) → IsForest words g i → after ≡ risen before → LoadsGrammar (holds g) g old new (Err stop) →
-    Decides words holds old new before after (Err stop)
-decides_at_grammar words holds old new before after g i (halt.Note s line) command count h =
-    let d = stopped_at_grammar words holds old new g i s line.items command h in
-    (1, d.0, count, d.1)
-decides_at_grammar words holds old new before after g i halt.Memory command count h = (1, omega arith, count, h)
-
--- the input stops the command
-stopped_at_input : (words : List (List ℕ)) (holds : List ℕ → Told) (old new : ℕ) (g i xs : List ℕ) (grammar : Grammar)
-    (s : Status) (note : List ℕ) → IsForest words g i → MayGive (holds g) xs → Reads xs grammar →
-    StopsAt (holds i) i old new IsRefused s note → Decided words holds old new s [] note 2 × (s ≢ status.Done)
-stopped_at_input words holds old new g i xs grammar s note command gives reads (stops.missing z line e n p q) =
-    (rw (p, q) (input_missing g i xs grammar e command gives reads n), λ d. cc)
-stopped_at_input words holds old new g i xs grammar s note command gives reads (stops.unread z line rose p q) =
-    (rw (p, q) (input_unread g i xs grammar rose command gives reads), λ d. cc)
-stopped_at_input words holds old new g i xs grammar s note command gives reads (stops.refused z line ys e gives_input r) = (
-  rw (r.status_is, r.note_is) (input_refused g i xs ys grammar r.fault e command gives reads gives_input r.faulty r.cause),
-  λ d. let p = r.status_is in cc,
+stopped_at_grammar words holds old new request s note command (stops.missing z line e n p q) =
+    (rw (p, q) (grammar_missing request e command n), λ d. cc)
+stopped_at_grammar words holds old new request s note command (stops.unread z line rose p q) =
+    (rw (p, q) (grammar_unread request rose command), λ d. cc)
+stopped_at_grammar words holds old new request s note command (stops.refused z line xs e gives not) = (
+  rw (not.status_is, not.note_is) (grammar_refused request xs not.text e command gives not.refused),
+  λ d. let p = not.status_is in cc,
 )
 
-twice : (before between after : ℕ) → between ≡ risen before → after ≡ risen between → after ≡ raised 2 before
-twice before between after c1 c2 = c2 ∙ ap risen c1
+pub decides_at_grammar : (words : List (List ℕ)) (holds : List ℕ → Told) (old new before after : ℕ) (request : Request)
+    (name : List ℕ) (stop : Stop) → IsCommand words request → name ≡ grammar_name request → after ≡ risen before →
+    LoadsGrammar (holds name) name old new (Err stop) → Decides words holds old new before after (Err stop)
+decides_at_grammar words holds old new before after request name (halt.Note s line) command n count h =
+    let P : List ℕ → Type 0 = λ z. StopsAt (holds z) z old new IsNoGrammar s line.items in
+    let d = stopped_at_grammar words holds old new request s line.items command (subst P n h) in
+    (1, d.0, count, d.1)
+decides_at_grammar words holds old new before after request name halt.Memory command n count h =
+    (1, for_names request 1 command (one_file request), count, h)
 
-pub decides_at_input : (words : List (List ℕ)) (told later : List ℕ → Told) (old mid new before between after : ℕ)
-    (g i : List ℕ) (grammar : Grammar) (stop : Stop) → IsForest words g i → between ≡ risen before →
-    after ≡ risen between → ((n : List ℕ) → later n ≡ told n) → LoadsGrammar (told g) g old mid (Ok grammar) →
-    LoadsInput (later i) i mid new (Err stop) → Decides words told old new before after (Err stop)
-decides_at_input words told later old mid new before between after g i grammar (halt.Note s line) command c1 c2 same lg li =
-    let P : Told → Type 0 = λ z. StopsAt z i mid new IsRefused s line.items in
-    let Q : ℕ → Type 0 = λ z. StopsAt (told i) i z new IsRefused s line.items in
-    let d = stopped_at_input words told old new g i lg.1.0 grammar s line.items command lg.1.1 lg.1.2
-    (subst Q lg.0 (subst P (same i) li)) in
-    (2, d.0, twice before between after c1 c2, d.1)
-decides_at_input words told later old mid new before between after g i grammar halt.Memory command c1 c2 same lg li =
-    let Q : ℕ → Type 0 = λ z. Stood z new in
-    (2, omega arith, twice before between after c1 c2, subst Q lg.0 li)
+-- the grammar that was loaded has no more declarations than its text may have bytes
+pub few_declarations : (told : Told) (name : List ℕ) (old new : ℕ) (grammar : CheckedGrammar) →
+    LoadsGrammar told name old new (Ok grammar) → length grammar.grammar.decls ≤ 262144
+few_declarations told name old new grammar lg =
+    let counted = read_counted lg.1.0 grammar.grammar lg.1.2.utf8 lg.1.2.reading in
+    let few : length grammar.grammar.decls < 262145 = counted.declarations in
+    omega arith
 
-has_files : (words : List (List ℕ)) (told later : List ℕ → Told) (old mid new : ℕ) (g i : List ℕ) (grammar : Grammar)
-    (text : Text) → IsForest words g i → ((n : List ℕ) → later n ≡ told n) →
-    LoadsGrammar (told g) g old mid (Ok grammar) → LoadsInput (later i) i mid new (Ok text) →
-    HasFiles words told grammar text
-has_files words told later old mid new g i grammar text command same lg li =
-    let P : Told → Type 0 = λ z. MayGive z li.1.0 in
-    record {
-      grammar_name = g;
-      input_name = i;
-      command = command;
-      grammar_bytes = lg.1.0;
-      gives_grammar = lg.1.1;
-      reads = lg.1.2;
-      input_bytes = li.1.0;
-      gives_input = subst P (same i) li.1.1;
-      decoded = li.1.2;
-    }
+-- the grammar is all that was asked for
+pub decides_check : (words : List (List ℕ)) (holds : List ℕ → Told) (old new before after : ℕ) (file name : List ℕ)
+    (grammar : CheckedGrammar) (r : Result (Vec ℕ Global) Stop) → IsCommand words (check file) → name ≡ file →
+    after ≡ risen before → LoadsGrammar (holds name) name old new (Ok grammar) → SaysOk r →
+    Decides words holds old new before after r
+decides_check words holds old new before after file name grammar (Ok text) command n count lg h =
+    let P : List ℕ → Type 0 = λ z. MayGive (holds z) lg.1.0 in
+    let Q : List ℕ → Type 0 = λ z. Decided words holds old new status.Done z [] 1 in
+    (1, subst Q (sym h) (checked file lg.1.0 grammar.grammar lg.0 command (subst P n lg.1.1) lg.1.2), count)
+decides_check words holds old new before after file name grammar (Err (halt.Note s line)) command n count lg h = absurd h
+decides_check words holds old new before after file name grammar (Err halt.Memory) command n count lg h =
+    (1, for_names (check file) 1 command (omega arith), count, inl lg.0)
 
-decided_parse : (words : List (List ℕ)) (holds : List ℕ → Told) (old new : ℕ) (grammar : Grammar) (text : Text)
-    (s : Status) (note : List ℕ) → new ≡ old → HasFiles words holds grammar text → StopsParse grammar text s note →
-    Decided words holds old new s [] note 2 × (s ≢ status.Done)
-decided_parse words holds old new grammar text s note e files (stops.over_budget z line more p q) =
-    (rw (p, q) (over_budget grammar text e files more), λ d. cc)
-decided_parse words holds old new grammar text s note e files (stops.no_parse z line suffices none p q) =
-    (rw (p, q) (no_parse grammar text e files suffices none), λ d. cc)
+pub decides_show : (words : List (List ℕ)) (holds : List ℕ → Told) (old new before after : ℕ) (file name : List ℕ)
+    (grammar : CheckedGrammar) (g : Grammar) (r : Result (Vec ℕ Global) Stop) → IsCommand words (show file) → name ≡ file →
+    after ≡ risen before → LoadsGrammar (holds name) name old new (Ok grammar) → g ≡ grammar.grammar → ShowsGrammar g r →
+    Decides words holds old new before after r
+decides_show words holds old new before after file name grammar g (Ok text) command n count lg e h =
+    let P : List ℕ → Type 0 = λ z. MayGive (holds z) lg.1.0 in
+    let Q : List ℕ → Type 0 = λ z. Decided words holds old new status.Done z [] 1 in
+    let A : Grammar → Type 0 = IsAccepted lg.1.0 in
+    (1, subst Q (sym h) (shown file lg.1.0 g lg.0 command (subst P n lg.1.1) (subst A (sym e) lg.1.2)), count)
+decides_show words holds old new before after file name grammar g (Err (halt.Note s line)) command n count lg e h = absurd h
+decides_show words holds old new before after file name grammar g (Err halt.Memory) command n count lg e h =
+    (1, for_names (show file) 1 command (omega arith), count, inl lg.0)
 
-pub decides_parse : (words : List (List ℕ)) (told later : List ℕ → Told) (old mid new before between after : ℕ)
-    (g i : List ℕ) (grammar : Grammar) (text : Text) (r : Result (Vec ℕ Global) Stop) → IsForest words g i →
-    between ≡ risen before → after ≡ risen between → ((n : List ℕ) → later n ≡ told n) →
-    LoadsGrammar (told g) g old mid (Ok grammar) → LoadsInput (later i) i mid new (Ok text) →
-    Parses grammar text r → Decides words told old new before after r
-decides_parse words told later old mid new before between after g i grammar text (Ok out) command c1 c2 same lg li h =
-    let files = has_files words told later old mid new g i grammar text command same lg li in
-    let P : List ℕ → Type 0 = λ z. Decided words told old new status.Done z [] 2 in (
-      2,
-      subst P (sym h.text_is) (parsed grammar text h.forest (li.0 ∙ lg.0) files h.suffices h.is),
-      twice before between after c1 c2,
-    )
-decides_parse words told later old mid new before between after g i grammar text (Err (halt.Note s line)) command c1 c2 same lg li h =
-    let files = has_files words told later old mid new g i grammar text command same lg li in
-    let d = decided_parse words told old new grammar text s line.items (li.0 ∙ lg.0) files h in
-    (2, d.0, twice before between after c1 c2, d.1)
-decides_parse words told later old mid new before between after g i grammar text (Err halt.Memory) command c1 c2 same lg li h =
-    (2, omega arith, twice before between after c1 c2, inl (li.0 ∙ lg.0))
+-- what comes of the grammar and an input
+module _ (g : Grammar) (told : Told) (name : List ℕ) (old new before after : ℕ) where
+  pub runs_not_built : (stop : Stop) → (IsRunnable g → ⊥) → RefusesWith not_built_text stop → new ≡ old →
+      after ≡ before → RunsForest g told name old new before after (Err stop)
+  runs_not_built (halt.Note s line) refused h e count = (0, stops.not_built s line.items e refused h.0 h.1, count)
+  runs_not_built halt.Memory refused h e count = (0, omega arith, count, inl e)
+
+  pub runs_at_input : (stop : Stop) → IsRunnable g → after ≡ risen before → LoadsInput told name old new (Err stop) →
+      RunsForest g told name old new before after (Err stop)
+  runs_at_input (halt.Note s line) runnable count li = (1, stops.at_input s line.items runnable li, count)
+  runs_at_input halt.Memory runnable count li = (1, omega arith, count, li)
+
+  pub runs_parse : (text : Text) (r : Result (Vec ℕ Global) Stop) → IsRunnable g → after ≡ risen before →
+      LoadsInput told name old new (Ok text) → Parses g text r → RunsForest g told name old new before after r
+  runs_parse text (Ok out) runnable count li h =
+      (record { runnable = runnable; calm = li.0; input_bytes = li.1.0; input = text; gives_input = li.1.1; decoded = li.1.2; is_parse = h }, count)
+  runs_parse text (Err (halt.Note s line)) runnable count li h =
+      (1, stops.at_parse s line.items li.1.0 text runnable li.0 li.1.1 li.1.2 h, count)
+  runs_parse text (Err halt.Memory) runnable count li h = (1, omega arith, count, inl li.0)
+
+-- a forest was asked for, and the grammar was accepted
+module _ (words : List (List ℕ)) (holds : List ℕ → Told) (old new : ℕ) (grammar input xs : List ℕ) (g : Grammar)
+    (command : IsCommand words (forest grammar input)) (gives : MayGive (holds grammar) xs) (accepted : IsAccepted xs g) where
+  -- the input stops the command
+  stopped_at_input : (s : Status) (note : List ℕ) → IsRunnable g → StopsAt (holds input) input old new IsNoInput s note →
+      Decided words holds old new s [] note 2 × (s ≢ status.Done)
+  stopped_at_input s note runnable (stops.missing z line e n p q) =
+      (rw (p, q) (input_missing grammar input xs g e command gives accepted runnable n), λ d. cc)
+  stopped_at_input s note runnable (stops.unread z line rose p q) =
+      (rw (p, q) (input_unread grammar input xs g rose command gives accepted runnable), λ d. cc)
+  stopped_at_input s note runnable (stops.refused z line ys e gives_input r) = (
+    rw (r.status_is, r.note_is) (input_refused grammar input xs ys g r.fault e command gives accepted runnable gives_input r.faulty r.cause),
+    λ d. let p = r.status_is in cc,
+  )
+
+  has_files : (ys text : List ℕ) → IsRunnable g → MayGive (holds input) ys → IsDecoded ys text → HasFiles words holds g text
+  has_files ys text runnable gives_input decoded =
+      record {
+        grammar_file = grammar;
+        input_file = input;
+        command = command;
+        grammar_bytes = xs;
+        gives_grammar = gives;
+        accepted = accepted;
+        runnable = runnable;
+        input_bytes = ys;
+        gives_input = gives_input;
+        decoded = decoded;
+      }
+
+  stopped_at_parse : (s : Status) (note text : List ℕ) → new ≡ old → HasFiles words holds g text → StopsParse g text s note →
+      Decided words holds old new s [] note 2 × (s ≢ status.Done)
+  stopped_at_parse s note text e files (stops.over_budget z line more p q) =
+      (rw (p, q) (over_budget g text e files more), λ d. cc)
+  stopped_at_parse s note text e files (stops.no_parse z line suffices none p q) =
+      (rw (p, q) (no_parse g text e files suffices none), λ d. cc)
+
+  stopped_forest : (s : Status) (note : List ℕ) (k : ℕ) → StopsForest g (holds input) input old new s note k →
+      Decided words holds old new s [] note (suc k) × (s ≢ status.Done)
+  stopped_forest s note k (stops.not_built z line e refused p q) =
+      (rw (p, q) (decided.not_built grammar input xs g e command gives accepted refused), λ d. cc)
+  stopped_forest s note k (stops.at_input z line runnable at) = stopped_at_input s note runnable at
+  stopped_forest s note k (stops.at_parse z line ys text runnable e gives_input decoded at) =
+      stopped_at_parse s note text e (has_files ys text runnable gives_input decoded) at
+
+  made_forest : (text : List ℕ) → HasForest g (holds input) old new text → Decided words holds old new status.Done text [] 2
+  made_forest text h =
+      let P : List ℕ → Type 0 = λ z. Decided words holds old new status.Done z [] 2 in
+      subst P (sym h.is_parse.text_is)
+      (parsed g h.input h.is_parse.forest h.calm (has_files h.input_bytes h.input h.runnable h.gives_input h.decoded)
+      h.is_parse.suffices h.is_parse.is)
+
+once_more : (k before between after : ℕ) → between ≡ risen before → after ≡ raised k between → after ≡ raised (suc k) before
+once_more k before between after c1 c2 = c2 ∙ ap (raised k) c1
+
+decides_run : (words : List (List ℕ)) (holds : List ℕ → Told) (old new before between after : ℕ) (grammar input xs : List ℕ)
+    (g : Grammar) (r : Result (Vec ℕ Global) Stop) → IsCommand words (forest grammar input) → MayGive (holds grammar) xs →
+    IsAccepted xs g → between ≡ risen before → RunsForest g (holds input) input old new between after r →
+    Decides words holds old new before after r
+decides_run words holds old new before between after grammar input xs g (Ok text) command gives accepted count h =
+    (2, made_forest words holds old new grammar input xs g command gives accepted text.items h.0, once_more 1 before between after count h.1)
+decides_run words holds old new before between after grammar input xs g (Err (halt.Note s line)) command gives accepted count h =
+    let d = stopped_forest words holds old new grammar input xs g command gives accepted s line.items h.0 h.1 in
+    (suc h.0, d.0, once_more h.0 before between after count h.2, d.1)
+decides_run words holds old new before between after grammar input xs g (Err halt.Memory) command gives accepted count h =
+    (suc h.0, for_names (forest grammar input) (suc h.0) command (let l : h.0 ≤ 1 = h.1 in omega arith), once_more h.0 before between after count h.2, h.3)
+
+pub decides_forest : (words : List (List ℕ)) (told later : List ℕ → Told) (old mid new before between after : ℕ)
+    (file input name : List ℕ) (grammar : CheckedGrammar) (g : Grammar) (r : Result (Vec ℕ Global) Stop) →
+    IsCommand words (forest file input) → name ≡ file → between ≡ risen before → ((n : List ℕ) → later n ≡ told n) →
+    LoadsGrammar (told name) name old mid (Ok grammar) → g ≡ grammar.grammar →
+    RunsForest g (later input) input mid new between after r → Decides words told old new before after r
+decides_forest words told later old mid new before between after file input name grammar g r command n count same lg e h =
+    let P : List ℕ → Type 0 = λ z. MayGive (told z) lg.1.0 in
+    let A : Grammar → Type 0 = IsAccepted lg.1.0 in
+    let R : Told → Type 0 = λ z. RunsForest g z input mid new between after r in
+    let Q : ℕ → Type 0 = λ z. RunsForest g (told input) input z new between after r in
+    decides_run words told old new before between after file input lg.1.0 g r command (subst P n lg.1.1)
+    (subst A (sym e) lg.1.2) count (subst Q lg.0 (subst R (same input) h))
 
 -- what was decided is answered
 pub answers_text : (words : List (List ℕ)) (holds : List ℕ → Told) (old new before after : ℕ) (out notes : Sunk)

@@ -1,5 +1,5 @@
 -- The main theorem, from the answer by cases.
-use Rattle.std.proofs.Common.{◌≡◌, ◌≢◌, ℕ, List, [], ◌++◌, inl, inr, refl, sym, ◌∙◌, ap, subst, Option, Some, None, ◌<◌, ◌≤◌, length, arith}
+use Rattle.std.proofs.Common.{◌≡◌, ◌≢◌, ℕ, List, [], ◌++◌, ◌⊎◌, inl, inr, refl, sym, ◌∙◌, ap, subst, Option, Some, None, ◌<◌, ◌≤◌, length, arith}
 use Rattle.std.proofs.lemmas.List.{append-nil}
 use Rattle.std.specs.Prelude.{chars, option_map}
 use Rattle.ig_text.specs.Decoding.{IsDecoded, IsFaulty}
@@ -8,20 +8,45 @@ use Rattle.ig_text.specs.declared.text.TextFault.TheVariants as text_fault
 use Rattle.ig_outside.specs.Counts.{Rose}
 use Rattle.ig_outside.specs.Told.{Told, silent, nothing, bytes}
 use Rattle.ig_grammar.specs.declared.grammar.Grammar.{Grammar}
+use Rattle.ig_grammar.specs.WellScoped.{IsFirst}
+use Rattle.ig_notation.specs.Outcome.{too_many_bytes}
+use Rattle.ig_notation.specs.declared.fault.Large.TheVariants as large
+use Rattle.ig_notation.specs.declared.fault.ReadFault.TheVariants as read
+use Rattle.ig_notation.proofs.Readings.{only_reading, not_both}
 use Rattle.ig_tool.specs.declared.status.Status.{Status}
 use Rattle.ig_tool.specs.declared.status.Status.TheVariants as status
-use Rattle.ig_tool.specs.Commands.{IsForest}
+use Rattle.ig_tool.specs.Commands.{Request, check, show, forest, grammar_name, IsCommand}
 use Rattle.ig_tool.specs.CoreOf.{core_of}
-use Rattle.ig_tool.specs.PlainText.{Reads}
+use Rattle.ig_tool.specs.Accepted.{IsAccepted, IsRunnable}
+use Rattle.ig_tool.specs.Refusals.{IsRefused, too_many, not_utf8, not_grammar, too_large, not_scoped}
 use Rattle.ig_tool.specs.Outcome as answer
-use Rattle.ig_tool.specs.Outcome.{MayGive, HasFiles, IsForestOf, Decided, Sunk, Got, Failed, Untouched, Noted, Answers, written, noted, unwritten, unnoted, no_memory}
-use Rattle.ig_tool.specs.Headline.{Asks, Outcome, over_budget, no_parse, parsed, Says, Headline}
-use Rattle.ig_tool.proofs.Readings.{only_reading}
+use Rattle.ig_tool.specs.Outcome.{MayGive, HasFiles, IsForestOf, Decided, ok_text, shown_text, Sunk, Got, Failed, Untouched, Noted, Answers, written, noted, unwritten, unnoted, no_memory}
+use Rattle.ig_tool.specs.Headline.{Asks, Outcome, over_budget, no_parse, parsed, Says, Headline, checks, shows, GrammarCommands}
 use Rattle.ig_tool.proofs.Uniqueness.{only_one}
 
--- the names are those of the words
-same_names : (words : List (List ℕ)) (g h i j : List ℕ) → IsForest words g i → IsForest words h j → (g ≡ h) × (i ≡ j)
-same_names words g h i j a b = let p = a.words_are in let q = b.words_are in (cc, cc)
+-- the words are one command at most
+same_request : (words : List (List ℕ)) (r q : Request) → IsCommand words r → IsCommand words q → r ≡ q
+same_request words (check g) (check h) a b = let p = a.words_are in let q = b.words_are in cc
+same_request words (check g) (show h) a b = let p = a.words_are in let q = b.words_are in cc
+same_request words (check g) (forest h j) a b = let p = a.words_are in let q = b.words_are in cc
+same_request words (show g) (check h) a b = let p = a.words_are in let q = b.words_are in cc
+same_request words (show g) (show h) a b = let p = a.words_are in let q = b.words_are in cc
+same_request words (show g) (forest h j) a b = let p = a.words_are in let q = b.words_are in cc
+same_request words (forest g i) (check h) a b = let p = a.words_are in let q = b.words_are in cc
+same_request words (forest g i) (show h) a b = let p = a.words_are in let q = b.words_are in cc
+same_request words (forest g i) (forest h j) a b = let p = a.words_are in let q = b.words_are in cc
+
+-- bytes that are accepted aren't refused
+accepted_or_refused : (xs text : List ℕ) (g : Grammar) → IsAccepted xs g → IsRefused xs text → ⊥
+accepted_or_refused xs text g a (too_many more) =
+    let none = not_both xs g (read.TooLarge large.Bytes) a.reading (too_many_bytes more) in cc
+accepted_or_refused xs text g a (not_utf8 at few bad valid) = bad a.utf8
+accepted_or_refused xs text g a (not_grammar at utf8 fault) = let none = not_both xs g (read.Syntax at) a.reading fault in cc
+accepted_or_refused xs text g a (too_large which utf8 fault) =
+    let none = not_both xs g (read.TooLarge which) a.reading fault in cc
+accepted_or_refused xs text g a (not_scoped h place c utf8 reading first) =
+    a.scoped place c
+    (subst (λ (z : Grammar). IsFirst z place c) (only_reading xs h g reading a.reading) first).there.holds
 
 gives_held : (told : Told) (xs ys : List ℕ) → told ≡ bytes xs → MayGive told ys → ys ≡ xs
 gives_held silent xs ys e h = cc
@@ -47,66 +72,148 @@ nothing_added (Some xs) = ap Some (sym (append-nil xs))
 got_none : (sink : Sunk) → Untouched sink → Got sink []
 got_none sink u = record { told = u.told ∙ nothing_added sink.told_before; calm = u.calm }
 
+-- where the words ask for a grammar that is held and accepted, it is what was read
+module _ (words : List (List ℕ)) (holds : List ℕ → Told) (request : Request) (asked : IsCommand words request)
+    (xs : List ℕ) (held : holds (grammar_name request) ≡ bytes xs) (g : Grammar) (accepted : IsAccepted xs g) where
+  told_grammar : (r : Request) → IsCommand words r → holds (grammar_name r) ≡ bytes xs
+  told_grammar r command = ap (λ z. holds (grammar_name z)) (same_request words r request command asked) ∙ held
+
+  given_grammar : (r : Request) (ys : List ℕ) → IsCommand words r → MayGive (holds (grammar_name r)) ys → ys ≡ xs
+  given_grammar r ys command gives = gives_held (holds (grammar_name r)) xs ys (told_grammar r command) gives
+
+  not_missing : (r : Request) → IsCommand words r → holds (grammar_name r) ≡ nothing → ⊥
+  not_missing r command n = let told = told_grammar r command in cc
+
+  not_refused_grammar : (r : Request) (ys text : List ℕ) → IsCommand words r → MayGive (holds (grammar_name r)) ys →
+      IsRefused ys text → ⊥
+  not_refused_grammar r ys text command gives refused =
+      accepted_or_refused ys text g
+      (subst (λ (z : List ℕ). IsAccepted z g) (sym (given_grammar r ys command gives)) accepted) refused
+
+  grammar_is : (r : Request) (ys : List ℕ) (h : Grammar) → IsCommand words r → MayGive (holds (grammar_name r)) ys →
+      IsAccepted ys h → h ≡ g
+  grammar_is r ys h command gives other =
+      only_reading xs h g (subst (λ (z : List ℕ). IsAccepted z h) (given_grammar r ys command gives) other).reading accepted.reading
+
+  -- what out gets where no forest is asked for
+  abbrev text_for : Request → List ℕ
+  text_for (check file) = ok_text
+  text_for (show file) = shown_text g
+  text_for (forest file input) = []
+
+  abbrev AsksNoForest : Request → Type 0
+  AsksNoForest (check file) = Unit {0}
+  AsksNoForest (show file) = Unit {0}
+  AsksNoForest (forest file input) = ⊥
+
+  no_forest : (r : Request) → IsCommand words r → AsksNoForest request → AsksNoForest r
+  no_forest r command none = subst AsksNoForest (same_request words request r asked command) none
+
+  text_of_request : (r : Request) (out : List ℕ) → IsCommand words r → out ≡ text_for r → out ≡ text_for request
+  text_of_request r out command e = e ∙ ap text_for (same_request words r request command asked)
+
+  -- what was decided is that text
+  decided_text : (old new : ℕ) (s : Status) (out note : List ℕ) (k : ℕ) → AsksNoForest request →
+      Decided words holds old new s out note k → (Rose old new → ⊥) → (s ≡ status.Done) × (out ≡ text_for request)
+  decided_text old new s out note k none (answer.usage e no_command) calm = absurd (no_command request asked)
+  decided_text old new s out note k none (answer.grammar_missing r e command n) calm = absurd (not_missing r command n)
+  decided_text old new s out note k none (answer.grammar_unread r rose command) calm = absurd (calm rose)
+  decided_text old new s out note k none (answer.grammar_refused r ys text e command gives refused) calm =
+      absurd (not_refused_grammar r ys text command gives refused)
+  decided_text old new s out note k none (answer.checked file ys h e command gives other) calm =
+      (refl, text_of_request (check file) ok_text command refl)
+  decided_text old new s out note k none (answer.shown file ys h e command gives other) calm =
+      (refl, text_of_request (show file) (shown_text h) command (ap shown_text (grammar_is (show file) ys h command gives other)))
+  decided_text old new s out note k none (answer.not_built file i ys h e command gives other refused) calm =
+      absurd (no_forest (forest file i) command none)
+  decided_text old new s out note k none (answer.input_missing file i ys h e command gives other runnable n) calm =
+      absurd (no_forest (forest file i) command none)
+  decided_text old new s out note k none (answer.input_unread file i ys h rose command gives other runnable) calm =
+      absurd (calm rose)
+  decided_text old new s out note k none (answer.input_refused file i ys zs h fault e command gives other runnable given faulty cause) calm =
+      absurd (no_forest (forest file i) command none)
+  decided_text old new s out note k none (answer.over_budget h text e files more) calm =
+      absurd (no_forest (forest files.grammar_file files.input_file) files.command none)
+  decided_text old new s out note k none (answer.no_parse h text e files few no_tree) calm =
+      absurd (no_forest (forest files.grammar_file files.input_file) files.command none)
+  decided_text old new s out note k none (answer.parsed h text f e files few is) calm =
+      absurd (no_forest (forest files.grammar_file files.input_file) files.command none)
+
+  answered_text : (old new before after : ℕ) (out notes : Sunk) (s : Status) → AsksNoForest request →
+      Answers words holds old new before after out notes s → (Rose old new → ⊥) →
+      (Rose out.faults_before out.faults_after → ⊥) → (Rose notes.faults_before notes.faults_after → ⊥) →
+      ((s ≡ status.NoMemory) × Untouched out) ⊎ ((s ≡ status.Done) × Got out (text_for request) × Untouched notes)
+  answered_text old new before after out notes s none (written text k d count got untouched) calm a b =
+      let is = decided_text old new status.Done text [] k none d calm in
+      inr (refl, subst (Got out) is.1 got, untouched)
+  answered_text old new before after out notes s none (noted t note k d not_done count untouched got) calm a b =
+      absurd (not_done (decided_text old new t [] note k none d calm).0)
+  answered_text old new before after out notes s none (unwritten text k d count failed part) calm a b = absurd (a failed.rose)
+  answered_text old new before after out notes s none (unnoted t note k d not_done count untouched failed) calm a b =
+      absurd (b failed.rose)
+  answered_text old new before after out notes s none (no_memory k few count stood untouched part) calm a b =
+      inl (refl, untouched)
+
 -- where the words ask for a grammar and an input, these are what was read
 module _ (words : List (List ℕ))
     (holds : List ℕ → Told) (g : Grammar) (input : List ℕ) (asked : Asks words holds g input) where
-  told_grammar : (grammar other : List ℕ) → IsForest words grammar other → holds grammar ≡ bytes asked.grammar_bytes
-  told_grammar grammar other command =
-      ap holds (same_names words grammar asked.grammar_name other asked.input_name command asked.command).0 ∙ asked.holds_grammar
+  told_input : (file i : List ℕ) → IsCommand words (forest file i) → holds i ≡ bytes asked.input_bytes
+  told_input file i command =
+      let same = same_request words (forest file i) (forest asked.grammar_file asked.input_file) command asked.command in
+      let name : i ≡ asked.input_file = cc in
+      ap holds name ∙ asked.holds_input
 
-  told_input : (grammar other : List ℕ) → IsForest words grammar other → holds other ≡ bytes asked.input_bytes
-  told_input grammar other command =
-      ap holds (same_names words grammar asked.grammar_name other asked.input_name command asked.command).1 ∙ asked.holds_input
-
-  given_grammar : (grammar other xs : List ℕ) → IsForest words grammar other → MayGive (holds grammar) xs →
-      xs ≡ asked.grammar_bytes
-  given_grammar grammar other xs command gives =
-      gives_held (holds grammar) asked.grammar_bytes xs (told_grammar grammar other command) gives
-
-  given_input : (grammar other ys : List ℕ) → IsForest words grammar other → MayGive (holds other) ys →
-      ys ≡ asked.input_bytes
-  given_input grammar other ys command gives =
-      gives_held (holds other) asked.input_bytes ys (told_input grammar other command) gives
+  given_input : (file i ys : List ℕ) → IsCommand words (forest file i) → MayGive (holds i) ys → ys ≡ asked.input_bytes
+  given_input file i ys command gives = gives_held (holds i) asked.input_bytes ys (told_input file i command) gives
 
   not_refused : (ys : List ℕ) (fault : TextFault) → ys ≡ asked.input_bytes → IsFaulty ys fault →
       fault ≢ text_fault.Memory → ⊥
   not_refused ys fault e faulty cause = not_faulty asked.input_bytes input fault asked.decoded
       (subst (λ (z : List ℕ). IsFaulty z fault) e faulty) cause
 
-  grammar_is : (h : Grammar) (text : List ℕ) → HasFiles words holds h text → h ≡ g
-  grammar_is h text files =
-      only_reading asked.grammar_bytes h g
-      (subst (λ (z : List ℕ). Reads z h)
-      (given_grammar files.grammar_name files.input_name files.grammar_bytes files.command files.gives_grammar) files.reads)
-      asked.reads
+  same_grammar : (file i xs : List ℕ) (h : Grammar) → IsCommand words (forest file i) → MayGive (holds file) xs →
+      IsAccepted xs h → h ≡ g
+  same_grammar file i xs h command gives other =
+      grammar_is words holds (forest asked.grammar_file asked.input_file) asked.command asked.grammar_bytes asked.holds_grammar g
+      asked.accepted (forest file i) xs h command gives other
 
   input_is : (h : Grammar) (text : List ℕ) → HasFiles words holds h text → text ≡ input
   input_is h text files =
       files.decoded.characters ∙
-      (ap chars (given_input files.grammar_name files.input_name files.input_bytes files.command files.gives_input) ∙
+      (ap chars (given_input files.grammar_file files.input_file files.input_bytes files.command files.gives_input) ∙
       sym asked.decoded.characters)
 
   moved : (h : Grammar) (text : List ℕ) (s : Status) (out note : List ℕ) → HasFiles words holds h text →
       Outcome h text s out note → Outcome g input s out note
   moved h text s out note files o =
       subst (λ (z : List ℕ). Outcome g z s out note) (input_is h text files)
-      (subst (λ (z : Grammar). Outcome z text s out note) (grammar_is h text files) o)
+      (subst (λ (z : Grammar). Outcome z text s out note)
+      (same_grammar files.grammar_file files.input_file files.grammar_bytes h files.command files.gives_grammar files.accepted) o)
 
   -- what was decided is the outcome
   decided_outcome : (old new : ℕ) (s : Status) (out note : List ℕ) (k : ℕ) → Decided words holds old new s out note k →
       (Rose old new → ⊥) → Outcome g input s out note
   decided_outcome old new s out note k (answer.usage e none) calm =
-      absurd (none asked.grammar_name asked.input_name asked.command)
-  decided_outcome old new s out note k (answer.grammar_missing gn i e command n) calm =
-      let told = told_grammar gn i command in cc
-  decided_outcome old new s out note k (answer.grammar_unread gn i rose command) calm = absurd (calm rose)
-  decided_outcome old new s out note k (answer.grammar_refused gn i xs e command gives not) calm =
-      absurd (not g (subst (λ (z : List ℕ). Reads z g) (sym (given_grammar gn i xs command gives)) asked.reads))
-  decided_outcome old new s out note k (answer.input_missing gn i xs h e command gives reads n) calm =
-      let told = told_input gn i command in cc
-  decided_outcome old new s out note k (answer.input_unread gn i xs h rose command gives reads) calm = absurd (calm rose)
-  decided_outcome old new s out note k (answer.input_refused gn i xs ys h fault e command gives reads gives_input faulty cause) calm =
-      absurd (not_refused ys fault (given_input gn i ys command gives_input) faulty cause)
+      absurd (none (forest asked.grammar_file asked.input_file) asked.command)
+  decided_outcome old new s out note k (answer.grammar_missing r e command n) calm =
+      absurd (not_missing words holds (forest asked.grammar_file asked.input_file) asked.command asked.grammar_bytes
+      asked.holds_grammar g asked.accepted r command n)
+  decided_outcome old new s out note k (answer.grammar_unread r rose command) calm = absurd (calm rose)
+  decided_outcome old new s out note k (answer.grammar_refused r xs text e command gives refused) calm =
+      absurd (not_refused_grammar words holds (forest asked.grammar_file asked.input_file) asked.command asked.grammar_bytes
+      asked.holds_grammar g asked.accepted r xs text command gives refused)
+  decided_outcome old new s out note k (answer.checked file xs h e command gives other) calm =
+      let same = same_request words (check file) (forest asked.grammar_file asked.input_file) command asked.command in cc
+  decided_outcome old new s out note k (answer.shown file xs h e command gives other) calm =
+      let same = same_request words (show file) (forest asked.grammar_file asked.input_file) command asked.command in cc
+  decided_outcome old new s out note k (answer.not_built file i xs h e command gives other refused) calm =
+      absurd (refused (subst IsRunnable (sym (same_grammar file i xs h command gives other)) asked.runnable))
+  decided_outcome old new s out note k (answer.input_missing file i xs h e command gives other runnable n) calm =
+      let told = told_input file i command in cc
+  decided_outcome old new s out note k (answer.input_unread file i xs h rose command gives other runnable) calm =
+      absurd (calm rose)
+  decided_outcome old new s out note k (answer.input_refused file i xs ys h fault e command gives other runnable gives_input faulty cause) calm =
+      absurd (not_refused ys fault (given_input file i ys command gives_input) faulty cause)
   decided_outcome old new s out note k (answer.over_budget h text e files more) calm =
       moved h text s out note files (over_budget more)
   decided_outcome old new s out note k (answer.no_parse h text e files few none) calm =
@@ -133,3 +240,11 @@ pub headline : (words : List (List ℕ))
     Answers words holds old new before after out notes s → Headline words holds old new out notes s
 headline words holds old new before after out notes s answers g input asked calm a b =
     answer_outcome words holds g input asked old new before after out notes s answers calm a b
+
+pub grammar_commands : (words : List (List ℕ))
+    (holds : List ℕ → Told) (old new before after : ℕ) (out notes : Sunk) (s : Status) →
+    Answers words holds old new before after out notes s → GrammarCommands words holds old new out notes s
+grammar_commands words holds old new before after out notes s answers file xs g text (checks command) held accepted calm a b =
+    answered_text words holds (check file) command xs held g accepted old new before after out notes s tt answers calm a b
+grammar_commands words holds old new before after out notes s answers file xs g text (shows command) held accepted calm a b =
+    answered_text words holds (show file) command xs held g accepted old new before after out notes s tt answers calm a b

@@ -1,7 +1,7 @@
-pub mod Commands
 pub mod CoreFits
 pub mod CoreLaw
 pub mod Deciding
+pub mod DistinctNames
 pub mod DotLimits
 pub mod EachLists
 pub mod EntryEnds
@@ -12,11 +12,11 @@ pub mod EntryTarget
 pub mod EntryTurns
 pub mod ForestLaw
 pub mod ForestOrders
+pub mod GrammarTexts
 pub mod HeadlineLaw
 pub mod ItemEquality
 pub mod ItemTrees
-pub mod Keywords
-pub mod Lexing
+pub mod LevelAlternatives
 pub mod Loading
 pub mod NameNumbers
 pub mod NameTexts
@@ -26,8 +26,6 @@ pub mod NodeIndex
 pub mod NodeSteps
 pub mod Parsing
 pub mod Reachability
-pub mod Readings
-pub mod RuleTokens
 pub mod SaturationAdding
 pub mod SaturationDerivations
 pub mod SaturationDots
@@ -38,5 +36,6 @@ pub mod SaturationSteps
 pub mod SaturationTaking
 pub mod SaturationWaiting
 pub mod SortedLists
+pub mod SymbolViews
 pub mod Uniqueness
 pub mod WholeSteps

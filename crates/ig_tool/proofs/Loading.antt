@@ -1,5 +1,5 @@
 -- What a fetch and its reading come to, by what the shelf tells.
-use Rattle.std.proofs.Common.{◌≡◌, ℕ, ◌+◌, ◌<◌, ◌≤◌, List, length, replicate, inl, inr, sym, subst, refl, arith, Result, Ok, Err, Vec, Global}
+use Rattle.std.proofs.Common.{◌≡◌, ℕ, ◌+◌, ◌<◌, List, length, replicate, inl, inr, sym, subst, refl, arith, Result, Ok, Err, Vec, Global}
 use Rattle.std.proofs.Math.ListN.{length-replicate}
 use Rattle.ig_text.specs.declared.text.Text.{Text}
 use Rattle.ig_text.specs.declared.text.TextFault.TheVariants as text_fault
@@ -7,11 +7,13 @@ use Rattle.ig_outside.specs.Counts.{Rose}
 use Rattle.ig_outside.specs.Told.{Told, silent, nothing, bytes}
 use Rattle.ig_outside.specs.Fetch.{AnswersFetch}
 use Rattle.ig_outside.specs.declared.shelf.FetchFault.TheVariants as fetch
-use Rattle.ig_grammar.specs.declared.grammar.Grammar.{Grammar}
+use Rattle.ig_grammar.specs.Checked.{CheckedGrammar}
+use Rattle.ig_notation.specs.declared.fault.Large.TheVariants as large
+use Rattle.ig_tool.specs.Refusals.{large_text, too_many}
 use Rattle.ig_tool.specs.declared.stop.Stop.{Stop}
 use Rattle.ig_tool.specs.declared.stop.Stop.TheVariants as halt
 use Rattle.ig_tool.specs.Outcome.{MayGive}
-use Rattle.ig_tool.specs.Stops.{missing, unread, refused, ReadsGrammar, ReadsInput, LoadsGrammar, LoadsInput, IsCannotRead, IsNotBuilt, IsTooLong}
+use Rattle.ig_tool.specs.Stops.{missing, unread, refused, ReadsGrammar, ReadsInput, LoadsGrammar, LoadsInput, IsCannotRead, RefusesWith, IsTooLong}
 
 -- the shelf may give what it gave
 pub given : (told : Told) (most : ℕ) (v : Vec ℕ Global) → AnswersFetch told most (Ok v) → MayGive told v.items
@@ -31,19 +33,21 @@ missing_is_told silent most h = absurd h
 missing_is_told nothing most h = refl
 missing_is_told (bytes xs) most h = absurd h
 
-pub grammar_given : (told : Told) (name xs : List ℕ) (most old new : ℕ) (v : Vec ℕ Global) (r : Result Grammar Stop) →
+pub grammar_given : (told : Told) (name xs : List ℕ) (most old new : ℕ) (v : Vec ℕ Global) (r : Result CheckedGrammar Stop) →
     AnswersFetch told most (Ok v) → new ≡ old → xs ≡ v.items → ReadsGrammar xs r → LoadsGrammar told name old new r
-grammar_given told name xs most old new v (Ok g) a e i h = (e, (xs, subst (MayGive told) (sym i) (given told most v a), h))
+grammar_given told name xs most old new v (Ok checked) a e i h =
+    (e, (xs, subst (MayGive told) (sym i) (given told most v a), h))
 grammar_given told name xs most old new v (Err (halt.Note s line)) a e i h =
     refused s line.items xs e (subst (MayGive told) (sym i) (given told most v a)) h
 grammar_given told name xs most old new v (Err halt.Memory) a e i h = inl e
 
 pub grammar_long : (told : Told) (name : List ℕ) (old new : ℕ) (stop : Stop) →
-    AnswersFetch told 262144 (Err fetch.Long) → new ≡ old → IsNotBuilt stop → LoadsGrammar told name old new (Err stop)
+    AnswersFetch told 262144 (Err fetch.Long) → new ≡ old → RefusesWith (large_text large.Bytes) stop →
+    LoadsGrammar told name old new (Err stop)
 grammar_long told name old new (halt.Note s line) a e h =
     let long = given_long told 262144 a in
     refused s line.items long.0 e long.1.0
-    (record { reads_not = λ g r. let few : length long.0 ≤ 262144 = r.few_bytes in let more : 262144 < length long.0 = long.1.1 in omega arith; status_is = h.0; note_is = h.1 })
+    (record { text = large_text large.Bytes; refused = too_many long.1.1; status_is = h.0; note_is = h.1 })
 grammar_long told name old new halt.Memory a e h = inl e
 
 pub grammar_unread : (told : Told) (name : List ℕ) (old new : ℕ) (stop : Stop) → Rose old new →

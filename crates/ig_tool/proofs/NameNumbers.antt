@@ -1,7 +1,6 @@
 -- Tables of declared names: what they have, and how they grow by a declaration.
 use Rattle.std.proofs.Common.{◌≡◌, ℕ, zero, suc, ◌<◌, ◌+◌, ◌⊎◌, inl, inr, List, [], ◌∷◌, ◌++◌, Option, Some, None, Bool, cond, true, false, refl, sym, ◌∙◌, ap, subst, arith, length, take, get_or, add-zero}
-use Rattle.std.specs.Prelude.{bytes_eq, chars, encode_utf8_all, IsUtf8, All, Contains, slice_get, is_some}
-use Rattle.std.specs.Bool.{Decides}
+use Rattle.std.specs.Prelude.{bytes_eq, chars, encode_utf8_all, IsUtf8, Contains, slice_get, is_some}
 use Rattle.std.specs.Cmp.Lexicographic.{slice_cmp}
 use Rattle.std.specs.Ordering.{nat_cmp}
 use Rattle.std.specs.BTreeMap as tree
@@ -10,17 +9,12 @@ use denote.Ref.{Bor}
 use Rattle.std.proofs.lemmas.Slice.Eq.{bytes_eq-Decides}
 use Rattle.std.proofs.lemmas.Str.{encodes-chars, encodes_same}
 use Rattle.std.proofs.lemmas.List.{map_push, take-map, take_more, length-take-le, length-map}
-use Rattle.std.proofs.lemmas.List.Elements.{All-contains, All-weaker, All-contains_itself}
-use Rattle.std.proofs.lemmas.Option.{slice_get_within, get_or_from_slice_get, slice_get-get_or, slice_get_read, slice_get-map}
+use Rattle.std.proofs.lemmas.Option.{slice_get_within, get_or_from_slice_get, slice_get_read, slice_get-map}
 use Rattle.std.proofs.lemmas.Map.Text.{btree_map_updates_str}
-use Rattle.ig_grammar.specs.declared.grammar.Grammar.{Grammar}
-use Rattle.ig_grammar.specs.declared.grammar.Decl.{Decl}
-use Rattle.ig_grammar.specs.declared.grammar.Alt.{Alt}
-use Rattle.ig_grammar.specs.declared.grammar.Symbol.{Symbol}
-use Rattle.ig_grammar.specs.declared.grammar.Symbol.TheVariants.{Literal, Call}
-use Rattle.ig_grammar.specs.Names.{AreDistinct, HasNames, names}
+use Rattle.ig_grammar.specs.declared.declaration.Decl.{Decl}
+use Rattle.ig_grammar.specs.Names.{AreDistinct, names}
 use Rattle.ig_tool.specs.CoreOf.{place}
-use Rattle.ig_tool.specs.NameTables.{Numbers, lookup, found, found_from, IsDeclared, AltIsDeclared, DeclIsDeclared}
+use Rattle.ig_tool.specs.NameTables.{Numbers, lookup, found, found_from}
 
 -- what was found: a place of the name, which is the first; or the name isn't declared
 pub record IsFound (n : ℕ) (ds : List Decl) (name : List ℕ) (k : ℕ) : Type 0 where
@@ -72,27 +66,8 @@ missing_is : (ds : List Decl) (name : List ℕ) → found ds name ≡ None → I
 missing_is ds name e = subst (Finds 0 ds name) e (finds 0 ds name)
 
 -- contained names by place
-contains_at : (xs : List (List ℕ)) (x : List ℕ) (i : ℕ) → slice_get xs i ≡ Some x → Contains xs x
+pub contains_at : (xs : List (List ℕ)) (x : List ℕ) (i : ℕ) → slice_get xs i ≡ Some x → Contains xs x
 contains_at xs x i e = (i, slice_get_within xs i x e, get_or_from_slice_get xs i x x e)
-
-at_contains : (xs : List (List ℕ)) (x : List ℕ) → Contains xs x → (i : ℕ) × (slice_get xs i ≡ Some x)
-at_contains xs x c = (c.0, slice_get-get_or xs c.0 x c.1 ∙ ap Some c.2)
-
-pub found_decides : (ds : List Decl) (name : List ℕ) (r : Option ℕ) → r ≡ found ds name →
-    Decides (is_some r) (Contains (names ds) name)
-found_decides ds name r e = go (found ds name) refl
-  where
-    go : (o : Option ℕ) → found ds name ≡ o → Decides (is_some r) (Contains (names ds) name)
-    go None f =
-        let m = missing_is ds name f in
-        let q : r ≡ None = e ∙ f in (
-          (λ t. let u : is_some r ≡ false = rw q refl in cc),
-          (λ c. let p = at_contains (names ds) name c in absurd (m.absent p.0 p.1)),
-        )
-    go (Some k) f =
-        let m = found_is ds name k f in
-        let q : r ≡ Some k = e ∙ f in
-        ((λ t. contains_at (names ds) name m.at m.read), (λ c. rw q refl))
 
 pub found_place : (ds : List Decl) (name : List ℕ) (k : ℕ) → found ds name ≡ Some k → place ds name ≡ k
 found_place ds name k e = let m = found_is ds name k e in let p = m.number in let q = m.first in omega arith
@@ -240,34 +215,6 @@ numbers_more m t ds i d bytes None a n l r b e f u =
       subst (λ (z : List Decl). AreDistinct (names z)) s (distinct_push (take i ds) d a q),
       subst (Numbers t) s (numbers_push m t (take i ds) d bytes (Some i) n q b w u),
     )
-
--- what is declared, of the whole grammar
-pub names_of : (g : Grammar) → AreDistinct (names g.decls) →
-    ((start : List ℕ) × (g.start ≡ Some start) × Contains (names g.decls) start) → All (DeclIsDeclared g.decls) g.decls → HasNames g
-names_of g d s a =
-    record {
-      distinct = d;
-      started = s;
-      called = λ decl alt name c e f.
-          All-contains (IsDeclared g.decls) alt.symbols (Call name)
-          (All-contains (AltIsDeclared g.decls) decl.alts alt (All-contains (DeclIsDeclared g.decls) g.decls decl a c) e) f;
-    }
-
-pub declared_of : (g : Grammar) → HasNames g → All (DeclIsDeclared g.decls) g.decls
-declared_of g h =
-    All-weaker (Contains g.decls) (DeclIsDeclared g.decls)
-    (λ decl c.
-    All-weaker (Contains decl.alts) (AltIsDeclared g.decls)
-    (λ alt e.
-    All-weaker (Contains alt.symbols) (IsDeclared g.decls) (λ x f. symbol_declared g h decl alt x c e f) alt.symbols
-    (All-contains_itself alt.symbols))
-    decl.alts (All-contains_itself decl.alts))
-    g.decls (All-contains_itself g.decls)
-  where
-    symbol_declared : (g : Grammar) → HasNames g → (decl : Decl) (alt : Alt) (x : Symbol) → Contains g.decls decl →
-        Contains decl.alts alt → Contains alt.symbols x → IsDeclared g.decls x
-    symbol_declared g h decl alt (Literal w) c e f = tt
-    symbol_declared g h decl alt (Call name) c e f = h.called decl alt name c e f
 
 -- numbers of nonterminals
 pub found_below : (ds : List Decl) (name : List ℕ) (k : ℕ) → found ds name ≡ Some k → k < length ds

@@ -3,6 +3,8 @@ use Rattle.std.proofs.Common.{◌≡◌, ℕ, List, subst, Result, Ok, Err, Vec,
 use Rattle.ig_text.specs.Tree.{Tree}
 use Rattle.ig_grammar.specs.declared.grammar.Grammar.{Grammar}
 use Rattle.ig_grammar.specs.Names.{AreDistinct, names}
+use Rattle.ig_grammar.specs.Built.{IsBuiltGrammar}
+use Rattle.ig_grammar.specs.Numbering.{as_written}
 use Rattle.ig_grammar.specs.Permitted.{Permitted}
 use Rattle.ig_tool.specs.declared.core_grammar.Core.{Core}
 use Rattle.ig_tool.specs.declared.forest.Forest.{Forest}
@@ -18,38 +20,38 @@ use Rattle.ig_tool.proofs.ForestLaw.{unfolds_to_core_trees}
 use Rattle.ig_tool.proofs.ItemTrees.{trees_by_items}
 
 -- the whole forest of the core grammar unfolds to the permitted trees
-pub is_forest_of : (g : Grammar) (input : List ℕ) (f : Forest) → AreDistinct (names g.decls) →
+pub is_forest_of : (g : Grammar) (input : List ℕ) (f : Forest) → IsBuiltGrammar g → AreDistinct (names g.decls) →
     IsWhole (core_of g) input f → IsForestOf g input f
-is_forest_of g input f distinct whole =
+is_forest_of g input f built distinct whole =
     record {
       whole = whole;
       unfolds = λ d t.
           let forest = unfolds_to_core_trees (core_of g) input f d t (one_root g) whole in
-          let trees = same_trees g input t distinct in
+          let trees = same_trees g input t built distinct in
           (λ u. let c = forest.0 u in (trees.0 c.0, c.1), λ p. forest.1 (trees.1 p.0, p.1));
     }
 
 -- where the root is not complete, no tree is permitted
-pub none_permitted : (g : Grammar) (input : List ℕ) → AreDistinct (names g.decls) →
-    (RootIsComplete (core_of g) input → ⊥) → (t : Tree) → Permitted g input t → ⊥
-none_permitted g input distinct none t p =
-    none ((trees_by_items (core_of g) input (one_root g)).1 (t, (same_trees g input t distinct).1 p))
+pub none_permitted : (g : Grammar) (input : List ℕ) → IsBuiltGrammar g → AreDistinct (names g.decls) →
+    (RootIsComplete (core_of g) input → ⊥) → (t : Tree) → Permitted g (as_written g) input t → ⊥
+none_permitted g input built distinct none t p =
+    none ((trees_by_items (core_of g) input (one_root g)).1 (t, (same_trees g input t built distinct).1 p))
 
-shown_parses : (g : Grammar) (input : List ℕ) (r : Result (Vec ℕ Global) Stop) → AreDistinct (names g.decls) →
+shown_parses : (g : Grammar) (input : List ℕ) (r : Result (Vec ℕ Global) Stop) → IsBuiltGrammar g → AreDistinct (names g.decls) →
     (MoreThan (core_of g) input budget → ⊥) → Shows (core_of g) input r → Parses g input r
-shown_parses g input (Ok text) distinct few h =
-    record { suffices = few; forest = h.0; is = is_forest_of g input h.0 distinct h.1; text_is = h.2 }
-shown_parses g input (Err (halt.Note s line)) distinct few h =
-    no_parse s line.items few (none_permitted g input distinct h.2) h.0 h.1
-shown_parses g input (Err halt.Memory) distinct few h = tt
+shown_parses g input (Ok text) built distinct few h =
+    record { suffices = few; forest = h.0; is = is_forest_of g input h.0 built distinct h.1; text_is = h.2 }
+shown_parses g input (Err (halt.Note s line)) built distinct few h =
+    no_parse s line.items few (none_permitted g input built distinct h.2) h.0 h.1
+shown_parses g input (Err halt.Memory) built distinct few h = tt
 
 pub parses_shown : (g : Grammar) (input : List ℕ) (core : Core) (r : Result (Vec ℕ Global) Stop) →
-    AreDistinct (names g.decls) → core ≡ core_of g → (MoreThan core input budget → ⊥) → Shows core input r →
+    IsBuiltGrammar g → AreDistinct (names g.decls) → core ≡ core_of g → (MoreThan core input budget → ⊥) → Shows core input r →
     Parses g input r
-parses_shown g input core r distinct e few h =
+parses_shown g input core r built distinct e few h =
     let P : Core → Type 0 = λ z. MoreThan z input budget → ⊥ in
     let Q : Core → Type 0 = λ z. Shows z input r in
-    shown_parses g input r distinct (subst P e few) (subst Q e h)
+    shown_parses g input r built distinct (subst P e few) (subst Q e h)
 
 pub parses_over_budget : (g : Grammar) (input : List ℕ) (core : Core) (stop : Stop) → core ≡ core_of g →
     MoreThan core input budget → IsOverBudget stop → Parses g input (Err stop)

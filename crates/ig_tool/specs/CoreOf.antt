@@ -1,11 +1,11 @@
--- Core(G): the core grammar of a grammar of plain rules.
-use Rattle.std.specs.Prelude.{ℕ, suc, List, [], ◌∷◌, Option, Some, None, map, if◌then◌else◌, bytes_eq, codes}
+-- Core(G): the core grammar of a grammar. It has the grammar's trees where only built forms are used.
+use Rattle.std.specs.Prelude.{ℕ, suc, List, [], ◌∷◌, ◌++◌, Option, Some, None, map, if◌then◌else◌, bytes_eq, codes}
 use Rattle.ig_text.specs.declared.tag.Tag.TheVariants.{Rule, Root}
 use Rattle.ig_grammar.specs.declared.grammar.Grammar.{Grammar}
-use Rattle.ig_grammar.specs.declared.grammar.Decl.{Decl}
-use Rattle.ig_grammar.specs.declared.grammar.Alt.{Alt}
-use Rattle.ig_grammar.specs.declared.grammar.Symbol.{Symbol}
-use Rattle.ig_grammar.specs.declared.grammar.Symbol.TheVariants as symbol
+use Rattle.ig_grammar.specs.declared.declaration.Decl.{Decl}
+use Rattle.ig_grammar.specs.declared.declaration.Level.{Level}
+use Rattle.ig_grammar.specs.declared.symbol.Alt.{Alt}
+use Rattle.ig_grammar.specs.Symbol.{Symbol, Literal, Call}
 use Rattle.ig_tool.specs.declared.core_grammar.Core.{Core}
 use Rattle.ig_tool.specs.declared.core_grammar.Nonterminal.{Nonterminal}
 use Rattle.ig_tool.specs.declared.core_grammar.CoreAlt.{CoreAlt}
@@ -21,9 +21,11 @@ place (d ∷ ds) name = if bytes_eq d.name name then 0 else suc (place ds name)
 abbrev pub number_of : List Decl → List ℕ → ℕ
 number_of decls name = suc (place decls name)
 
+-- a symbol that isn't built may get any step, and gets a call of the root
 abbrev pub step_of : List Decl → Symbol → Step
-step_of decls (symbol.Literal word) = step.Term word
-step_of decls (symbol.Call name) = step.Call (number_of decls name)
+step_of decls (Literal word) = step.Term word
+step_of decls (Call name arguments) = step.Call (number_of decls name)
+step_of decls x = step.Call 0
 
 -- alternative k of declaration d, both counted from 1
 abbrev pub core_alt_of : List Decl → ℕ → ℕ → Alt → CoreAlt
@@ -34,8 +36,13 @@ abbrev pub core_alts_of : List Decl → ℕ → ℕ → List Alt → List CoreAl
 core_alts_of decls d k [] = []
 core_alts_of decls d k (alt ∷ alts) = core_alt_of decls d k alt ∷ core_alts_of decls d (suc k) alts
 
+-- the alternatives of all levels, in order
+abbrev pub alternatives : List Level → List Alt
+alternatives [] = []
+alternatives (level ∷ others) = level.alts ++ alternatives others
+
 abbrev pub nonterminal_of : List Decl → ℕ → Decl → Nonterminal
-nonterminal_of decls d decl = record { name = decl.name; alternatives = core_alts_of decls d 1 decl.alts }
+nonterminal_of decls d decl = record { name = decl.name; alternatives = core_alts_of decls d 1 (alternatives decl.levels) }
 
 -- the nonterminals of the declarations from number d on
 abbrev pub nonterminals_of : List Decl → ℕ → List Decl → List Nonterminal

@@ -3,6 +3,8 @@ use Rattle.std.specs.Prelude.{◌≡◌, ◌↔◌, ℕ, ◌≤◌, List, Some}
 use Rattle.ig_text.specs.Tree.{Tree, height}
 use Rattle.ig_grammar.specs.declared.grammar.Grammar.{Grammar}
 use Rattle.ig_grammar.specs.Names.{names, AreDistinct}
+use Rattle.ig_grammar.specs.Built.{IsBuiltGrammar}
+use Rattle.ig_grammar.specs.Numbering.{as_written}
 use Rattle.ig_grammar.specs.Permitted.{Permitted}
 use Rattle.ig_tool.specs.declared.core_grammar.Core.{Core}
 use Rattle.ig_tool.specs.declared.core_grammar.CoreAlt.{CoreAlt}
@@ -14,11 +16,11 @@ use Rattle.ig_tool.specs.Forests.{Unfold}
 use Rattle.ig_tool.specs.Items.{RootIsComplete}
 use Rattle.ig_tool.specs.Whole.{IsWhole}
 
--- where no name is declared twice, the core grammar has the trees that the grammar permits
+-- where only built forms are used and no name is declared twice, the core grammar has the trees that the grammar permits
 abbrev pub SameTrees : Type 0
 SameTrees =
-    (g : Grammar) (text : List ℕ) (t : Tree) → AreDistinct (names g.decls) →
-    CoreTree (core_of g) text t ↔ Permitted g text t
+    (g : Grammar) (text : List ℕ) (t : Tree) → IsBuiltGrammar g → AreDistinct (names g.decls) →
+    CoreTree (core_of g) text t ↔ Permitted g (as_written g) text t
 
 -- each alternative of the root is alternative 0
 abbrev pub HasOneRoot : Core → Type 0

@@ -9,7 +9,8 @@ pub mod Whole
 pub mod EntryRows
 pub mod EntrySteps
 pub mod ForestText
-pub mod PlainText
+pub mod Accepted
+pub mod Refusals
 pub mod Commands
 pub mod Outcome
 pub mod Stops
@@ -18,7 +19,4 @@ pub mod Laws
 pub mod Nodes
 pub mod ForestLines
 pub mod Assembly
-pub mod LexerParts
-pub mod RuleParts
 pub mod NameTables
-pub mod Reader

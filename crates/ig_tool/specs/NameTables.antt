@@ -1,14 +1,10 @@
--- Tables of the numbers of declared names, and what is declared.
-use Rattle.std.specs.Prelude.{◌≡◌, ℕ, suc, List, [], ◌∷◌, Option, Some, None, if◌then◌else◌, bytes_eq, All, Contains, encode_utf8_all}
+-- Tables of the numbers of declared names.
+use Rattle.std.specs.Prelude.{◌≡◌, ℕ, suc, List, [], ◌∷◌, Option, Some, None, if◌then◌else◌, bytes_eq, encode_utf8_all}
 use Rattle.std.specs.Cmp.Lexicographic.{slice_cmp}
 use Rattle.std.specs.Ordering.{nat_cmp}
 use Rattle.std.specs.BTreeMap.{BTreeMap, get_by}
 use denote.Ref.{Bor}
-use Rattle.ig_grammar.specs.declared.grammar.Decl.{Decl}
-use Rattle.ig_grammar.specs.declared.grammar.Alt.{Alt}
-use Rattle.ig_grammar.specs.declared.grammar.Symbol.{Symbol}
-use Rattle.ig_grammar.specs.declared.grammar.Symbol.TheVariants.{Literal, Call}
-use Rattle.ig_grammar.specs.Names.{names}
+use Rattle.ig_grammar.specs.declared.declaration.Decl.{Decl}
 
 -- the number of the first declaration of the name, counted from n
 abbrev pub found_from : ℕ → List Decl → List ℕ → Option ℕ
@@ -25,13 +21,3 @@ lookup table name = get_by (λ k. slice_cmp nat_cmp (encode_utf8_all name) k.now
 -- the table has the number of each declared name, and no other name
 abbrev pub Numbers : BTreeMap (Bor (List ℕ)) ℕ → List Decl → Type 0
 Numbers table decls = (name : List ℕ) → lookup table name ≡ found decls name
-
-abbrev pub IsDeclared : List Decl → Symbol → Type 0
-IsDeclared decls (Literal word) = Unit {0}
-IsDeclared decls (Call name) = Contains (names decls) name
-
-abbrev pub AltIsDeclared : List Decl → Alt → Type 0
-AltIsDeclared decls alt = All (IsDeclared decls) alt.symbols
-
-abbrev pub DeclIsDeclared : List Decl → Decl → Type 0
-DeclIsDeclared decls decl = All (AltIsDeclared decls) decl.alts

@@ -1,5 +1,5 @@
 -- What the top call answers, by cases.
-use Rattle.std.specs.Prelude.{◌≡◌, ◌≢◌, ◌↔◌, ℕ, zero, suc, ◌≤◌, ◌⊎◌, List, [], ◌++◌, Option, take, codes}
+use Rattle.std.specs.Prelude.{◌≡◌, ◌≢◌, ◌↔◌, ℕ, zero, suc, ◌≤◌, ◌⊎◌, List, [], ◌++◌, Option, take, codes, encode_utf8_all}
 use Rattle.std.specs.Fmt.{decimal}
 use Rattle.ig_text.specs.Tree.{Tree, height}
 use Rattle.ig_text.specs.Decoding.{IsDecoded, IsFaulty}
@@ -9,6 +9,7 @@ use Rattle.ig_outside.specs.Counts.{Rose, risen}
 use Rattle.ig_outside.specs.Told.{Told, silent, nothing, bytes}
 use Rattle.ig_outside.specs.Put.{Appends}
 use Rattle.ig_grammar.specs.declared.grammar.Grammar.{Grammar}
+use Rattle.ig_grammar.specs.Numbering.{as_written}
 use Rattle.ig_grammar.specs.Permitted.{Permitted}
 use Rattle.ig_tool.specs.declared.forest.Forest.{Forest}
 use Rattle.ig_tool.specs.declared.status.Status.{Status}
@@ -18,8 +19,10 @@ use Rattle.ig_tool.specs.Items.{MoreThan}
 use Rattle.ig_tool.specs.Forests.{Unfold}
 use Rattle.ig_tool.specs.Whole.{IsWhole}
 use Rattle.ig_tool.specs.ForestText.{forest_text, line_end}
-use Rattle.ig_tool.specs.PlainText.{Reads}
-use Rattle.ig_tool.specs.Commands.{IsForest}
+use Rattle.ig_show.specs.CanonicalText.{text_of}
+use Rattle.ig_tool.specs.Accepted.{IsAccepted, IsRunnable}
+use Rattle.ig_tool.specs.Refusals.{IsRefused}
+use Rattle.ig_tool.specs.Commands.{Request, check, show, forest, grammar_name, IsCommand, MayFetch}
 
 abbrev pub number_of : Status → ℕ
 number_of status.Done = 0
@@ -52,8 +55,14 @@ usage_note = codes "usage" ++ line_end
 abbrev pub cannot_read_note : List ℕ → List ℕ
 cannot_read_note name = codes "cannot read " ++ (name ++ line_end)
 
+abbrev pub grammar_note : List ℕ → List ℕ
+grammar_note text = codes "grammar: " ++ (text ++ line_end)
+
+abbrev pub not_built_text : List ℕ
+not_built_text = codes "not built"
+
 abbrev pub not_built_note : List ℕ
-not_built_note = codes "grammar: not built" ++ line_end
+not_built_note = grammar_note not_built_text
 
 -- want of memory has a note of its own
 abbrev pub input_note : TextFault → List ℕ
@@ -73,59 +82,78 @@ cannot_write_note = codes "cannot write" ++ line_end
 abbrev pub no_memory_note : List ℕ
 no_memory_note = codes "out of memory" ++ line_end
 
--- the words name two files, of which the first may give the grammar and the second the input
+-- what out gets of a grammar that is checked or shown
+abbrev pub ok_text : List ℕ
+ok_text = codes "ok" ++ line_end
+
+abbrev pub shown_text : Grammar → List ℕ
+shown_text g = encode_utf8_all (text_of g)
+
+-- the words ask for the forest of two files, of which the first may give the grammar, which is accepted and runnable,
+-- and the second the input
 pub record HasFiles (words : List (List ℕ)) (holds : List ℕ → Told) (g : Grammar) (input : List ℕ) : Type 0 where
-  pub grammar_name : List ℕ
-  pub input_name : List ℕ
-  pub command : IsForest words grammar_name input_name
+  pub grammar_file : List ℕ
+  pub input_file : List ℕ
+  pub command : IsCommand words (forest grammar_file input_file)
   pub grammar_bytes : List ℕ
-  pub gives_grammar : MayGive (holds grammar_name) grammar_bytes
-  pub reads : Reads grammar_bytes g
+  pub gives_grammar : MayGive (holds grammar_file) grammar_bytes
+  pub accepted : IsAccepted grammar_bytes g
+  pub runnable : IsRunnable g
   pub input_bytes : List ℕ
-  pub gives_input : MayGive (holds input_name) input_bytes
+  pub gives_input : MayGive (holds input_file) input_bytes
   pub decoded : IsDecoded input_bytes input
 
 -- the forest is the whole one, and at every depth it unfolds to exactly the permitted trees of at
 -- most that height
 pub record IsForestOf (g : Grammar) (input : List ℕ) (f : Forest) : Type 0 where
   pub whole : IsWhole (core_of g) input f
-  pub unfolds : (d : ℕ) (t : Tree) → Unfold f d t ↔ (Permitted g input t × (height t ≤ d))
+  pub unfolds : (d : ℕ) (t : Tree) → Unfold f d t ↔ (Permitted g (as_written g) input t × (height t ≤ d))
 
 -- the status that is decided before anything is written, the text for out, the line for notes, and
 -- the number of fetches; `old` and `new` are the shelf's counts of faults
 pub data Decided (words : List (List ℕ)) (holds : List ℕ → Told) (old new : ℕ) : Status → List ℕ → List ℕ → ℕ → Type 0 where
-  -- the words aren't `forest` and two names of files
-  usage : new ≡ old → ((grammar input : List ℕ) → IsForest words grammar input → ⊥) →
+  -- the words are no command
+  usage : new ≡ old → ((request : Request) → IsCommand words request → ⊥) →
       Decided words holds old new status.Usage [] usage_note 0
   -- nothing is held under the grammar's name
-  grammar_missing : (grammar input : List ℕ) → new ≡ old → IsForest words grammar input →
-      holds grammar ≡ nothing → Decided words holds old new status.ReadFault [] (cannot_read_note grammar) 1
+  grammar_missing : (request : Request) → new ≡ old → IsCommand words request → holds (grammar_name request) ≡ nothing →
+      Decided words holds old new status.ReadFault [] (cannot_read_note (grammar_name request)) 1
   -- the fetch of the grammar failed
-  grammar_unread : (grammar input : List ℕ) → Rose old new → IsForest words grammar input →
-      Decided words holds old new status.ReadFault [] (cannot_read_note grammar) 1
-  -- the grammar's bytes read as no grammar
-  grammar_refused : (grammar input xs : List ℕ) → new ≡ old → IsForest words grammar input →
-      MayGive (holds grammar) xs → ((g : Grammar) → Reads xs g → ⊥) →
+  grammar_unread : (request : Request) → Rose old new → IsCommand words request →
+      Decided words holds old new status.ReadFault [] (cannot_read_note (grammar_name request)) 1
+  -- the grammar's bytes are refused
+  grammar_refused : (request : Request) (xs text : List ℕ) → new ≡ old → IsCommand words request →
+      MayGive (holds (grammar_name request)) xs → IsRefused xs text →
+      Decided words holds old new status.Grammar [] (grammar_note text) 1
+  -- the grammar is accepted, which is all that was asked
+  checked : (grammar xs : List ℕ) (g : Grammar) → new ≡ old → IsCommand words (check grammar) →
+      MayGive (holds grammar) xs → IsAccepted xs g → Decided words holds old new status.Done ok_text [] 1
+  -- the grammar is accepted, and the text is its canonical one
+  shown : (grammar xs : List ℕ) (g : Grammar) → new ≡ old → IsCommand words (show grammar) →
+      MayGive (holds grammar) xs → IsAccepted xs g → Decided words holds old new status.Done (shown_text g) [] 1
+  -- a forest is asked for; the grammar is accepted, but has a form that isn't built, or too many dots
+  not_built : (grammar input xs : List ℕ) (g : Grammar) → new ≡ old → IsCommand words (forest grammar input) →
+      MayGive (holds grammar) xs → IsAccepted xs g → (IsRunnable g → ⊥) →
       Decided words holds old new status.Grammar [] not_built_note 1
-  -- the grammar is accepted, and nothing is held under the input's name
-  input_missing : (grammar input xs : List ℕ) (g : Grammar) → new ≡ old → IsForest words grammar input →
-      MayGive (holds grammar) xs → Reads xs g → holds input ≡ nothing →
+  -- the grammar is accepted and runnable, and nothing is held under the input's name
+  input_missing : (grammar input xs : List ℕ) (g : Grammar) → new ≡ old → IsCommand words (forest grammar input) →
+      MayGive (holds grammar) xs → IsAccepted xs g → IsRunnable g → holds input ≡ nothing →
       Decided words holds old new status.ReadFault [] (cannot_read_note input) 2
-  -- the grammar is accepted, and the fetch of the input failed
-  input_unread : (grammar input xs : List ℕ) (g : Grammar) → Rose old new → IsForest words grammar input →
-      MayGive (holds grammar) xs → Reads xs g →
+  -- the grammar is accepted and runnable, and the fetch of the input failed
+  input_unread : (grammar input xs : List ℕ) (g : Grammar) → Rose old new → IsCommand words (forest grammar input) →
+      MayGive (holds grammar) xs → IsAccepted xs g → IsRunnable g →
       Decided words holds old new status.ReadFault [] (cannot_read_note input) 2
-  -- the grammar is accepted, and the input's bytes are no text
+  -- the grammar is accepted and runnable, and the input's bytes are no text
   input_refused : (grammar input xs ys : List ℕ) (g : Grammar) (fault : TextFault) → new ≡ old →
-      IsForest words grammar input → MayGive (holds grammar) xs → Reads xs g → MayGive (holds input) ys →
-      IsFaulty ys fault → fault ≢ text_fault.Memory →
+      IsCommand words (forest grammar input) → MayGive (holds grammar) xs → IsAccepted xs g → IsRunnable g →
+      MayGive (holds input) ys → IsFaulty ys fault → fault ≢ text_fault.Memory →
       Decided words holds old new status.Input [] (input_note fault) 2
   -- more items than the budget are reachable
   over_budget : (g : Grammar) (input : List ℕ) → new ≡ old → HasFiles words holds g input →
       MoreThan (core_of g) input budget → Decided words holds old new status.Budget [] budget_note 2
   -- the budget suffices, and no tree is permitted
   no_parse : (g : Grammar) (input : List ℕ) → new ≡ old → HasFiles words holds g input →
-      (MoreThan (core_of g) input budget → ⊥) → ((t : Tree) → Permitted g input t → ⊥) →
+      (MoreThan (core_of g) input budget → ⊥) → ((t : Tree) → Permitted g (as_written g) input t → ⊥) →
       Decided words holds old new status.NoParse [] no_parse_note 2
   -- the budget suffices, and the text is that of the forest
   parsed : (g : Grammar) (input : List ℕ) (f : Forest) → new ≡ old → HasFiles words holds g input →
@@ -191,6 +219,6 @@ pub data Answers (words : List (List ℕ)) (holds : List ℕ → Told) (old new 
       after ≡ raised k before → Untouched out → Failed notes note →
       Answers words holds old new before after out notes status.WriteFault
   -- memory ran out before anything was written
-  no_memory : (k : ℕ) → k ≤ 2 → after ≡ raised k before → Stood old new → Untouched out →
+  no_memory : (k : ℕ) → MayFetch words k → after ≡ raised k before → Stood old new → Untouched out →
       Noted notes no_memory_note →
       Answers words holds old new before after out notes status.NoMemory

@@ -8,6 +8,7 @@ use Rattle.ig_text.specs.declared.text.TextFault.TheVariants as text_fault
 use Rattle.ig_outside.specs.Counts.{Rose}
 use Rattle.ig_outside.specs.Told.{Told, nothing}
 use Rattle.ig_grammar.specs.declared.grammar.Grammar.{Grammar}
+use Rattle.ig_grammar.specs.Numbering.{as_written}
 use Rattle.ig_grammar.specs.Permitted.{Permitted}
 use Rattle.ig_text.specs.Tree.{Tree}
 use Rattle.ig_tool.specs.declared.core_grammar.Core.{Core}
@@ -16,12 +17,15 @@ use Rattle.ig_tool.specs.declared.stop.Stop.{Stop}
 use Rattle.ig_tool.specs.declared.stop.Stop.TheVariants as halt
 use Rattle.ig_tool.specs.declared.status.Status.{Status}
 use Rattle.ig_tool.specs.declared.status.Status.TheVariants as status
+use Rattle.ig_tool.specs.Commands.{MayFetch}
 use Rattle.ig_tool.specs.CoreOf.{core_of}
 use Rattle.ig_tool.specs.ForestText.{forest_text, line_end}
 use Rattle.ig_tool.specs.Items.{MoreThan, RootIsComplete}
-use Rattle.ig_tool.specs.PlainText.{Reads}
+use Rattle.ig_grammar.specs.Checked.{CheckedGrammar}
+use Rattle.ig_tool.specs.Accepted.{IsAccepted, IsRunnable}
+use Rattle.ig_tool.specs.Refusals.{IsRefused}
 use Rattle.ig_tool.specs.Whole.{IsWhole}
-use Rattle.ig_tool.specs.Outcome.{MayGive, budget, budget_note, cannot_read_note, cannot_write_note, input_note, no_memory_note, no_parse_note, not_built_note, IsForestOf, Decided, raised, Sunk, Got, Failed, Untouched, Noted, Stood}
+use Rattle.ig_tool.specs.Outcome.{MayGive, budget, budget_note, cannot_read_note, cannot_write_note, input_note, no_memory_note, no_parse_note, grammar_note, not_built_note, shown_text, ok_text, IsForestOf, Decided, raised, Sunk, Got, Failed, Untouched, Noted, Stood}
 
 -- a line of two pieces
 abbrev pub IsLine : List ℕ → List ℕ → Vec ℕ Global → Type 0
@@ -35,8 +39,9 @@ StopsWith s note halt.Memory = Unit {0}
 abbrev pub IsStop : Status → List ℕ → List ℕ → Stop → Type 0
 IsStop s front back = StopsWith s ((front ++ back) ++ line_end)
 
-abbrev pub IsNotBuilt : Stop → Type 0
-IsNotBuilt = StopsWith status.Grammar not_built_note
+-- a grammar is refused with this text
+abbrev pub RefusesWith : List ℕ → Stop → Type 0
+RefusesWith text = StopsWith status.Grammar (grammar_note text)
 
 abbrev pub IsCannotRead : List ℕ → Stop → Type 0
 IsCannotRead name = StopsWith status.ReadFault (cannot_read_note name)
@@ -47,20 +52,21 @@ IsTooLong = StopsWith status.Input (input_note text_fault.TooLong)
 abbrev pub IsBadAt : ℕ → Stop → Type 0
 IsBadAt at = StopsWith status.Input (input_note (text_fault.NotUtf8 at))
 
--- the bytes read as no grammar
+-- the bytes are refused as a grammar, and the note says why
 pub record IsNoGrammar (xs : List ℕ) (s : Status) (note : List ℕ) : Type 0 where
-  pub reads_not : (g : Grammar) → Reads xs g → ⊥
+  pub text : List ℕ
+  pub refused : IsRefused xs text
   pub status_is : s ≡ status.Grammar
-  pub note_is : note ≡ not_built_note
+  pub note_is : note ≡ grammar_note text
 
--- the bytes read as the grammar, or as none
-abbrev pub ReadsGrammar : List ℕ → Result Grammar Stop → Type 0
-ReadsGrammar xs (Ok g) = Reads xs g
+-- the bytes are accepted as the grammar, or refused
+abbrev pub ReadsGrammar : List ℕ → Result CheckedGrammar Stop → Type 0
+ReadsGrammar xs (Ok checked) = IsAccepted xs checked.grammar
 ReadsGrammar xs (Err (halt.Note s line)) = IsNoGrammar xs s line.items
 ReadsGrammar xs (Err halt.Memory) = Unit {0}
 
 -- why an input is refused
-pub record IsRefused (xs : List ℕ) (s : Status) (note : List ℕ) : Type 0 where
+pub record IsNoInput (xs : List ℕ) (s : Status) (note : List ℕ) : Type 0 where
   pub fault : TextFault
   pub faulty : IsFaulty xs fault
   pub cause : fault ≢ text_fault.Memory
@@ -70,7 +76,7 @@ pub record IsRefused (xs : List ℕ) (s : Status) (note : List ℕ) : Type 0 whe
 -- the bytes are the text, or none
 abbrev pub ReadsInput : List ℕ → Result Text Stop → Type 0
 ReadsInput xs (Ok text) = IsDecoded xs text
-ReadsInput xs (Err (halt.Note s line)) = IsRefused xs s line.items
+ReadsInput xs (Err (halt.Note s line)) = IsNoInput xs s line.items
 ReadsInput xs (Err halt.Memory) = Unit {0}
 
 -- why a file that was to be fetched gave nothing, by what the shelf tells of it and its counts of
@@ -83,14 +89,15 @@ pub data StopsAt (told : Told) (name : List ℕ) (old new : ℕ) (Refused : List
   refused : (s : Status) (note xs : List ℕ) → new ≡ old → MayGive told xs → Refused xs s note →
       StopsAt told name old new Refused s note
 
-abbrev pub LoadsGrammar : Told → List ℕ → ℕ → ℕ → Result Grammar Stop → Type 0
-LoadsGrammar told name old new (Ok g) = (new ≡ old) × ((xs : List ℕ) × MayGive told xs × Reads xs g)
+abbrev pub LoadsGrammar : Told → List ℕ → ℕ → ℕ → Result CheckedGrammar Stop → Type 0
+LoadsGrammar told name old new (Ok checked) =
+    (new ≡ old) × ((xs : List ℕ) × MayGive told xs × IsAccepted xs checked.grammar)
 LoadsGrammar told name old new (Err (halt.Note s line)) = StopsAt told name old new IsNoGrammar s line.items
 LoadsGrammar told name old new (Err halt.Memory) = Stood old new
 
 abbrev pub LoadsInput : Told → List ℕ → ℕ → ℕ → Result Text Stop → Type 0
 LoadsInput told name old new (Ok text) = (new ≡ old) × ((xs : List ℕ) × MayGive told xs × IsDecoded xs text)
-LoadsInput told name old new (Err (halt.Note s line)) = StopsAt told name old new IsRefused s line.items
+LoadsInput told name old new (Err (halt.Note s line)) = StopsAt told name old new IsNoInput s line.items
 LoadsInput told name old new (Err halt.Memory) = Stood old new
 
 abbrev pub IsOverBudget : Stop → Type 0
@@ -111,7 +118,7 @@ pub data StopsParse (g : Grammar) (input : List ℕ) : Status → List ℕ → T
   over_budget : (s : Status) (note : List ℕ) → MoreThan (core_of g) input budget → s ≡ status.Budget →
       note ≡ budget_note → StopsParse g input s note
   no_parse : (s : Status) (note : List ℕ) → (MoreThan (core_of g) input budget → ⊥) →
-      ((t : Tree) → Permitted g input t → ⊥) → s ≡ status.NoParse → note ≡ no_parse_note → StopsParse g input s note
+      ((t : Tree) → Permitted g (as_written g) input t → ⊥) → s ≡ status.NoParse → note ≡ no_parse_note → StopsParse g input s note
 
 -- the text is that of the forest of the permitted trees
 pub record IsParse (g : Grammar) (input text : List ℕ) : Type 0 where
@@ -125,14 +132,53 @@ Parses g input (Ok text) = IsParse g input text.items
 Parses g input (Err (halt.Note s line)) = StopsParse g input s line.items
 Parses g input (Err halt.Memory) = Unit {0}
 
--- what is decided before anything is written; at most two files are fetched
+-- the canonical text of the grammar
+abbrev pub ShowsGrammar : Grammar → Result (Vec ℕ Global) Stop → Type 0
+ShowsGrammar g (Ok text) = text.items ≡ shown_text g
+ShowsGrammar g (Err (halt.Note s line)) = ⊥
+ShowsGrammar g (Err halt.Memory) = Unit {0}
+
+-- the text that says that a grammar is accepted
+abbrev pub SaysOk : Result (Vec ℕ Global) Stop → Type 0
+SaysOk (Ok text) = text.items ≡ ok_text
+SaysOk (Err (halt.Note s line)) = ⊥
+SaysOk (Err halt.Memory) = Unit {0}
+
+-- why there is no forest of an accepted grammar and the input of this name, by what the shelf tells of it, its counts of
+-- faults, and how often files were fetched
+pub data StopsForest (g : Grammar) (told : Told) (name : List ℕ) (old new : ℕ) : Status → List ℕ → ℕ → Type 0 where
+  not_built : (s : Status) (note : List ℕ) → new ≡ old → (IsRunnable g → ⊥) → s ≡ status.Grammar →
+      note ≡ not_built_note → StopsForest g told name old new s note 0
+  at_input : (s : Status) (note : List ℕ) → IsRunnable g → StopsAt told name old new IsNoInput s note →
+      StopsForest g told name old new s note 1
+  at_parse : (s : Status) (note ys input : List ℕ) → IsRunnable g → new ≡ old → MayGive told ys → IsDecoded ys input →
+      StopsParse g input s note → StopsForest g told name old new s note 1
+
+-- the text is that of the forest of an accepted grammar and the input
+pub record HasForest (g : Grammar) (told : Told) (old new : ℕ) (text : List ℕ) : Type 0 where
+  pub runnable : IsRunnable g
+  pub calm : new ≡ old
+  pub input_bytes : List ℕ
+  pub input : List ℕ
+  pub gives_input : MayGive told input_bytes
+  pub decoded : IsDecoded input_bytes input
+  pub is_parse : IsParse g input text
+
+-- the forest of an accepted grammar and the input of this name; at most one file is fetched
+abbrev pub RunsForest : Grammar → Told → List ℕ → ℕ → ℕ → ℕ → ℕ → Result (Vec ℕ Global) Stop → Type 0
+RunsForest g told name old new before after (Ok text) = HasForest g told old new text.items × (after ≡ raised 1 before)
+RunsForest g told name old new before after (Err (halt.Note s line)) =
+    (k : ℕ) × StopsForest g told name old new s line.items k × (after ≡ raised k before)
+RunsForest g told name old new before after (Err halt.Memory) = (k : ℕ) × (k ≤ 1) × (after ≡ raised k before) × Stood old new
+
+-- what is decided before anything is written
 abbrev pub Decides : List (List ℕ) → (List ℕ → Told) → ℕ → ℕ → ℕ → ℕ → Result (Vec ℕ Global) Stop → Type 0
 Decides words holds old new before after (Ok text) =
     (k : ℕ) × Decided words holds old new status.Done text.items [] k × (after ≡ raised k before)
 Decides words holds old new before after (Err (halt.Note s line)) =
     (k : ℕ) × Decided words holds old new s [] line.items k × (after ≡ raised k before) × (s ≢ status.Done)
 Decides words holds old new before after (Err halt.Memory) =
-    (k : ℕ) × (k ≤ 2) × (after ≡ raised k before) × Stood old new
+    (k : ℕ) × MayFetch words k × (after ≡ raised k before) × Stood old new
 
 -- the sinks got what was decided, as far as they took it
 abbrev pub WritesText : List ℕ → Sunk → Sunk → Status → Type 0

@@ -1,18 +1,50 @@
 //! The words of a command.
-ghost use Rattle.std.specs.Prelude.{◌↔◌, ℕ, List, map, IsTrue, MatchOption, string_bytes};
-ghost use Rattle.ig_tool.specs.Commands.{IsFileName, IsForest};
+ghost use Rattle.std.specs.Prelude.{◌≡◌, ◌↔◌, ◌∷◌, [], List, map, IsTrue, MatchOption, string_bytes};
+ghost use Rattle.ig_tool.specs.Commands.{IsFileName, IsCommand, Request, grammar_name, request_of};
 
-/// The names of grammar and input, where the words are `forest` and two names of files. A name
+/// What the words of a command ask for, with the names of its files.
+#[derive(Clone, Copy, Debug)]
+pub(crate) enum Command<'a> {
+    /// That the grammar is checked.
+    Check { grammar: &'a str },
+    /// The canonical text of the grammar.
+    Show { grammar: &'a str },
+    /// The forest of the grammar and the input.
+    Forest { grammar: &'a str, input: &'a str },
+}
+
+/// The command that the words are: `check`, `show` or `forest`, and the names of its files. A name
 /// isn't empty and doesn't begin with `-`. Takes no memory.
-pub(crate) fn forest_names(words: &[String]) -> Option<(&str, &str)>
-    ensures { MatchOption result ((g i : List ℕ) → IsForest (map string_bytes words.now) g i → ⊥) (λ p. IsForest (map string_bytes words.now) p.0.now p.1.now) }
+pub(crate) fn command_of(words: &[String]) -> Option<Command<'_>>
+    ensures { MatchOption result ((r : Request) → IsCommand (map string_bytes words.now) r → ⊥) (λ c. IsCommand (map string_bytes words.now) (request_of c)) }
 {
-    let [command, grammar, input] = words else {
+    match words {
+        [name, grammar] => grammar_command(name.as_str(), grammar.as_str()),
+        [name, grammar, input] => forest_command(name.as_str(), grammar.as_str(), input.as_str()),
+        _ => None,
+    }
+}
+
+/// The command of this name over a grammar alone.
+fn grammar_command<'a>(name: &str, grammar: &'a str) -> Option<Command<'a>>
+    ensures { MatchOption result ((r : Request) → IsCommand (name.now ∷ grammar.now ∷ []) r → ⊥) (λ c. IsCommand (name.now ∷ grammar.now ∷ []) (request_of c)) }
+{
+    if !is_file_name(grammar) {
         return None;
-    };
-    let (grammar, input) = (grammar.as_str(), input.as_str());
-    if command.as_str() == "forest" && is_file_name(grammar) && is_file_name(input) {
-        Some((grammar, input))
+    }
+    match name {
+        "check" => Some(Command::Check { grammar }),
+        "show" => Some(Command::Show { grammar }),
+        _ => None,
+    }
+}
+
+/// The command of this name over a grammar and an input.
+fn forest_command<'a>(name: &str, grammar: &'a str, input: &'a str) -> Option<Command<'a>>
+    ensures { MatchOption result ((r : Request) → IsCommand (name.now ∷ grammar.now ∷ input.now ∷ []) r → ⊥) (λ c. IsCommand (name.now ∷ grammar.now ∷ input.now ∷ []) (request_of c)) }
+{
+    if name == "forest" && is_file_name(grammar) && is_file_name(input) {
+        Some(Command::Forest { grammar, input })
     } else {
         None
     }
@@ -25,5 +57,16 @@ fn is_file_name(word: &str) -> bool
     match word.as_bytes().first() {
         Some(first) => *first != b'-',
         None => false,
+    }
+}
+
+/// The name of the grammar.
+pub(crate) fn grammar_of(command: Command<'_>) -> &str
+    ensures { result.now ≡ grammar_name (request_of command.entry) }
+{
+    match command {
+        Command::Check { grammar } => grammar,
+        Command::Show { grammar } => grammar,
+        Command::Forest { grammar, .. } => grammar,
     }
 }

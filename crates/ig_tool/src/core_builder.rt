@@ -1,15 +1,16 @@
 //! From a grammar to its core grammar.
 
-ghost use Rattle.std.specs.Prelude.{◌≡◌, ◌≤◌, length, map, codes, IfOk};
+ghost use Rattle.std.specs.Prelude.{◌≡◌, suc, ◌+◌, ◌≤◌, ◌++◌, length, map, codes, IfOk, OnOk};
 ghost use Rattle.ig_grammar.specs.Names.{AreDistinct, names};
-ghost use Rattle.ig_tool.specs.CoreOf.{core_of, nonterminal_of, root_alts_of, core_alts_of, step_of, number_of};
+ghost use Rattle.ig_grammar.specs.View.{symbol_of};
+ghost use Rattle.ig_tool.specs.Accepted.{dots};
+ghost use Rattle.ig_tool.specs.CoreOf.{core_of, nonterminal_of, root_alts_of, core_alts_of, alternatives, step_of, number_of};
 ghost use Rattle.ig_tool.specs.NameTables.{Numbers};
-ghost use Rattle.ig_tool.specs.PlainText.{IsSmall};
 
 use crate::core_grammar::{Core, CoreAlt, CoreAlts, Nonterminal, Step, Steps};
 use crate::names::{number_names, number_of};
-use ig_grammar::{Alt, Decl, Grammar, Symbol};
-use ig_text::{Sequence, Tag, Word};
+use ig_grammar::{Alt, Decl, Grammar, Level, Symbol};
+use ig_text::{Copied, Sequence, Tag, Word};
 use std::alloc::{AllocError, Global};
 use std::collections::BTreeMap;
 
@@ -20,7 +21,8 @@ const ROOT: &str = "$root";
 /// each declaration, numbered from 1 in order.
 pub fn build_core(alloc: Global, grammar: &Grammar) -> Result<Core, AllocError>
     requires distinct { AreDistinct (names grammar.now.decls) }
-    requires small { IsSmall grammar.now }
+    requires few { length grammar.now.decls ≤ 262144 }
+    requires few_dots { dots grammar.now ≤ 65536 }
     ensures { IfOk result (λ core. core ≡ core_of grammar.now) }
 {
     let decls = grammar.decls.as_slice();
@@ -47,7 +49,7 @@ fn build_root(
     numbers: &BTreeMap<&str, u32>,
     start: &Option<Word>,
 ) -> Result<Nonterminal, AllocError>
-    requires few { length decls.now ≤ 4096 }
+    requires few { length decls.now ≤ 262144 }
     requires numbered { Numbers numbers.now decls.now }
     ensures { IfOk result (λ r. r ≡ record { name = codes "$root"; alternatives = root_alts_of decls.now start.now }) }
 {
@@ -63,7 +65,7 @@ fn build_root_alts(
     numbers: &BTreeMap<&str, u32>,
     start: &Option<Word>,
 ) -> Result<CoreAlts, AllocError>
-    requires few { length decls.now ≤ 4096 }
+    requires few { length decls.now ≤ 262144 }
     requires numbered { Numbers numbers.now decls.now }
     ensures { IfOk result (λ a. a ≡ root_alts_of decls.now start.now) }
 {
@@ -89,39 +91,66 @@ fn build_nonterminal(
     number: u32,
     decl: &Decl,
 ) -> Result<Nonterminal, AllocError>
-    requires few { length decls.now ≤ 4096 }
+    requires few { length decls.now ≤ 262144 }
     requires numbered { Numbers numbers.now decls.now }
-    requires few_alts { length decl.now.alts ≤ 65536 }
+    requires few_alts { length (alternatives decl.now.levels) ≤ 65536 }
     ensures { IfOk result (λ n. n ≡ nonterminal_of decls.now number decl.now) }
 {
-    let alternatives = build_alts(alloc, decls, numbers, number, decl.alts.as_slice())?;
-    let name = copy_word(alloc, &decl.name)?;
+    let alternatives = build_levels(alloc, decls, numbers, number, decl.levels.as_slice())?;
+    let name = decl.name.copy(alloc)?;
     Ok(Nonterminal { name, alternatives })
 }
 
-/// The alternatives of the declaration that has this number.
-fn build_alts(
+/// The alternatives of all levels of the declaration that has this number.
+fn build_levels(
+    alloc: Global,
+    decls: &[Decl],
+    numbers: &BTreeMap<&str, u32>,
+    number: u32,
+    levels: &[Level],
+) -> Result<CoreAlts, AllocError>
+    requires few { length decls.now ≤ 262144 }
+    requires numbered { Numbers numbers.now decls.now }
+    requires few_alts { length (alternatives levels.now) ≤ 65536 }
+    ensures { IfOk result (λ a. a ≡ core_alts_of decls.now number 1 (alternatives levels.now)) }
+{
+    let mut built = Vec::new(alloc);
+    for level in levels {
+        add_alts(
+            alloc,
+            decls,
+            numbers,
+            number,
+            level.alts.as_slice(),
+            &mut built,
+        )?;
+    }
+    Ok(Sequence::from_vec(built))
+}
+
+/// Adds the alternatives behind those that are built. Each has the number of its place.
+fn add_alts(
     alloc: Global,
     decls: &[Decl],
     numbers: &BTreeMap<&str, u32>,
     number: u32,
     alts: &[Alt],
-) -> Result<CoreAlts, AllocError>
-    requires few { length decls.now ≤ 4096 }
+    built: &mut Vec<CoreAlt>,
+) -> Result<(), AllocError>
+    requires few { length decls.now ≤ 262144 }
     requires numbered { Numbers numbers.now decls.now }
-    requires few_alts { length alts.now ≤ 65536 }
-    ensures { IfOk result (λ a. a ≡ core_alts_of decls.now number 1 alts.now) }
+    requires few_alts { length built.old.items + length alts.now ≤ 65536 }
+    ensures { OnOk result (built.new.items ≡ built.old.items ++ core_alts_of decls.now number (suc (length built.old.items)) alts.now) }
 {
-    let mut built = Vec::new(alloc);
-    for (index, alt) in alts.iter().enumerate() {
+    for alt in alts {
         let steps = build_steps(alloc, decls, numbers, alt.symbols.as_slice())?;
         let tag = Tag::Rule {
             nonterminal: number,
-            alternative: index as u32 + 1,
+            alternative: built.len() as u32 + 1,
         };
         built.push(CoreAlt { tag, steps })?;
     }
-    Ok(Sequence::from_vec(built))
+    Ok(())
 }
 
 /// A step for each symbol.
@@ -131,9 +160,9 @@ fn build_steps(
     numbers: &BTreeMap<&str, u32>,
     symbols: &[Symbol],
 ) -> Result<Steps, AllocError>
-    requires few { length decls.now ≤ 4096 }
+    requires few { length decls.now ≤ 262144 }
     requires numbered { Numbers numbers.now decls.now }
-    ensures { IfOk result (λ s. s ≡ map (step_of decls.now) symbols.now) }
+    ensures { IfOk result (λ s. s ≡ map (λ x. step_of decls.now (symbol_of x)) symbols.now) }
 {
     let mut steps = Vec::new(alloc);
     for symbol in symbols {
@@ -142,25 +171,27 @@ fn build_steps(
     Ok(Sequence::from_vec(steps))
 }
 
+/// The step of the symbol. One that isn't built gets a call of the root.
 fn build_step(
     alloc: Global,
     decls: &[Decl],
     numbers: &BTreeMap<&str, u32>,
     symbol: &Symbol,
 ) -> Result<Step, AllocError>
-    requires few { length decls.now ≤ 4096 }
+    requires few { length decls.now ≤ 262144 }
     requires numbered { Numbers numbers.now decls.now }
-    ensures { IfOk result (λ s. s ≡ step_of decls.now symbol.now) }
+    ensures { IfOk result (λ s. s ≡ step_of decls.now (symbol_of symbol.now)) }
 {
     match symbol {
-        Symbol::Literal(word) => Ok(Step::Term(copy_word(alloc, word)?)),
-        Symbol::Call(name) => Ok(Step::Call(nonterminal_number(decls, numbers, name))),
+        Symbol::Literal(word) => Ok(Step::Term(word.copy(alloc)?)),
+        Symbol::Call(name, _) => Ok(Step::Call(nonterminal_number(decls, numbers, name))),
+        _ => Ok(Step::Call(0)),
     }
 }
 
 /// The number of the nonterminal of that name, one past the last where it isn't declared.
 fn nonterminal_number(decls: &[Decl], numbers: &BTreeMap<&str, u32>, name: &Word) -> u32
-    requires few { length decls.now ≤ 4096 }
+    requires few { length decls.now ≤ 262144 }
     requires numbered { Numbers numbers.now decls.now }
     ensures { result ≡ number_of decls.now name.now }
 {
@@ -168,10 +199,4 @@ fn nonterminal_number(decls: &[Decl], numbers: &BTreeMap<&str, u32>, name: &Word
         Some(number) => number + 1,
         None => decls.len() as u32 + 1,
     }
-}
-
-fn copy_word(alloc: Global, word: &Word) -> Result<Word, AllocError>
-    ensures { IfOk result (λ w. w ≡ word.now) }
-{
-    Word::new(alloc, word.as_str())
 }

@@ -1,4 +1,4 @@
-//! The top call of Iguana: from the words of a command to the text of a forest.
+//! The top call of Iguana: from the words of a command to the text of a grammar or of a forest.
 //!
 //! [`iguana`] does all that the program does, over a shelf, from which it fetches a grammar and an
 //! input, and two sinks, for its output and its notes. Its contract says of every answer when it
@@ -6,8 +6,9 @@
 //! trees that the grammar permits. `specs/Headline.antt` has that theorem, `specs/Outcome.antt` all
 //! answers.
 //!
-//! Inside, a grammar text is read (`reader`, over `lexer`, `rules` and `names`), its core grammar
-//! is built (`core_builder`), all reachable items are found (`saturate`), their forest is built
+//! Inside, a grammar text is read and its scopes are checked, or a note says why it is refused
+//! (`grammar_text`). For a forest its forms and dots are tested (`limits`), its core grammar is built
+//! (`core_builder`, over `names`), all reachable items are found (`saturate`), their forest is built
 //! (`forest_builder`, over `nodes` and `entries`) and printed (`forest_text`).
 #![tactic(auto)]
 
@@ -18,23 +19,19 @@ mod entries;
 pub mod forest;
 mod forest_builder;
 mod forest_text;
+mod grammar_text;
 pub mod items;
 pub mod laws;
-mod lexer;
+mod limits;
 mod load;
 mod names;
 mod nodes;
 mod parse;
-mod reader;
-#[cfg(test)]
-mod reader_tests;
-mod rules;
 mod saturate;
 pub mod status;
 mod stop;
 #[cfg(test)]
 mod tests;
-pub mod token;
 mod top_call;
 
 pub use status::Status;

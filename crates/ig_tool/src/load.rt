@@ -1,36 +1,34 @@
 //! Fetching and reading the files of a command.
 ghost use Rattle.std.specs.Prelude.{◌≡◌, ℕ, List};
 ghost use Rattle.ig_outside.specs.Counts.{risen};
-ghost use Rattle.ig_tool.specs.Stops.{IsBadAt, IsCannotRead, IsNotBuilt, IsTooLong, LoadsGrammar, LoadsInput, ReadsGrammar, ReadsInput};
+ghost use Rattle.ig_tool.specs.Stops.{IsBadAt, IsCannotRead, IsTooLong, LoadsGrammar, LoadsInput, ReadsInput};
 
-use crate::reader::{ReadFault, read};
+use crate::grammar_text::{read_grammar, too_large};
 use crate::status::Status;
 use crate::stop::{Stop, stop_with};
-use ig_grammar::Grammar;
+use ig_grammar::Checked;
+use ig_notation::{Large, MOST_BYTES};
 use ig_outside::{FetchFault, Shelf};
 use ig_text::{Text, TextFault};
 use itoa::Buffer;
 use std::alloc::Global;
 
-/// The most bytes that a grammar text may have.
-const MOST_GRAMMAR_BYTES: u64 = 262_144;
-
 /// The most bytes that an input may have.
 const MOST_INPUT_BYTES: u64 = 4_194_304;
 
-/// The grammar in the file of that name.
+/// The accepted grammar in the file of that name.
 pub(crate) fn load_grammar<F: Shelf>(
     alloc: Global,
     shelf: &mut F,
     name: &str,
-) -> Result<Grammar, Stop>
+) -> Result<Checked, Stop>
     ensures answer { LoadsGrammar (F.holds shelf.old name.now) name.now (F.faults shelf.old) (F.faults shelf.new) result }
     ensures counted { F.fetches shelf.new ≡ risen (F.fetches shelf.old) }
     ensures same { (n : List ℕ) → F.holds shelf.new n ≡ F.holds shelf.old n }
 {
-    match shelf.fetch(alloc, name, MOST_GRAMMAR_BYTES) {
+    match shelf.fetch(alloc, name, MOST_BYTES as u64) {
         Ok(bytes) => read_grammar(alloc, bytes.as_slice()),
-        Err(FetchFault::Long) => Err(not_built(alloc)),
+        Err(FetchFault::Long) => Err(too_large(alloc, Large::Bytes)),
         Err(FetchFault::Failed) => Err(cannot_read(alloc, name)),
         Err(FetchFault::Missing) => Err(cannot_read(alloc, name)),
         Err(FetchFault::Memory) => Err(Stop::Memory),
@@ -52,17 +50,6 @@ pub(crate) fn load_input<F: Shelf>(alloc: Global, shelf: &mut F, name: &str) -> 
     }
 }
 
-/// The grammar that the bytes read as.
-fn read_grammar(alloc: Global, bytes: &[u8]) -> Result<Grammar, Stop>
-    ensures { ReadsGrammar bytes.now result }
-{
-    match read(alloc, bytes) {
-        Ok(grammar) => Ok(grammar),
-        Err(ReadFault::NotPlain) => Err(not_built(alloc)),
-        Err(ReadFault::Memory) => Err(Stop::Memory),
-    }
-}
-
 /// The text of the bytes.
 fn read_input(alloc: Global, bytes: &[u8]) -> Result<Text, Stop>
     ensures { ReadsInput bytes.now result }
@@ -73,13 +60,6 @@ fn read_input(alloc: Global, bytes: &[u8]) -> Result<Text, Stop>
         Err(TextFault::TooLong) => Err(too_long(alloc)),
         Err(TextFault::Memory) => Err(Stop::Memory),
     }
-}
-
-/// The grammar's bytes read as no grammar.
-fn not_built(alloc: Global) -> Stop
-    ensures { IsNotBuilt result }
-{
-    stop_with(alloc, Status::Grammar, b"grammar: not built", b"")
 }
 
 /// The file of that name can't be read.

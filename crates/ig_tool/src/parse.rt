@@ -1,9 +1,9 @@
 //! Running a grammar on an input.
-ghost use Rattle.std.specs.Prelude.{◌≡◌, ◌↔◌, ◌<◌, ◌^◌, ℕ, Contains, length};
-ghost use Rattle.ig_tool.specs.CoreOf.{core_of};
+ghost use Rattle.std.specs.Prelude.{◌≡◌, ◌↔◌, ◌<◌, ◌≤◌, ◌^◌, ℕ, Contains, length};
+ghost use Rattle.ig_grammar.specs.WellScoped.{IsWellScoped};
 ghost use Rattle.ig_tool.specs.Items.{MoreThan, NoneTwice, Reachable};
 ghost use Rattle.ig_tool.specs.Stops.{IsOverBudget, IsUnparsed, Parses, Shows};
-ghost use Rattle.ig_tool.specs.PlainText.{IsAccepted};
+ghost use Rattle.ig_tool.specs.Accepted.{IsRunnable};
 
 use crate::core_builder::build_core;
 use crate::core_grammar::Core;
@@ -22,7 +22,9 @@ const BUDGET: u32 = 1_000_000;
 
 /// The text of the forest of a grammar and an input.
 pub(crate) fn parse(alloc: Global, grammar: &Grammar, input: &Text) -> Result<Vec<u8>, Stop>
-    requires { IsAccepted grammar.now }
+    requires scoped { IsWellScoped grammar.now }
+    requires few { length grammar.now.decls ≤ 262144 }
+    requires runnable { IsRunnable grammar.now }
     ensures { Parses grammar.now input.now result }
 {
     let Ok(core) = build_core(alloc, grammar) else {

@@ -1,19 +1,27 @@
 //! The top call.
-ghost use Rattle.std.specs.Prelude.{◌≡◌, ℕ, List, map, string_bytes};
+ghost use Rattle.std.specs.Prelude.{◌≡◌, ◌≤◌, ℕ, List, length, map, string_bytes};
 ghost use Rattle.ig_tool.specs.Outcome.{Answers};
-ghost use Rattle.ig_tool.specs.Headline.{Headline};
-ghost use Rattle.ig_tool.specs.Stops.{Decides, GivesUp, WritesNote, WritesText};
+ghost use Rattle.ig_tool.specs.Headline.{GrammarCommands, Headline};
+ghost use Rattle.ig_tool.specs.Stops.{Decides, GivesUp, RunsForest, SaysOk, ShowsGrammar, WritesNote, WritesText};
+ghost use Rattle.ig_grammar.specs.WellScoped.{IsWellScoped};
 
-use crate::command::forest_names;
+use crate::command::{Command, command_of, grammar_of};
+use crate::grammar_text::refuse;
+use crate::limits::is_runnable;
 use crate::load::{load_grammar, load_input};
 use crate::parse::parse;
 use crate::status::Status;
 use crate::stop::{Stop, stop_with};
+use ig_grammar::Grammar;
 use ig_outside::{Shelf, Sink};
+use ig_show::show_grammar;
 use std::alloc::Global;
 
-/// Does all that the program does: parses the words, fetches the files that they name from the
-/// shelf, puts the output on out, or one line on notes, and answers how that ended.
+/// Does all that the program does: reads the words of a command, fetches the files that they name
+/// from the shelf, puts the output on out, or one line on notes, and answers how that ended.
+///
+/// `check G` puts `ok`, `show G` the canonical text of the grammar, and `forest G I` the text of the
+/// forest of the grammar and the input.
 ///
 /// The words come without the program's name. All memory is taken before the first put.
 pub fn iguana<F: Shelf, O: Sink, N: Sink>(
@@ -25,6 +33,7 @@ pub fn iguana<F: Shelf, O: Sink, N: Sink>(
 ) -> Status
     ensures answer { Answers (map string_bytes words.now) (F.holds shelf.old) (F.faults shelf.old) (F.faults shelf.new) (F.fetches shelf.old) (F.fetches shelf.new) (record { told_before = O.got out.old; told_after = O.got out.new; faults_before = O.faults out.old; faults_after = O.faults out.new }) (record { told_before = N.got notes.old; told_after = N.got notes.new; faults_before = N.faults notes.old; faults_after = N.faults notes.new }) result }
     ensures headline { Headline (map string_bytes words.now) (F.holds shelf.old) (F.faults shelf.old) (F.faults shelf.new) (record { told_before = O.got out.old; told_after = O.got out.new; faults_before = O.faults out.old; faults_after = O.faults out.new }) (record { told_before = N.got notes.old; told_after = N.got notes.new; faults_before = N.faults notes.old; faults_after = N.faults notes.new }) result }
+    ensures grammar_commands { GrammarCommands (map string_bytes words.now) (F.holds shelf.old) (F.faults shelf.old) (F.faults shelf.new) (record { told_before = O.got out.old; told_after = O.got out.new; faults_before = O.faults out.old; faults_after = O.faults out.new }) (record { told_before = N.got notes.old; told_after = N.got notes.new; faults_before = N.faults notes.old; faults_after = N.faults notes.new }) result }
     ensures same { (n : List ℕ) → F.holds shelf.new n ≡ F.holds shelf.old n }
 {
     match decide(alloc, words, shelf) {
@@ -39,18 +48,61 @@ fn decide<F: Shelf>(alloc: Global, words: &[String], shelf: &mut F) -> Result<Ve
     ensures answer { Decides (map string_bytes words.now) (F.holds shelf.old) (F.faults shelf.old) (F.faults shelf.new) (F.fetches shelf.old) (F.fetches shelf.new) result }
     ensures same { (n : List ℕ) → F.holds shelf.new n ≡ F.holds shelf.old n }
 {
-    let Some((grammar_name, input_name)) = forest_names(words) else {
+    let Some(command) = command_of(words) else {
         return Err(stop_with(alloc, Status::Usage, b"usage", b""));
     };
-    let grammar = match load_grammar(alloc, shelf, grammar_name) {
-        Ok(grammar) => grammar,
+    let checked = match load_grammar(alloc, shelf, grammar_of(command)) {
+        Ok(checked) => checked,
         Err(stop) => return Err(stop),
     };
+    match command {
+        Command::Check { .. } => say_ok(alloc),
+        Command::Show { .. } => show(alloc, checked.grammar()),
+        Command::Forest { input, .. } => run(alloc, shelf, checked.grammar(), input),
+    }
+}
+
+/// The text that says that a grammar is accepted.
+fn say_ok(alloc: Global) -> Result<Vec<u8>, Stop>
+    ensures { SaysOk result }
+{
+    match Vec::from_slice(alloc, b"ok\n") {
+        Ok(text) => Ok(text),
+        Err(_) => Err(Stop::Memory),
+    }
+}
+
+/// The canonical text of the grammar.
+fn show(alloc: Global, grammar: &Grammar) -> Result<Vec<u8>, Stop>
+    ensures { ShowsGrammar grammar.now result }
+{
+    match show_grammar(alloc, grammar) {
+        Ok(text) => Ok(text),
+        Err(_) => Err(Stop::Memory),
+    }
+}
+
+/// The text of the forest of the grammar and the input in the file of that name. The input is
+/// fetched only where the grammar can be run.
+fn run<F: Shelf>(
+    alloc: Global,
+    shelf: &mut F,
+    grammar: &Grammar,
+    input_name: &str,
+) -> Result<Vec<u8>, Stop>
+    requires scoped { IsWellScoped grammar.now }
+    requires few { length grammar.now.decls ≤ 262144 }
+    ensures answer { RunsForest grammar.now (F.holds shelf.old input_name.now) input_name.now (F.faults shelf.old) (F.faults shelf.new) (F.fetches shelf.old) (F.fetches shelf.new) result }
+    ensures same { (n : List ℕ) → F.holds shelf.new n ≡ F.holds shelf.old n }
+{
+    if !is_runnable(grammar) {
+        return Err(refuse(alloc, b"not built"));
+    }
     let input = match load_input(alloc, shelf, input_name) {
         Ok(input) => input,
         Err(stop) => return Err(stop),
     };
-    parse(alloc, &grammar, &input)
+    parse(alloc, grammar, &input)
 }
 
 /// Puts the text on out. Where out fails, notes get a line of their own.

@@ -1,7 +1,8 @@
-//! The program Iguana: it prints the forest of a grammar and an input.
+//! The program Iguana: it checks a grammar, shows it, or prints the forest of a grammar and an input.
 //!
 //! `iguana forest GRAMMAR INPUT` reads the two files that it names. The forest goes to standard
 //! output, a note on why there is none to standard error, and the exit status says which it was.
+//! `iguana check GRAMMAR` prints `ok`, and `iguana show GRAMMAR` the canonical text.
 //! What the program does with its words is the top call of `ig_tool`; here are the adapters that it
 //! runs over: a shelf over files and a sink over a stream, each proved against its trait.
 #![tactic(auto)]
@@ -9,6 +10,8 @@
 mod file_shelf;
 #[cfg(test)]
 mod rows;
+#[cfg(test)]
+mod scopes;
 mod stream_sink;
 mod words;
 

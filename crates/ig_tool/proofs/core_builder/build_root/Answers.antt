@@ -1,6 +1,6 @@
 use Rattle.std.proofs.Common.{◌≡◌, ◌∙◌, refl}
 use Rattle.std.specs.Prelude.{codes}
-use Rattle.ig_tool.proofs.Keywords.{ascii_chars}
+use Rattle.ig_tool.proofs.NameTexts.{ascii_chars}
 use Rattle.ig_tool.proofs.core_builder.build_root.Goals as goal
 
 pub returns : goal.returns

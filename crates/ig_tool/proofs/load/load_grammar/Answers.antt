@@ -10,7 +10,7 @@ pub returns-in-Err-Long-clause-answer : goal.returns-in-Err-Long-clause-answer
 returns-in-Err-Long-clause-answer g c =
     let answer = rw c.in-Err-Long.field-0-is at c.in-Err-Long.ensures.answer in
     let cause = rw c.in-Err-Long.field-0-is at c.in-Err-Long.ensures.cause in
-    grammar_long _ c.args.name.now _ _ c.not_built.result answer cause c.not_built.ensures
+    grammar_long _ c.args.name.now _ _ c.too_large.result answer cause c.too_large.ensures
 
 pub returns-in-Err-Failed-clause-answer : goal.returns-in-Err-Failed-clause-answer
 returns-in-Err-Failed-clause-answer g c =

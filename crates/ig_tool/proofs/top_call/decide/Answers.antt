@@ -1,4 +1,6 @@
-use Rattle.ig_tool.proofs.Deciding.{decides_usage, decides_at_grammar, decides_at_input, decides_parse}
+use Rattle.std.proofs.Common.{◌≤◌, length, subst, sym}
+use Rattle.ig_grammar.specs.declared.grammar.Grammar.{Grammar}
+use Rattle.ig_tool.proofs.Deciding.{decides_usage, decides_at_grammar, decides_check, decides_show, decides_forest, few_declarations}
 use Rattle.ig_tool.proofs.top_call.decide.Goals as goal
 
 pub returns-in_default-clause-answer : goal.returns-in_default-clause-answer
@@ -6,17 +8,29 @@ returns-in_default-clause-answer g c = decides_usage _ _ _ _ c.stop_with.result 
 
 pub returns-in-Err-clause-answer : goal.returns-in-Err-clause-answer
 returns-in-Err-clause-answer g c =
-    decides_at_grammar _ _ _ _ _ _ c.in-Some.grammar_name.now c.in-Some.input_name.now c.in-Err.stop c.in-Some.ensures
+    decides_at_grammar _ _ _ _ _ _ _ c.grammar_of.result.now c.in-Err.stop c.in-Some.ensures c.grammar_of.ensures
     c.in-Err.ensures.counted c.in-Err.ensures.answer
 
-pub returns-in-Err-load_input-clause-answer : goal.returns-in-Err-load_input-clause-answer
-returns-in-Err-load_input-clause-answer g c =
-    decides_at_input _ _ _ _ _ _ _ _ _ c.in-Some.grammar_name.now c.in-Some.input_name.now c.in-Ok.grammar
-    c.in-Err-load_input.stop c.in-Some.ensures c.in-Ok.ensures.counted c.in-Err-load_input.ensures.counted c.in-Ok.ensures.same
-    c.in-Ok.ensures.answer c.in-Err-load_input.ensures.answer
+pub returns-in-Check-clause-answer : goal.returns-in-Check-clause-answer
+returns-in-Check-clause-answer g c =
+    decides_check _ _ _ _ _ _ c.in-Check.grammar.now c.grammar_of.result.now c.in-Ok.checked c.say_ok.result
+    (rw c.in-Check.is at c.in-Some.ensures) (rw c.in-Check.is at c.grammar_of.ensures) c.in-Ok.ensures.counted
+    c.in-Ok.ensures.answer c.say_ok.ensures
+
+pub returns-in-Show-clause-answer : goal.returns-in-Show-clause-answer
+returns-in-Show-clause-answer g c =
+    decides_show _ _ _ _ _ _ c.in-Show.grammar.now c.grammar_of.result.now c.in-Ok.checked c.grammar.result.now c.show.result
+    (rw c.in-Show.is at c.in-Some.ensures) (rw c.in-Show.is at c.grammar_of.ensures) c.in-Ok.ensures.counted
+    c.in-Ok.ensures.answer c.grammar.ensures.same c.show.ensures
+
+pub run-requires-clause-few : goal.run-requires-clause-few
+run-requires-clause-few g c =
+    subst (λ (z : Grammar). length z.decls ≤ 262144) (sym c.grammar-in-Forest.ensures.same)
+    (few_declarations _ c.grammar_of.result.now _ _ c.in-Ok.checked c.in-Ok.ensures.answer)
 
 pub returns-clause-answer : goal.returns-clause-answer
 returns-clause-answer g c =
-    decides_parse _ _ _ _ _ _ _ _ _ c.in-Some.grammar_name.now c.in-Some.input_name.now c.in-Ok.grammar
-    c.in-Ok-load_input.input c.parse.result c.in-Some.ensures c.in-Ok.ensures.counted c.in-Ok-load_input.ensures.counted c.in-Ok.ensures.same
-    c.in-Ok.ensures.answer c.in-Ok-load_input.ensures.answer c.parse.ensures
+    decides_forest _ _ _ _ _ _ _ _ _ c.in-Forest.grammar.now c.in-Forest.input.now c.grammar_of.result.now c.in-Ok.checked
+    c.grammar-in-Forest.result.now c.run.result (rw c.in-Forest.is at c.in-Some.ensures)
+    (rw c.in-Forest.is at c.grammar_of.ensures) c.in-Ok.ensures.counted c.in-Ok.ensures.same c.in-Ok.ensures.answer
+    c.grammar-in-Forest.ensures.same c.run.ensures.answer

@@ -1,6 +1,6 @@
 use Rattle.std.proofs.Common.{refl}
 use Rattle.ig_tool.proofs.Deciding.{answers_text, answers_note, answers_memory}
-use Rattle.ig_tool.proofs.HeadlineLaw.{headline}
+use Rattle.ig_tool.proofs.HeadlineLaw.{headline, grammar_commands}
 use Rattle.ig_tool.proofs.top_call.iguana.Goals as goal
 
 pub returns-in-Ok-clause-answer : goal.returns-in-Ok-clause-answer
@@ -27,3 +27,12 @@ returns-in-Err-Memory-clause-answer g c =
 
 pub returns-in-Err-Memory-clause-headline : goal.returns-in-Err-Memory-clause-headline
 returns-in-Err-Memory-clause-headline g c = headline _ _ _ _ _ _ _ _ _ (returns-in-Err-Memory-clause-answer g c)
+
+pub returns-in-Ok-clause-grammar_commands : goal.returns-in-Ok-clause-grammar_commands
+returns-in-Ok-clause-grammar_commands g c = grammar_commands _ _ _ _ _ _ _ _ _ (returns-in-Ok-clause-answer g c)
+
+pub returns-in-Err-Note-clause-grammar_commands : goal.returns-in-Err-Note-clause-grammar_commands
+returns-in-Err-Note-clause-grammar_commands g c = grammar_commands _ _ _ _ _ _ _ _ _ (returns-in-Err-Note-clause-answer g c)
+
+pub returns-in-Err-Memory-clause-grammar_commands : goal.returns-in-Err-Memory-clause-grammar_commands
+returns-in-Err-Memory-clause-grammar_commands g c = grammar_commands _ _ _ _ _ _ _ _ _ (returns-in-Err-Memory-clause-answer g c)

@@ -1,0 +1,60 @@
+-- Why a grammar text isn't accepted.
+use Rattle.std.specs.Prelude.{ℕ, ◌<◌, ◌≤◌, List, ◌++◌, length, IsUtf8, codes}
+use Rattle.std.specs.Fmt.{decimal}
+use Rattle.std.specs.Str.{IsValidUpTo}
+use Rattle.ig_grammar.specs.Condition as condition
+use Rattle.ig_grammar.specs.Condition.{Condition}
+use Rattle.ig_grammar.specs.WellScoped.{IsFirst}
+use Rattle.ig_grammar.specs.declared.grammar.Grammar.{Grammar}
+use Rattle.ig_grammar.specs.declared.place.Place.{Place}
+use Rattle.ig_notation.specs.Outcome.{IsRead, IsReadFault}
+use Rattle.ig_notation.specs.declared.fault.Large.{Large}
+use Rattle.ig_notation.specs.declared.fault.Large.TheVariants as large
+use Rattle.ig_notation.specs.declared.fault.ReadFault.TheVariants as read
+
+-- the text of a condition that holds somewhere
+abbrev pub condition_text : Condition → List ℕ
+condition_text condition.DuplicateName = codes "duplicate name"
+condition_text condition.UnknownName = codes "unknown name"
+condition_text condition.WrongArity = codes "wrong arity"
+condition_text condition.UnknownVariable = codes "unknown variable"
+condition_text condition.DuplicateVariable = codes "duplicate variable"
+condition_text condition.KindMismatch = codes "kind mismatch"
+condition_text condition.NoStart = codes "no start"
+condition_text condition.StartHasParameters = codes "start has parameters"
+condition_text condition.LayoutNotPlain = codes "layout not plain"
+condition_text condition.AlignNotList = codes "align not list"
+condition_text condition.MarkInLexical = codes "mark in lexical"
+condition_text condition.SyntaxInLexical = codes "syntax in lexical"
+condition_text condition.TooManyNonterminals = codes "too many nonterminals"
+condition_text condition.TooManyParameters = codes "too many parameters"
+condition_text condition.TooManyVariables = codes "too many variables"
+
+-- the text of a place
+abbrev pub place_text : Place → List ℕ
+place_text place =
+    codes " at declaration " ++ (decimal place.decl ++
+    (codes ", alternative " ++ (decimal place.alt ++
+    (codes ", symbol " ++ decimal place.symbol))))
+
+-- the text of a limit that is passed
+abbrev pub large_text : Large → List ℕ
+large_text large.Bytes = codes "too large: bytes"
+large_text large.Number = codes "too large: number"
+large_text large.Nesting = codes "too large: nesting"
+
+-- the first of these tests that the bytes fail, with the text that says so
+pub data IsRefused (bytes : List ℕ) : List ℕ → Type 0 where
+  -- there are more than 262,144
+  too_many : 262144 < length bytes → IsRefused bytes (large_text large.Bytes)
+  -- they aren't UTF-8, and `at` is the length of their longest valid prefix
+  not_utf8 : (at : ℕ) → length bytes ≤ 262144 → (IsUtf8 bytes → ⊥) → IsValidUpTo bytes at →
+      IsRefused bytes (codes "not UTF-8 at byte " ++ decimal at)
+  -- they are no sequence of tokens, or the tokens don't follow the rules
+  not_grammar : (at : ℕ) → IsUtf8 bytes → IsReadFault bytes (read.Syntax at) →
+      IsRefused bytes (codes "syntax at byte " ++ decimal at)
+  -- a number is too large, or too many brackets are open at one place
+  too_large : (which : Large) → IsUtf8 bytes → IsReadFault bytes (read.TooLarge which) → IsRefused bytes (large_text which)
+  -- the grammar that they read as isn't well scoped, by this condition at this place
+  not_scoped : (g : Grammar) (place : Place) (c : Condition) → IsUtf8 bytes → IsRead bytes g → IsFirst g place c →
+      IsRefused bytes (condition_text c ++ place_text place)

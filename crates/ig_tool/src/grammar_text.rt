@@ -1,0 +1,141 @@
+//! From bytes to an accepted grammar, or to the note that says why they are none.
+
+ghost use Rattle.std.specs.Prelude.{◌≡◌, ◌↔◌, ◌<◌, ◌++◌, length, IsTrue, OnOk};
+ghost use Rattle.std.specs.Fmt.{decimal};
+ghost use Rattle.ig_scope.specs.Causes.{condition_of};
+ghost use Rattle.ig_tool.specs.Refusals.{condition_text, large_text, place_text};
+ghost use Rattle.ig_tool.specs.Stops.{ReadsGrammar, RefusesWith};
+
+use crate::status::Status;
+use crate::stop::{Stop, stop_with};
+use ig_grammar::{Checked, Place};
+use ig_notation::{Large, MOST_BYTES, ReadFault, read};
+use ig_scope::{Many, ScopeCause, ScopeFault, check};
+use itoa::Buffer;
+use std::alloc::{AllocError, Global};
+use std::str;
+
+/// The well-scoped grammar that the bytes read as; or the note on the first of these tests that they
+/// fail: at most 262,144 bytes; UTF-8; tokens; numbers and nesting; the rules of the notation; scopes.
+pub(crate) fn read_grammar(alloc: Global, bytes: &[u8]) -> Result<Checked, Stop>
+    ensures { ReadsGrammar bytes.now result }
+{
+    if is_long(bytes) {
+        return Err(too_large(alloc, Large::Bytes));
+    }
+    let source = match str::from_utf8(bytes) {
+        Ok(source) => source,
+        Err(error) => {
+            return Err(refuse_at(alloc, b"not UTF-8 at byte ", error.valid_up_to() as u32));
+        }
+    };
+    let grammar = match read(alloc, source) {
+        Ok(grammar) => grammar,
+        Err(ReadFault::Syntax { at }) => return Err(refuse_at(alloc, b"syntax at byte ", at)),
+        Err(ReadFault::TooLarge { which }) => return Err(too_large(alloc, which)),
+        Err(ReadFault::Memory) => return Err(Stop::Memory),
+    };
+    match check(alloc, grammar) {
+        Ok(checked) => Ok(checked),
+        Err(ScopeFault::Broken { cause, place }) => Err(not_scoped(alloc, cause, place)),
+        Err(ScopeFault::Memory) => Err(Stop::Memory),
+    }
+}
+
+/// Whether the bytes are more than a grammar text may have.
+fn is_long(bytes: &[u8]) -> bool
+    ensures { IsTrue result ↔ (262144 < length bytes.now) }
+{
+    bytes.len() > MOST_BYTES
+}
+
+/// The grammar is refused with this text.
+pub(crate) fn refuse(alloc: Global, text: &[u8]) -> Stop
+    ensures { RefusesWith text.now result }
+{
+    stop_with(alloc, Status::Grammar, b"grammar: ", text)
+}
+
+/// The grammar's text passes a limit.
+pub(crate) fn too_large(alloc: Global, which: Large) -> Stop
+    ensures { RefusesWith (large_text which) result }
+{
+    match which {
+        Large::Bytes => refuse(alloc, b"too large: bytes"),
+        Large::Number => refuse(alloc, b"too large: number"),
+        Large::Nesting => refuse(alloc, b"too large: nesting"),
+    }
+}
+
+/// The grammar is refused with the text and the number.
+fn refuse_at(alloc: Global, text: &[u8], at: u32) -> Stop
+    ensures { RefusesWith (text.now ++ decimal at) result }
+{
+    let mut line = Vec::new(alloc);
+    match push_numbered(&mut line, text, at) {
+        Ok(()) => refuse(alloc, line.as_slice()),
+        Err(AllocError) => Stop::Memory,
+    }
+}
+
+/// The grammar isn't well scoped, by this cause at this place.
+fn not_scoped(alloc: Global, cause: ScopeCause, place: Place) -> Stop
+    ensures { RefusesWith (condition_text (condition_of cause) ++ place_text place) result }
+{
+    let mut line = Vec::new(alloc);
+    match push_broken(&mut line, cause, place) {
+        Ok(()) => refuse(alloc, line.as_slice()),
+        Err(AllocError) => Stop::Memory,
+    }
+}
+
+/// Adds the texts of the cause and the place.
+fn push_broken(line: &mut Vec<u8>, cause: ScopeCause, place: Place) -> Result<(), AllocError>
+    ensures { OnOk result (line.new.items ≡ line.old.items ++ (condition_text (condition_of cause) ++ place_text place)) }
+{
+    line.extend_from_slice(cause_text(cause).as_bytes())?;
+    push_numbered(line, b" at declaration ", place.decl)?;
+    push_numbered(line, b", alternative ", place.alt)?;
+    push_numbered(line, b", symbol ", place.symbol)
+}
+
+/// Adds the text and the number.
+fn push_numbered(line: &mut Vec<u8>, text: &[u8], number: u32) -> Result<(), AllocError>
+    ensures { OnOk result (line.new.items ≡ line.old.items ++ (text.now ++ decimal number)) }
+{
+    let mut digits = Buffer::new();
+    line.extend_from_slice(text)?;
+    line.extend_from_slice(digits.format(number).as_bytes())
+}
+
+/// The text of a cause.
+fn cause_text(cause: ScopeCause) -> &'static str
+    ensures { result.now ≡ condition_text (condition_of cause) }
+{
+    match cause {
+        ScopeCause::DuplicateName => "duplicate name",
+        ScopeCause::UnknownName => "unknown name",
+        ScopeCause::WrongArity => "wrong arity",
+        ScopeCause::UnknownVariable => "unknown variable",
+        ScopeCause::DuplicateVariable => "duplicate variable",
+        ScopeCause::KindMismatch => "kind mismatch",
+        ScopeCause::NoStart => "no start",
+        ScopeCause::StartHasParameters => "start has parameters",
+        ScopeCause::LayoutNotPlain => "layout not plain",
+        ScopeCause::AlignNotList => "align not list",
+        ScopeCause::MarkInLexical => "mark in lexical",
+        ScopeCause::SyntaxInLexical => "syntax in lexical",
+        ScopeCause::TooMany { which } => many_text(which),
+    }
+}
+
+/// The text of a limit of the notation.
+fn many_text(which: Many) -> &'static str
+    ensures { result.now ≡ condition_text (condition_of (ScopeCause.TooMany which)) }
+{
+    match which {
+        Many::Nonterminals => "too many nonterminals",
+        Many::Parameters => "too many parameters",
+        Many::Variables => "too many variables",
+    }
+}
