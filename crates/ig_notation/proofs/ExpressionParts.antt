@@ -5,10 +5,10 @@ use Rattle.ig_expr.specs.Expression.{Expression, Integer, Variable, Binary, Of, 
 use Rattle.ig_expr.specs.Expression as tree
 use Rattle.ig_expr.specs.declared.operator.Op.{Op}
 use Rattle.ig_expr.specs.declared.operator.Function.{Function}
-use Rattle.ig_grammar.specs.Token as token
-use Rattle.ig_grammar.specs.Token.{Token, Name, Head, Number, Literal, Comma, Close}
-use Rattle.ig_grammar.specs.Rules as rule
-use Rattle.ig_grammar.specs.Rules.{IsOperator, ReadsTerm, ReadsExpression, ReadsArguments}
+use Rattle.ig_syntax.specs.Token as token
+use Rattle.ig_syntax.specs.Token.{Token, Name, Head, Number, Literal, Comma, Close}
+use Rattle.ig_syntax.specs.Rules as rule
+use Rattle.ig_syntax.specs.Rules.{IsOperator, ReadsTerm, ReadsExpression, ReadsArguments}
 use Rattle.ig_rules.specs.Machine as want
 use Rattle.ig_rules.specs.Machine.{Want, after, before, after_term, after_operator_rest, arguments_wants}
 use Rattle.ig_rules.specs.Reading.{Goes}

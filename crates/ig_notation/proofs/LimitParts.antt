@@ -3,7 +3,7 @@ use Rattle.std.proofs.Common.{◌≡◌, ◌↔◌, Bool, true, false, take, ℕ
 use Rattle.std.specs.Prelude.{All, IsTrue}
 use Rattle.std.proofs.lemmas.List.{take_all}
 use Rattle.std.proofs.lemmas.List.Elements.{All-more}
-use Rattle.ig_grammar.specs.Token.{Token}
+use Rattle.ig_syntax.specs.Token.{Token}
 use Rattle.ig_notation.specs.Limits.{NumberFits, NumbersFit, opened, open_behind, IsShallowFrom, IsShallow}
 use Rattle.ig_notation.specs.Readers.{Stands}
 use Rattle.ig_notation.proofs.Steps.{there}

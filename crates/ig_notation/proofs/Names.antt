@@ -7,8 +7,8 @@ use Rattle.std.proofs.lemmas.Str.{encodes-chars, IsUtf8-from_ascii}
 use Rattle.std.proofs.lemmas.Bool.Decides.{nat_tests}
 use Rattle.ig_expr.specs.Names.{is_word}
 use Rattle.ig_expr.specs.declared.operator.Function.{Function}
-use Rattle.ig_grammar.specs.Rules as rule
-use Rattle.ig_grammar.specs.Rules.{IsFunction}
+use Rattle.ig_syntax.specs.Rules as rule
+use Rattle.ig_syntax.specs.Rules.{IsFunction}
 use Rattle.ig_rules.specs.Machine as want
 use Rattle.ig_rules.specs.Machine.{Want, after_function}
 use Rattle.ig_notation.specs.declared.expressions.Named.{Named}

@@ -2,9 +2,9 @@
 use Rattle.std.proofs.Common.{◌≡◌, ℕ, zero, suc, ◌≤◌, ◌<◌, List, [], ◌∷◌, length, get_or, refl, sym, ap, subst, arith}
 use Rattle.std.specs.Prelude.{Result, Ok, Err, IfErr, chars}
 use Rattle.std.specs.Result.{IsErrAnd}
-use Rattle.ig_grammar.specs.Rules.{FollowsRules}
-use Rattle.ig_grammar.specs.Lexing.{Lexes}
-use Rattle.ig_grammar.specs.Stops.{Stops}
+use Rattle.ig_syntax.specs.Rules.{FollowsRules}
+use Rattle.ig_syntax.specs.Lexing.{Lexes}
+use Rattle.ig_syntax.specs.Stops.{Stops}
 use Rattle.ig_grammar.specs.declared.grammar.Grammar.{Grammar}
 use Rattle.ig_tokens.specs.View.{token_of, tokens_of}
 use Rattle.ig_tokens.specs.Faults.{IsFault}

@@ -1,8 +1,8 @@
 -- A text has one list of tokens, so it reads as one grammar at most, and one that is read has no fault.
 use Rattle.std.proofs.Common.{◌≡◌, ℕ, ◌≤◌, List, refl, sym, subst, arith}
 use Rattle.std.specs.Prelude.{chars, length}
-use Rattle.ig_grammar.specs.Token.{Token}
-use Rattle.ig_grammar.specs.Rules.{FollowsRules}
+use Rattle.ig_syntax.specs.Token.{Token}
+use Rattle.ig_syntax.specs.Rules.{FollowsRules}
 use Rattle.ig_grammar.specs.declared.grammar.Grammar.{Grammar}
 use Rattle.ig_tokens.proofs.Lexed.{tokens_are_single, never_both}
 use Rattle.ig_rules.proofs.OneGrammar.{grammar_one}

@@ -1,6 +1,6 @@
 -- The limits that the tokens of a grammar text keep.
 use Rattle.std.specs.Prelude.{◌≡◌, ℕ, ◌+◌, ◌-◌, ◌^◌, ◌<◌, ◌≤◌, List, [], ◌∷◌, ◌++◌, All}
-use Rattle.ig_grammar.specs.Token.{Token, Head, Number, Open, Close, OpenBrace, CloseBrace}
+use Rattle.ig_syntax.specs.Token.{Token, Head, Number, Open, Close, OpenBrace, CloseBrace}
 
 -- a number is at most 9,223,372,036,854,775,807
 abbrev pub NumberFits : Token → Type 0

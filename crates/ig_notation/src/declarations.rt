@@ -3,8 +3,8 @@
 
 ghost use Rattle.std.specs.Prelude.{◌≡◌, ◌≤◌, ◌<◌, [], ◌∷◌, ◌++◌, List, length, true, false, None, drop, IfOk, IfErr, MatchOption};
 ghost use Rattle.ig_tokens.specs.View.{token_of};
-ghost use Rattle.ig_grammar.specs.Token as spec;
-ghost use Rattle.ig_grammar.specs.Rules.{IsKind, IsDeclKind, ReadsAssociativity, ReadsLevel, ReadsLevels, ReadsParameters, ReadsDeclaration, ReadsDeclarations, FollowsRules};
+ghost use Rattle.ig_syntax.specs.Token as spec;
+ghost use Rattle.ig_syntax.specs.Rules.{IsKind, IsDeclKind, ReadsAssociativity, ReadsLevel, ReadsLevels, ReadsParameters, ReadsDeclaration, ReadsDeclarations, FollowsRules};
 ghost use Rattle.ig_grammar.specs.declared.declaration.Assoc.{Assoc as SpecAssoc};
 ghost use Rattle.ig_grammar.specs.declared.declaration.Param.{Param as SpecParam};
 ghost use Rattle.ig_grammar.specs.declared.declaration.Level.{Level as SpecLevel};

@@ -5,8 +5,8 @@ ghost use Rattle.std.specs.Prelude.{◌≡◌, ◌≤◌, [], ◌∷◌, ◌++�
 ghost use Rattle.ig_tokens.specs.View.{token_of};
 ghost use Rattle.ig_expr.specs.View.{expression_of};
 ghost use Rattle.ig_expr.specs.Expression.{Expression};
-ghost use Rattle.ig_grammar.specs.Token as spec;
-ghost use Rattle.ig_grammar.specs.Rules.{IsOperator, ReadsExpression, ReadsTerm, ReadsArguments};
+ghost use Rattle.ig_syntax.specs.Token as spec;
+ghost use Rattle.ig_syntax.specs.Rules.{IsOperator, ReadsExpression, ReadsTerm, ReadsArguments};
 ghost use Rattle.ig_rules.specs.Machine as want;
 ghost use Rattle.ig_rules.specs.Machine.{after_function, arguments_wants};
 ghost use Rattle.ig_rules.specs.Reading.{Goes};

@@ -3,7 +3,7 @@
 
 ghost use Rattle.std.specs.Prelude.{◌≡◌, ◌≤◌, [], ◌∷◌, List, length, None, IfOk, IfErr, MatchOption};
 ghost use Rattle.ig_tokens.specs.View.{token_of};
-ghost use Rattle.ig_grammar.specs.Rules.{IsPattern, ReadsFilters};
+ghost use Rattle.ig_syntax.specs.Rules.{IsPattern, ReadsFilters};
 ghost use Rattle.ig_grammar.specs.declared.filter.Filter.{Filter as SpecFilter};
 ghost use Rattle.ig_rules.specs.Machine as want;
 ghost use Rattle.ig_rules.specs.Machine.{after_pattern};

@@ -2,7 +2,7 @@
 
 ghost use Rattle.std.specs.Prelude.{◌≡◌, [], true, false, drop, chars, IfOk, IfErr, None, MatchOption};
 ghost use Rattle.ig_tokens.specs.View.{token_of};
-ghost use Rattle.ig_grammar.specs.Token as spec;
+ghost use Rattle.ig_syntax.specs.Token as spec;
 ghost use Rattle.ig_rules.specs.Machine.{after, name};
 ghost use Rattle.ig_notation.specs.Readers.{meanings, Stands, Takes, Misses, EndsAt, MissesAt, sign_token, want_of};
 

@@ -4,12 +4,12 @@
 ghost use Rattle.std.specs.Prelude.{◌≡◌, ◌≤◌, ◌<◌, [], ◌∷◌, ◌++◌, length, true, false, Some, is_some, IfOk, IfErr, OnOk, MatchOption};
 ghost use Rattle.ig_text.specs.declared.pattern.Pattern.{Pattern as SpecPattern};
 ghost use Rattle.ig_tokens.specs.View.{token_of};
-ghost use Rattle.ig_grammar.specs.Token as spec;
+ghost use Rattle.ig_syntax.specs.Token as spec;
 ghost use Rattle.ig_grammar.specs.Symbol as tree;
 ghost use Rattle.ig_grammar.specs.Symbol.{gathered};
 ghost use Rattle.ig_grammar.specs.Alternative.{gathered_alternatives};
 ghost use Rattle.ig_grammar.specs.View.{symbol_of};
-ghost use Rattle.ig_grammar.specs.Rules.{ReadsSymbol, ReadsMarked, ReadsPost, ReadsAtom, ReadsAlternative, ReadsAlternatives};
+ghost use Rattle.ig_syntax.specs.Rules.{ReadsSymbol, ReadsMarked, ReadsPost, ReadsAtom, ReadsAlternative, ReadsAlternatives};
 ghost use Rattle.ig_rules.specs.Machine as want;
 ghost use Rattle.ig_rules.specs.Machine.{after_symbol, alternatives_wants};
 ghost use Rattle.ig_rules.specs.Reading.{Goes};

@@ -7,9 +7,9 @@ use Rattle.ig_expr.specs.Expression as tree
 use Rattle.ig_expr.specs.declared.operator.Op.{Op}
 use Rattle.ig_expr.specs.declared.operator.Function.{Function}
 use Rattle.ig_expr.specs.declared.operator.Function.TheVariants as functions
-use Rattle.ig_grammar.specs.Token.{Token, Literal, Comma, Close}
-use Rattle.ig_grammar.specs.Rules as rule
-use Rattle.ig_grammar.specs.Rules.{IsFunction, IsOperator, ReadsTerm, ReadsExpression, ReadsArguments}
+use Rattle.ig_syntax.specs.Token.{Token, Literal, Comma, Close}
+use Rattle.ig_syntax.specs.Rules as rule
+use Rattle.ig_syntax.specs.Rules.{IsFunction, IsOperator, ReadsTerm, ReadsExpression, ReadsArguments}
 use Rattle.ig_rules.specs.Machine.{expression, operator_rest, arguments_rest}
 use Rattle.ig_rules.proofs.Begins.{operator_row}
 use Rattle.ig_rules.proofs.Clear.{expression-in-arguments}

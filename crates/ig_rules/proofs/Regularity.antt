@@ -1,8 +1,8 @@
 -- A grammar that is read is regular.
 use Rattle.std.proofs.Common.{◌<◌, List, length}
 use Rattle.std.specs.Prelude.{All}
-use Rattle.ig_grammar.specs.Token.{Token}
-use Rattle.ig_grammar.specs.Rules.{FollowsRules}
+use Rattle.ig_syntax.specs.Token.{Token}
+use Rattle.ig_syntax.specs.Rules.{FollowsRules}
 use Rattle.ig_grammar.specs.Regular.{HasFewerThan, IsRegular}
 use Rattle.ig_grammar.specs.declared.grammar.Grammar.{Grammar}
 use Rattle.ig_rules.specs.Written.{HasText}

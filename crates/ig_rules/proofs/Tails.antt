@@ -3,9 +3,9 @@ use Rattle.std.proofs.Common.{◌≤◌, List, [], ◌∷◌, length, arith}
 use Rattle.std.specs.Prelude.{All}
 use Rattle.std.proofs.lemmas.List.Elements.{All-tail, All-nil, All-cons}
 use Rattle.ig_expr.specs.Expression.{Expression}
-use Rattle.ig_grammar.specs.Token.{Token, Comma}
-use Rattle.ig_grammar.specs.Rules as rule
-use Rattle.ig_grammar.specs.Rules.{ReadsTerm, ReadsExpression, ReadsArguments}
+use Rattle.ig_syntax.specs.Token.{Token, Comma}
+use Rattle.ig_syntax.specs.Rules as rule
+use Rattle.ig_syntax.specs.Rules.{ReadsTerm, ReadsExpression, ReadsArguments}
 use Rattle.ig_rules.specs.Written.{ExpressionIsWritten}
 
 -- the second list ends by the first

@@ -1,8 +1,8 @@
 -- Laws of the rules of the notation.
 use Rattle.std.specs.Prelude.{◌≡◌, ◌≢◌, ℕ, ◌<◌, List, [], ◌∷◌, Some, None, All, Contains, length}
-use Rattle.ig_grammar.specs.Token.{Token}
-use Rattle.ig_grammar.specs.Rules.{FollowsRules}
-use Rattle.ig_grammar.specs.Stops.{Stops}
+use Rattle.ig_syntax.specs.Token.{Token}
+use Rattle.ig_syntax.specs.Rules.{FollowsRules}
+use Rattle.ig_syntax.specs.Stops.{Stops}
 use Rattle.ig_grammar.specs.Regular.{AlternativesStandWell, OfEachLevel, HasFewerThan, IsRegular}
 use Rattle.ig_grammar.specs.declared.declaration.DeclKind.TheVariants.{Plain}
 use Rattle.ig_grammar.specs.declared.declaration.Decl.{Decl}

@@ -8,10 +8,10 @@ use Rattle.ig_text.proofs.Insertion.{form_is_normal, ranges_stay}
 use Rattle.ig_text.specs.declared.class.Class.{Class}
 use Rattle.ig_text.specs.declared.class.Class.TheVariants as class
 use Rattle.ig_expr.specs.Reading.{spelled}
-use Rattle.ig_grammar.specs.Token as token
-use Rattle.ig_grammar.specs.Token.{Token}
-use Rattle.ig_grammar.specs.Spelling.{IsToken, entry, signs, keywords, named_classes, is_one_of, literal_signs, class_signs, IsLetter, SpellsText, SpellsRanges}
-use Rattle.ig_grammar.specs.Spelling as table
+use Rattle.ig_syntax.specs.Token as token
+use Rattle.ig_syntax.specs.Token.{Token}
+use Rattle.ig_syntax.specs.Spelling.{IsToken, entry, signs, keywords, named_classes, is_one_of, literal_signs, class_signs, IsLetter, SpellsText, SpellsRanges}
+use Rattle.ig_syntax.specs.Spelling as table
 use Rattle.ig_tokens.proofs.Entries.{entry_all}
 use Rattle.ig_show.specs.Spelling.{spelling, numeral, literal_character, class_character, range_spelling, control_or, escape}
 use Rattle.ig_show.proofs.Numerals.{spells_numeral}

@@ -6,7 +6,7 @@ use Rattle.std.proofs.lemmas.Fmt.{decimal_digit, decimal_step}
 use Rattle.std.proofs.lemmas.Bool.Decides.{nat_tests}
 use Rattle.ig_expr.specs.Reading.{is_digit, spelled}
 use Rattle.ig_tokens.proofs.Runs.{both}
-use Rattle.ig_grammar.specs.Spelling.{IsNumeral, nought, digits}
+use Rattle.ig_syntax.specs.Spelling.{IsNumeral, nought, digits}
 use Rattle.ig_show.specs.Spelling.{digits_within, numeral}
 
 -- the list is a numeral that spells n, and what the library writes for n

@@ -1,10 +1,10 @@
 -- A canonical text reads as its grammar, where some text does.
 use Rattle.std.proofs.Common.{◌≡◌, sym, subst, ℕ, List, map}
-use Rattle.ig_grammar.specs.Token.{Token}
-use Rattle.ig_grammar.specs.Rules.{FollowsRules}
-use Rattle.ig_grammar.specs.Lexing as lexing
-use Rattle.ig_grammar.specs.Lexing.{next, Lexes}
-use Rattle.ig_grammar.specs.Notation.{Reads}
+use Rattle.ig_syntax.specs.Token.{Token}
+use Rattle.ig_syntax.specs.Rules.{FollowsRules}
+use Rattle.ig_syntax.specs.Lexing as lexing
+use Rattle.ig_syntax.specs.Lexing.{next, Lexes}
+use Rattle.ig_syntax.specs.Notation.{Reads}
 use Rattle.ig_grammar.specs.declared.grammar.Grammar.{Grammar}
 use Rattle.ig_tokens.proofs.Sound.{next_sound, IsSound}
 use Rattle.ig_show.specs.CanonicalText.{pieces_of, text_of}

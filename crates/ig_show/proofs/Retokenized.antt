@@ -2,12 +2,12 @@
 use Rattle.std.proofs.Common.{◌≡◌, ◌∙◌, ap, refl, ℕ, ◌+◌, List, [], ◌∷◌, ◌++◌, Bool, true, false, ◌==◌, Some, None, map, lit<, append_assoc, append-nil}
 use Rattle.unicode_ident.specs.Ident.{is_xid_continue}
 use Rattle.unicode_ident.proofs.IdentLemmas.{is_xid_continue-ascii}
-use Rattle.ig_grammar.specs.Token as token
-use Rattle.ig_grammar.specs.Token.{Token}
-use Rattle.ig_grammar.specs.Spelling.{IsToken, IsWord, entry, signs, keywords, named_classes, begins}
-use Rattle.ig_grammar.specs.Spelling as table
-use Rattle.ig_grammar.specs.Lexing as lexing
-use Rattle.ig_grammar.specs.Lexing.{Next, next, run, past, Lexes, bytes, sign_token}
+use Rattle.ig_syntax.specs.Token as token
+use Rattle.ig_syntax.specs.Token.{Token}
+use Rattle.ig_syntax.specs.Spelling.{IsToken, IsWord, entry, signs, keywords, named_classes, begins}
+use Rattle.ig_syntax.specs.Spelling as table
+use Rattle.ig_syntax.specs.Lexing as lexing
+use Rattle.ig_syntax.specs.Lexing.{Next, next, run, past, Lexes, bytes, sign_token}
 use Rattle.ig_tokens.specs.Steps.{single_signs}
 use Rattle.ig_tokens.proofs.Runs.{run_front, past_front, run_none, past_none}
 use Rattle.ig_tokens.proofs.Entries.{entry_all, word_continues, keyword_word, sign_text}

@@ -1,7 +1,7 @@
 //! Expressions and their lists.
 
 ghost use Rattle.std.specs.Prelude.{◌≡◌, ◌++◌, ◌∷◌, [], OnOk, map, chars, string_bytes};
-ghost use Rattle.ig_grammar.specs.Token.{Name, Head, Literal, Comma, Close};
+ghost use Rattle.ig_syntax.specs.Token.{Name, Head, Literal, Comma, Close};
 ghost use Rattle.ig_expr.specs.Expression.{Truth};
 ghost use Rattle.ig_expr.specs.View.{expression_of};
 ghost use Rattle.ig_show.specs.Pieces.{token, blank};

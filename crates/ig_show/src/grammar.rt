@@ -2,7 +2,7 @@
 
 ghost use Rattle.std.specs.Prelude.{◌≡◌, ◌++◌, ◌∷◌, [], OnOk, IfOk, Some, IsUtf8, map, chars, string_bytes};
 ghost use Rattle.ig_expr.specs.View.{expression_of};
-ghost use Rattle.ig_grammar.specs.Token.{Name, Head, Semicolon};
+ghost use Rattle.ig_syntax.specs.Token.{Name, Head, Semicolon};
 ghost use Rattle.ig_show.specs.Pieces.{token, blank, line_end};
 ghost use Rattle.ig_show.specs.CanonicalText.{text_of, expression_text, pattern_text, associativity_pieces, level_pieces, levels_pieces, parameter_pieces, head_pieces, joined, comma, declaration_token, declaration_pieces, separated, start_pieces};
 ghost use Rattle.ig_show.specs.Writing.{Adds, IsText};

@@ -10,12 +10,12 @@ use Rattle.ig_text.specs.Ranges.{normal_form}
 use Rattle.ig_text.specs.declared.class.Class.{Class}
 use Rattle.ig_text.specs.declared.class.Class.TheVariants as class
 use Rattle.ig_expr.specs.Reading.{is_digit, spelled}
-use Rattle.ig_grammar.specs.Token as token
-use Rattle.ig_grammar.specs.Token.{Token}
-use Rattle.ig_grammar.specs.Spelling.{entry, signs, keywords, named_classes, is_one_of, blanks, class_signs, begins, may_precede, IsWord, word, IsNumeral, nought, digits, IsLetter, bare, escaped, IsToken, StandsFirst, IsSeparator, blank, EndsLine, SpellsText, SpellsRanges, one_character, two_characters}
-use Rattle.ig_grammar.specs.Spelling as spelling
-use Rattle.ig_grammar.specs.Lexing as lexing
-use Rattle.ig_grammar.specs.Lexing.{Next, next, run, past, word_token, keyword_or_name, name_token, numeral, number_token, literal_token, class_token, named_class, named_token, sign_token, sign_of, comment, separator, ended, broken, body, closed, literal_of, not_empty, text_of, class_of, class_with, ranges_of, between}
+use Rattle.ig_syntax.specs.Token as token
+use Rattle.ig_syntax.specs.Token.{Token}
+use Rattle.ig_syntax.specs.Spelling.{entry, signs, keywords, named_classes, is_one_of, blanks, class_signs, begins, may_precede, IsWord, word, IsNumeral, nought, digits, IsLetter, bare, escaped, IsToken, StandsFirst, IsSeparator, blank, EndsLine, SpellsText, SpellsRanges, one_character, two_characters}
+use Rattle.ig_syntax.specs.Spelling as spelling
+use Rattle.ig_syntax.specs.Lexing as lexing
+use Rattle.ig_syntax.specs.Lexing.{Next, next, run, past, word_token, keyword_or_name, name_token, numeral, number_token, literal_token, class_token, named_class, named_token, sign_token, sign_of, comment, separator, ended, broken, body, closed, literal_of, not_empty, text_of, class_of, class_with, ranges_of, between}
 use Rattle.ig_tokens.proofs.Runs.{run_front, past_front, run_none, past_none, past_shorter, line_all, line_ends}
 use Rattle.ig_tokens.proofs.Spelled.{text_read, text_body, body_more, no_member, or_false}
 use Rattle.ig_tokens.proofs.SpelledRanges.{ranges_read, ranges_body}

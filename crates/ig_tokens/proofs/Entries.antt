@@ -10,9 +10,9 @@ use Rattle.ig_text.specs.declared.class.Class.{Class}
 use Rattle.ig_text.specs.declared.class.Class.TheVariants as class
 use Rattle.ig_expr.specs.Names.{is_word}
 use Rattle.ig_expr.specs.Reading.{is_digit}
-use Rattle.ig_grammar.specs.Token as token
-use Rattle.ig_grammar.specs.Token.{Token}
-use Rattle.ig_grammar.specs.Spelling.{entry, signs, keywords, named_classes, is_one_of, blanks, begins, may_precede, IsWord, word}
+use Rattle.ig_syntax.specs.Token as token
+use Rattle.ig_syntax.specs.Token.{Token}
+use Rattle.ig_syntax.specs.Spelling.{entry, signs, keywords, named_classes, is_one_of, blanks, begins, may_precede, IsWord, word}
 use Rattle.ig_tokens.proofs.Runs.{both}
 
 abbrev pub all_rows : {A : Type 0} → (List ℕ → A → Bool) → List (List ℕ × A) → Bool

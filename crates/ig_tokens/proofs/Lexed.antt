@@ -2,9 +2,9 @@
 use Rattle.std.proofs.Common.{◌≡◌, ◌∙◌, ℕ, zero, suc, ◌+◌, ◌-◌, ◌<◌, ◌≤◌, ◌⊎◌, inl, inr, List, [], ◌∷◌, ◌++◌, length, chars, IsUtf8, encode_utf8_all, refl, sym, ap, subst, arith, append_assoc, append-nil, length-append}
 use Rattle.std.proofs.lemmas.List.{append_cancel_right, map-append}
 use Rattle.std.proofs.lemmas.Str.{encodes-chars, encodes-append}
-use Rattle.ig_grammar.specs.Token.{Token}
-use Rattle.ig_grammar.specs.Lexing as lexing
-use Rattle.ig_grammar.specs.Lexing.{Next, next, ended, separator, broken, bytes, Lexes, nothing, a_separator, a_token, Breaks, here, past_separator, past_token, TokensAreSingle, BreakIsSingle, LexesOrBreaks, NeverBoth}
+use Rattle.ig_syntax.specs.Token.{Token}
+use Rattle.ig_syntax.specs.Lexing as lexing
+use Rattle.ig_syntax.specs.Lexing.{Next, next, ended, separator, broken, bytes, Lexes, nothing, a_separator, a_token, Breaks, here, past_separator, past_token, TokensAreSingle, BreakIsSingle, LexesOrBreaks, NeverBoth}
 use Rattle.ig_tokens.specs.View.{token_of, placed_of, tokens_of}
 use Rattle.ig_tokens.specs.declared.token.Placed.{Placed}
 use Rattle.ig_tokens.proofs.Longest as longest

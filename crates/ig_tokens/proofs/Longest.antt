@@ -1,10 +1,10 @@
 -- What stands first is the longest token of the table.
 use Rattle.std.proofs.Common.{◌≡◌, ℕ, ◌<◌, List, [], ◌∷◌, ◌++◌, length, refl, ap, subst, arith, length-append}
-use Rattle.ig_grammar.specs.Token.{Token}
-use Rattle.ig_grammar.specs.Spelling.{signs, keywords, entry, IsToken, StandsFirst, IsSeparator, IsWord, word, IsNumeral, nought, digits}
-use Rattle.ig_grammar.specs.Spelling as spelling
-use Rattle.ig_grammar.specs.Lexing as lexing
-use Rattle.ig_grammar.specs.Lexing.{Next, next, ended, separator, broken, IsNext, LongestTokenIsNext}
+use Rattle.ig_syntax.specs.Token.{Token}
+use Rattle.ig_syntax.specs.Spelling.{signs, keywords, entry, IsToken, StandsFirst, IsSeparator, IsWord, word, IsNumeral, nought, digits}
+use Rattle.ig_syntax.specs.Spelling as spelling
+use Rattle.ig_syntax.specs.Lexing as lexing
+use Rattle.ig_syntax.specs.Lexing.{Next, next, ended, separator, broken, IsNext, LongestTokenIsNext}
 use Rattle.ig_tokens.proofs.Sound.{IsSound, next_sound}
 use Rattle.ig_tokens.proofs.Complete.{Covers, next_covers, separator_read}
 use Rattle.ig_tokens.proofs.Entries.{keyword_word, sign_text}

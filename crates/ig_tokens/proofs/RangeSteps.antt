@@ -3,9 +3,9 @@ use Rattle.std.proofs.Common.{◌≡◌, ◌∙◌, ℕ, ◌≤◌, List, [], �
 use Rattle.std.proofs.lemmas.Bool.Decides.{nat_tests}
 use Rattle.std.proofs.lemmas.List.Elements.{All-nil, All-cons}
 use Rattle.ig_text.specs.Ranges.{NoneFalls}
-use Rattle.ig_grammar.specs.Spelling.{class_signs}
-use Rattle.ig_grammar.specs.Lexing as lexing
-use Rattle.ig_grammar.specs.Lexing.{letter, ranges_of, ranges_behind, class_step, class_with, class_of, dash, character, placed, with_range, between, behind_character, behind_dash, backslash, stands_for}
+use Rattle.ig_syntax.specs.Spelling.{class_signs}
+use Rattle.ig_syntax.specs.Lexing as lexing
+use Rattle.ig_syntax.specs.Lexing.{letter, ranges_of, ranges_behind, class_step, class_with, class_of, dash, character, placed, with_range, between, behind_character, behind_dash, backslash, stands_for}
 use Rattle.ig_tokens.specs.Steps.{AddsRanges, IsNegation}
 use Rattle.std.proofs.lemmas.List.{nil_from_length}
 use Rattle.std.proofs.lemmas.Str.{chars-nil}

@@ -7,12 +7,12 @@ use Rattle.unicode_ident.specs.Ident.{is_xid_start, is_xid_continue}
 use Rattle.unicode_ident.proofs.IdentLemmas.{is_xid_start-is_xid_continue}
 use Rattle.ig_text.specs.declared.class.Class.{Class}
 use Rattle.ig_expr.specs.Reading.{is_digit, spelled}
-use Rattle.ig_grammar.specs.Token as token
-use Rattle.ig_grammar.specs.Token.{Token}
-use Rattle.ig_grammar.specs.Spelling.{entry, signs, keywords, named_classes, is_one_of, blanks, begins, may_precede, IsWord, word, IsNumeral, nought, digits, IsToken, StandsFirst, IsSeparator, blank, EndsLine, SpellsText, SpellsRanges}
-use Rattle.ig_grammar.specs.Spelling as spelling
-use Rattle.ig_grammar.specs.Lexing as lexing
-use Rattle.ig_grammar.specs.Lexing.{Next, next, run, past, word_token, keyword_or_name, name_token, numeral, number_token, literal_token, class_token, named_class, named_token, sign_token, sign_of, comment, separator, ended, broken, body, closed, literal_of, not_empty, text_of, class_of, class_with, ranges_of, between}
+use Rattle.ig_syntax.specs.Token as token
+use Rattle.ig_syntax.specs.Token.{Token}
+use Rattle.ig_syntax.specs.Spelling.{entry, signs, keywords, named_classes, is_one_of, blanks, begins, may_precede, IsWord, word, IsNumeral, nought, digits, IsToken, StandsFirst, IsSeparator, blank, EndsLine, SpellsText, SpellsRanges}
+use Rattle.ig_syntax.specs.Spelling as spelling
+use Rattle.ig_syntax.specs.Lexing as lexing
+use Rattle.ig_syntax.specs.Lexing.{Next, next, run, past, word_token, keyword_or_name, name_token, numeral, number_token, literal_token, class_token, named_class, named_token, sign_token, sign_of, comment, separator, ended, broken, body, closed, literal_of, not_empty, text_of, class_of, class_with, ranges_of, between}
 use Rattle.ig_tokens.proofs.Runs.{all_run, past_begins, all_line, ends_line}
 use Rattle.ig_tokens.proofs.Reading.{run_past}
 use Rattle.ig_tokens.proofs.Spelled.{body_parts, text_spelled}

@@ -1,10 +1,10 @@
 -- What the characters of literals and classes stand for, by the table and as they are read.
 use Rattle.std.proofs.Common.{◌≡◌, ◌∙◌, ℕ, List, [], ◌∷◌, ◌++◌, Bool, true, false, cond, not, ◌&&◌, ◌||◌, ◌==◌, Option, Some, None, option_map, refl, sym, ap, subst, arith}
 use Rattle.std.proofs.lemmas.Bool.Decides.{nat_tests}
-use Rattle.ig_grammar.specs.Spelling.{is_one_of, literal_signs, class_signs, escape, IsLetter, bare, escaped, SpellsText, no_letter, SpellsRanges, no_range, one_character, two_characters}
-use Rattle.ig_grammar.specs.Spelling as spelling
-use Rattle.ig_grammar.specs.Lexing as lexing
-use Rattle.ig_grammar.specs.Lexing.{letter, text_of, text_behind, backslash, stands_for, body, with_first, ranges_of, ranges_behind, class_step, dash, character, placed, with_range, between, behind_character, behind_dash}
+use Rattle.ig_syntax.specs.Spelling.{is_one_of, literal_signs, class_signs, escape, IsLetter, bare, escaped, SpellsText, no_letter, SpellsRanges, no_range, one_character, two_characters}
+use Rattle.ig_syntax.specs.Spelling as spelling
+use Rattle.ig_syntax.specs.Lexing as lexing
+use Rattle.ig_syntax.specs.Lexing.{letter, text_of, text_behind, backslash, stands_for, body, with_first, ranges_of, ranges_behind, class_step, dash, character, placed, with_range, between, behind_character, behind_dash}
 
 pub some_same : {A : Type 0} (x y : A) → Some x ≡ Some y → x ≡ y
 some_same x y e = cc

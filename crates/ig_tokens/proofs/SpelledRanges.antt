@@ -1,9 +1,9 @@
 -- The ranges of classes, by the table and as they are read.
 use Rattle.std.proofs.Common.{◌≡◌, ◌∙◌, ℕ, ◌≤◌, List, [], ◌∷◌, ◌++◌, Bool, true, false, cond, not, ◌&&◌, ◌==◌, nat_le, Option, Some, None, option_map, option_and_then, refl, sym, ap, subst, arith}
 use Rattle.std.proofs.lemmas.Bool.Decides.{nat_tests}
-use Rattle.ig_grammar.specs.Spelling.{is_one_of, class_signs, IsLetter, bare, escaped, SpellsRanges, no_range, one_character, two_characters}
-use Rattle.ig_grammar.specs.Lexing as lexing
-use Rattle.ig_grammar.specs.Lexing.{letter, backslash, stands_for, body, ranges_of, ranges_behind, class_step, dash, character, placed, with_range, between, behind_character, behind_dash}
+use Rattle.ig_syntax.specs.Spelling.{is_one_of, class_signs, IsLetter, bare, escaped, SpellsRanges, no_range, one_character, two_characters}
+use Rattle.ig_syntax.specs.Lexing as lexing
+use Rattle.ig_syntax.specs.Lexing.{letter, backslash, stands_for, body, ranges_of, ranges_behind, class_step, dash, character, placed, with_range, between, behind_character, behind_dash}
 use Rattle.ig_tokens.proofs.Spelled.{some_same, taken, whole, same_number, letter_is, half_is, bare_read, escaped_read, rest_body, body_ends, body_more, letter_facts, no_member, or_false}
 
 -- what the characters behind a place make of those before it

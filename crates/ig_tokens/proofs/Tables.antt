@@ -4,13 +4,13 @@ use Rattle.std.proofs.lemmas.Slice.Eq.{bytes_eq-Decides}
 use Rattle.std.proofs.lemmas.Str.{encodes-chars, IsUtf8-from_ascii, chars-IsAscii}
 use Rattle.std.proofs.lemmas.Bool.Decides.{nat_tests, same_from_decides}
 use Rattle.ig_expr.specs.Names.{is_word}
-use Rattle.ig_grammar.specs.Token as token
+use Rattle.ig_syntax.specs.Token as token
 use Rattle.std.specs.Map.{lookup}
 use Rattle.unicode_ident.specs.Ident.{is_xid_continue}
 use Rattle.ig_text.specs.declared.class.Class.{Class}
-use Rattle.ig_grammar.specs.Spelling.{entry, keywords, named_classes, signs}
-use Rattle.ig_grammar.specs.Lexing as lexing
-use Rattle.ig_grammar.specs.Lexing.{run, past, named_class, named_token, sign_token}
+use Rattle.ig_syntax.specs.Spelling.{entry, keywords, named_classes, signs}
+use Rattle.ig_syntax.specs.Lexing as lexing
+use Rattle.ig_syntax.specs.Lexing.{run, past, named_class, named_token, sign_token}
 use Rattle.ig_tokens.specs.Steps.{single_sign, single_signs, exclamation}
 
 -- only ASCII characters

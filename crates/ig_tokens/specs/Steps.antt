@@ -4,9 +4,9 @@ use Rattle.std.specs.Borrow.{Bor}
 use Rattle.std.specs.Map.{lookup}
 use Rattle.unicode_ident.specs.Ident.{is_xid_continue}
 use Rattle.ig_expr.specs.Reading.{is_digit}
-use Rattle.ig_grammar.specs.Token as token
-use Rattle.ig_grammar.specs.Spelling.{literal_signs, class_signs}
-use Rattle.ig_grammar.specs.Lexing as lexing
+use Rattle.ig_syntax.specs.Token as token
+use Rattle.ig_syntax.specs.Spelling.{literal_signs, class_signs}
+use Rattle.ig_syntax.specs.Lexing as lexing
 use Rattle.ig_tokens.specs.declared.token.Token.{Token}
 use Rattle.ig_tokens.specs.View.{token_of}
 use Rattle.ig_tokens.specs.declared.step.Step.{Step}

@@ -1,4 +1,4 @@
-ghost use Rattle.ig_grammar.specs.Lexing.{LongestTokenIsNext, TokensAreSingle, BreakIsSingle, LexesOrBreaks, NeverBoth};
+ghost use Rattle.ig_syntax.specs.Lexing.{LongestTokenIsNext, TokensAreSingle, BreakIsSingle, LexesOrBreaks, NeverBoth};
 
 /// What stands first in a text is a separator of the table, or the longest token of the table, or
 /// the text is empty, or neither a separator nor a token of the table begins there. This law, proved

@@ -1,7 +1,7 @@
 //! The tokens of a text.
 
 ghost use Rattle.std.specs.Prelude.{◌≡◌, ◌≤◌, [], ◌∷◌, ◌++◌, length, chars, IfOk, IfErr, OnOk};
-ghost use Rattle.ig_grammar.specs.Lexing.{Lexes, Breaks};
+ghost use Rattle.ig_syntax.specs.Lexing.{Lexes, Breaks};
 ghost use Rattle.ig_tokens.specs.View.{tokens_of};
 ghost use Rattle.ig_tokens.specs.Faults.{IsFault};
 

@@ -3,9 +3,9 @@ use Rattle.std.proofs.Common.{◌≡◌, ℕ, List, subst, Result, Ok, Err, Vec,
 use Rattle.ig_text.specs.Tree.{Tree}
 use Rattle.ig_grammar.specs.declared.grammar.Grammar.{Grammar}
 use Rattle.ig_grammar.specs.Names.{AreDistinct, names}
-use Rattle.ig_grammar.specs.Built.{IsBuiltGrammar}
+use Rattle.ig_tool.specs.Built.{IsBuiltGrammar}
 use Rattle.ig_grammar.specs.Numbering.{as_written}
-use Rattle.ig_grammar.specs.Permitted.{Permitted}
+use Rattle.ig_meaning.specs.Permitted.{Permitted}
 use Rattle.ig_tool.specs.declared.core_grammar.Core.{Core}
 use Rattle.ig_tool.specs.declared.forest.Forest.{Forest}
 use Rattle.ig_tool.specs.declared.stop.Stop.{Stop}

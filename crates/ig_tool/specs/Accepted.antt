@@ -4,7 +4,7 @@ use Rattle.ig_grammar.specs.declared.symbol.Alt.{Alt}
 use Rattle.ig_grammar.specs.declared.declaration.Level.{Level}
 use Rattle.ig_grammar.specs.declared.declaration.Decl.{Decl}
 use Rattle.ig_grammar.specs.declared.grammar.Grammar.{Grammar}
-use Rattle.ig_grammar.specs.Built.{IsBuiltGrammar}
+use Rattle.ig_tool.specs.Built.{IsBuiltGrammar}
 use Rattle.ig_grammar.specs.WellScoped.{IsWellScoped}
 use Rattle.ig_notation.specs.Outcome.{IsRead}
 

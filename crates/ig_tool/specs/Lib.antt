@@ -1,3 +1,5 @@
+pub mod Built
+pub mod ContextFree
 pub mod Core
 pub mod CoreOf
 pub mod Items

@@ -10,7 +10,7 @@ use Rattle.ig_outside.specs.Told.{Told, silent, nothing, bytes}
 use Rattle.ig_outside.specs.Put.{Appends}
 use Rattle.ig_grammar.specs.declared.grammar.Grammar.{Grammar}
 use Rattle.ig_grammar.specs.Numbering.{as_written}
-use Rattle.ig_grammar.specs.Permitted.{Permitted}
+use Rattle.ig_meaning.specs.Permitted.{Permitted}
 use Rattle.ig_tool.specs.declared.forest.Forest.{Forest}
 use Rattle.ig_tool.specs.declared.status.Status.{Status}
 use Rattle.ig_tool.specs.declared.status.Status.TheVariants as status

@@ -9,7 +9,7 @@ use Rattle.ig_outside.specs.Counts.{Rose}
 use Rattle.ig_outside.specs.Told.{Told, nothing}
 use Rattle.ig_grammar.specs.declared.grammar.Grammar.{Grammar}
 use Rattle.ig_grammar.specs.Numbering.{as_written}
-use Rattle.ig_grammar.specs.Permitted.{Permitted}
+use Rattle.ig_meaning.specs.Permitted.{Permitted}
 use Rattle.ig_text.specs.Tree.{Tree}
 use Rattle.ig_tool.specs.declared.core_grammar.Core.{Core}
 use Rattle.ig_tool.specs.declared.forest.Forest.{Forest}

@@ -4,7 +4,8 @@ ghost use Rattle.std.specs.Prelude.{◌≡◌, ◌+◌, ◌<◌, ◌≤◌, sum_
 ghost use Rattle.std.specs.Bool.{Decides};
 ghost use Rattle.ig_tool.specs.Accepted.{IsRunnable, alt_dots, level_dots, decl_dots};
 
-use ig_grammar::{Alt, Decl, Grammar, Level, unbuilt};
+use crate::built::unbuilt;
+use ig_grammar::{Alt, Decl, Grammar, Level};
 
 /// The most dots that its core grammar may have.
 const MOST_DOTS: usize = 65_536;

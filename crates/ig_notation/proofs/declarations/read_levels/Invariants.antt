@@ -1,5 +1,5 @@
 use Rattle.std.proofs.Common.{◌-◌, List, length}
-use Rattle.ig_grammar.specs.Rules.{ReadsLevels}
+use Rattle.ig_syntax.specs.Rules.{ReadsLevels}
 use Rattle.ig_grammar.specs.declared.declaration.Level.{Level}
 use Rattle.ig_rules.specs.Machine.{levels_wants}
 use Rattle.ig_rules.specs.Reading.{Goes}

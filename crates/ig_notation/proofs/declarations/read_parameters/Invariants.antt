@@ -1,5 +1,5 @@
 use Rattle.std.proofs.Common.{◌-◌, List, length}
-use Rattle.ig_grammar.specs.Rules.{ReadsParameters}
+use Rattle.ig_syntax.specs.Rules.{ReadsParameters}
 use Rattle.ig_grammar.specs.declared.declaration.Param.{Param}
 use Rattle.ig_rules.specs.Machine.{parameters_wants}
 use Rattle.ig_rules.specs.Reading.{Goes}

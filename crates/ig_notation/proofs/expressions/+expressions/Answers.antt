@@ -3,7 +3,7 @@ use Rattle.std.proofs.lemmas.Result.{IfOk-weaker, IfErr-weaker}
 use Rattle.ig_expr.specs.Expression.{Truth}
 use Rattle.ig_expr.specs.Expression as tree
 use Rattle.std.specs.Prelude.{true, false}
-use Rattle.ig_grammar.specs.Rules as rule
+use Rattle.ig_syntax.specs.Rules as rule
 use Rattle.ig_notation.proofs.Steps.{stands_as, stop_later, exits, by_itself}
 use Rattle.ig_notation.proofs.ExpressionParts.{opposite, negative, unsigned, plain_expression, alone, operation, second_stops, applies, same, spells, numeral, no_larger, variable, in_brackets, called, called_stops}
 use Rattle.ig_notation.proofs.expressions.+expressions.Goals as goal

@@ -1,6 +1,6 @@
 use Rattle.std.proofs.Common.{◌-◌, List, length}
 use Rattle.ig_expr.specs.Expression.{Expression}
-use Rattle.ig_grammar.specs.Rules.{ReadsArguments}
+use Rattle.ig_syntax.specs.Rules.{ReadsArguments}
 use Rattle.ig_rules.specs.Machine.{arguments_wants}
 use Rattle.ig_rules.specs.Reading.{Goes}
 use Rattle.ig_notation.specs.Readers.{meanings, Front}

@@ -1,5 +1,5 @@
 use Rattle.std.proofs.Common.{◌-◌, List, [], ◌∷◌, length}
-use Rattle.ig_grammar.specs.Rules.{ReadsFilters}
+use Rattle.ig_syntax.specs.Rules.{ReadsFilters}
 use Rattle.ig_grammar.specs.declared.filter.Filter.{Filter}
 use Rattle.ig_rules.specs.Machine as want
 use Rattle.ig_rules.specs.Reading.{Goes}

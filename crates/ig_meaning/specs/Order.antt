@@ -1,0 +1,128 @@
+-- The order of derivation trees of one symbol with the same span, from the same environment, by their first difference.
+use Rattle.std.specs.Prelude.{◌≡◌, ℕ, suc, List, Some, slice_get}
+use Rattle.std.specs.declared.cmp.Ordering.{Ordering}
+use Rattle.std.specs.declared.cmp.Ordering.TheVariants.{Less, Equal, Greater}
+use Rattle.std.specs.Ordering.{ordering_then, ordering_reverse, nat_cmp, int_cmp, bool_cmp}
+use Rattle.std.specs.Cmp.Lexicographic.{slice_cmp}
+use Rattle.ig_text.specs.declared.tag.Tag.{Tag}
+use Rattle.ig_text.specs.declared.tag.Tag.TheVariants.{Rule, Nil, Snoc, One, More, Absent, Present, GroupAlt, Root}
+use Rattle.ig_text.specs.Tree as plain
+use Rattle.ig_expr.specs.declared.value.Value.{Value}
+use Rattle.ig_expr.specs.declared.value.Value.TheVariants as value
+use Rattle.ig_meaning.specs.Annotated.{Tree, Trees, Leaf, Node, none, more, one, join, bare_tree, of_permitted}
+use Rattle.ig_grammar.specs.Names.{names, AreDistinct}
+use Rattle.ig_grammar.specs.Numbering.{Levelled, Declares, IsAlternative, tag_of}
+use Rattle.ig_meaning.specs.Permitted.{Permitted}
+use Rattle.ig_grammar.specs.declared.declaration.Decl.{Decl}
+use Rattle.ig_grammar.specs.declared.grammar.Grammar.{Grammar}
+use Rattle.ig_grammar.specs.declared.place.Shape.{Shape}
+use Rattle.ig_grammar.specs.declared.place.Shape.TheVariants as shape
+
+-- the number of a tag among those of one symbol
+abbrev pub number_of : Tag → ℕ
+number_of (Rule d k) = k
+number_of Nil = 1
+number_of Snoc = 2
+number_of One = 1
+number_of More = 2
+number_of Absent = 1
+number_of Present = 2
+number_of (GroupAlt k) = k
+number_of Root = 1
+
+-- integers by size, false before true, spans by their begin and then by their end
+abbrev pub value_cmp : Value → Value → Ordering
+value_cmp (value.Int a) (value.Int b) = int_cmp a b
+value_cmp (value.Bool a) (value.Bool b) = bool_cmp a b
+value_cmp (value.Span a) (value.Span b) = ordering_then (nat_cmp a.begin b.begin) (nat_cmp a.end b.end)
+-- values of two kinds never stand at one place
+value_cmp (value.Int a) other = Less
+value_cmp (value.Bool a) (value.Int b) = Greater
+value_cmp (value.Bool a) (value.Span b) = Less
+value_cmp (value.Span a) other = Greater
+
+abbrev pub begin_of : Tree → ℕ
+begin_of (Leaf i j) = i
+begin_of (Node tag bound i j children) = i
+
+-- lists of children by where these start, the last child first
+abbrev pub starts_cmp : Trees → Trees → Ordering
+starts_cmp none none = Equal
+starts_cmp none (more u us) = Less
+starts_cmp (more t ts) none = Greater
+starts_cmp (more t ts) (more u us) = ordering_then (starts_cmp ts us) (nat_cmp (begin_of t) (begin_of u))
+
+abbrev mutual
+  -- by the tag's number, then by the bound values, then by where the children start, then by the children in order
+  pub tree_cmp : Tree → Tree → Ordering
+  tree_cmp (Leaf i j) (Leaf k l) = Equal
+  tree_cmp (Leaf i j) (Node tag bound k l us) = Less
+  tree_cmp (Node tag bound i j ts) (Leaf k l) = Greater
+  tree_cmp (Node tag bound i j ts) (Node other values k l us) =
+      ordering_then (nat_cmp (number_of tag) (number_of other)) (ordering_then (slice_cmp value_cmp bound values) (ordering_then (starts_cmp ts us) (trees_cmp ts us)))
+
+  pub trees_cmp : Trees → Trees → Ordering
+  trees_cmp none none = Equal
+  trees_cmp none (more u us) = Less
+  trees_cmp (more t ts) none = Greater
+  trees_cmp (more t ts) (more u us) = ordering_then (tree_cmp t u) (trees_cmp ts us)
+
+-- lists of children: where they start decides before what they are
+abbrev pub children_cmp : Trees → Trees → Ordering
+children_cmp ts us = ordering_then (starts_cmp ts us) (trees_cmp ts us)
+
+-- the first of two permitted trees stands before the second in a listing
+pub record Precedes (g : Grammar) (shapes : List Shape) (text : List ℕ) (t u : plain.Tree) : Type 0 where
+  pub first : Permitted g shapes text t
+  pub second : Permitted g shapes text u
+  pub less : tree_cmp (of_permitted g shapes text first) (of_permitted g shapes text second) ≡ Less
+
+-- the number of trees
+abbrev pub count_of : Trees → ℕ
+count_of none = 0
+count_of (more t ts) = suc (count_of ts)
+
+-- of two lists of children as long as each other the start of the last child decides first, then the children before
+-- it, by this same rule, and then the last child
+abbrev pub LastChildStartsDecide : Type 0
+LastChildStartsDecide =
+    (ts us : Trees) (t u : Tree) → count_of ts ≡ count_of us →
+    children_cmp (join ts (one t)) (join us (one u)) ≡
+    ordering_then (nat_cmp (begin_of t) (begin_of u)) (ordering_then (children_cmp ts us) (tree_cmp t u))
+
+-- a permitted tree without the values that its derivation binds is that tree
+abbrev pub ComparedTreesArePermitted : Type 0
+ComparedTreesArePermitted =
+    (g : Grammar) (shapes : List Shape) (text : List ℕ) (t : plain.Tree) (permitted : Permitted g shapes text t) →
+    bare_tree (of_permitted g shapes text permitted) ≡ t
+
+-- a tree doesn't differ from itself, of two trees that differ one stands before the other, what stands before a tree
+-- stands before all behind that one, and trees that don't differ stand alike to each other tree
+pub record IsAnOrder : Type 0 where
+  pub itself : (t : Tree) → tree_cmp t t ≡ Equal
+  pub turned : (t u : Tree) → tree_cmp t u ≡ ordering_reverse (tree_cmp u t)
+  pub onward : (t u v : Tree) → tree_cmp t u ≡ Less → tree_cmp u v ≡ Less → tree_cmp t v ≡ Less
+  pub alike : (t u v : Tree) → tree_cmp t u ≡ Equal → tree_cmp t v ≡ tree_cmp u v
+
+-- the number of a tag tells the alternatives of each declaration apart
+abbrev pub TagsTellAlternatives : Grammar → List Shape → Type 0
+TagsTellAlternatives g shapes =
+    (name : List ℕ) (d k l : ℕ) (decl : Decl) (shape : Shape) (a b : Levelled) → Declares g shapes name d decl shape →
+    IsAlternative decl k a → IsAlternative decl l b → number_of (tag_of shape d k) ≡ number_of (tag_of shape d l) → k ≡ l
+
+-- each declaration stands for itself
+abbrev pub AreRules : List Shape → Type 0
+AreRules shapes = (before : ℕ) (form : Shape) → slice_get shapes before ≡ Some form → form ≡ shape.Rule
+
+-- permitted trees that don't differ are equal
+pub record UndifferingTreesAreEqual : Type 0 where
+  -- where no name is declared twice, and the numbers of tags tell alternatives apart
+  pub equal : (g : Grammar) (shapes : List Shape) (text : List ℕ) (t u : plain.Tree) (first : Permitted g shapes text t)
+      (second : Permitted g shapes text u) → AreDistinct (names g.decls) → TagsTellAlternatives g shapes →
+      tree_cmp (of_permitted g shapes text first) (of_permitted g shapes text second) ≡ Equal → t ≡ u
+  -- and then what is compared of a permitted tree is the same for each derivation of it
+  pub determined : (g : Grammar) (shapes : List Shape) (text : List ℕ) (t : plain.Tree) (first second : Permitted g shapes text t) →
+      AreDistinct (names g.decls) → TagsTellAlternatives g shapes →
+      of_permitted g shapes text first ≡ of_permitted g shapes text second
+  -- as they do where each declaration stands for itself
+  pub tells : (g : Grammar) (shapes : List Shape) → AreRules shapes → TagsTellAlternatives g shapes
