@@ -1,1 +1,2 @@
 pub mod ByForm
+pub mod KeywordTexts

@@ -1,4 +1,4 @@
-ghost use Rattle.std.specs.Prelude.{◌≡◌, MatchOption};
+ghost use Rattle.std.specs.Prelude.{◌≡◌, MatchOption, slice_get};
 ghost use Rattle.ig_grammar.specs.declared.place.Shape.{Shape};
 ghost use Rattle.ig_grammar.specs.Numbering.{HasShape};
 ghost use Rattle.ig_grammar.specs.WellScoped.{IsWellScoped};
@@ -77,11 +77,18 @@ impl Checked {
         ensures { MatchOption result ((shape : Shape) → HasShape self.now.shapes decl shape → ⊥)
             (HasShape self.now.shapes decl) }
     {
-        let before = decl.checked_sub(1)? as usize;
+        self.shape_at(decl.checked_sub(1)? as usize)
+    }
+
+    /// The shape of the declaration at this index of the grammar's list, counted from 0; `None` exactly
+    /// where the list ends before it. Takes no memory.
+    pub fn shape_at(&self, index: usize) -> Option<Shape>
+        ensures { result ≡ slice_get self.now.shapes index }
+    {
         match &self.shapes {
-            Some(shapes) => shapes.as_slice().get(before).copied(),
+            Some(shapes) => shapes.as_slice().get(index).copied(),
             None => {
-                if before < self.grammar.decls.as_slice().len() {
+                if index < self.grammar.decls.as_slice().len() {
                     Some(Shape::Rule)
                 } else {
                     None

@@ -93,6 +93,13 @@ impl Inner {
     {
         &self.symbol
     }
+
+    /// The symbol, taken out. Takes no memory.
+    pub fn into_symbol(self) -> Symbol
+        ensures { symbol_of result ≡ self }
+    {
+        Box::into_inner(self.symbol)
+    }
 }
 
 /// A list of symbols.
