@@ -41,7 +41,7 @@ MayHave Group n = Unit {0}
 MayHave Root n = n ≡ 1
 MayHave shape n = n ≡ 2
 
--- one level without an associativity
+-- one level, neither `left` nor `right` nor `nonassoc`
 abbrev pub IsOneFreeLevel : List Level → Type 0
 IsOneFreeLevel [] = ⊥
 IsOneFreeLevel (level ∷ []) = level.assoc ≡ Free

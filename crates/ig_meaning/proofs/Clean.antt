@@ -15,7 +15,7 @@ use Rattle.ig_grammar.specs.declared.declaration.Level.{Level}
 use Rattle.ig_grammar.specs.declared.declaration.Decl.{Decl}
 use Rattle.ig_grammar.specs.declared.grammar.Grammar.{Grammar}
 
--- the first level, without associativity
+-- the first level, neither `left` nor `right` nor `nonassoc`
 abbrev pub IsPlain : Levelled → Type 0
 IsPlain a = (a.level ≡ 1) × (a.assoc ≡ Free)
 

@@ -9,11 +9,12 @@ use Rattle.ig_text.specs.declared.tag.Tag.TheVariants.{Root}
 use Rattle.ig_text.specs.Tree as plain
 use Rattle.ig_grammar.specs.Symbol.{Symbol, Call}
 use Rattle.ig_grammar.specs.Names.{names, AreDistinct}
-use Rattle.ig_grammar.specs.Numbering.{Levelled, Declares, tag_of, layout_among}
+use Rattle.ig_grammar.specs.Numbering.{Levelled, Declares, layout_among}
 use Rattle.ig_meaning.specs.Derivation.{Covers}
 use Rattle.ig_meaning.specs.Annotated.{Tree, Trees, Leaf, Node, none, more, bare_tree, bare_trees, bound_between, of_permitted}
 use Rattle.ig_meaning.specs.Laws as laws
-use Rattle.ig_meaning.specs.Order.{number_of, value_cmp, begin_of, starts_cmp, tree_cmp, trees_cmp, TagsTellAlternatives, AreRules, UndifferingTreesAreEqual}
+use Rattle.ig_meaning.specs.Order.{number_of, value_cmp, begin_of, starts_cmp, tree_cmp, trees_cmp, UndifferingTreesAreEqual}
+use Rattle.ig_meaning.proofs.Tags.{TagsTellAlternatives, fitting_shapes_tell}
 use Rattle.ig_meaning.specs.Permitted.{Permitted, IsRootAlternative, written, declared, behind_layout}
 use Rattle.ig_grammar.specs.declared.declaration.DeclKind.{DeclKind}
 use Rattle.ig_grammar.specs.declared.declaration.Decl.{Decl}
@@ -103,15 +104,11 @@ module _ (g : Grammar) (shapes : List Shape) (text : List ℕ) (distinct : AreDi
       let r = covers_one g shapes text distinct tells p.covered (length text) q.children q.after q.starts moved.0 children in
       λ z. Node Root (bound_between [] (r.1 z)) 0 (length text) ((r.2 ∙ moved.1) z)
 
-rules_tell : (g : Grammar) (shapes : List Shape) → AreRules shapes → TagsTellAlternatives g shapes
-rules_tell g shapes rules name d k l decl form a b declares numbered other same =
-    let rule : form ≡ shape.Rule = rules declares.shaped.0 form declares.shaped.2 in
-    (λ z. number_of (tag_of (sym rule z) d k)) ∙ same ∙ (λ z. number_of (tag_of (rule z) d l))
-
 pub undiffering : UndifferingTreesAreEqual
 undiffering =
     record {
-      equal = λ g shapes text t u first second distinct tells same. equal g shapes text distinct tells t u first second same;
-      determined = λ g shapes text t first second distinct tells. determined g shapes text distinct tells t first second;
-      tells = rules_tell;
+      equal = λ g shapes text t u first second distinct fit same.
+          equal g shapes text distinct (fitting_shapes_tell g shapes fit) t u first second same;
+      determined = λ g shapes text t first second distinct fit.
+          determined g shapes text distinct (fitting_shapes_tell g shapes fit) t first second;
     }

@@ -3,9 +3,11 @@ use Rattle.std.proofs.Common.{◌≡◌, ℕ, List, [], ◌∷◌, ◌++◌, ref
 use Rattle.ig_text.specs.Tree.{Tree, Trees, Leaf, Node, none, more, one}
 use Rattle.ig_text.specs.declared.tag.Tag.TheVariants as tag
 use Rattle.ig_expr.specs.declared.value.Value.{Value}
-use Rattle.ig_grammar.specs.Symbol.{Symbol, Label, Offside, Ignore, Align, Filtered}
+use Rattle.ig_grammar.specs.Symbol.{Symbol, Label, Offside, Ignore, Align, Filtered, Entry}
 use Rattle.ig_meaning.specs.Environment.{Environment}
-use Rattle.ig_grammar.specs.Regular.{MayHaveLabel, MayHaveMark, MayHaveFilters, MayHaveEntry, StandsWell}
+use Rattle.ig_grammar.specs.Regular.{IsPlaced, MayHaveLabel, MayHaveMark, MayHaveFilters, MayHaveEntry, StandsWell}
+use Rattle.ig_grammar.specs.Subterms.{subterms}
+use Rattle.std.proofs.lemmas.List.Elements.{All-head, All-tail}
 use Rattle.ig_meaning.specs.Derivation.{Derives, Lists, Items, Instance, span_value}
 use Rattle.ig_meaning.specs.Derivation.{literal, one_of, token, call, label, guard, let_be, absent, present, star, plus, sep_star, sep_plus, group, offside, ignore, align, filtered, sequence, entry}
 use Rattle.ig_meaning.specs.Derivation.{nil, snoc, one_item, more_items, first_item, further_item, no_item, some_items, bare, with_filters, alternative}
@@ -96,13 +98,15 @@ module _ (g : Grammar) (shapes : List Shape) (text : List ℕ) where
   of_symbol may well (group c choices k xs env between i j ts starts chosen inner) =
       alone i j (Node (tag.GroupAlt k) i j ts) (refl, refl)
   of_symbol may well (offside c x env after i e j ts starts inner right) =
-      of_symbol (may_have_label x well.0) well.1 inner
-  of_symbol may well (ignore c x env after i e j ts starts inner) = of_symbol (may_have_label x well.0) well.1 inner
+      of_symbol (may_have_label x (All-head IsPlaced (Offside x) (subterms x) well).1) (All-tail IsPlaced (Offside x) (subterms x) well) inner
+  of_symbol may well (ignore c x env after i e j ts starts inner) =
+      of_symbol (may_have_label x (All-head IsPlaced (Ignore x) (subterms x) well).1) (All-tail IsPlaced (Ignore x) (subterms x) well) inner
   of_symbol may well (align c x env after i e j ts starts items inner column) = of_items inner
   of_symbol may well (filtered c x filters env after i e j ts starts inner passes) =
-      of_symbol (may_have_label x (may_have_mark x well.0)) well.2 inner
+      of_symbol (may_have_label x (may_have_mark x (All-head IsPlaced (Filtered x filters) (subterms x) well).1)) (All-tail IsPlaced (Filtered x filters) (subterms x) well) inner
   of_symbol may well (sequence c xs env after i j ts starts inner) = absurd may
-  of_symbol may well (entry c bindings x vs env inside after i e j ts starts have renewed inner) = of_entry well.0 inner
+  of_symbol may well (entry c bindings x vs env inside after i e j ts starts have renewed inner) =
+      of_entry (All-head IsPlaced (Entry bindings x) (subterms x) well).1 inner
 
   bound_span : (name : List ℕ) (between after : Environment) (i e : ℕ) (ts : Trees) → BeginsWith i e ts →
       after ≡ between ++ (name, span_value i e) ∷ [] → BindsFirstTree name i e ts after
@@ -121,4 +125,4 @@ module _ (g : Grammar) (shapes : List Shape) (text : List ℕ) where
       StandsWell (Label name x) → Derives g shapes text c (Label name x) env i e j ts after starts →
       BindsFirstTree name i e ts after
   of_label well (label c name x env between after i e j ts starts inner bound) =
-      bound_span name between after i e ts (of_symbol well.0 well.1 inner) bound
+      bound_span name between after i e ts (of_symbol (All-head IsPlaced (Label name x) (subterms x) well).1 (All-tail IsPlaced (Label name x) (subterms x) well) inner) bound

@@ -1,10 +1,12 @@
 pub mod Inversion
 pub mod Spans
+pub mod Growth
 pub mod Clean
 pub mod Labels
 pub mod Roots
 pub mod Annotation
 pub mod Order
+mod Tags
 mod Tiling
 mod Telling
 mod Equality

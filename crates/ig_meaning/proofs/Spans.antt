@@ -11,7 +11,7 @@ use Rattle.ig_meaning.specs.Environment.{Environment}
 use Rattle.ig_meaning.specs.Derivation.{Covers, Derives, Lists, Items, Instance, Trails}
 use Rattle.ig_meaning.specs.Derivation.{empty, symbol, literal, one_of, token, call, label, guard, let_be, absent, present, star, plus, sep_star, sep_plus, group, offside, ignore, align, filtered, sequence, entry}
 use Rattle.ig_meaning.specs.Derivation.{nil, snoc, one_item, more_items, first_item, further_item, no_item, some_items, bare, with_filters, alternative, layout, no_layout, outside}
-use Rattle.ig_meaning.specs.Laws.{IsInOrder}
+use Rattle.ig_meaning.specs.Laws.{IsInOrder, SpansAreInOrder}
 use Rattle.ig_grammar.specs.declared.declaration.DeclKind.{DeclKind}
 use Rattle.ig_grammar.specs.declared.grammar.Grammar.{Grammar}
 use Rattle.ig_grammar.specs.declared.place.Shape.{Shape}
@@ -104,3 +104,14 @@ module _ (g : Grammar) (shapes : List Shape) (text : List ℕ) where
     trails_in_order (layout name kind e j t starts declared instance) = instance_in_order instance
     trails_in_order (no_layout e undeclared) = still n e
     trails_in_order (outside c e other) = still n e
+
+pub in_order : SpansAreInOrder
+in_order g shapes text =
+    record {
+      covers = covers_in_order g shapes text;
+      derives = derives_in_order g shapes text;
+      lists = lists_in_order g shapes text;
+      items = items_in_order g shapes text;
+      instance = instance_in_order g shapes text;
+      trails = trails_in_order g shapes text;
+    }

@@ -15,13 +15,15 @@ use Rattle.ig_grammar.specs.Numbering.{Levelled, by_level, Declares, IsAlternati
 use Rattle.ig_meaning.specs.Derivation.{Covers, Derives, Lists, Items, Instance, Trails}
 use Rattle.ig_meaning.specs.Derivation.{empty, symbol, literal, one_of, token, call, label, guard, let_be, absent, present, star, plus, sep_star, sep_plus, group, offside, ignore, align, filtered, sequence, entry}
 use Rattle.ig_meaning.specs.Derivation.{nil, snoc, one_item, more_items, first_item, further_item, no_item, some_items, bare, with_filters, alternative, layout, no_layout, outside}
-use Rattle.ig_meaning.specs.Order.{number_of, TagsTellAlternatives}
+use Rattle.ig_meaning.specs.Order.{number_of}
+use Rattle.ig_meaning.proofs.Tags.{TagsTellAlternatives}
 use Rattle.ig_grammar.specs.declared.declaration.DeclKind.{DeclKind}
 use Rattle.ig_grammar.specs.declared.declaration.DeclKind.TheVariants.{Syntax, Lexical}
 use Rattle.ig_grammar.specs.declared.declaration.Decl.{Decl}
 use Rattle.ig_grammar.specs.declared.grammar.Grammar.{Grammar}
 use Rattle.ig_grammar.specs.declared.place.Shape.{Shape}
-use Rattle.ig_meaning.proofs.Inversion.{Called, Chosen, Listed, Lengthened, OfOneItem, ListsBy, ItemsBy, TrailsBy, covers_by, derives_by, lists_by, items_by, instance_by, trails_by}
+use Rattle.ig_meaning.specs.Inversion.{Called, Chosen, Listed, Lengthened, OfOneItem, ListsBy, ItemsBy, TrailsBy}
+use Rattle.ig_meaning.proofs.Inversion.{covers_by, derives_by, lists_by, items_by, instance_by, trails_by}
 use Rattle.ig_meaning.proofs.Tiling.{AreClose, AllClose, HaveSameTags, AllSameTags}
 
 pub join_assoc : (ts us vs : Trees) → join (join ts us) vs ≡ join ts (join us vs)

@@ -27,7 +27,7 @@ abbrev pub exposed : DeclKind → ℕ → List ℕ
 exposed Syntax i = i ∷ []
 exposed kind i = []
 
--- the value of a label round a symbol that covers i to e without the layout behind it
+-- the value of a label round a symbol whose own end is e
 abbrev pub span_value : ℕ → ℕ → Value
 span_value i e = value.Span (record { begin = i; end = e })
 
@@ -45,7 +45,8 @@ module _ (g : Grammar) (shapes : List Shape) (text : List ℕ) where
           Derives c x env i e h ts between ks → Covers c others between h j us after ls →
           vs ≡ join ts us → starts ≡ ks ++ ls → Covers c (x ∷ others) env i j vs after starts
 
-    -- one symbol covers the text from i to j, and to e, its own end, without the layout behind it
+    -- one symbol covers the text from i to j, and e is its own end: the layout behind a token doesn't belong to the token,
+    -- but to a list, an option, a group or a syntax call that the token ends
     pub data Derives : DeclKind → Symbol → Environment → ℕ → ℕ → ℕ → Trees → Environment → List ℕ → Type 0 where
       -- a literal is a token that covers its own spelling, with a leaf
       literal : (c : DeclKind) (word : List ℕ) (env : Environment) (i e j : ℕ) (us ts : Trees) (starts : List ℕ) →
@@ -65,7 +66,7 @@ module _ (g : Grammar) (shapes : List Shape) (text : List ℕ) where
           (i j : ℕ) (t : Tree) (starts : List ℕ) →
           HaveValues text env i arguments vs → Instance name vs kind i j t starts → kind ≢ Lexical →
           Derives c (Call name arguments) env i j j (one t) env starts
-      -- a label binds the span of its symbol, without the layout behind it, after what the symbol binds
+      -- a label binds the span of its symbol up to the own end, after what the symbol binds
       label : (c : DeclKind) (name : List ℕ) (x : Symbol) (env between after : Environment) (i e j : ℕ) (ts : Trees)
           (starts : List ℕ) →
           Derives c x env i e j ts between starts → after ≡ between ++ (name, span_value i e) ∷ [] →
@@ -110,7 +111,7 @@ module _ (g : Grammar) (shapes : List Shape) (text : List ℕ) where
       align : (c : DeclKind) (x : Symbol) (env after : Environment) (i e j : ℕ) (ts : Trees) (starts items : List ℕ) →
           Items c x env i e j ts after starts items → AreAligned text items →
           Derives c (Align x) env i e j ts after starts
-      -- filters are asked of the symbol without the layout behind it
+      -- filters are asked of the symbol up to its own end
       filtered : (c : DeclKind) (x : Symbol) (filters : List Filter) (env after : Environment) (i e j : ℕ) (ts : Trees)
           (starts : List ℕ) →
           Derives c x env i e j ts after starts → PassesAll text i e filters →

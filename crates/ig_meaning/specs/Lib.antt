@@ -6,5 +6,6 @@ pub mod Operands
 pub mod Clean
 pub mod Permitted
 pub mod Laws
+pub mod Inversion
 pub mod Annotated
 pub mod Order

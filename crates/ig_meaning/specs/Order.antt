@@ -1,5 +1,5 @@
 -- The order of derivation trees of one symbol with the same span, from the same environment, by their first difference.
-use Rattle.std.specs.Prelude.{◌≡◌, ℕ, suc, List, Some, slice_get}
+use Rattle.std.specs.Prelude.{◌≡◌, ℕ, suc, List}
 use Rattle.std.specs.declared.cmp.Ordering.{Ordering}
 use Rattle.std.specs.declared.cmp.Ordering.TheVariants.{Less, Equal, Greater}
 use Rattle.std.specs.Ordering.{ordering_then, ordering_reverse, nat_cmp, int_cmp, bool_cmp}
@@ -11,12 +11,10 @@ use Rattle.ig_expr.specs.declared.value.Value.{Value}
 use Rattle.ig_expr.specs.declared.value.Value.TheVariants as value
 use Rattle.ig_meaning.specs.Annotated.{Tree, Trees, Leaf, Node, none, more, one, join, bare_tree, of_permitted}
 use Rattle.ig_grammar.specs.Names.{names, AreDistinct}
-use Rattle.ig_grammar.specs.Numbering.{Levelled, Declares, IsAlternative, tag_of}
+use Rattle.ig_grammar.specs.Checked.{FitShapes}
 use Rattle.ig_meaning.specs.Permitted.{Permitted}
-use Rattle.ig_grammar.specs.declared.declaration.Decl.{Decl}
 use Rattle.ig_grammar.specs.declared.grammar.Grammar.{Grammar}
 use Rattle.ig_grammar.specs.declared.place.Shape.{Shape}
-use Rattle.ig_grammar.specs.declared.place.Shape.TheVariants as shape
 
 -- the number of a tag among those of one symbol
 abbrev pub number_of : Tag → ℕ
@@ -104,25 +102,13 @@ pub record IsAnOrder : Type 0 where
   pub onward : (t u v : Tree) → tree_cmp t u ≡ Less → tree_cmp u v ≡ Less → tree_cmp t v ≡ Less
   pub alike : (t u v : Tree) → tree_cmp t u ≡ Equal → tree_cmp t v ≡ tree_cmp u v
 
--- the number of a tag tells the alternatives of each declaration apart
-abbrev pub TagsTellAlternatives : Grammar → List Shape → Type 0
-TagsTellAlternatives g shapes =
-    (name : List ℕ) (d k l : ℕ) (decl : Decl) (shape : Shape) (a b : Levelled) → Declares g shapes name d decl shape →
-    IsAlternative decl k a → IsAlternative decl l b → number_of (tag_of shape d k) ≡ number_of (tag_of shape d l) → k ≡ l
-
--- each declaration stands for itself
-abbrev pub AreRules : List Shape → Type 0
-AreRules shapes = (before : ℕ) (form : Shape) → slice_get shapes before ≡ Some form → form ≡ shape.Rule
-
--- permitted trees that don't differ are equal
+-- permitted trees that don't differ are equal, where no name is declared twice and each declaration is of its shape
 pub record UndifferingTreesAreEqual : Type 0 where
-  -- where no name is declared twice, and the numbers of tags tell alternatives apart
-  pub equal : (g : Grammar) (shapes : List Shape) (text : List ℕ) (t u : plain.Tree) (first : Permitted g shapes text t)
-      (second : Permitted g shapes text u) → AreDistinct (names g.decls) → TagsTellAlternatives g shapes →
+  pub equal : (g : Grammar) (shapes : List Shape) (text : List ℕ) (t u : plain.Tree)
+      (first : Permitted g shapes text t) (second : Permitted g shapes text u) →
+      AreDistinct (names g.decls) → FitShapes g shapes →
       tree_cmp (of_permitted g shapes text first) (of_permitted g shapes text second) ≡ Equal → t ≡ u
-  -- and then what is compared of a permitted tree is the same for each derivation of it
-  pub determined : (g : Grammar) (shapes : List Shape) (text : List ℕ) (t : plain.Tree) (first second : Permitted g shapes text t) →
-      AreDistinct (names g.decls) → TagsTellAlternatives g shapes →
+  -- and what is compared of a permitted tree is the same for each derivation of it
+  pub determined : (g : Grammar) (shapes : List Shape) (text : List ℕ) (t : plain.Tree)
+      (first second : Permitted g shapes text t) → AreDistinct (names g.decls) → FitShapes g shapes →
       of_permitted g shapes text first ≡ of_permitted g shapes text second
-  -- as they do where each declaration stands for itself
-  pub tells : (g : Grammar) (shapes : List Shape) → AreRules shapes → TagsTellAlternatives g shapes

@@ -1,14 +1,29 @@
-ghost use Rattle.ig_meaning.specs.Laws.{SpansAreInOrder, PermittedTreesAreWhole, TreesWithoutOperatorsAreClean, LabelsBindOwnSpans};
-ghost use Rattle.ig_meaning.specs.Order.{ComparedTreesArePermitted, LastChildStartsDecide, IsAnOrder, UndifferingTreesAreEqual};
+ghost use Rattle.ig_meaning.specs.Inversion.{DerivationsInvert};
+ghost use Rattle.ig_meaning.specs.Laws.{EnvironmentsGrow, LabelsBindOwnSpans, PermittedTreesAreWhole};
+ghost use Rattle.ig_meaning.specs.Laws.{SpansAreInOrder, TreesWithoutOperatorsAreClean};
+ghost use Rattle.ig_meaning.specs.Order.{ComparedTreesArePermitted, IsAnOrder};
+ghost use Rattle.ig_meaning.specs.Order.{LastChildStartsDecide, UndifferingTreesAreEqual};
 
-/// What a symbol covers begins before its own end, which lies before the layout behind it, and all
-/// of it is within the text. This law, proved of every derivation, computes nothing.
+/// A derivation of each form of symbol consists of what the rules of derivations say of this form.
+/// This law, proved of every derivation, computes nothing.
+pub fn derivations_invert()
+    ensures { DerivationsInvert }
+{}
+
+/// What a symbol covers ends where it begins or behind, its own end lies between, and all of it is
+/// within the text. This law, proved of every derivation, computes nothing.
 pub fn spans_are_in_order()
     ensures { SpansAreInOrder }
 {}
 
-/// A label binds the span of the first of its symbol's trees, without the layout behind it. This
-/// law, proved of every derivation, computes nothing.
+/// What symbols leave is the environment in which they stand, with the names that they bind at its
+/// end. This law, proved of every derivation, computes nothing.
+pub fn environments_grow()
+    ensures { EnvironmentsGrow }
+{}
+
+/// A label binds the span of the first of its symbol's trees. This law, proved of every derivation,
+/// computes nothing.
 pub fn labels_bind_own_spans()
     ensures { LabelsBindOwnSpans }
 {}
@@ -19,8 +34,8 @@ pub fn permitted_trees_are_whole()
     ensures { PermittedTreesAreWhole }
 {}
 
-/// Where no declaration has a second level or an associativity, every tree is clean. This law,
-/// proved of every such grammar, computes nothing.
+/// Where no declaration has a second level, or a level that is `left`, `right` or `nonassoc`, every
+/// tree is clean, at each of its nodes. This law, proved of every such grammar, computes nothing.
 pub fn trees_without_operators_are_clean()
     ensures { TreesWithoutOperatorsAreClean }
 {}
@@ -44,9 +59,8 @@ pub fn trees_are_ordered()
 {}
 
 /// Permitted trees that don't differ are equal, and what is compared of a tree is the same for each
-/// of its derivations, where no name is declared twice and the numbers of tags tell the alternatives
-/// of each declaration apart, as they do in every grammar that was read. This law, proved of every
-/// derivation, computes nothing.
+/// of its derivations, where no name is declared twice and each declaration is of its shape, as in
+/// every checked grammar. This law, proved of every derivation, computes nothing.
 pub fn undiffering_trees_are_equal()
     ensures { UndifferingTreesAreEqual }
 {}
