@@ -24,7 +24,7 @@ range_more text p e c h lt =
     ap (λ (z : ℕ). z ∷ drop (p + 1) text) (get_or_from_slice_get text p c c h) in
     let n : e - p ≡ suc (e - (p + 1)) = omega arith in rw (n, step) refl
 
-grows : (cs : List ℕ) (n : ℕ) → n ≤ spelled n cs
+pub grows : (cs : List ℕ) (n : ℕ) → n ≤ spelled n cs
 grows [] n = omega arith
 grows (c ∷ cs) n = omega (arith, grows cs (10 * n + (c - 48)))
 
