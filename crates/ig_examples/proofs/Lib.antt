@@ -5,5 +5,6 @@ pub mod Enumeration
 pub mod EnumerationSound
 pub mod EnumerationComplete
 pub mod CleanDeciding
+pub mod Roots
 pub mod Exactness
 pub mod Rows

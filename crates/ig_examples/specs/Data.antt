@@ -1,5 +1,5 @@
 -- Values: names that are compared, and a number that is read and counted down.
-use Rattle.std.specs.Prelude.{List, [], ◌∷◌, Some, codes, pos}
+use Rattle.std.specs.Prelude.{[], ◌∷◌, Some, codes, pos}
 use Rattle.ig_text.specs.declared.tag.Tag.TheVariants.{Nil}
 use Rattle.ig_text.specs.Tree.{Leaf, Node, none}
 use Rattle.ig_expr.specs.Expression.{Expression, Integer, Variable, Binary, Of, Same}
@@ -11,9 +11,7 @@ use Rattle.ig_grammar.specs.declared.declaration.Assoc.TheVariants.{Free}
 use Rattle.ig_grammar.specs.declared.declaration.DeclKind.TheVariants.{Syntax, Lexical}
 use Rattle.ig_grammar.specs.declared.declaration.Decl.{Decl}
 use Rattle.ig_grammar.specs.declared.grammar.Grammar.{Grammar}
-use Rattle.ig_grammar.specs.declared.place.Shape.{Shape}
-use Rattle.ig_grammar.specs.declared.place.Shape.TheVariants as shape
-use Rattle.ig_examples.specs.Exactly.{PermitsExactly}
+use Rattle.ig_examples.specs.Exactly.{Permits}
 use Rattle.ig_examples.specs.Notation.{letter, digit, plain, level, rule, word_of, name_of, root, node}
 
 -- `start El; syntax El = "<" n: Name ">" El* "</" m: Name ">" when (same(n, m)); lexical Name = [a-z]+ !>> [a-z];`
@@ -25,13 +23,10 @@ elements =
           rule Syntax (codes "El") (Literal (codes "<") ∷ Label (codes "n") (plain (codes "Name")) ∷ Literal (codes ">") ∷ Star (plain (codes "El")) ∷ Literal (codes "</") ∷ Label (codes "m") (plain (codes "Name")) ∷ Literal (codes ">") ∷ Guard (Same (Variable (codes "n")) (Variable (codes "m"))) ∷ []) ∷ rule Lexical (codes "Name") (word_of letter ∷ []) ∷ [];
     }
 
-abbrev pub two_rules : List Shape
-two_rules = shape.Rule ∷ shape.Rule ∷ []
-
 -- an element ends with the name with which it begins
 pub record NamesAreCompared : Type 0 where
-  pub same_name : PermitsExactly elements two_rules (codes "<a></a>") 8 (root 7 (node 1 1 0 7 (Leaf 0 1 ∷ name_of 2 1 1 ∷ Leaf 2 3 ∷ Node Nil 3 3 none ∷ Leaf 3 5 ∷ name_of 2 5 1 ∷ Leaf 6 7 ∷ []) ∷ []) ∷ [])
-  pub other_name : PermitsExactly elements two_rules (codes "<a></b>") 8 []
+  pub same_name : Permits elements (codes "<a></a>") 8 (root 7 (node 1 1 0 7 (Leaf 0 1 ∷ name_of 2 1 1 ∷ Leaf 2 3 ∷ Node Nil 3 3 none ∷ Leaf 3 5 ∷ name_of 2 5 1 ∷ Leaf 6 7 ∷ []) ∷ []) ∷ [])
+  pub other_name : Permits elements (codes "<a></b>") 8 []
 
 abbrev pub k : Expression
 k = Variable (codes "k")
@@ -56,10 +51,7 @@ counted =
           rule Syntax (codes "S") (Literal (codes "{") ∷ Label (codes "n") (plain (codes "Num")) ∷ Literal (codes "}") ∷ Call (codes "Body") (Of Number (Variable (codes "n")) ∷ []) ∷ []) ∷ rule Lexical (codes "Num") (word_of digit ∷ []) ∷ body ∷ [];
     }
 
-abbrev pub three_rules : List Shape
-three_rules = shape.Rule ∷ shape.Rule ∷ shape.Rule ∷ []
-
 -- as many letters as the number says
 pub record LettersAreCounted : Type 0 where
-  pub three : PermitsExactly counted three_rules (codes "{3}abc") 8 (root 6 (node 1 1 0 6 (Leaf 0 1 ∷ name_of 2 1 1 ∷ Leaf 2 3 ∷ node 3 2 3 6 (Leaf 3 4 ∷ node 3 2 4 6 (Leaf 4 5 ∷ node 3 2 5 6 (Leaf 5 6 ∷ node 3 1 6 6 [] ∷ []) ∷ []) ∷ []) ∷ []) ∷ []) ∷ [])
-  pub too_many : PermitsExactly counted three_rules (codes "{2}abc") 8 []
+  pub three : Permits counted (codes "{3}abc") 8 (root 6 (node 1 1 0 6 (Leaf 0 1 ∷ name_of 2 1 1 ∷ Leaf 2 3 ∷ node 3 2 3 6 (Leaf 3 4 ∷ node 3 2 4 6 (Leaf 4 5 ∷ node 3 2 5 6 (Leaf 5 6 ∷ node 3 1 6 6 [] ∷ []) ∷ []) ∷ []) ∷ []) ∷ []) ∷ [])
+  pub too_many : Permits counted (codes "{2}abc") 8 []

@@ -5,3 +5,9 @@ pub mod Operators
 pub mod Data
 pub mod Blocks
 pub mod Keyword
+pub mod Layout
+pub mod Filters
+pub mod Columns
+pub mod Bindings
+pub mod Levels
+pub mod Passes

@@ -1,18 +1,19 @@
 -- Parts of grammars, as they are written most often.
-use Rattle.std.specs.Prelude.{ℕ, List, [], ◌∷◌, map, false, ◌+◌, codes}
+use Rattle.std.specs.Prelude.{ℕ, List, [], ◌∷◌, map, false, ◌+◌, Some, codes}
 use Rattle.ig_text.specs.declared.class.Class.{Class}
 use Rattle.ig_text.specs.declared.class.Class.TheVariants.{Ranges}
 use Rattle.ig_text.specs.declared.pattern.Pattern.TheVariants as pattern
-use Rattle.ig_text.specs.declared.tag.Tag.TheVariants.{Rule, Nil, Snoc, One, More, Root}
+use Rattle.ig_text.specs.declared.tag.Tag.TheVariants.{Rule, Nil, Snoc, One, More, GroupAlt, Root}
 use Rattle.ig_text.specs.Tree.{Tree, Trees, Leaf, Node, none, more, one}
 use Rattle.ig_grammar.specs.Symbol.{Symbol, OneOf, Call, Plus, Star, Filtered, Group, no_alternatives, next_alternative, gathered}
 use Rattle.ig_grammar.specs.declared.filter.Filter.TheVariants.{NotFollowed}
 use Rattle.ig_grammar.specs.declared.declaration.Assoc.{Assoc}
 use Rattle.ig_grammar.specs.declared.declaration.Assoc.TheVariants.{Free}
 use Rattle.ig_grammar.specs.declared.declaration.DeclKind.{DeclKind}
-use Rattle.ig_grammar.specs.declared.declaration.DeclKind.TheVariants.{Lexical, Layout}
+use Rattle.ig_grammar.specs.declared.declaration.DeclKind.TheVariants.{Syntax, Lexical, Layout}
 use Rattle.ig_grammar.specs.declared.declaration.Level.{Level}
 use Rattle.ig_grammar.specs.declared.declaration.Decl.{Decl}
+use Rattle.ig_grammar.specs.declared.grammar.Grammar.{Grammar}
 
 -- the characters from the first to the last
 abbrev pub range : ℕ → ℕ → Class
@@ -66,6 +67,10 @@ layout =
 abbrev pub identifiers : Decl
 identifiers = rule Lexical (codes "Id") (word_of letter ∷ [])
 
+-- `start S;`, a syntax declaration `S` of one alternative, and the other declarations
+abbrev pub one_rule : List Symbol → List Decl → Grammar
+one_rule symbols others = record { start = Some (codes "S"); decls = rule Syntax (codes "S") symbols ∷ others }
+
 -- the trees in order
 abbrev pub trees : List Tree → Trees
 trees [] = none
@@ -98,3 +103,11 @@ root n ts = Node Root 0 n (trees ts)
 -- a node by alternative k of declaration d
 abbrev pub node : ℕ → ℕ → ℕ → ℕ → List Tree → Tree
 node d k i j ts = Node (Rule d k) i j (trees ts)
+
+-- a node by alternative k of declaration d, of one leaf
+abbrev pub leaf_of : ℕ → ℕ → ℕ → ℕ → Tree
+leaf_of d k i j = node d k i j (Leaf i j ∷ [])
+
+-- a group by its alternative k
+abbrev pub group : ℕ → ℕ → ℕ → List Tree → Tree
+group k i j ts = Node (GroupAlt k) i j (trees ts)

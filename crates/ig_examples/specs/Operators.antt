@@ -6,9 +6,7 @@ use Rattle.ig_grammar.specs.declared.declaration.Assoc.TheVariants.{Free, Left, 
 use Rattle.ig_grammar.specs.declared.declaration.DeclKind.TheVariants.{Syntax}
 use Rattle.ig_grammar.specs.declared.declaration.Level.{Level}
 use Rattle.ig_grammar.specs.declared.grammar.Grammar.{Grammar}
-use Rattle.ig_grammar.specs.declared.place.Shape.{Shape}
-use Rattle.ig_grammar.specs.declared.place.Shape.TheVariants as shape
-use Rattle.ig_examples.specs.Exactly.{PermitsExactly}
+use Rattle.ig_examples.specs.Exactly.{Permits}
 use Rattle.ig_examples.specs.Notation.{digit, range, plain, level, declaration, root, node}
 
 -- the symbols of an operator between two operands
@@ -22,13 +20,6 @@ behind operator = plain (codes "E") ∷ Literal operator ∷ []
 -- a grammar whose one declaration has these levels
 abbrev pub grammar_of : List Level → Grammar
 grammar_of levels = record { start = Some (codes "E"); decls = declaration Syntax (codes "E") levels ∷ [] }
-
-abbrev pub shapes : List Shape
-shapes = shape.Rule ∷ []
-
--- of all trees of at most height 6, exactly these
-abbrev pub Permits : List Level → List ℕ → List Tree → Type 0
-Permits levels text trees = PermitsExactly (grammar_of levels) shapes text 6 trees
 
 -- the tree of one character, by alternative 1
 abbrev pub atom : ℕ → ℕ → Tree
@@ -53,9 +44,9 @@ arithmetic =
 
 -- operators of one level group to the left, and a level that binds tighter comes first
 pub record LevelsBind : Type 0 where
-  pub differences : Permits arithmetic (codes "1-2-3") (root 5 (binary 4 0 3 4 5 (binary 4 0 1 2 3 (atom 0 1) (atom 2 3)) (atom 4 5) ∷ []) ∷ [])
-  pub sum_of_product : Permits arithmetic (codes "1+2*3") (root 5 (binary 3 0 1 2 5 (atom 0 1) (binary 2 2 3 4 5 (atom 2 3) (atom 4 5)) ∷ []) ∷ [])
-  pub cut_off : Permits arithmetic (codes "1-") []
+  pub differences : Permits (grammar_of arithmetic) (codes "1-2-3") 6 (root 5 (binary 4 0 3 4 5 (binary 4 0 1 2 3 (atom 0 1) (atom 2 3)) (atom 4 5) ∷ []) ∷ [])
+  pub sum_of_product : Permits (grammar_of arithmetic) (codes "1+2*3") 6 (root 5 (binary 3 0 1 2 5 (atom 0 1) (binary 2 2 3 4 5 (atom 2 3) (atom 4 5)) ∷ []) ∷ [])
+  pub cut_off : Permits (grammar_of arithmetic) (codes "1-") 6 []
 
 -- `start E; syntax E = [a-c] > left E "*" E > left E "+" E > "-" E;`
 abbrev pub with_sign : List Level
@@ -69,9 +60,9 @@ with_suffixes =
 
 pub record SpinesAreWhole : Type 0 where
   -- a sign that binds loosest takes all behind it, also where it stands deep in a left operand
-  pub sign_last : Permits with_sign (codes "a*-b+c") (root 6 (binary 2 0 1 2 6 (atom 0 1) (prefix 4 2 3 6 (binary 3 3 4 5 6 (atom 3 4) (atom 5 6))) ∷ []) ∷ [])
+  pub sign_last : Permits (grammar_of with_sign) (codes "a*-b+c") 6 (root 6 (binary 2 0 1 2 6 (atom 0 1) (prefix 4 2 3 6 (binary 3 3 4 5 6 (atom 3 4) (atom 5 6))) ∷ []) ∷ [])
   -- the operand of `!` ends in `?`, so no node on its right spine has a right operand, and nothing is asked of it
-  pub suffixes : Permits with_suffixes (codes "a*a?!") (root 5 (suffix 2 0 4 5 (suffix 4 0 3 4 (binary 3 0 1 2 3 (atom 0 1) (atom 2 3))) ∷ []) ∷ [])
+  pub suffixes : Permits (grammar_of with_suffixes) (codes "a*a?!") 6 (root 5 (suffix 2 0 4 5 (suffix 4 0 3 4 (binary 3 0 1 2 3 (atom 0 1) (atom 2 3))) ∷ []) ∷ [])
 
 -- `start E; syntax E = [a-c] > nonassoc E "<" E;`
 abbrev pub comparison : List Level
@@ -79,5 +70,5 @@ comparison = level Free ((OneOf (range 97 99) ∷ []) ∷ []) ∷ level Nonassoc
 
 -- an operator without associativity has none of its own level as an operand
 pub record ComparisonsStandAlone : Type 0 where
-  pub alone : Permits comparison (codes "a<b") (root 3 (binary 2 0 1 2 3 (atom 0 1) (atom 2 3) ∷ []) ∷ [])
-  pub in_a_row : Permits comparison (codes "a<b<c") []
+  pub alone : Permits (grammar_of comparison) (codes "a<b") 6 (root 3 (binary 2 0 1 2 3 (atom 0 1) (atom 2 3) ∷ []) ∷ [])
+  pub in_a_row : Permits (grammar_of comparison) (codes "a<b<c") 6 []
