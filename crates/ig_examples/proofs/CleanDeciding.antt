@@ -7,7 +7,7 @@ use Rattle.std.proofs.lemmas.Bool.Decides.{nat_tests}
 use Rattle.ig_text.specs.declared.tag.Tag.{Tag}
 use Rattle.ig_text.specs.declared.tag.Tag.TheVariants.{Rule}
 use Rattle.ig_text.specs.Tree.{Tree, Trees, Leaf, Node, none, more, one, join}
-use Rattle.ig_expr.specs.Names.{is_word}
+use Rattle.ig_text.specs.Words.{is_word}
 use Rattle.ig_grammar.specs.Symbol.{Symbol, Call, Label}
 use Rattle.ig_grammar.specs.Numbering.{Levelled, by_level}
 use Rattle.ig_meaning.specs.Operands.{without_tests, Calls, plain, labelled, HasLeftOperand, HasRightOperand, left_bound, right_bound}

@@ -10,7 +10,7 @@ use Rattle.ig_text.specs.Pattern.{Matches}
 use Rattle.ig_text.specs.Tree.{Tree, Trees, Leaf, Node, none, more, one, join, height, greatest_height}
 use Rattle.ig_expr.specs.Expression.{Expression}
 use Rattle.ig_expr.specs.Evaluation.{value_of}
-use Rattle.ig_expr.specs.Names.{is_word}
+use Rattle.ig_text.specs.Words.{is_word}
 use Rattle.ig_expr.specs.declared.value.Value.{Value}
 use Rattle.ig_expr.specs.declared.value.Value.TheVariants as value
 use Rattle.ig_grammar.specs.Symbol.{Symbol, Call, Star, Plus, SepPlus, Group, Filtered}
