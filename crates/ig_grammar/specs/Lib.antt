@@ -12,5 +12,9 @@ pub mod Checked
 pub mod Subterms
 pub mod Regular
 pub mod Laws
-pub mod Stored
-pub mod Falls
+pub mod CodingBindings
+pub mod CodingSymbols
+pub mod CodingAlternatives
+pub mod CodingSizes
+pub mod CodingFalls
+pub mod CodingChecked

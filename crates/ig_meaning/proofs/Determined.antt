@@ -19,7 +19,7 @@ use Rattle.ig_meaning.specs.Derivation.{nil, snoc, one_item, more_items, first_i
 use Rattle.ig_meaning.specs.Annotated as a
 use Rattle.ig_meaning.specs.Annotated.{bound_between, of_covered, of_derived, of_list, of_items, of_instance, of_trail}
 use Rattle.ig_meaning.specs.Laws.{end_of}
-use Rattle.ig_meaning.specs.Order.{number_of}
+use Rattle.ig_text.specs.TagNumber.{number_of}
 use Rattle.ig_meaning.proofs.Tags.{TagsTellAlternatives}
 use Rattle.ig_grammar.specs.declared.declaration.DeclKind.{DeclKind}
 use Rattle.ig_grammar.specs.declared.declaration.DeclKind.TheVariants.{Syntax, Lexical}

@@ -13,7 +13,9 @@ use Rattle.ig_grammar.specs.Numbering.{Levelled, Declares, layout_among}
 use Rattle.ig_meaning.specs.Derivation.{Covers}
 use Rattle.ig_meaning.specs.Annotated.{Tree, Trees, Leaf, Node, none, more, bare_tree, bare_trees, bound_between, of_permitted}
 use Rattle.ig_meaning.specs.Laws as laws
-use Rattle.ig_meaning.specs.Order.{number_of, value_cmp, begin_of, starts_cmp, tree_cmp, trees_cmp, UndifferingTreesAreEqual}
+use Rattle.ig_text.specs.TagNumber.{number_of}
+use Rattle.ig_expr.specs.ValueOrder.{value_cmp}
+use Rattle.ig_meaning.specs.Order.{begin_of, starts_cmp, tree_cmp, trees_cmp, UndifferingTreesAreEqual}
 use Rattle.ig_meaning.proofs.Tags.{TagsTellAlternatives, fitting_shapes_tell}
 use Rattle.ig_meaning.specs.Permitted.{Permitted, IsRootAlternative, written, declared, behind_layout}
 use Rattle.ig_grammar.specs.declared.declaration.DeclKind.{DeclKind}

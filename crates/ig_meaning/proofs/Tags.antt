@@ -5,7 +5,7 @@ use Rattle.std.proofs.lemmas.List.{length-map}
 use Rattle.std.proofs.lemmas.Option.{slice_get_within}
 use Rattle.ig_text.specs.declared.tag.Tag.{Tag}
 use Rattle.ig_text.specs.declared.tag.Tag.TheVariants as tag
-use Rattle.ig_meaning.specs.Order.{number_of}
+use Rattle.ig_text.specs.TagNumber.{number_of}
 use Rattle.ig_grammar.specs.Checked.{FitShapes, MayHave}
 use Rattle.ig_grammar.specs.Numbering.{Levelled, Declares, IsAlternative, tag_of, tag_among, by_level, alternatives}
 use Rattle.ig_grammar.specs.declared.symbol.Alt.{Alt}

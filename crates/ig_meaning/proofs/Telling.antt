@@ -15,7 +15,7 @@ use Rattle.ig_grammar.specs.Numbering.{Levelled, by_level, Declares, IsAlternati
 use Rattle.ig_meaning.specs.Derivation.{Covers, Derives, Lists, Items, Instance, Trails}
 use Rattle.ig_meaning.specs.Derivation.{empty, symbol, literal, one_of, token, call, label, guard, let_be, absent, present, star, plus, sep_star, sep_plus, group, offside, ignore, align, filtered, sequence, entry}
 use Rattle.ig_meaning.specs.Derivation.{nil, snoc, one_item, more_items, first_item, further_item, no_item, some_items, bare, with_filters, alternative, layout, no_layout, outside}
-use Rattle.ig_meaning.specs.Order.{number_of}
+use Rattle.ig_text.specs.TagNumber.{number_of}
 use Rattle.ig_meaning.proofs.Tags.{TagsTellAlternatives}
 use Rattle.ig_grammar.specs.declared.declaration.DeclKind.{DeclKind}
 use Rattle.ig_grammar.specs.declared.declaration.DeclKind.TheVariants.{Syntax, Lexical}

@@ -9,7 +9,7 @@ use Rattle.ig_meaning.specs.Derivation.{Covers, Derives, Lists, Items, Instance,
 use Rattle.ig_meaning.specs.Derivation.{empty, symbol, literal, one_of, token, call, label, guard, let_be, absent, present, star, plus, sep_star, sep_plus, group, offside, ignore, align, filtered, sequence, entry}
 use Rattle.ig_meaning.specs.Derivation.{nil, snoc, one_item, more_items, first_item, further_item, no_item, some_items, bare, with_filters, alternative, layout, no_layout, outside}
 use Rattle.ig_meaning.specs.Laws.{begin_of, end_of}
-use Rattle.ig_meaning.specs.Order.{number_of}
+use Rattle.ig_text.specs.TagNumber.{number_of}
 use Rattle.ig_grammar.specs.declared.declaration.DeclKind.{DeclKind}
 use Rattle.ig_grammar.specs.declared.grammar.Grammar.{Grammar}
 use Rattle.ig_grammar.specs.declared.place.Shape.{Shape}

@@ -2,42 +2,16 @@
 use Rattle.std.specs.Prelude.{◌≡◌, ℕ, suc, List}
 use Rattle.std.specs.declared.cmp.Ordering.{Ordering}
 use Rattle.std.specs.declared.cmp.Ordering.TheVariants.{Less, Equal, Greater}
-use Rattle.std.specs.Ordering.{ordering_then, ordering_reverse, nat_cmp, int_cmp, bool_cmp}
-use Rattle.std.specs.Cmp.Lexicographic.{slice_cmp}
-use Rattle.ig_text.specs.declared.tag.Tag.{Tag}
-use Rattle.ig_text.specs.declared.tag.Tag.TheVariants.{Rule, Nil, Snoc, One, More, Absent, Present, GroupAlt, Root}
+use Rattle.std.specs.Ordering.{ordering_then, ordering_reverse, nat_cmp}
+use Rattle.ig_text.specs.TagNumber.{number_of}
 use Rattle.ig_text.specs.Tree as plain
-use Rattle.ig_expr.specs.declared.value.Value.{Value}
-use Rattle.ig_expr.specs.declared.value.Value.TheVariants as value
+use Rattle.ig_expr.specs.ValueOrder.{values_cmp}
 use Rattle.ig_meaning.specs.Annotated.{Tree, Trees, Leaf, Node, none, more, one, join, bare_tree, of_permitted}
 use Rattle.ig_grammar.specs.Names.{names, AreDistinct}
 use Rattle.ig_grammar.specs.Checked.{FitShapes}
 use Rattle.ig_meaning.specs.Permitted.{Permitted}
 use Rattle.ig_grammar.specs.declared.grammar.Grammar.{Grammar}
 use Rattle.ig_grammar.specs.declared.place.Shape.{Shape}
-
--- the number of a tag among those of one symbol
-abbrev pub number_of : Tag → ℕ
-number_of (Rule d k) = k
-number_of Nil = 1
-number_of Snoc = 2
-number_of One = 1
-number_of More = 2
-number_of Absent = 1
-number_of Present = 2
-number_of (GroupAlt k) = k
-number_of Root = 1
-
--- integers by size, false before true, spans by their begin and then by their end
-abbrev pub value_cmp : Value → Value → Ordering
-value_cmp (value.Int a) (value.Int b) = int_cmp a b
-value_cmp (value.Bool a) (value.Bool b) = bool_cmp a b
-value_cmp (value.Span a) (value.Span b) = ordering_then (nat_cmp a.begin b.begin) (nat_cmp a.end b.end)
--- values of two kinds never stand at one place
-value_cmp (value.Int a) other = Less
-value_cmp (value.Bool a) (value.Int b) = Greater
-value_cmp (value.Bool a) (value.Span b) = Less
-value_cmp (value.Span a) other = Greater
 
 abbrev pub begin_of : Tree → ℕ
 begin_of (Leaf i j) = i
@@ -57,7 +31,8 @@ abbrev mutual
   tree_cmp (Leaf i j) (Node tag bound k l us) = Less
   tree_cmp (Node tag bound i j ts) (Leaf k l) = Greater
   tree_cmp (Node tag bound i j ts) (Node other values k l us) =
-      ordering_then (nat_cmp (number_of tag) (number_of other)) (ordering_then (slice_cmp value_cmp bound values) (ordering_then (starts_cmp ts us) (trees_cmp ts us)))
+      ordering_then (nat_cmp (number_of tag) (number_of other))
+        (ordering_then (values_cmp bound values) (ordering_then (starts_cmp ts us) (trees_cmp ts us)))
 
   pub trees_cmp : Trees → Trees → Ordering
   trees_cmp none none = Equal

@@ -1,3 +1,4 @@
+-- For the proof checker alone: a reader need not read this file.
 -- Symbols stored as trees of heads, from which they are read back: so a proof tells symbols apart.
 use Rattle.std.specs.Prelude.{◌≡◌, ℕ, zero, suc, List, ◌⊎◌, refl}
 use Rattle.std.specs.Coded.{Coded, code_by, coded_ℕ, coded_list, coded×, coded⊎}
@@ -9,7 +10,8 @@ use Rattle.ig_expr.specs.Expression.{Expression}
 use Rattle.ig_expr.specs.Stored.{expression_code}
 use Rattle.ig_grammar.specs.declared.filter.Filter.{Filter}
 use Rattle.ig_grammar.specs.contracts.filter.Filter as filter
-use Rattle.ig_grammar.specs.Binding.{Binding, binding_code}
+use Rattle.ig_grammar.specs.Binding.{Binding}
+use Rattle.ig_grammar.specs.CodingBindings.{binding_code}
 use Rattle.ig_grammar.specs.Symbol.{Symbol, Literal, OneOf, Call, Label, Guard, Let, Opt, Star, Plus, SepStar, SepPlus, Group, Offside, Ignore, Align, Filtered, Seq, Entry}
 use Rattle.ig_grammar.specs.Symbol.{Symbols, no_symbols, next_symbol, Alternatives, no_alternatives, next_alternative}
 

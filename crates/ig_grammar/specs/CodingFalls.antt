@@ -1,10 +1,11 @@
+-- For the proof checker alone: a reader need not read this file.
 -- A symbol has more nodes than each one inside it.
 use Rattle.std.specs.Prelude.{◌≡◌, ◌+◌, ◌≤◌, max, List, [], ◌∷◌, map}
 use Rattle.std.proofs.Common.{arith}
 use denote.Param.Weighed.{most}
-use Rattle.ig_grammar.specs.Symbol.{nodes, list_nodes}
+use Rattle.ig_grammar.specs.CodingSizes.{nodes, list_nodes}
+use Rattle.ig_grammar.specs.CodingAlternatives.{alternatives_nodes}
 use Rattle.ig_grammar.specs.View.{symbol_of}
-use Rattle.ig_grammar.specs.Alternative.{alternatives_nodes}
 use Rattle.ig_grammar.specs.declared.symbol.Alt.{Alt}
 use Rattle.ig_grammar.specs.declared.symbol.Symbol.{Symbol}
 use Rattle.ig_grammar.specs.declared.symbol.Symbol.TheVariants.{Literal, Class, Call, Label, Guard, Let, Opt, Star, Plus, SepStar, SepPlus, Group, Offside, Ignore, Align, Filtered, Seq, Entry}
