@@ -10,7 +10,7 @@ use crate::step::Step;
 use crate::token::Token;
 
 /// What a sign is that begins with `c`, where `after` stands behind that.
-#[tactic(auto, unfolding(ig_grammar::specs::Spelling::signs, crate::specs::Steps::single_signs))]
+#[tactic(auto, unfolding(ig_syntax::specs::Spelling::signs, crate::specs::Steps::single_signs))]
 pub(crate) fn sign<'a>(c: char, after: &'a str) -> Step<'a>
     ensures { Gives (sign_token (c ∷ chars after.now)) result }
 {
