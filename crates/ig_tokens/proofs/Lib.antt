@@ -11,3 +11,4 @@ pub mod Sound
 pub mod Complete
 pub mod Longest
 pub mod Lexed
+pub mod Ended

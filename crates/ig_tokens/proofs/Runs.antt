@@ -3,7 +3,7 @@ use Rattle.std.proofs.Common.{◌≡◌, ℕ, suc, ◌<◌, ◌≤◌, List, [],
 use Rattle.std.proofs.lemmas.Bool.Decides.{nat_tests}
 use Rattle.std.specs.List.{list_all}
 use Rattle.ig_syntax.specs.Spelling.{begins, is_one_of, EndsLine}
-use Rattle.ig_syntax.specs.Lexing.{run, past}
+use Rattle.ig_tokens.specs.Scanner.{run, past}
 
 pub both : (a b : Bool) → (a && b) ≡ true → (a ≡ true) × (b ≡ true)
 both true b e = (refl, e)

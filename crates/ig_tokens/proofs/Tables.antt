@@ -9,8 +9,8 @@ use Rattle.std.specs.Map.{lookup}
 use Rattle.unicode_ident.specs.Ident.{is_xid_continue}
 use Rattle.ig_text.specs.declared.class.Class.{Class}
 use Rattle.ig_syntax.specs.Spelling.{entry, keywords, named_classes, signs}
-use Rattle.ig_syntax.specs.Lexing as lexing
-use Rattle.ig_syntax.specs.Lexing.{run, past, named_class, named_token, sign_token}
+use Rattle.ig_tokens.specs.Scanner as scanner
+use Rattle.ig_tokens.specs.Scanner.{run, past, named_class, named_token, sign_token}
 use Rattle.ig_tokens.specs.Steps.{single_sign, single_signs, exclamation}
 
 -- only ASCII characters
@@ -124,12 +124,12 @@ class_named_is table text r e u h =
     ap (option_map token.OneOf) (entry_of_chars named_classes text refl u)
 
 pub named_is : (r : Option Class) (t : token.Token) (rest : List ℕ) → Some t ≡ option_map token.OneOf r →
-    named_token r rest ≡ lexing.token t rest
+    named_token r rest ≡ scanner.token t rest
 named_is None t rest e = cc
 named_is (Some class) t rest e = let p : t ≡ token.OneOf class = cc in rw p refl
 
 pub named_class_is : (cs front rest : List ℕ) (t : token.Token) → front ≡ run is_xid_continue cs → rest ≡ past is_xid_continue cs →
-    Some t ≡ option_map token.OneOf (entry named_classes front) → named_class cs ≡ lexing.token t rest
+    Some t ≡ option_map token.OneOf (entry named_classes front) → named_class cs ≡ scanner.token t rest
 named_class_is cs front rest t e f h =
     rw (← e, ← f) (named_is (entry named_classes front) t rest h)
 
@@ -154,7 +154,7 @@ found P (row ∷ rows) c t a e = go (row.0 == c) refl (found P rows c t a.1)
         rest (sym q ∙ e)
 
 abbrev Reads : ℕ → token.Token → Type 0
-Reads c t = (cs : List ℕ) → sign_token (c ∷ cs) ≡ lexing.token t cs
+Reads c t = (cs : List ℕ) → sign_token (c ∷ cs) ≡ scanner.token t cs
 
 alone : (c : ℕ) (t : token.Token) → entry signs (c ∷ []) ≡ Some t → ((x : ℕ) → entry signs (c ∷ x ∷ []) ≡ None) →
     ((x y : ℕ) → entry signs (c ∷ x ∷ y ∷ []) ≡ None) → Reads c t
@@ -166,7 +166,7 @@ all_read : Each Reads single_signs
 unfolding single_signs signs
 all_read = (alone 59 token.Semicolon refl (λ x. refl) (λ x y. refl), (alone 124 token.Bar refl (λ x. refl) (λ x y. refl), (alone 58 token.Colon refl (λ x. refl) (λ x y. refl), (alone 44 token.Comma refl (λ x. refl) (λ x y. refl), (alone 40 token.Open refl (λ x. refl) (λ x y. refl), (alone 41 token.Close refl (λ x. refl) (λ x y. refl), (alone 123 token.OpenBrace refl (λ x. refl) (λ x y. refl), (alone 125 token.CloseBrace refl (λ x. refl) (λ x y. refl), (alone 63 token.Question refl (λ x. refl) (λ x y. refl), (alone 42 token.Star refl (λ x. refl) (λ x y. refl), (alone 43 token.Plus refl (λ x. refl) (λ x y. refl), (alone 45 token.Minus refl (λ x. refl) (λ x y. refl), (alone 92 token.Backslash refl (λ x. refl) (λ x y. refl), tt)))))))))))))
 
-pub single_reads : (c : ℕ) (t : token.Token) (cs : List ℕ) → Some t ≡ single_sign c → sign_token (c ∷ cs) ≡ lexing.token t cs
+pub single_reads : (c : ℕ) (t : token.Token) (cs : List ℕ) → Some t ≡ single_sign c → sign_token (c ∷ cs) ≡ scanner.token t cs
 single_reads c t cs e = found Reads single_signs c t all_read (sym e) cs
 
 -- signs that begin with `!`

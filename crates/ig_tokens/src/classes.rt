@@ -2,7 +2,7 @@
 
 ghost use Rattle.std.specs.Prelude.{◌≡◌, [], ◌++◌, chars, is_some, IfOk, OnOk, false, option_map, option_to_list, MatchOption, ◌&&◌, ◌==◌, not};
 ghost use Rattle.ig_text.specs.Ranges.{NoneFalls};
-ghost use Rattle.ig_syntax.specs.Lexing.{class_token, class_of, class_step, ranges_of, dash, character, between};
+ghost use Rattle.ig_tokens.specs.Scanner.{class_token, class_of, class_step, ranges_of, dash, character, between};
 ghost use Rattle.ig_tokens.specs.View.{class_within};
 ghost use Rattle.ig_tokens.specs.Steps.{Gives, place_of, step_of, IsNegation, AddsRanges};
 

@@ -2,7 +2,7 @@
 
 ghost use Rattle.std.specs.Prelude.{◌≡◌, ◌&&◌, ◌==◌, not, false, chars, MatchOption, option_map, None};
 ghost use Rattle.ig_syntax.specs.Spelling.{is_one_of, escape, class_signs};
-ghost use Rattle.ig_syntax.specs.Lexing.{body, letter};
+ghost use Rattle.ig_tokens.specs.Scanner.{body, letter};
 ghost use Rattle.ig_tokens.specs.Steps.{IsCut, special, letter_of};
 
 use crate::characters;

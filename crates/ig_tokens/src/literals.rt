@@ -1,7 +1,7 @@
 //! Literals.
 
 ghost use Rattle.std.specs.Prelude.{◌≡◌, ◌++◌, chars, is_some, IfOk, option_map, string_bytes, false};
-ghost use Rattle.ig_syntax.specs.Lexing.{literal_token, literal_of, text_of};
+ghost use Rattle.ig_tokens.specs.Scanner.{literal_token, literal_of, text_of};
 ghost use Rattle.ig_tokens.specs.View.{literal_text};
 ghost use Rattle.ig_tokens.specs.Steps.{Gives, is_backslash, stood_for};
 

@@ -2,7 +2,7 @@
 
 ghost use Rattle.std.specs.Prelude.{◌≡◌, ◌<◌, ◌^◌, ℕ, ◌≤◌, ◌+◌, ◌-◌, ◌*◌, true, chars, pos, MatchOption, SomeIff};
 ghost use Rattle.ig_expr.specs.Reading.{spelled, is_digit};
-ghost use Rattle.ig_syntax.specs.Lexing.{numeral, number_token};
+ghost use Rattle.ig_tokens.specs.Scanner.{numeral, number_token};
 ghost use Rattle.ig_tokens.specs.Steps.{Begins, Gives};
 
 use crate::characters::{self, Run};

@@ -1,7 +1,7 @@
 //! Signs.
 
 ghost use Rattle.std.specs.Prelude.{◌≡◌, ◌∷◌, chars, option_map};
-ghost use Rattle.ig_syntax.specs.Lexing.{sign_token, token};
+ghost use Rattle.ig_tokens.specs.Scanner.{sign_token, token};
 ghost use Rattle.ig_tokens.specs.View.{token_of};
 ghost use Rattle.ig_tokens.specs.Steps.{Gives, single_sign, with_equals, exclamation, again};
 
