@@ -4,20 +4,17 @@ use Rattle.std.specs.Prelude.{chars, IsUtf8, All}
 use Rattle.std.proofs.lemmas.List.{length-map}
 use Rattle.std.proofs.lemmas.List.Elements.{All-nil, All-cons}
 use Rattle.std.proofs.lemmas.Str.{encodes-chars, length-le-encodes}
+use Rattle.ig_text.proofs.Tables.{found_row}
+use Rattle.ig_expr.specs.Names.{is_word}
 use Rattle.ig_syntax.specs.Token as token
 use Rattle.ig_syntax.specs.Token.{Token}
 use Rattle.ig_syntax.specs.Spelling.{entry, signs, keywords, IsToken, name, head, number, literal, ranges, other_ranges, named_class, sign, keyword}
-use Rattle.ig_syntax.specs.Lexing as lexing
-use Rattle.ig_syntax.specs.Lexing.{Lexes, nothing, a_separator, a_token, next, IsNext}
-use Rattle.ig_grammar.specs.Regular.{IsRegular, HasFewerThan}
+use Rattle.ig_syntax.specs.Lexing.{Lexes, nothing, a_separator, a_token}
 use Rattle.ig_grammar.specs.declared.grammar.Grammar.{Grammar}
-use Rattle.ig_tokens.proofs.Entries.{entry_all}
-use Rattle.ig_tokens.proofs.Lexed.{shorter_separator, shorter_token}
-use Rattle.ig_tokens.proofs.Longest.{longest_is_next}
+use Rattle.ig_tokens.specs.Laws.{TokensAreFew}
 use Rattle.ig_rules.specs.Written.{HasText}
-use Rattle.ig_rules.proofs.Counting.{grammar_counted}
-use Rattle.ig_rules.proofs.Regularity.{grammar_regular}
-use Rattle.ig_notation.specs.Outcome.{IsRead, unplaced}
+use Rattle.ig_rules.specs.Laws.{ReadsAreCounted, ReadsAreRegular}
+use Rattle.ig_notation.specs.Outcome.{IsRead, unplaced, ReadGrammarsAreRegular}
 
 -- no sign and no keyword is a literal
 abbrev is_bare : Token → Bool
@@ -30,11 +27,11 @@ bare_text t e = tt
 
 sign_text : (cs : List ℕ) (t : Token) → entry signs cs ≡ Some t → HasText t
 unfolding signs
-sign_text cs t e = bare_text t (entry_all (λ w u. is_bare u) signs cs t refl e)
+sign_text cs t e = bare_text t (found_row (λ w. is_word w cs) (λ w u. is_bare u) signs t refl e).passes
 
 keyword_text : (cs : List ℕ) (t : Token) → entry keywords cs ≡ Some t → HasText t
 unfolding keywords
-keyword_text cs t e = bare_text t (entry_all (λ w u. is_bare u) keywords cs t refl e)
+keyword_text cs t e = bare_text t (found_row (λ w. is_word w cs) (λ w u. is_bare u) keywords t refl e).passes
 
 -- a literal has at least one character
 token_text : {front : List ℕ} {t : Token} → IsToken front t → HasText t
@@ -48,27 +45,16 @@ token_text (named_class cs class e) = tt
 token_text (sign cs t e) = sign_text cs t e
 token_text (keyword cs t e) = keyword_text cs t e
 
-next_text : (text rest : List ℕ) (t : Token) → next text ≡ lexing.token t rest → HasText t
-next_text text rest t e = token_text (subst (IsNext text) e (longest_is_next text)).0.stands.spelled_so
-
 lexed_text : {at : ℕ} {text : List ℕ} {placed : List (Token × ℕ)} → Lexes at text placed → All HasText (unplaced placed)
 lexed_text (nothing at text e) = All-nil HasText
-lexed_text (a_separator at n text front rest placed e p i later) = lexed_text later
-lexed_text (a_token at n text front rest t placed e p i later) =
-    All-cons HasText t (unplaced placed) (next_text text rest t e) (lexed_text later)
+lexed_text (a_separator at n text front rest placed s p i later) = lexed_text later
+lexed_text (a_token at n text front rest t placed l p i later) =
+    All-cons HasText t (unplaced placed) (token_text l.stands.spelled_so) (lexed_text later)
 
--- there are no more tokens than characters
-lexed_few : {at : ℕ} {text : List ℕ} {placed : List (Token × ℕ)} → Lexes at text placed → length placed ≤ length text
-lexed_few (nothing at text e) = omega arith
-lexed_few (a_separator at n text front rest placed e p i later) =
-    let less = shorter_separator text rest e in let few = lexed_few later in omega arith
-lexed_few (a_token at n text front rest t placed e p i later) =
-    let less = shorter_token text rest t e in let few = lexed_few later in omega arith
-
--- nor than bytes
-few_tokens : (source : List ℕ) (g : Grammar) → IsUtf8 source → (read : IsRead source g) → length (unplaced read.tokens) ≤ 262144
-few_tokens source g utf8 read =
-    let few : length read.tokens ≤ length (chars source) = lexed_few read.are_tokens.lexed in
+-- there are no more tokens than bytes
+few_tokens : TokensAreFew → (source : List ℕ) (g : Grammar) → IsUtf8 source → (read : IsRead source g) → length (unplaced read.tokens) ≤ 262144
+few_tokens few_of source g utf8 read =
+    let few : length read.tokens ≤ length (chars source) = few_of 0 (chars source) read.tokens read.are_tokens.lexed in
     let same : length (unplaced read.tokens) ≡ length read.tokens = length-map read.tokens (λ p. p.0) in
     let short = length-le-encodes (chars source) in
     let bytes : length (chars source) ≤ length source =
@@ -76,11 +62,9 @@ few_tokens source g utf8 read =
     let within : length source ≤ 262144 = read.are_tokens.bytes in
     omega arith
 
-pub read_regular : (source : List ℕ) (g : Grammar) → IsUtf8 source → IsRead source g → IsRegular g
-read_regular source g utf8 read =
-    let few = few_tokens source g utf8 read in
-    grammar_regular (unplaced read.tokens) g read.follows (lexed_text read.are_tokens.lexed) (omega arith)
-
-pub read_counted : (source : List ℕ) (g : Grammar) → IsUtf8 source → IsRead source g → HasFewerThan 262145 g
-read_counted source g utf8 read =
-    let few = few_tokens source g utf8 read in grammar_counted 262145 read.follows (omega arith)
+pub read_regular : TokensAreFew → ReadsAreRegular → ReadsAreCounted → ReadGrammarsAreRegular
+read_regular few_of regular counted source g utf8 read =
+    let few = few_tokens few_of source g utf8 read in (
+      regular (unplaced read.tokens) g read.follows (lexed_text read.are_tokens.lexed) (omega arith),
+      counted (unplaced read.tokens) g 262145 read.follows (omega arith),
+    )

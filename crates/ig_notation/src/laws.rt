@@ -23,4 +23,8 @@ pub fn texts_are_read_or_refused()
 /// bytes. This law, proved of all texts, computes nothing.
 pub fn read_grammars_are_regular()
     ensures { ReadGrammarsAreRegular }
-{}
+{
+    ig_tokens::tokens_are_few();
+    ig_rules::reads_are_regular();
+    ig_rules::reads_are_counted();
+}
