@@ -1,4 +1,4 @@
--- A grammar that is read is regular, and has no more declarations than its text has bytes.
+-- A grammar that is read is regular, its names are names, and it has no more declarations than its text has bytes.
 use Rattle.std.proofs.Common.{◌≡◌, ℕ, ◌≤◌, List, Bool, true, false, Some, refl, subst, arith, length}
 use Rattle.std.specs.Prelude.{chars, IsUtf8, All}
 use Rattle.std.proofs.lemmas.List.{length-map}
@@ -13,8 +13,9 @@ use Rattle.ig_syntax.specs.Lexing.{Lexes, nothing, a_separator, a_token}
 use Rattle.ig_grammar.specs.declared.grammar.Grammar.{Grammar}
 use Rattle.ig_tokens.specs.Laws.{TokensAreFew}
 use Rattle.ig_rules.specs.Written.{HasText}
-use Rattle.ig_rules.specs.Laws.{ReadsAreCounted, ReadsAreRegular}
-use Rattle.ig_notation.specs.Outcome.{IsRead, unplaced, ReadGrammarsAreRegular}
+use Rattle.ig_rules.specs.Names.{HasName}
+use Rattle.ig_rules.specs.Laws.{ReadsAreCounted, ReadsAreNamed, ReadsAreRegular}
+use Rattle.ig_notation.specs.Outcome.{IsRead, unplaced, ReadGrammarsAreRegular, ReadNamesAreNames}
 
 -- no sign and no keyword is a literal
 abbrev is_bare : Token → Bool
@@ -35,8 +36,8 @@ keyword_text cs t e = bare_text t (found_row (λ w. is_word w cs) (λ w u. is_ba
 
 -- a literal has at least one character
 token_text : {front : List ℕ} {t : Token} → IsToken front t → HasText t
-token_text (name cs w e) = tt
-token_text (head cs whole w e p) = tt
+token_text (name cs n) = tt
+token_text (head cs whole n p) = tt
 token_text (number cs n) = tt
 token_text (literal inside whole c text s p) = λ e. cc
 token_text (ranges inside whole pair pairs s p) = tt
@@ -50,6 +51,45 @@ lexed_text (nothing at text e) = All-nil HasText
 lexed_text (a_separator at n text front rest placed s p i later) = lexed_text later
 lexed_text (a_token at n text front rest t placed l p i later) =
     All-cons HasText t (unplaced placed) (token_text l.stands.spelled_so) (lexed_text later)
+
+-- a name has only the form of one
+abbrev is_nameless : Token → Bool
+is_nameless (token.Name x) = false
+is_nameless (token.Head x) = false
+is_nameless t = true
+
+no_name : (t : Token) → is_nameless t ≡ true → HasName t
+no_name (token.Name x) e = absurd (cc)
+no_name (token.Head x) e = absurd (cc)
+no_name t e = tt
+
+sign_name : (cs : List ℕ) (t : Token) → entry signs cs ≡ Some t → HasName t
+unfolding signs
+sign_name cs t e = no_name t (found_row (λ w. is_word w cs) (λ w u. is_nameless u) signs t refl e).passes
+
+keyword_name : (cs : List ℕ) (t : Token) → entry keywords cs ≡ Some t → HasName t
+unfolding keywords
+keyword_name cs t e = no_name t (found_row (λ w. is_word w cs) (λ w u. is_nameless u) keywords t refl e).passes
+
+token_name : {front : List ℕ} {t : Token} → IsToken front t → HasName t
+token_name (name cs n) = n
+token_name (head cs whole n p) = n
+token_name (number cs n) = tt
+token_name (literal inside whole c text s p) = tt
+token_name (ranges inside whole pair pairs s p) = tt
+token_name (other_ranges inside whole pair pairs s p) = tt
+token_name (named_class cs class e) = tt
+token_name (sign cs t e) = sign_name cs t e
+token_name (keyword cs t e) = keyword_name cs t e
+
+lexed_names : {at : ℕ} {text : List ℕ} {placed : List (Token × ℕ)} → Lexes at text placed → All HasName (unplaced placed)
+lexed_names (nothing at text e) = All-nil HasName
+lexed_names (a_separator at n text front rest placed s p i later) = lexed_names later
+lexed_names (a_token at n text front rest t placed l p i later) =
+    All-cons HasName t (unplaced placed) (token_name l.stands.spelled_so) (lexed_names later)
+
+pub read_named : ReadsAreNamed → ReadNamesAreNames
+read_named named source g read = named (unplaced read.tokens) g read.follows (lexed_names read.are_tokens.lexed)
 
 -- there are no more tokens than bytes
 few_tokens : TokensAreFew → (source : List ℕ) (g : Grammar) → IsUtf8 source → (read : IsRead source g) → length (unplaced read.tokens) ≤ 262144

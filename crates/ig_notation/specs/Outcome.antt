@@ -7,6 +7,7 @@ use Rattle.ig_syntax.specs.Stops.{Stops}
 use Rattle.ig_grammar.specs.Regular.{IsRegular, HasFewerThan}
 use Rattle.ig_grammar.specs.declared.grammar.Grammar.{Grammar}
 use Rattle.ig_rules.specs.Laws.{AreOfGrammar}
+use Rattle.ig_rules.specs.Names.{HasNames}
 use Rattle.ig_notation.specs.Limits.{NumbersFit, IsShallow}
 use Rattle.ig_tokens.specs.declared.token.TokenFault.{TokenFault}
 use Rattle.ig_tokens.specs.declared.token.TokenFault.TheVariants.{Broken, Memory as OutOfMemory}
@@ -80,3 +81,7 @@ ReadOrRefused =
 abbrev pub ReadGrammarsAreRegular : Type 0
 ReadGrammarsAreRegular =
     (source : List ℕ) (g : Grammar) → IsUtf8 source → IsRead source g → IsRegular g × HasFewerThan 262145 g
+
+-- each name in a grammar that is read is a name of the notation
+abbrev pub ReadNamesAreNames : Type 0
+ReadNamesAreNames = (source : List ℕ) (g : Grammar) → IsRead source g → HasNames g

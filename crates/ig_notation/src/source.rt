@@ -19,8 +19,8 @@ pub const MOST_BYTES: usize = 262_144;
 /// separators and tokens before it, neither a separator nor a token begins; a number greater than
 /// 9,223,372,036,854,775,807 is `TooLarge`; more than 64 brackets open at one place are `TooLarge`;
 /// tokens against the rules are `Syntax` at the first byte of the first token such that no sequence
-/// of tokens that follows the rules begins with the tokens up to and including it, and at the length
-/// of the text where there is no such token.
+/// of tokens that follows the rules begins with the tokens up to and including it, and at the
+/// length of the text where there is no such token.
 pub fn read(alloc: Global, source: &str) -> Result<Grammar, ReadFault>
     ensures ok { IfOk result (IsRead source.now) }
     ensures fault { IfErr result (IsReadFault source.now) }

@@ -237,8 +237,8 @@ keyword_is_fixed cs t h = (found_row (λ w. is_word w cs) (λ w u. is_fixed u) k
 
 -- a token that is spelled in any way is spelled so
 pub canonical : NormalFormIsNormal → NormalRangesStay → {front : List ℕ} {t : Token} → IsToken front t → IsSpelled t
-canonical form_is_normal ranges_stay (table.name cs i n) = table.name cs i n
-canonical form_is_normal ranges_stay (table.head cs whole i n e) = table.head cs (cs ++ 40 ∷ []) i n refl
+canonical form_is_normal ranges_stay (table.name cs n) = table.name cs n
+canonical form_is_normal ranges_stay (table.head cs whole n e) = table.head cs (cs ++ 40 ∷ []) n refl
 canonical form_is_normal ranges_stay (table.number cs i) = number_spelled (spelled 0 cs)
 canonical form_is_normal ranges_stay (table.literal inside whole c cs s e) = table.literal (flat_map literal_character (c ∷ cs)) _ c cs (text_spelled (c ∷ cs)) refl
 canonical form_is_normal ranges_stay (table.ranges inside whole p ps s e) = ranges_canonical form_is_normal ranges_stay false p ps s

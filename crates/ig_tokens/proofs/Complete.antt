@@ -12,10 +12,11 @@ use Rattle.ig_text.specs.declared.class.Class.TheVariants as class
 use Rattle.ig_expr.specs.Reading.{is_digit, spelled}
 use Rattle.ig_syntax.specs.Token as token
 use Rattle.ig_syntax.specs.Token.{Token}
-use Rattle.ig_syntax.specs.Spelling.{entry, signs, keywords, named_classes, is_one_of, blanks, class_signs, begins, may_precede, IsWord, word, IsNumeral, nought, digits, IsLetter, bare, escaped, IsToken, StandsFirst, IsSeparator, blank, EndsLine, SpellsText, SpellsRanges, one_character, two_characters}
+use Rattle.ig_syntax.specs.Spelling.{entry, signs, keywords, named_classes, is_one_of, blanks, class_signs, begins, may_precede, IsNumeral, nought, digits, IsLetter, bare, escaped, IsToken, StandsFirst, IsSeparator, blank, EndsLine, SpellsText, SpellsRanges, one_character, two_characters}
 use Rattle.ig_syntax.specs.Spelling as spelling
 use Rattle.ig_tokens.specs.Scanner as scanner
 use Rattle.ig_tokens.specs.Scanner.{Next, next, run, past, word_token, keyword_or_name, name_token, numeral, number_token, literal_token, class_token, named_class, named_token, sign_token, sign_of, comment, separator, ended, broken, body, closed, literal_of, not_empty, text_of, class_of, class_with, ranges_of, between}
+use Rattle.ig_tokens.proofs.Named.{IsWord, word, name_word, name_entry}
 use Rattle.ig_tokens.proofs.Runs.{run_front, past_front, run_none, past_none, past_shorter, line_all, line_ends}
 use Rattle.ig_tokens.proofs.Spelled.{text_read, text_body, body_more, no_member, or_false}
 use Rattle.ig_tokens.proofs.SpelledRanges.{ranges_read, ranges_body}
@@ -273,10 +274,11 @@ equal_covers n t rest e = rw e (inr (refl, refl))
 -- each token of the table
 pub token_covers : {front : List ℕ} {u : Token} → IsToken front u → (rest : List ℕ) → may_precede u rest ≡ true →
     Covers (next (front ++ rest)) u rest
-token_covers (spelling.name cs i n) rest f =
-    word_covers cs rest (token.Name cs) (begins is_xid_continue rest) i refl (name_covers cs rest n)
-token_covers (spelling.head cs whole i n e) rest f =
-    rw e (subst (λ (z : List ℕ). Covers (next z) (token.Head cs) rest) (sym (append_assoc cs (40 ∷ []) rest)) (equal_covers (next (cs ++ 40 ∷ rest)) (token.Head cs) rest (head_read cs rest i n)))
+token_covers (spelling.name cs n) rest f =
+    word_covers cs rest (token.Name cs) (begins is_xid_continue rest) (name_word cs n) refl
+    (name_covers cs rest (name_entry cs n))
+token_covers (spelling.head cs whole n e) rest f =
+    rw e (subst (λ (z : List ℕ). Covers (next z) (token.Head cs) rest) (sym (append_assoc cs (40 ∷ []) rest)) (equal_covers (next (cs ++ 40 ∷ rest)) (token.Head cs) rest (head_read cs rest (name_word cs n) (name_entry cs n))))
 token_covers (spelling.number cs i) rest f =
     equal_covers (next (cs ++ rest)) (token.Number (spelled 0 cs)) rest
     (number_read i rest (not_true (begins is_xid_continue rest) f))

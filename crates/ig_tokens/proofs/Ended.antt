@@ -1,5 +1,6 @@
 -- A token is the longest where what stands behind it makes none longer.
 use Rattle.std.proofs.Common.{◌≡◌, ◌∙◌, ap, refl, sym, subst, ℕ, List, [], ◌∷◌, ◌++◌, Bool, true, false, cond, not, ◌&&◌, ◌==◌, Option, Some, None, lit<, append_assoc, arith}
+use Rattle.std.proofs.lemmas.Bool.{and_parts}
 use Rattle.std.proofs.lemmas.Bool.Decides.{nat_tests}
 use Rattle.std.proofs.lemmas.Slice.Eq.{bytes_eq-Decides}
 use Rattle.unicode_ident.specs.Ident.{is_xid_continue}
@@ -8,13 +9,13 @@ use Rattle.ig_expr.specs.Names.{is_word}
 use Rattle.ig_text.specs.declared.class.Class.{Class}
 use Rattle.ig_syntax.specs.Token as token
 use Rattle.ig_syntax.specs.Token.{Token}
-use Rattle.ig_syntax.specs.Spelling.{IsToken, IsWord, IsLongest, entry, signs, keywords, named_classes, begins, may_precede}
+use Rattle.ig_syntax.specs.Spelling.{IsToken, IsLongest, entry, signs, keywords, named_classes, begins, may_precede}
 use Rattle.ig_syntax.specs.Spelling as table
 use Rattle.ig_tokens.specs.Scanner as scanner
 use Rattle.ig_tokens.specs.Scanner.{next, sign_token}
 use Rattle.ig_tokens.specs.Steps.{single_signs}
 use Rattle.ig_tokens.specs.Laws.{ends, EndedTokensAreLongest}
-use Rattle.ig_tokens.proofs.Runs.{both}
+use Rattle.ig_tokens.proofs.Named.{name_word, name_entry}
 use Rattle.ig_tokens.proofs.Entries.{entry_all, sign_text, named_class_precedes}
 use Rattle.ig_tokens.proofs.Dispatch.{next_sign}
 use Rattle.ig_tokens.proofs.Tables.{single_reads}
@@ -199,11 +200,11 @@ closed_text front stop inside rest =
 -- the scanner finds the token
 ended_read : {front : List ℕ} {t : Token} → IsToken front t → (rest : List ℕ) → ends t rest ≡ true →
     next (front ++ rest) ≡ scanner.token t rest
-ended_read (table.name cs i n) rest e =
-    let k = both (not (begins is_xid_continue rest)) (not (begins (λ c. c == 40) rest)) e in
-    name_read cs rest i n (not_true (begins is_xid_continue rest) k.0) (not_true (begins (λ c. c == 40) rest) k.1)
-ended_read (table.head cs whole i n f) rest e =
-    ap (λ (z : List ℕ). next (z ++ rest)) f ∙ ap next (append_assoc cs (40 ∷ []) rest) ∙ head_read cs rest i n
+ended_read (table.name cs n) rest e =
+    let k = and_parts (not (begins is_xid_continue rest)) (not (begins (λ c. c == 40) rest)) e in
+    name_read cs rest (name_word cs n) (name_entry cs n) (not_true (begins is_xid_continue rest) k.0) (not_true (begins (λ c. c == 40) rest) k.1)
+ended_read (table.head cs whole n f) rest e =
+    ap (λ (z : List ℕ). next (z ++ rest)) f ∙ ap next (append_assoc cs (40 ∷ []) rest) ∙ head_read cs rest (name_word cs n) (name_entry cs n)
 ended_read (table.number cs i) rest e = number_read i rest (not_true (begins is_xid_continue rest) e)
 ended_read (table.literal inside whole c text s f) rest e =
     ap (λ (z : List ℕ). next (z ++ rest)) f ∙ ap next (closed_text (34 ∷ []) 34 inside rest) ∙ literal_read inside rest c text s

@@ -5,6 +5,7 @@ pub mod Tables
 pub mod Runs
 pub mod Spelled
 pub mod SpelledRanges
+pub mod Named
 pub mod Entries
 pub mod Dispatch
 pub mod Sound

@@ -1,12 +1,13 @@
 -- What stands first is the longest token of the table.
 use Rattle.std.proofs.Common.{◌≡◌, ℕ, ◌<◌, ◌⊎◌, inl, inr, List, [], ◌∷◌, ◌++◌, length, refl, ap, subst, arith, length-append}
 use Rattle.ig_syntax.specs.Token.{Token}
-use Rattle.ig_syntax.specs.Spelling.{signs, keywords, entry, IsToken, StandsFirst, IsSeparator, IsLongest, IsWord, word, IsNumeral, nought, digits}
+use Rattle.ig_syntax.specs.Spelling.{signs, keywords, entry, IsToken, StandsFirst, IsSeparator, IsLongest, IsNumeral, nought, digits}
 use Rattle.ig_syntax.specs.Spelling as spelling
 use Rattle.ig_syntax.specs.Lexing.{IsBroken}
 use Rattle.ig_tokens.specs.Scanner as scanner
 use Rattle.ig_tokens.specs.Scanner.{Next, next, ended, separator, broken}
 use Rattle.ig_tokens.specs.Laws.{IsNext, LongestTokenIsNext}
+use Rattle.ig_tokens.proofs.Named.{IsWord, word, name_word}
 use Rattle.ig_tokens.proofs.Sound.{IsSound, next_sound}
 use Rattle.ig_tokens.proofs.Complete.{Covers, next_covers, separator_read}
 use Rattle.ig_tokens.proofs.Entries.{keyword_word, sign_text}
@@ -32,8 +33,8 @@ some_numeral nought = omega arith
 some_numeral (digits c cs d n all) = omega arith
 
 pub some_token : {front : List ℕ} {t : Token} → IsToken front t → 0 < length front
-some_token (spelling.name cs i n) = some_word i
-some_token (spelling.head cs whole i n e) = rw (e, length-append) (omega arith)
+some_token (spelling.name cs n) = some_word (name_word cs n)
+some_token (spelling.head cs whole n e) = rw (e, length-append) (omega arith)
 some_token (spelling.number cs i) = some_numeral i
 some_token (spelling.literal inside whole c t s e) = rw e (omega arith)
 some_token (spelling.ranges inside whole p ps s e) = rw e (omega arith)

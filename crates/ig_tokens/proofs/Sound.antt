@@ -9,10 +9,11 @@ use Rattle.ig_text.specs.declared.class.Class.{Class}
 use Rattle.ig_expr.specs.Reading.{is_digit, spelled}
 use Rattle.ig_syntax.specs.Token as token
 use Rattle.ig_syntax.specs.Token.{Token}
-use Rattle.ig_syntax.specs.Spelling.{entry, signs, keywords, named_classes, is_one_of, blanks, begins, may_precede, IsWord, word, IsNumeral, nought, digits, IsToken, StandsFirst, IsSeparator, blank, EndsLine, SpellsText, SpellsRanges}
+use Rattle.ig_syntax.specs.Spelling.{entry, signs, keywords, named_classes, is_one_of, blanks, begins, may_precede, IsNumeral, nought, digits, IsToken, StandsFirst, IsSeparator, blank, EndsLine, SpellsText, SpellsRanges}
 use Rattle.ig_syntax.specs.Spelling as spelling
 use Rattle.ig_tokens.specs.Scanner as scanner
 use Rattle.ig_tokens.specs.Scanner.{Next, next, run, past, word_token, keyword_or_name, name_token, numeral, number_token, literal_token, class_token, named_class, named_token, sign_token, sign_of, comment, separator, ended, broken, body, closed, literal_of, not_empty, text_of, class_of, class_with, ranges_of, between}
+use Rattle.ig_tokens.proofs.Named.{IsWord, word, named}
 use Rattle.ig_tokens.proofs.Runs.{all_run, past_begins, all_line, ends_line}
 use Rattle.ig_tokens.proofs.Reading.{run_past}
 use Rattle.ig_tokens.proofs.Spelled.{body_parts, text_spelled}
@@ -37,7 +38,7 @@ number_here c k h = grind (arith, nat_tests)
 -- words
 name_sound : (text w rest : List ℕ) → text ≡ w ++ rest → IsWord w → entry keywords w ≡ None → IsSound text (name_token w rest)
 name_sound text w [] e i n =
-    record { front = w; parts = e; spelled_so = spelling.name w i n; free = refl }
+    record { front = w; parts = e; spelled_so = spelling.name w (named w i n); free = refl }
 name_sound text w (c ∷ cs) e i n =
     either text (c == 40) (scanner.token (token.Head w) cs) (scanner.token (token.Name w) (c ∷ cs)) (
     λ h.
@@ -46,10 +47,10 @@ name_sound text w (c ∷ cs) e i n =
       front = w ++ 40 ∷ [];
       parts =
           e ∙ ap (λ (z : ℕ). w ++ z ∷ cs) p ∙ sym (append_assoc w (40 ∷ []) cs);
-      spelled_so = spelling.head w (w ++ 40 ∷ []) i n refl;
+      spelled_so = spelling.head w (w ++ 40 ∷ []) (named w i n) refl;
       free = refl;
     }
-    ) (λ h. record { front = w; parts = e; spelled_so = spelling.name w i n; free = refl })
+    ) (λ h. record { front = w; parts = e; spelled_so = spelling.name w (named w i n); free = refl })
 
 keyword_sound : (text w rest : List ℕ) (r : Option Token) → text ≡ w ++ rest → IsWord w → entry keywords w ≡ r →
     IsSound text (keyword_or_name r w rest)

@@ -1,5 +1,6 @@
 -- Tables of words.
 use Rattle.std.proofs.Common.{◌≡◌, ◌∙◌, ℕ, zero, suc, List, [], ◌∷◌, Bool, true, false, cond, ◌&&◌, ◌==◌, nat_lt, Option, Some, None, option_map, map, length, chars, IsUtf8, IsAscii, encode_utf8_all, refl, sym, ap, subst, arith, lit<}
+use Rattle.std.proofs.lemmas.Bool.{and_parts}
 use Rattle.std.proofs.lemmas.Slice.Eq.{bytes_eq-Decides}
 use Rattle.std.proofs.lemmas.Str.{encodes-chars, IsUtf8-from_ascii, chars-IsAscii}
 use Rattle.std.proofs.lemmas.Bool.Decides.{nat_tests, same_from_decides}
@@ -18,14 +19,10 @@ abbrev pub ascii : List ℕ → Bool
 ascii [] = true
 ascii (b ∷ bs) = nat_lt b 128 && ascii bs
 
-pub both : (a b : Bool) → (a && b) ≡ true → (a ≡ true) × (b ≡ true)
-both true b e = (refl, e)
-both false b e = cc
-
 ascii_at : (bs : List ℕ) → ascii bs ≡ true → IsAscii bs
 ascii_at [] e i = lit< tt
-ascii_at (b ∷ bs) e zero = let t = (both (nat_lt b 128) (ascii bs) e).0 in grind (arith, nat_tests)
-ascii_at (b ∷ bs) e (suc i) = ascii_at bs (both (nat_lt b 128) (ascii bs) e).1 i
+ascii_at (b ∷ bs) e zero = let t = (and_parts (nat_lt b 128) (ascii bs) e).0 in grind (arith, nat_tests)
+ascii_at (b ∷ bs) e (suc i) = ascii_at bs (and_parts (nat_lt b 128) (ascii bs) e).1 i
 
 chars_one : (text other : List ℕ) → IsUtf8 text → IsUtf8 other → chars text ≡ chars other → text ≡ other
 chars_one text other u v e = sym (encodes-chars text u) ∙ ap encode_utf8_all e ∙ encodes-chars other v
@@ -48,7 +45,7 @@ pub entry_of_chars : {A : Type 0} (table : List (List ℕ × A)) (text : List �
     entry table text ≡ entry table (chars text)
 entry_of_chars [] text a u = refl
 entry_of_chars (row ∷ rows) text a u =
-    let p = both (ascii row.0) (all_ascii rows) a in
+    let p = and_parts (ascii row.0) (all_ascii rows) a in
     rw (word_of_chars row.0 text p.0 u, entry_of_chars rows text p.1 u) refl
 
 -- the rows whose words have n characters

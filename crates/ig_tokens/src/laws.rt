@@ -1,11 +1,18 @@
 ghost use Rattle.ig_tokens.specs.Laws.{BreakIsSingle, LexesOrBreaks, NeverBoth, TokensAreSingle};
-ghost use Rattle.ig_tokens.specs.Laws.{EndedTokensAreLongest, LongestTokenIsNext, TokensAreFew};
+ghost use Rattle.ig_tokens.specs.Laws.{EndedTokensAreLongest, KeywordsAreOne, LongestTokenIsNext};
+ghost use Rattle.ig_tokens.specs.Laws.{TokensAreFew};
 
 /// What the scanner of `specs/Scanner.antt` finds first in a text is a separator, or the longest
-/// token that stands there, or the end of the text; it finds none of these where the text is broken.
-/// This law, proved of every text, computes nothing.
+/// token that stands there, or the end of the text; it finds none of these where the text is
+/// broken. This law, proved of every text, computes nothing.
 pub fn longest_token_is_next()
     ensures { LongestTokenIsNext }
+{}
+
+/// The keywords, which are no names, are the words that have tokens of their own. This law computes
+/// nothing.
+pub fn keywords_are_one()
+    ensures { KeywordsAreOne }
 {}
 
 /// A text has one list of tokens at most. This law, proved of every text, computes nothing.
