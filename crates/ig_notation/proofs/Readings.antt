@@ -1,6 +1,7 @@
 -- A text has one list of tokens, so it reads as one grammar at most, and one that is read has no fault.
 use Rattle.std.proofs.Common.{◌≡◌, ℕ, ◌≤◌, List, refl, sym, subst, arith}
 use Rattle.std.specs.Prelude.{chars, length}
+use Rattle.ig_syntax.specs.Notation.{most_bytes}
 use Rattle.ig_syntax.specs.Token.{Token}
 use Rattle.ig_syntax.specs.Rules.{FollowsRules}
 use Rattle.ig_grammar.specs.declared.grammar.Grammar.{Grammar}
@@ -19,7 +20,7 @@ only_reading single one source g h a b =
     (subst (λ (z : List (Token × ℕ)). FollowsRules (unplaced z) h) (sym (same_tokens single source g a b.tokens b.are_tokens)) b.follows)
 
 pub not_both : TokensAreSingle → NeverBoth → ReadOrRefused
-not_both single never source g fault a (too_many_bytes more) = let few : length source ≤ 262144 = a.are_tokens.bytes in absurd (omega arith)
+not_both single never source g fault a (too_many_bytes more) = let few : length source ≤ most_bytes = a.are_tokens.bytes in absurd (omega arith)
 not_both single never source g fault a (no_token at few breaks) = absurd (never 0 (chars source) a.tokens at a.are_tokens.lexed breaks)
 not_both single never source g fault a (large_number tokens has large) =
     absurd (large (subst (λ (z : List (Token × ℕ)). NumbersFit (unplaced z)) (same_tokens single source g a tokens has) a.numbers))

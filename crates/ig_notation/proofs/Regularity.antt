@@ -1,5 +1,5 @@
 -- A grammar that is read is regular, its names are names, and it has no more declarations than its text has bytes.
-use Rattle.std.proofs.Common.{◌≡◌, ℕ, ◌≤◌, List, Bool, true, false, Some, refl, subst, arith, length}
+use Rattle.std.proofs.Common.{◌≡◌, ℕ, suc, ◌≤◌, List, Bool, true, false, Some, refl, subst, arith, length}
 use Rattle.std.specs.Prelude.{chars, IsUtf8, All}
 use Rattle.std.proofs.lemmas.List.{length-map}
 use Rattle.std.proofs.lemmas.List.Elements.{All-nil, All-cons}
@@ -11,6 +11,7 @@ use Rattle.ig_syntax.specs.Token.{Token}
 use Rattle.ig_syntax.specs.Spelling.{entry, signs, keywords, IsToken, name, head, number, literal, ranges, other_ranges, named_class, sign, keyword}
 use Rattle.ig_syntax.specs.Lexing.{Lexes, nothing, a_separator, a_token}
 use Rattle.ig_grammar.specs.declared.grammar.Grammar.{Grammar}
+use Rattle.ig_syntax.specs.Notation.{most_bytes}
 use Rattle.ig_tokens.specs.Laws.{TokensAreFew}
 use Rattle.ig_rules.specs.Written.{HasText}
 use Rattle.ig_rules.specs.Names.{HasName}
@@ -92,19 +93,19 @@ pub read_named : ReadsAreNamed → ReadNamesAreNames
 read_named named source g read = named (unplaced read.tokens) g read.follows (lexed_names read.are_tokens.lexed)
 
 -- there are no more tokens than bytes
-few_tokens : TokensAreFew → (source : List ℕ) (g : Grammar) → IsUtf8 source → (read : IsRead source g) → length (unplaced read.tokens) ≤ 262144
+few_tokens : TokensAreFew → (source : List ℕ) (g : Grammar) → IsUtf8 source → (read : IsRead source g) → length (unplaced read.tokens) ≤ most_bytes
 few_tokens few_of source g utf8 read =
     let few : length read.tokens ≤ length (chars source) = few_of 0 (chars source) read.tokens read.are_tokens.lexed in
     let same : length (unplaced read.tokens) ≡ length read.tokens = length-map read.tokens (λ p. p.0) in
     let short = length-le-encodes (chars source) in
     let bytes : length (chars source) ≤ length source =
     subst (λ (z : List ℕ). length (chars source) ≤ length z) (encodes-chars source utf8) short in
-    let within : length source ≤ 262144 = read.are_tokens.bytes in
+    let within : length source ≤ most_bytes = read.are_tokens.bytes in
     omega arith
 
 pub read_regular : TokensAreFew → ReadsAreRegular → ReadsAreCounted → ReadGrammarsAreRegular
 read_regular few_of regular counted source g utf8 read =
     let few = few_tokens few_of source g utf8 read in (
       regular (unplaced read.tokens) g read.follows (lexed_text read.are_tokens.lexed) (omega arith),
-      counted (unplaced read.tokens) g 262145 read.follows (omega arith),
+      counted (unplaced read.tokens) g (suc most_bytes) read.follows (omega arith),
     )

@@ -220,10 +220,8 @@ fn add_argument(arguments: &mut Exprs, argument: Expr) -> Result<(), RuleFault>
     ensures ok { OnOk result (arguments.new ≡ arguments.old ++ expression_of argument ∷ []) }
     ensures err { IfErr result (λ e. e ≡ RuleFault.Memory) }
 {
-    match arguments.push(argument) {
-        Ok(()) => Ok(()),
-        Err(_) => Err(RuleFault::Memory),
-    }
+    arguments.push(argument)?;
+    Ok(())
 }
 
 /// The operator that stands there; `None` exactly where none does.

@@ -367,10 +367,8 @@ fn add_symbol(symbols: &mut Symbols, symbol: Symbol) -> Result<(), RuleFault>
     ensures ok { OnOk result (symbols.new ≡ symbols.old ++ symbol_of symbol ∷ []) }
     ensures err { IfErr result (λ e. e ≡ RuleFault.Memory) }
 {
-    match symbols.push(symbol) {
-        Ok(()) => Ok(()),
-        Err(_) => Err(RuleFault::Memory),
-    }
+    symbols.push(symbol)?;
+    Ok(())
 }
 
 /// Adds an alternative at the end.
@@ -378,8 +376,6 @@ fn add_alternative(alternatives: &mut Alts, alternative: Alt) -> Result<(), Rule
     ensures ok { OnOk result (alternatives.new ≡ alternatives.old ++ alternative ∷ []) }
     ensures err { IfErr result (λ e. e ≡ RuleFault.Memory) }
 {
-    match alternatives.push(alternative) {
-        Ok(()) => Ok(()),
-        Err(_) => Err(RuleFault::Memory),
-    }
+    alternatives.push(alternative)?;
+    Ok(())
 }

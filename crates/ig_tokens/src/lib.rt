@@ -26,7 +26,7 @@ pub use laws::{
 pub use literals::literal_text;
 pub use numbers::number_of;
 pub use token::{Placed, Token, TokenFault};
-pub use tokenizer::tokenize;
+pub use tokenizer::{MOST_BYTES, tokenize};
 
 #[cfg(test)]
 mod tests;
