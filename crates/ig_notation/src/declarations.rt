@@ -1,19 +1,25 @@
-//! Reading declarations. Each function reads from the token of number `at`, and returns what it read
-//! with the number of the first token behind it.
+//! Reading declarations. Each function reads from the token of number `at`, and returns what it
+//! read with the number of the first token behind it.
 
-ghost use Rattle.std.specs.Prelude.{◌≡◌, ◌≤◌, ◌<◌, [], ◌∷◌, ◌++◌, List, length, true, false, None, drop, IfOk, IfErr, MatchOption};
+ghost use Rattle.std.specs.Prelude.{◌≡◌, ◌≤◌, ◌<◌, [], ◌∷◌, ◌++◌, List, length, true, false, None};
+ghost use Rattle.std.specs.Prelude.{drop, IfOk, IfErr, MatchOption};
 ghost use Rattle.ig_tokens.specs.View.{token_of};
 ghost use Rattle.ig_syntax.specs.Token as spec;
-ghost use Rattle.ig_syntax.specs.Rules.{IsKind, IsDeclKind, ReadsAssociativity, ReadsLevel, ReadsLevels, ReadsParameters, ReadsDeclaration, ReadsDeclarations, FollowsRules};
+ghost use Rattle.ig_syntax.specs.Rules.{IsKind, IsDeclKind, ReadsAssociativity, ReadsLevel};
+ghost use Rattle.ig_syntax.specs.Rules.{ReadsLevels, ReadsParameters, ReadsDeclaration};
+ghost use Rattle.ig_syntax.specs.Rules.{ReadsDeclarations, FollowsRules};
 ghost use Rattle.ig_grammar.specs.declared.declaration.Assoc.{Assoc as SpecAssoc};
 ghost use Rattle.ig_grammar.specs.declared.declaration.Param.{Param as SpecParam};
 ghost use Rattle.ig_grammar.specs.declared.declaration.Level.{Level as SpecLevel};
 ghost use Rattle.ig_grammar.specs.declared.declaration.Decl.{Decl as SpecDecl};
 ghost use Rattle.ig_rules.specs.Machine as want;
-ghost use Rattle.ig_rules.specs.Machine.{after_grammar, after_declarations, level_wants, levels_wants, parameters_wants};
+ghost use Rattle.ig_rules.specs.Machine.{after_grammar, after_declarations, level_wants};
+ghost use Rattle.ig_rules.specs.Machine.{levels_wants, parameters_wants};
 ghost use Rattle.ig_rules.specs.Reading.{Goes};
 ghost use Rattle.ig_notation.specs.Limits.{NumbersFit};
-ghost use Rattle.ig_notation.specs.Readers.{meanings, Stands, Misses, MissesAt, Finds, StopsAt, FailsAt, Runs, Closed, ReadsHeading, ReadsParameter, IsAssociativity};
+ghost use Rattle.ig_notation.specs.Readers.{meanings, Stands, Misses, MissesAt, Finds, StopsAt};
+ghost use Rattle.ig_notation.specs.Readers.{FailsAt, Runs, Closed, ReadsHeading, ReadsParameter};
+ghost use Rattle.ig_notation.specs.Readers.{IsAssociativity};
 
 use crate::fault::{RuleFault, add};
 use crate::signs::{Sign, ahead, read_name, read_sign, stands_at, token_at};
@@ -40,7 +46,8 @@ pub(crate) fn read_grammar(alloc: Global, tokens: &[Placed]) -> Result<Grammar, 
 /// Whether the tokens begin with a start line.
 fn is_started(tokens: &[Placed]) -> bool
     ensures yes { result ≡ true → Stands (meanings tokens.now) 0 spec.Start }
-    ensures no { result ≡ false → Runs (want.grammar ∷ []) (want.declarations ∷ []) (meanings tokens.now) 0 0 }
+    ensures no { result ≡ false → Runs (want.grammar ∷ []) (want.declarations ∷ [])
+        (meanings tokens.now) 0 0 }
 {
     match token_at(tokens, 0) {
         Some(token) => is_start(token),
@@ -50,7 +57,8 @@ fn is_started(tokens: &[Placed]) -> bool
 
 fn is_start(token: Token) -> bool
     ensures yes { result ≡ true → token_of token.entry ≡ spec.Start }
-    ensures no { result ≡ false → after_grammar (token_of token.entry) ≡ after_declarations (token_of token.entry) }
+    ensures no { result ≡ false → after_grammar (token_of token.entry) ≡ after_declarations
+        (token_of token.entry) }
 {
     matches!(token, Token::Start)
 }
@@ -91,7 +99,8 @@ fn read_declarations(alloc: Global, tokens: &[Placed], at: usize) -> Result<Decl
 /// Reads a declaration.
 fn read_declaration(alloc: Global, tokens: &[Placed], at: usize) -> Result<(Decl, usize), RuleFault>
     requires { NumbersFit (meanings tokens.now) }
-    ensures ok { IfOk result (λ r. Goes SpecDecl ReadsDeclaration (want.declaration ∷ []) [] (meanings tokens.now) at r.1 r.0) }
+    ensures ok { IfOk result (λ r. Goes SpecDecl ReadsDeclaration (want.declaration ∷ []) []
+        (meanings tokens.now) at r.1 r.0) }
     ensures progress { IfOk result (λ r. at < r.1) }
     ensures err { IfErr result (StopsAt (want.declaration ∷ []) (meanings tokens.now) at) }
 {
@@ -115,7 +124,8 @@ fn read_heading(
     tokens: &[Placed],
     at: usize,
 ) -> Result<(Word, Params, usize), RuleFault>
-    ensures ok { IfOk result (λ r. Goes (List SpecParam) (ReadsHeading r.0) (want.heading ∷ []) [] (meanings tokens.now) at r.2 r.1) }
+    ensures ok { IfOk result (λ r. Goes (List SpecParam) (ReadsHeading r.0) (want.heading ∷ []) []
+        (meanings tokens.now) at r.2 r.1) }
     ensures err { IfErr result (StopsAt (want.heading ∷ []) (meanings tokens.now) at) }
 {
     match ahead(tokens, at)? {
@@ -136,8 +146,10 @@ fn read_parameters(
     at: usize,
 ) -> Result<(Params, usize), RuleFault>
     requires { at ≤ length (meanings tokens.now) }
-    ensures ok { IfOk result (λ r. Goes (List SpecParam) (Closed ReadsParameters) (parameters_wants ++ want.close_bracket ∷ []) [] (meanings tokens.now) at r.1 r.0) }
-    ensures err { IfErr result (StopsAt (parameters_wants ++ want.close_bracket ∷ []) (meanings tokens.now) at) }
+    ensures ok { IfOk result (λ r. Goes (List SpecParam) (Closed ReadsParameters)
+        (parameters_wants ++ want.close_bracket ∷ []) [] (meanings tokens.now) at r.1 r.0) }
+    ensures err { IfErr result (StopsAt (parameters_wants ++ want.close_bracket ∷ [])
+        (meanings tokens.now) at) }
 {
     let mut parameters = Vec::new(alloc);
     let mut end = at;
@@ -154,7 +166,8 @@ fn read_parameters(
 
 /// Reads a parameter: a name, `:` and a kind.
 fn read_parameter(alloc: Global, tokens: &[Placed], at: usize) -> Result<(Param, usize), RuleFault>
-    ensures ok { IfOk result (λ r. Goes SpecParam ReadsParameter (want.parameter ∷ []) [] (meanings tokens.now) at r.1 r.0) }
+    ensures ok { IfOk result (λ r. Goes SpecParam ReadsParameter (want.parameter ∷ []) []
+        (meanings tokens.now) at r.1 r.0) }
     ensures err { IfErr result (StopsAt (want.parameter ∷ []) (meanings tokens.now) at) }
 {
     let name = read_name(tokens, at)?;
@@ -168,7 +181,8 @@ fn read_parameter(alloc: Global, tokens: &[Placed], at: usize) -> Result<(Param,
 fn read_levels(alloc: Global, tokens: &[Placed], at: usize) -> Result<(Levels, usize), RuleFault>
     requires fit { NumbersFit (meanings tokens.now) }
     requires within { at ≤ length (meanings tokens.now) }
-    ensures ok { IfOk result (λ r. Goes (List SpecLevel) ReadsLevels levels_wants [] (meanings tokens.now) at r.1 r.0) }
+    ensures ok { IfOk result (λ r. Goes (List SpecLevel) ReadsLevels levels_wants []
+        (meanings tokens.now) at r.1 r.0) }
     ensures err { IfErr result (StopsAt levels_wants (meanings tokens.now) at) }
 {
     let mut levels = Vec::new(alloc);
@@ -187,7 +201,8 @@ fn read_levels(alloc: Global, tokens: &[Placed], at: usize) -> Result<(Levels, u
 fn read_level(alloc: Global, tokens: &[Placed], at: usize) -> Result<(Level, usize), RuleFault>
     requires fit { NumbersFit (meanings tokens.now) }
     requires within { at ≤ length (meanings tokens.now) }
-    ensures ok { IfOk result (λ r. Goes SpecLevel ReadsLevel level_wants [] (meanings tokens.now) at r.1 r.0) }
+    ensures ok { IfOk result (λ r. Goes SpecLevel ReadsLevel level_wants [] (meanings tokens.now) at
+        r.1 r.0) }
     ensures err { IfErr result (StopsAt level_wants (meanings tokens.now) at) }
 {
     let (assoc, next) = read_associativity(tokens, at);
@@ -198,7 +213,8 @@ fn read_level(alloc: Global, tokens: &[Placed], at: usize) -> Result<(Level, usi
 /// Reads to which side the alternatives of a level group; to either where no token says it.
 fn read_associativity(tokens: &[Placed], at: usize) -> (Assoc, usize)
     requires { at ≤ length (meanings tokens.now) }
-    ensures { Goes SpecAssoc ReadsAssociativity (want.associativity ∷ []) [] (meanings tokens.now) at result.1 result.0 }
+    ensures { Goes SpecAssoc ReadsAssociativity (want.associativity ∷ []) [] (meanings tokens.now)
+        at result.1 result.0 }
 {
     match associativity_at(tokens, at) {
         Some(assoc) => (assoc, at + 1),
@@ -208,7 +224,8 @@ fn read_associativity(tokens: &[Placed], at: usize) -> (Assoc, usize)
 
 /// The associativity that stands there; `None` exactly where none does.
 fn associativity_at(tokens: &[Placed], at: usize) -> Option<Assoc>
-    ensures { MatchOption result (Misses want.associativity (meanings tokens.now) at) (λ a. Finds (IsAssociativity a) (meanings tokens.now) at) }
+    ensures { MatchOption result (Misses want.associativity (meanings tokens.now) at)
+        (λ a. Finds (IsAssociativity a) (meanings tokens.now) at) }
 {
     match token_at(tokens, at)? {
         Token::Left => Some(Assoc::Left),

@@ -1,7 +1,8 @@
 //! Reading expressions. Each function reads from the token of number `at`, and returns what it read
 //! with the number of the first token behind it.
 
-ghost use Rattle.std.specs.Prelude.{◌≡◌, ◌≤◌, [], ◌∷◌, ◌++◌, List, length, None, chars, IfOk, IfErr, OnOk, MatchOption};
+ghost use Rattle.std.specs.Prelude.{◌≡◌, ◌≤◌, [], ◌∷◌, ◌++◌, List, length, None, chars, IfOk};
+ghost use Rattle.std.specs.Prelude.{IfErr, OnOk, MatchOption};
 ghost use Rattle.ig_tokens.specs.View.{token_of};
 ghost use Rattle.ig_expr.specs.View.{expression_of};
 ghost use Rattle.ig_expr.specs.Expression.{Expression};
@@ -11,7 +12,8 @@ ghost use Rattle.ig_rules.specs.Machine as want;
 ghost use Rattle.ig_rules.specs.Machine.{after_function, arguments_wants};
 ghost use Rattle.ig_rules.specs.Reading.{Goes};
 ghost use Rattle.ig_notation.specs.Limits.{NumbersFit};
-ghost use Rattle.ig_notation.specs.Readers.{meanings, Stands, Misses, Finds, StopsAt, Closed, IsNamed, named_wants, ReadsNamed};
+ghost use Rattle.ig_notation.specs.Readers.{meanings, Stands, Misses, Finds, StopsAt, Closed};
+ghost use Rattle.ig_notation.specs.Readers.{IsNamed, named_wants, ReadsNamed};
 ghost use Rattle.ig_notation.specs.declared.expressions.Named.TheVariants as named;
 
 use crate::fault::RuleFault;
@@ -40,7 +42,8 @@ pub(crate) fn read_expression(
     at: usize,
 ) -> Result<(Expr, usize), RuleFault>
     requires { NumbersFit (meanings tokens.now) }
-    ensures ok { IfOk result (λ r. Goes Expression ReadsExpression (want.expression ∷ []) [] (meanings tokens.now) at r.1 (expression_of r.0)) }
+    ensures ok { IfOk result (λ r. Goes Expression ReadsExpression (want.expression ∷ []) []
+        (meanings tokens.now) at r.1 (expression_of r.0)) }
     ensures err { IfErr result (StopsAt (want.expression ∷ []) (meanings tokens.now) at) }
 {
     match ahead(tokens, at)? {
@@ -60,8 +63,10 @@ pub(crate) fn read_expression(
 #[cycle(expressions)]
 fn read_operation(alloc: Global, tokens: &[Placed], at: usize) -> Result<(Expr, usize), RuleFault>
     requires { NumbersFit (meanings tokens.now) }
-    ensures ok { IfOk result (λ r. Goes Expression ReadsExpression (want.term ∷ want.operator_rest ∷ []) [] (meanings tokens.now) at r.1 (expression_of r.0)) }
-    ensures err { IfErr result (StopsAt (want.term ∷ want.operator_rest ∷ []) (meanings tokens.now) at) }
+    ensures ok { IfOk result (λ r. Goes Expression ReadsExpression
+        (want.term ∷ want.operator_rest ∷ []) [] (meanings tokens.now) at r.1 (expression_of r.0)) }
+    ensures err { IfErr result (StopsAt (want.term ∷ want.operator_rest ∷ []) (meanings tokens.now)
+        at) }
 {
     let (left, end) = read_term(alloc, tokens, at)?;
     let Some(operator) = operator_at(tokens, end) else {
@@ -77,7 +82,8 @@ fn read_operation(alloc: Global, tokens: &[Placed], at: usize) -> Result<(Expr, 
 #[cycle(expressions)]
 fn read_term(alloc: Global, tokens: &[Placed], at: usize) -> Result<(Expr, usize), RuleFault>
     requires { NumbersFit (meanings tokens.now) }
-    ensures ok { IfOk result (λ r. Goes Expression ReadsTerm (want.term ∷ []) [] (meanings tokens.now) at r.1 (expression_of r.0)) }
+    ensures ok { IfOk result (λ r. Goes Expression ReadsTerm (want.term ∷ []) []
+        (meanings tokens.now) at r.1 (expression_of r.0)) }
     ensures err { IfErr result (StopsAt (want.term ∷ []) (meanings tokens.now) at) }
 {
     match ahead(tokens, at)? {
@@ -106,8 +112,11 @@ pub(crate) fn read_closed(
     at: usize,
 ) -> Result<(Expr, usize), RuleFault>
     requires { NumbersFit (meanings tokens.now) }
-    ensures ok { IfOk result (λ r. Goes Expression (Closed ReadsExpression) (want.expression ∷ want.close_bracket ∷ []) [] (meanings tokens.now) at r.1 (expression_of r.0)) }
-    ensures err { IfErr result (StopsAt (want.expression ∷ want.close_bracket ∷ []) (meanings tokens.now) at) }
+    ensures ok { IfOk result (λ r. Goes Expression (Closed ReadsExpression)
+        (want.expression ∷ want.close_bracket ∷ []) [] (meanings tokens.now) at r.1
+        (expression_of r.0)) }
+    ensures err { IfErr result (StopsAt (want.expression ∷ want.close_bracket ∷ [])
+        (meanings tokens.now) at) }
 {
     let (expression, end) = read_expression(alloc, tokens, at)?;
     let end = read_sign(tokens, end, Sign::Close)?;
@@ -123,7 +132,8 @@ fn read_function(
     function: Named,
 ) -> Result<(Expr, usize), RuleFault>
     requires { NumbersFit (meanings tokens.now) }
-    ensures ok { IfOk result (λ r. Goes Expression (ReadsNamed function) (named_wants function) [] (meanings tokens.now) at r.1 (expression_of r.0)) }
+    ensures ok { IfOk result (λ r. Goes Expression (ReadsNamed function) (named_wants function) []
+        (meanings tokens.now) at r.1 (expression_of r.0)) }
     ensures err { IfErr result (StopsAt (named_wants function) (meanings tokens.now) at) }
 {
     match function {
@@ -140,7 +150,8 @@ fn read_function(
 #[cycle(expressions)]
 fn read_same(alloc: Global, tokens: &[Placed], at: usize) -> Result<(Expr, usize), RuleFault>
     requires { NumbersFit (meanings tokens.now) }
-    ensures ok { IfOk result (λ r. Goes Expression (ReadsNamed named.Same) (named_wants named.Same) [] (meanings tokens.now) at r.1 (expression_of r.0)) }
+    ensures ok { IfOk result (λ r. Goes Expression (ReadsNamed named.Same) (named_wants named.Same)
+        [] (meanings tokens.now) at r.1 (expression_of r.0)) }
     ensures err { IfErr result (StopsAt (named_wants named.Same) (meanings tokens.now) at) }
 {
     let (first, end) = read_expression(alloc, tokens, at)?;
@@ -155,7 +166,8 @@ fn read_same(alloc: Global, tokens: &[Placed], at: usize) -> Result<(Expr, usize
 #[cycle(expressions)]
 fn read_spells(alloc: Global, tokens: &[Placed], at: usize) -> Result<(Expr, usize), RuleFault>
     requires { NumbersFit (meanings tokens.now) }
-    ensures ok { IfOk result (λ r. Goes Expression (ReadsNamed named.Spells) (named_wants named.Spells) [] (meanings tokens.now) at r.1 (expression_of r.0)) }
+    ensures ok { IfOk result (λ r. Goes Expression (ReadsNamed named.Spells)
+        (named_wants named.Spells) [] (meanings tokens.now) at r.1 (expression_of r.0)) }
     ensures err { IfErr result (StopsAt (named_wants named.Spells) (meanings tokens.now) at) }
 {
     let (operand, end) = read_expression(alloc, tokens, at)?;
@@ -185,8 +197,10 @@ pub(crate) fn read_arguments(
 ) -> Result<(Exprs, usize), RuleFault>
     requires fit { NumbersFit (meanings tokens.now) }
     requires within { at ≤ length (meanings tokens.now) }
-    ensures ok { IfOk result (λ r. Goes (List Expression) (Closed ReadsArguments) (arguments_wants ++ want.close_bracket ∷ []) [] (meanings tokens.now) at r.1 r.0) }
-    ensures err { IfErr result (StopsAt (arguments_wants ++ want.close_bracket ∷ []) (meanings tokens.now) at) }
+    ensures ok { IfOk result (λ r. Goes (List Expression) (Closed ReadsArguments)
+        (arguments_wants ++ want.close_bracket ∷ []) [] (meanings tokens.now) at r.1 r.0) }
+    ensures err { IfErr result (StopsAt (arguments_wants ++ want.close_bracket ∷ [])
+        (meanings tokens.now) at) }
 {
     let mut arguments = Exprs::new(alloc);
     let mut end = at;
@@ -206,15 +220,14 @@ fn add_argument(arguments: &mut Exprs, argument: Expr) -> Result<(), RuleFault>
     ensures ok { OnOk result (arguments.new ≡ arguments.old ++ expression_of argument ∷ []) }
     ensures err { IfErr result (λ e. e ≡ RuleFault.Memory) }
 {
-    match arguments.push(argument) {
-        Ok(()) => Ok(()),
-        Err(_) => Err(RuleFault::Memory),
-    }
+    arguments.push(argument)?;
+    Ok(())
 }
 
 /// The operator that stands there; `None` exactly where none does.
 fn operator_at(tokens: &[Placed], at: usize) -> Option<Op>
-    ensures { MatchOption result (Misses want.operator_rest (meanings tokens.now) at) (λ o. Finds (λ t. IsOperator t o) (meanings tokens.now) at) }
+    ensures { MatchOption result (Misses want.operator_rest (meanings tokens.now) at)
+        (λ o. Finds (λ t. IsOperator t o) (meanings tokens.now) at) }
 {
     match token_at(tokens, at)? {
         Token::Plus => Some(Op::Add),
@@ -236,7 +249,8 @@ fn operator_at(tokens: &[Placed], at: usize) -> Option<Op>
 
 /// What a head of that name says of an expression; `None` exactly where it is no function.
 fn function_named(name: &str) -> Option<Named>
-    ensures { MatchOption result (after_function (chars name.now) ≡ None) (IsNamed (chars name.now)) }
+    ensures { MatchOption result (after_function (chars name.now) ≡ None) (IsNamed (chars name.now))
+        }
 {
     match name {
         "begin" => Some(Named::One(Function::Begin)),

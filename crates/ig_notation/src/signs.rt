@@ -1,10 +1,12 @@
 //! Single tokens.
 
-ghost use Rattle.std.specs.Prelude.{◌≡◌, [], true, false, drop, chars, IfOk, IfErr, None, MatchOption};
+ghost use Rattle.std.specs.Prelude.{◌≡◌, [], true, false, drop, chars, IfOk, IfErr, None};
+ghost use Rattle.std.specs.Prelude.{MatchOption};
 ghost use Rattle.ig_tokens.specs.View.{token_of};
 ghost use Rattle.ig_syntax.specs.Token as spec;
 ghost use Rattle.ig_rules.specs.Machine.{after, name};
-ghost use Rattle.ig_notation.specs.Readers.{meanings, Stands, Takes, Misses, EndsAt, MissesAt, sign_token, want_of};
+ghost use Rattle.ig_notation.specs.Readers.{meanings, Stands, Takes, Misses, EndsAt, MissesAt};
+ghost use Rattle.ig_notation.specs.Readers.{sign_token, want_of};
 
 use crate::fault::RuleFault;
 use ig_tokens::{Placed, Token};
@@ -25,7 +27,8 @@ pub(crate) enum Sign {
 
 /// The token of this number, counted from 0; `None` exactly where there are no more.
 pub(crate) fn token_at<'a>(tokens: &[Placed<'a>], at: usize) -> Option<Token<'a>>
-    ensures { MatchOption result (drop at (meanings tokens.now) ≡ []) (λ t. Stands (meanings tokens.now) at (token_of t)) }
+    ensures { MatchOption result (drop at (meanings tokens.now) ≡ [])
+        (λ t. Stands (meanings tokens.now) at (token_of t)) }
 {
     match tokens.get(at) {
         Some(placed) => Some(placed.token),

@@ -1,7 +1,8 @@
 //! Reading the symbols of alternatives. Each function reads from the token of number `at`, and
 //! returns what it read with the number of the first token behind it.
 
-ghost use Rattle.std.specs.Prelude.{◌≡◌, ◌≤◌, ◌<◌, [], ◌∷◌, ◌++◌, length, true, false, Some, is_some, IfOk, IfErr, OnOk, MatchOption};
+ghost use Rattle.std.specs.Prelude.{◌≡◌, ◌≤◌, ◌<◌, [], ◌∷◌, ◌++◌, length, true, false, Some};
+ghost use Rattle.std.specs.Prelude.{is_some, IfOk, IfErr, OnOk, MatchOption};
 ghost use Rattle.ig_text.specs.declared.pattern.Pattern.{Pattern as SpecPattern};
 ghost use Rattle.ig_tokens.specs.View.{token_of};
 ghost use Rattle.ig_syntax.specs.Token as spec;
@@ -9,12 +10,15 @@ ghost use Rattle.ig_grammar.specs.Symbol as tree;
 ghost use Rattle.ig_grammar.specs.Symbol.{gathered};
 ghost use Rattle.ig_grammar.specs.Alternative.{gathered_alternatives};
 ghost use Rattle.ig_grammar.specs.View.{symbol_of};
-ghost use Rattle.ig_syntax.specs.Rules.{ReadsSymbol, ReadsMarked, ReadsPost, ReadsAtom, ReadsAlternative, ReadsAlternatives};
+ghost use Rattle.ig_syntax.specs.Rules.{ReadsSymbol, ReadsMarked, ReadsPost, ReadsAtom};
+ghost use Rattle.ig_syntax.specs.Rules.{ReadsAlternative, ReadsAlternatives};
 ghost use Rattle.ig_rules.specs.Machine as want;
 ghost use Rattle.ig_rules.specs.Machine.{after_symbol, alternatives_wants};
 ghost use Rattle.ig_rules.specs.Reading.{Goes};
 ghost use Rattle.ig_notation.specs.Limits.{NumbersFit};
-ghost use Rattle.ig_notation.specs.Readers.{meanings, Stands, Misses, MissesAt, Finds, StopsAt, Behind, ReadsBare, terminal_of, repetition_token, repeated_of, list_token, separated_of};
+ghost use Rattle.ig_notation.specs.Readers.{meanings, Stands, Misses, MissesAt, Finds, StopsAt};
+ghost use Rattle.ig_notation.specs.Readers.{Behind, ReadsBare, terminal_of, repetition_token};
+ghost use Rattle.ig_notation.specs.Readers.{repeated_of, list_token, separated_of};
 
 use crate::expressions::{read_arguments, read_closed};
 use crate::fault::RuleFault;
@@ -50,7 +54,8 @@ pub(crate) fn read_alternatives(
 ) -> Result<(Alts, usize), RuleFault>
     requires fit { NumbersFit (meanings tokens.now) }
     requires within { at ≤ length (meanings tokens.now) }
-    ensures ok { IfOk result (λ r. Goes tree.Alternatives ReadsAlternatives alternatives_wants [] (meanings tokens.now) at r.1 (gathered_alternatives r.0)) }
+    ensures ok { IfOk result (λ r. Goes tree.Alternatives ReadsAlternatives alternatives_wants []
+        (meanings tokens.now) at r.1 (gathered_alternatives r.0)) }
     ensures err { IfErr result (StopsAt alternatives_wants (meanings tokens.now) at) }
 {
     let mut alternatives = Alts::new(alloc);
@@ -74,7 +79,8 @@ fn read_alternative(
 ) -> Result<(Symbols, usize), RuleFault>
     requires fit { NumbersFit (meanings tokens.now) }
     requires within { at ≤ length (meanings tokens.now) }
-    ensures ok { IfOk result (λ r. Goes tree.Symbols ReadsAlternative (want.alternative ∷ []) [] (meanings tokens.now) at r.1 (gathered r.0)) }
+    ensures ok { IfOk result (λ r. Goes tree.Symbols ReadsAlternative (want.alternative ∷ []) []
+        (meanings tokens.now) at r.1 (gathered r.0)) }
     ensures err { IfErr result (StopsAt (want.alternative ∷ []) (meanings tokens.now) at) }
 {
     let mut symbols = Symbols::new(alloc);
@@ -89,7 +95,8 @@ fn read_alternative(
 
 /// Whether a symbol begins with the token that stands there.
 fn begins_symbol(tokens: &[Placed], at: usize) -> bool
-    ensures yes { result ≡ true → Finds (λ t. is_some (after_symbol t) ≡ true) (meanings tokens.now) at }
+    ensures yes { result ≡ true → Finds (λ t. is_some (after_symbol t) ≡ true) (meanings tokens.now)
+        at }
     ensures no { result ≡ false → Misses want.alternative (meanings tokens.now) at }
 {
     match token_at(tokens, at) {
@@ -125,7 +132,8 @@ fn begins(token: Token) -> bool
 #[cycle(symbols)]
 fn read_symbol(alloc: Global, tokens: &[Placed], at: usize) -> Result<(Symbol, usize), RuleFault>
     requires { NumbersFit (meanings tokens.now) }
-    ensures ok { IfOk result (λ r. Goes tree.Symbol ReadsSymbol (want.symbol ∷ []) [] (meanings tokens.now) at r.1 (symbol_of r.0)) }
+    ensures ok { IfOk result (λ r. Goes tree.Symbol ReadsSymbol (want.symbol ∷ []) []
+        (meanings tokens.now) at r.1 (symbol_of r.0)) }
     ensures progress { IfOk result (λ r. at < r.1) }
     ensures err { IfErr result (StopsAt (want.symbol ∷ []) (meanings tokens.now) at) }
 {
@@ -147,8 +155,11 @@ fn read_symbol(alloc: Global, tokens: &[Placed], at: usize) -> Result<(Symbol, u
 /// Reads what stands behind `when`: a condition in brackets.
 fn read_guard(alloc: Global, tokens: &[Placed], at: usize) -> Result<(Symbol, usize), RuleFault>
     requires { NumbersFit (meanings tokens.now) }
-    ensures ok { IfOk result (λ r. Goes tree.Symbol (Behind spec.When ReadsSymbol) (want.open_bracket ∷ want.expression ∷ want.close_bracket ∷ []) [] (meanings tokens.now) at r.1 (symbol_of r.0)) }
-    ensures err { IfErr result (StopsAt (want.open_bracket ∷ want.expression ∷ want.close_bracket ∷ []) (meanings tokens.now) at) }
+    ensures ok { IfOk result (λ r. Goes tree.Symbol (Behind spec.When ReadsSymbol)
+        (want.open_bracket ∷ want.expression ∷ want.close_bracket ∷ []) [] (meanings tokens.now) at
+        r.1 (symbol_of r.0)) }
+    ensures err { IfErr result (StopsAt (want.open_bracket ∷ want.expression ∷ want.close_bracket ∷
+        []) (meanings tokens.now) at) }
 {
     let inside = read_sign(tokens, at, Sign::Open)?;
     let (condition, end) = read_closed(alloc, tokens, inside)?;
@@ -158,8 +169,11 @@ fn read_guard(alloc: Global, tokens: &[Placed], at: usize) -> Result<(Symbol, us
 /// Reads what stands behind `let`: a name, `=`, and an expression in brackets.
 fn read_let(alloc: Global, tokens: &[Placed], at: usize) -> Result<(Symbol, usize), RuleFault>
     requires { NumbersFit (meanings tokens.now) }
-    ensures ok { IfOk result (λ r. Goes tree.Symbol (Behind spec.Let ReadsSymbol) (want.name ∷ want.equals ∷ want.open_bracket ∷ want.expression ∷ want.close_bracket ∷ []) [] (meanings tokens.now) at r.1 (symbol_of r.0)) }
-    ensures err { IfErr result (StopsAt (want.name ∷ want.equals ∷ want.open_bracket ∷ want.expression ∷ want.close_bracket ∷ []) (meanings tokens.now) at) }
+    ensures ok { IfOk result (λ r. Goes tree.Symbol (Behind spec.Let ReadsSymbol)
+        (want.name ∷ want.equals ∷ want.open_bracket ∷ want.expression ∷ want.close_bracket ∷ []) []
+        (meanings tokens.now) at r.1 (symbol_of r.0)) }
+    ensures err { IfErr result (StopsAt (want.name ∷ want.equals ∷ want.open_bracket ∷
+        want.expression ∷ want.close_bracket ∷ []) (meanings tokens.now) at) }
 {
     let name = read_name(tokens, at)?;
     let open = read_sign(tokens, at + 1, Sign::Equals)?;
@@ -173,7 +187,8 @@ fn read_let(alloc: Global, tokens: &[Placed], at: usize) -> Result<(Symbol, usiz
 #[cycle(symbols)]
 fn read_marked(alloc: Global, tokens: &[Placed], at: usize) -> Result<(Symbol, usize), RuleFault>
     requires { NumbersFit (meanings tokens.now) }
-    ensures ok { IfOk result (λ r. Goes tree.Symbol ReadsMarked (want.marked ∷ []) [] (meanings tokens.now) at r.1 (symbol_of r.0)) }
+    ensures ok { IfOk result (λ r. Goes tree.Symbol ReadsMarked (want.marked ∷ []) []
+        (meanings tokens.now) at r.1 (symbol_of r.0)) }
     ensures progress { IfOk result (λ r. at < r.1) }
     ensures err { IfErr result (StopsAt (want.marked ∷ []) (meanings tokens.now) at) }
 {
@@ -198,7 +213,8 @@ fn read_marked(alloc: Global, tokens: &[Placed], at: usize) -> Result<(Symbol, u
 #[cycle(symbols)]
 fn read_filtered(alloc: Global, tokens: &[Placed], at: usize) -> Result<(Symbol, usize), RuleFault>
     requires { NumbersFit (meanings tokens.now) }
-    ensures ok { IfOk result (λ r. Goes tree.Symbol ReadsPost (want.post ∷ []) [] (meanings tokens.now) at r.1 (symbol_of r.0)) }
+    ensures ok { IfOk result (λ r. Goes tree.Symbol ReadsPost (want.post ∷ []) []
+        (meanings tokens.now) at r.1 (symbol_of r.0)) }
     ensures progress { IfOk result (λ r. at < r.1) }
     ensures err { IfErr result (StopsAt (want.post ∷ []) (meanings tokens.now) at) }
 {
@@ -214,7 +230,8 @@ fn read_filtered(alloc: Global, tokens: &[Placed], at: usize) -> Result<(Symbol,
 #[cycle(symbols)]
 fn read_bare(alloc: Global, tokens: &[Placed], at: usize) -> Result<(Symbol, usize), RuleFault>
     requires { NumbersFit (meanings tokens.now) }
-    ensures ok { IfOk result (λ r. Goes tree.Symbol ReadsBare (want.post ∷ []) (want.filters ∷ []) (meanings tokens.now) at r.1 (symbol_of r.0)) }
+    ensures ok { IfOk result (λ r. Goes tree.Symbol ReadsBare (want.post ∷ []) (want.filters ∷ [])
+        (meanings tokens.now) at r.1 (symbol_of r.0)) }
     ensures progress { IfOk result (λ r. at < r.1) }
     ensures err { IfErr result (StopsAt (want.post ∷ []) (meanings tokens.now) at) }
 {
@@ -228,7 +245,8 @@ fn read_bare(alloc: Global, tokens: &[Placed], at: usize) -> Result<(Symbol, usi
 #[cycle(symbols)]
 fn read_repeated(alloc: Global, tokens: &[Placed], at: usize) -> Result<(Symbol, usize), RuleFault>
     requires { NumbersFit (meanings tokens.now) }
-    ensures ok { IfOk result (λ r. Goes tree.Symbol ReadsBare (want.atom ∷ want.sign ∷ []) [] (meanings tokens.now) at r.1 (symbol_of r.0)) }
+    ensures ok { IfOk result (λ r. Goes tree.Symbol ReadsBare (want.atom ∷ want.sign ∷ []) []
+        (meanings tokens.now) at r.1 (symbol_of r.0)) }
     ensures progress { IfOk result (λ r. at < r.1) }
     ensures err { IfErr result (StopsAt (want.atom ∷ want.sign ∷ []) (meanings tokens.now) at) }
 {
@@ -244,8 +262,11 @@ fn read_repeated(alloc: Global, tokens: &[Placed], at: usize) -> Result<(Symbol,
 #[cycle(symbols)]
 fn read_separated(alloc: Global, tokens: &[Placed], at: usize) -> Result<(Symbol, usize), RuleFault>
     requires { NumbersFit (meanings tokens.now) }
-    ensures ok { IfOk result (λ r. Goes tree.Symbol (Behind spec.OpenBrace ReadsBare) (want.marked ∷ want.marked ∷ want.close_brace ∷ want.list_sign ∷ []) [] (meanings tokens.now) at r.1 (symbol_of r.0)) }
-    ensures err { IfErr result (StopsAt (want.marked ∷ want.marked ∷ want.close_brace ∷ want.list_sign ∷ []) (meanings tokens.now) at) }
+    ensures ok { IfOk result (λ r. Goes tree.Symbol (Behind spec.OpenBrace ReadsBare)
+        (want.marked ∷ want.marked ∷ want.close_brace ∷ want.list_sign ∷ []) []
+        (meanings tokens.now) at r.1 (symbol_of r.0)) }
+    ensures err { IfErr result (StopsAt (want.marked ∷ want.marked ∷ want.close_brace ∷
+        want.list_sign ∷ []) (meanings tokens.now) at) }
 {
     let (item, next) = read_marked(alloc, tokens, at)?;
     let item = Inner::new(alloc, item)?;
@@ -260,7 +281,8 @@ fn read_separated(alloc: Global, tokens: &[Placed], at: usize) -> Result<(Symbol
 #[cycle(symbols)]
 fn read_atom(alloc: Global, tokens: &[Placed], at: usize) -> Result<(Symbol, usize), RuleFault>
     requires { NumbersFit (meanings tokens.now) }
-    ensures ok { IfOk result (λ r. Goes tree.Symbol ReadsAtom (want.atom ∷ []) [] (meanings tokens.now) at r.1 (symbol_of r.0)) }
+    ensures ok { IfOk result (λ r. Goes tree.Symbol ReadsAtom (want.atom ∷ []) []
+        (meanings tokens.now) at r.1 (symbol_of r.0)) }
     ensures progress { IfOk result (λ r. at < r.1) }
     ensures err { IfErr result (StopsAt (want.atom ∷ []) (meanings tokens.now) at) }
 {
@@ -298,7 +320,8 @@ fn terminal(pattern: Pattern) -> Symbol
 
 /// The sign of an option or a list that stands there; `None` exactly where none does.
 fn repetition_at(tokens: &[Placed], at: usize) -> Option<Repetition>
-    ensures { MatchOption result (Misses want.sign (meanings tokens.now) at) (λ s. Stands (meanings tokens.now) at (repetition_token s)) }
+    ensures { MatchOption result (Misses want.sign (meanings tokens.now) at)
+        (λ s. Stands (meanings tokens.now) at (repetition_token s)) }
 {
     match token_at(tokens, at)? {
         Token::Question => Some(Repetition::Opt),
@@ -344,10 +367,8 @@ fn add_symbol(symbols: &mut Symbols, symbol: Symbol) -> Result<(), RuleFault>
     ensures ok { OnOk result (symbols.new ≡ symbols.old ++ symbol_of symbol ∷ []) }
     ensures err { IfErr result (λ e. e ≡ RuleFault.Memory) }
 {
-    match symbols.push(symbol) {
-        Ok(()) => Ok(()),
-        Err(_) => Err(RuleFault::Memory),
-    }
+    symbols.push(symbol)?;
+    Ok(())
 }
 
 /// Adds an alternative at the end.
@@ -355,8 +376,6 @@ fn add_alternative(alternatives: &mut Alts, alternative: Alt) -> Result<(), Rule
     ensures ok { OnOk result (alternatives.new ≡ alternatives.old ++ alternative ∷ []) }
     ensures err { IfErr result (λ e. e ≡ RuleFault.Memory) }
 {
-    match alternatives.push(alternative) {
-        Ok(()) => Ok(()),
-        Err(_) => Err(RuleFault::Memory),
-    }
+    alternatives.push(alternative)?;
+    Ok(())
 }

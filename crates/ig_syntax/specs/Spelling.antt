@@ -2,12 +2,13 @@
 use Rattle.std.specs.Prelude.{◌≡◌, ℕ, ◌≤◌, ◌⊎◌, ◌<◌, Bool, true, false, not, List, [], ◌∷◌, ◌++◌, length, Option, Some, None, IsTrue, ◌==◌, codes, if◌then◌else◌}
 use Rattle.std.specs.Map.{lookup}
 use Rattle.std.specs.List.{list_all, list_any}
-use Rattle.unicode_ident.specs.Ident.{is_xid_start, is_xid_continue}
+use Rattle.unicode_ident.specs.Ident.{is_xid_continue}
 use Rattle.ig_text.specs.Ranges.{normal_form}
 use Rattle.ig_text.specs.declared.class.Class.{Class}
 use Rattle.ig_text.specs.declared.class.Class.TheVariants.{Ranges, Any, XidStart, XidContinue}
 use Rattle.ig_expr.specs.Names.{is_word}
 use Rattle.ig_expr.specs.Reading.{is_digit, spelled}
+use Rattle.ig_grammar.specs.Name.{is_name}
 use Rattle.ig_syntax.specs.Token as token
 use Rattle.ig_syntax.specs.Token.{Token, Name, Head, Number, Literal, OneOf}
 
@@ -24,6 +25,7 @@ signs =
     (codes "!>>", token.NotFollowedBy) ∷ (codes "!<<", token.NotPrecededBy) ∷ (codes "==", token.EqualTo) ∷
     (codes "!=", token.NotEqualTo) ∷ (codes "<", token.Less) ∷ (codes "<=", token.AtMost) ∷ (codes ">=", token.AtLeast) ∷ []
 
+-- the words that are no names (`specs/Name.antt` of ig_grammar), each with its token
 unfoldable pub keywords : List (List ℕ × Token)
 keywords =
     (codes "start", token.Start) ∷ (codes "syntax", token.Syntax) ∷ (codes "lexical", token.Lexical) ∷
@@ -41,10 +43,6 @@ named_classes = (codes "any", Any) ∷ (codes "xid_start", XidStart) ∷ (codes 
 -- the character is one of these
 abbrev pub is_one_of : List ℕ → ℕ → Bool
 is_one_of cs c = list_any (λ d. d == c) cs
-
--- a word is an XID_Start character and then XID_Continue characters
-pub data IsWord : List ℕ → Type 0 where
-  word : (c : ℕ) (cs : List ℕ) → IsTrue (is_xid_start c) → IsTrue (list_all is_xid_continue cs) → IsWord (c ∷ cs)
 
 -- a numeral is `0`, or a digit 1 to 9 and then digits
 pub data IsNumeral : List ℕ → Type 0 where
@@ -86,8 +84,8 @@ pub data SpellsRanges : List ℕ → List (ℕ × ℕ) → Type 0 where
 
 -- these characters are this token
 pub data IsToken : List ℕ → Token → Type 0 where
-  name : (cs : List ℕ) → IsWord cs → entry keywords cs ≡ None → IsToken cs (Name cs)
-  head : (cs whole : List ℕ) → IsWord cs → entry keywords cs ≡ None → whole ≡ cs ++ 40 ∷ [] → IsToken whole (Head cs)
+  name : (cs : List ℕ) → IsTrue (is_name cs) → IsToken cs (Name cs)
+  head : (cs whole : List ℕ) → IsTrue (is_name cs) → whole ≡ cs ++ 40 ∷ [] → IsToken whole (Head cs)
   number : (cs : List ℕ) → IsNumeral cs → IsToken cs (Number (spelled 0 cs))
   literal : (inside whole : List ℕ) (c : ℕ) (text : List ℕ) → SpellsText inside (c ∷ text) →
       whole ≡ 34 ∷ (inside ++ 34 ∷ []) → IsToken whole (Literal (c ∷ text))

@@ -1,7 +1,7 @@
 //! Signs.
 
 ghost use Rattle.std.specs.Prelude.{◌≡◌, ◌∷◌, chars, option_map};
-ghost use Rattle.ig_syntax.specs.Lexing.{sign_token, token};
+ghost use Rattle.ig_tokens.specs.Scanner.{sign_token, token};
 ghost use Rattle.ig_tokens.specs.View.{token_of};
 ghost use Rattle.ig_tokens.specs.Steps.{Gives, single_sign, with_equals, exclamation, again};
 
@@ -51,7 +51,8 @@ fn single<'a>(c: char) -> Option<Token<'a>>
 
 /// The sign `alone`, or `longer` where `=` stands directly behind it.
 fn with_equals<'a>(alone: Token<'a>, longer: Token<'a>, after: &'a str) -> Step<'a>
-    ensures { Gives (with_equals (token_of alone.entry) (token_of longer.entry) (chars after.now)) result }
+    ensures { Gives (with_equals (token_of alone.entry) (token_of longer.entry) (chars after.now))
+        result }
 {
     match characters::first(after) {
         Some((c, rest)) => {

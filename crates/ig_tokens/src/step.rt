@@ -2,7 +2,7 @@
 
 ghost use Rattle.std.specs.Prelude.{◌≡◌, ◌∷◌, chars};
 ghost use Rattle.ig_syntax.specs.Spelling.{is_one_of, blanks};
-ghost use Rattle.ig_syntax.specs.Lexing.{next, comment};
+ghost use Rattle.ig_tokens.specs.Scanner.{next, comment};
 ghost use Rattle.ig_tokens.specs.Steps.{Begins, Gives};
 
 use crate::characters::{self, Run};

@@ -3,7 +3,7 @@
 ghost use Rattle.std.specs.Prelude.{◌≡◌, chars, option_map, length};
 ghost use Rattle.ig_syntax.specs.Token.{OneOf};
 ghost use Rattle.ig_syntax.specs.Spelling.{entry, keywords, named_classes};
-ghost use Rattle.ig_syntax.specs.Lexing.{word_token, name_token, named_class};
+ghost use Rattle.ig_tokens.specs.Scanner.{word_token, name_token, named_class};
 ghost use Rattle.ig_tokens.specs.View.{token_of};
 ghost use Rattle.ig_tokens.specs.Steps.{Gives, rows_of};
 
