@@ -1,5 +1,5 @@
 -- From the parts of a grammar to the whole of it.
-use Rattle.std.proofs.Common.{◌≡◌, ℕ, zero, suc, ◌<◌, ◌≤◌, ◌+◌, ◌⊎◌, inl, inr, List, [], ◌∷◌, ◌++◌, length, get_or, take, Option, Some, Bool, true, false, cond, refl, sym, ◌∙◌, ap, subst, arith, Result, Ok, Err}
+use Rattle.std.proofs.Common.{◌≡◌, ℕ, zero, suc, ◌<◌, ◌≤◌, ◌+◌, ◌⊎◌, inl, inr, List, [], ◌∷◌, ◌++◌, length, get_or, take, Option, Some, Bool, true, false, ◌||◌, cond, refl, sym, ◌∙◌, ap, subst, arith, Result, Ok, Err}
 use Rattle.std.specs.Prelude.{Contains, IsTrue, ◌↔◌, slice_get, count_by}
 use Rattle.std.specs.Result.{IsErrAnd}
 use Rattle.std.proofs.lemmas.List.{take_more}
@@ -8,7 +8,7 @@ use Rattle.std.proofs.lemmas.List.Elements.{Contains-push, Contains-push_cases, 
 use Rattle.std.proofs.lemmas.Option.{slice_get-get_or}
 use Rattle.ig_grammar.specs.Numbering.{alternatives}
 use Rattle.ig_grammar.specs.Name.{is_name}
-use Rattle.ig_grammar.specs.Condition.{Condition, HeadMeets, StartMeets, too_many_parameters, TooManyParameters, named_parameters}
+use Rattle.ig_grammar.specs.Condition.{Condition, HeadMeets, StartMeets, too_many_parameters, TooMany, Parameters, most_parameters, named_parameters}
 use Rattle.ig_grammar.specs.WellScoped.{IsLeast, IsFirst, IsBefore, GrammarHas, DeclarationHas, AlternativeHas}
 use Rattle.ig_grammar.specs.declared.symbol.Alt.{Alt}
 use Rattle.ig_grammar.specs.declared.declaration.DeclKind.TheVariants.{Layout}
@@ -16,8 +16,10 @@ use Rattle.ig_grammar.specs.declared.declaration.Decl.{Decl}
 use Rattle.ig_grammar.specs.declared.grammar.Grammar.{Grammar}
 use Rattle.ig_grammar.specs.declared.place.Place.{Place}
 use Rattle.ig_scope.specs.Causes.{condition_of, NoneHolds}
-use Rattle.ig_scope.specs.Heads.{HasLayout}
-use Rattle.ig_scope.specs.Told.{FirstIn, FirstPair, AlternativeFree, AlternativeCaught, TellsAlternatives, TellsDeclaration, AreFree, TellsDeclarations, TellsGrammar}
+use Rattle.std.proofs.lemmas.List.Folds.{list_any_more}
+use Rattle.ig_scope.specs.Room.{HasFewParameters}
+use Rattle.ig_scope.specs.Heads.{count_names, is_layout, have_layout}
+use Rattle.ig_scope.specs.Told.{FirstIn, FirstPair, AlternativeFree, AlternativeCaught, OfAlternatives, TellsDeclaration, AreFree, TellsDeclarations, TellsGrammar}
 use Rattle.ig_scope.specs.declared.fault.ScopeFault.{ScopeFault}
 use Rattle.ig_scope.specs.declared.fault.ScopeFault.TheVariants.{Broken, Memory}
 use Rattle.ig_scope.proofs.Firsts.{first_there, first_before, free_at}
@@ -35,10 +37,10 @@ module _ (decls : List Decl) (index : ℕ) (decl : Decl) where
       go b t (inr l) = let z = l.1 in omega arith
 
   -- a declaration with few parameters, where nothing holds at its head
-  pub few_parameters : NoneHolds (HeadMeets decls index decl) → is_name decl.name ≡ true → named_parameters decl ≤ 16
-  few_parameters n e = go (named_parameters decl) (λ l. n TooManyParameters (too_many_parameters e l))
+  pub few_parameters : NoneHolds (HeadMeets decls index decl) → HasFewParameters decl
+  few_parameters n e = go (named_parameters decl) (λ l. n (TooMany Parameters) (too_many_parameters e l))
     where
-      go : (k : ℕ) → (16 < k → ⊥) → k ≤ 16
+      go : (k : ℕ) → (most_parameters < k → ⊥) → k ≤ most_parameters
       go k f = grind (arith, f)
 
   caught_alternative : (k s : ℕ) (c : Condition) → NoneHolds (HeadMeets decls index decl) →
@@ -49,6 +51,7 @@ module _ (decls : List Decl) (index : ℕ) (decl : Decl) where
         there = record {
           holds = (t.0, t.1, t.2.there.holds);
           least = λ other h. t.2.there.least other (subst (λ a. AlternativeHas decls decl a s other) (one (slice_get (alternatives decl.levels) k) h.0 t.0 h.1 t.1) h.2);
+          first_case = λ other h e. t.2.there.first_case other (subst (λ a. AlternativeHas decls decl a s other) (one (slice_get (alternatives decl.levels) k) h.0 t.0 h.1 t.1) h.2) e;
         };
         none_before = λ b u other l h. go b u other l h t;
       }
@@ -64,20 +67,20 @@ module _ (decls : List Decl) (index : ℕ) (decl : Decl) where
           let a = one (slice_get (alternatives decl.levels) k) h.0 t.0 (ap (slice_get (alternatives decl.levels)) (sym same) ∙ h.1) t.1 in
           t.2.none_before u other l.1 (subst (λ a. AlternativeHas decls decl a u other) a h.2)
 
-  pub declaration_told : (r : Result (Unit {0}) ScopeFault) → NoneHolds (HeadMeets decls index decl) → TellsAlternatives decls decl (index + 1) r →
-      TellsDeclaration decls decl index r
-  declaration_told (Ok done) n h = λ a s c m. go a s c m
-    where
-      go : (a s : ℕ) (c : Condition) → DeclarationHas decls index decl a s c → ⊥
-      go zero zero c m = n c m
-      go zero (suc s) c m = m
-      go (suc j) s c m = free_at (AlternativeFree decls decl) (AlternativeFree decls decl) (alternatives decl.levels) h j m.0 m.1 s c m.2
-  declaration_told (Err (Broken cause place)) n h = (
-    h.1,
-    subst (λ k. FirstPair (DeclarationHas decls index decl) k place.symbol (condition_of cause)) (let e = h.2 in let z : suc h.0 ≡ place.alt = omega arith in z)
-        (caught_alternative h.0 place.symbol (condition_of cause) n h.3),
-  )
-  declaration_told (Err Memory) n h = tt
+pub declaration_told : (decls : List Decl) (decl : Decl) (index : ℕ) (r : Result (Unit {0}) ScopeFault) →
+    NoneHolds (HeadMeets decls index decl) → OfAlternatives decls decl (index + 1) r → TellsDeclaration decls decl index r
+declaration_told decls decl index (Ok done) n h = λ a s c m. go a s c m
+  where
+    go : (a s : ℕ) (c : Condition) → DeclarationHas decls index decl a s c → ⊥
+    go zero zero c m = n c m
+    go zero (suc s) c m = m
+    go (suc j) s c m = free_at (AlternativeFree decls decl) (AlternativeFree decls decl) (alternatives decl.levels) h j m.0 m.1 s c m.2
+declaration_told decls decl index (Err (Broken cause place)) n h = (
+  h.1,
+  subst (λ k. FirstPair (DeclarationHas decls index decl) k place.symbol (condition_of cause)) (let e = h.2 in let z : suc h.0 ≡ place.alt = omega arith in z)
+      (caught_alternative decls index decl h.0 place.symbol (condition_of cause) n h.3),
+)
+declaration_told decls decl index (Err Memory) n h = tt
 
 pub free_more : (decls : List Decl) (i : ℕ) (decl : Decl) → i < length decls → decl ≡ get_or decls i decl → AreFree decls i →
     ((a s : ℕ) → NoneHolds (DeclarationHas decls i decl a s)) → AreFree decls (i + 1)
@@ -102,28 +105,16 @@ declarations_stopped decls i decl (Broken cause place) r p l e f h =
 declarations_stopped decls i decl Memory r p l e f h = subst (TellsDeclarations decls) (sym (fault_passed r Memory p)) tt
 
 pub named_more : (decls : List Decl) (i n m : ℕ) (decl : Decl) (b : Bool) → i < length decls → decl ≡ get_or decls i decl → b ≡ is_name decl.name →
-    n ≡ count_by (λ d. is_name d.name) (take i decls) → m ≡ cond b (n + 1) n → m ≡ count_by (λ d. is_name d.name) (take (i + 1) decls)
+    n ≡ count_names (take i decls) → m ≡ cond b (n + 1) n → m ≡ count_names (take (i + 1) decls)
 named_more decls i n m decl true l e b h k =
     k ∙ ap (λ z. z + 1) h ∙ sym (count_by_more_yes (λ (d : Decl). is_name d.name) decls i decl l (ap (λ (d : Decl). is_name d.name) (sym e) ∙ sym b))
 named_more decls i n m decl false l e b h k =
     k ∙ h ∙ sym (count_by_more_no (λ (d : Decl). is_name d.name) decls i decl l (ap (λ (d : Decl). is_name d.name) (sym e) ∙ sym b))
 
-layouts : (decls : List Decl) (i : ℕ) (decl : Decl) → i < length decls → decl ≡ get_or decls i decl → take (i + 1) decls ≡ take i decls ++ decl ∷ []
-layouts decls i decl l e = take_more decls i decl l ∙ ap (λ z. take i decls ++ z ∷ []) (sym e)
-
-pub layout_found : (decls : List Decl) (i : ℕ) (decl : Decl) → i < length decls → decl ≡ get_or decls i decl → decl.kind ≡ Layout →
-    IsTrue true ↔ HasLayout (take (i + 1) decls)
-layout_found decls i decl l e k = ((λ _. (decl, subst (λ z. Contains z decl) (sym (layouts decls i decl l e)) (Contains-push (take i decls) decl), k)), (λ _. refl))
-
-pub layout_kept : (decls : List Decl) (i : ℕ) (decl : Decl) (b : Bool) → i < length decls → decl ≡ get_or decls i decl → (decl.kind ≡ Layout → ⊥) →
-    IsTrue b ↔ HasLayout (take i decls) → IsTrue b ↔ HasLayout (take (i + 1) decls)
-layout_kept decls i decl b l e k h = (
-  (λ t. let z = h.0 t in (z.0, subst (λ x. Contains x z.0) (sym (layouts decls i decl l e)) (Contains-append_left (take i decls) (decl ∷ []) z.0 z.1), z.2)),
-  (λ z. elim (Contains-push_cases (take i decls) decl z.0 (subst (λ x. Contains x z.0) (layouts decls i decl l e) z.1)) [
-    | inl m ↦ h.1 (z.0, m, z.2)
-    | inr s ↦ absurd (k (ap (λ (d : Decl). d.kind) s ∙ z.2))
-  ]),
-)
+pub layout_more : (decls : List Decl) (i : ℕ) (decl : Decl) (b c : Bool) → i < length decls → decl ≡ get_or decls i decl →
+    b ≡ have_layout (take i decls) → c ≡ is_layout decl.kind → (b || c) ≡ have_layout (take (i + 1) decls)
+layout_more decls i decl b c l e h k =
+    (λ n. h n || (k ∙ ap (λ (d : Decl). is_layout d.kind) e) n) ∙ sym (list_any_more (λ (d : Decl). is_layout d.kind) decls i decl l)
 
 module _ (g : Grammar) where
   pub start_told : (c : Condition) (place : Place) → place ≡ record { decl = 0; alt = 0; symbol = 0 } → IsLeast (StartMeets g) c → IsFirst g place c
@@ -141,6 +132,7 @@ module _ (g : Grammar) where
     there = record {
       holds = (decl, at, f.there.holds);
       least = λ other h. f.there.least other (subst (λ d. DeclarationHas g.decls index d a s other) (one (slice_get g.decls index) h.0 decl h.1 at) h.2);
+      first_case = λ other h e. f.there.first_case other (subst (λ d. DeclarationHas g.decls index d a s other) (one (slice_get g.decls index) h.0 decl h.1 at) h.2) e;
     };
     none_before = λ p other l h. go p.decl p.alt p.symbol other l h;
   }
