@@ -4,6 +4,7 @@ pub mod Core
 pub mod Visible
 pub mod WellKinded
 pub mod Items
+pub mod Parts
 pub mod Tables
 pub mod CoreTrees
 pub mod Report

@@ -13,6 +13,7 @@
 #![tactic(auto)]
 
 mod core_grammar;
+mod environment_table;
 mod items;
 mod laws;
 mod run_fault;
@@ -21,7 +22,8 @@ mod step;
 mod tests;
 
 pub use core_grammar::{Core, CoreAlt, CoreAlts, Nonterminal, Nonterminals};
-pub use items::{Environments, Instance, Instances, Item, ItemList, Items};
+pub use environment_table::EnvironmentTable;
+pub use items::{Instance, InstanceKey, InstanceView, Item, Items};
 pub use laws::{
     complete_root_items_are_trees, environments_fit, four_items_are_reachable, items_are_in_text,
     more_known_gives_no_less, reachable_is_closed, reachable_is_least,

@@ -8,7 +8,7 @@ ghost use Rattle.ig_item.specs.Ascii.{is_ascii};
 ghost use Rattle.ig_item.specs.Examples.{at_zero, letter_and_less, counted, countdown, plain_call};
 
 use super::*;
-use ig_expr::{Expr, Exprs, Kind, Kinds, Op, Operand, Value, Values};
+use ig_expr::{Expr, Exprs, Kind, Kinds, Op, Operand, Value};
 use ig_text::{Pattern, Patterns, Span, Tag, Word, Words};
 use std::alloc::{AllocError, Global};
 use std::test::Fail;
@@ -176,54 +176,35 @@ const SECOND: Item = Item {
     position: 1,
 };
 
-// Two instances, of the root and of a nonterminal with the argument 1.
-fn instances(alloc: Global) -> Result<Instances, AllocError>
-    ensures { IfOk result (λ xs. length xs ≡ 2) }
-{
-    let root = Instance {
-        nonterminal: 0,
-        values: Values::new(alloc),
-        start: 0,
-    };
-    let mut values = Values::new(alloc);
-    values.push(Value::Int(1)).map_err(|refused| refused.1)?;
-    let one = Instance {
-        nonterminal: 2,
-        values,
-        start: 0,
-    };
-    Ok(Instances::from_vec(vec![in alloc; root, one]?))
-}
-
-// The environment without values, and that of a variable and a label.
-fn environments(alloc: Global) -> Result<Environments, AllocError>
-    ensures { IfOk result (λ xs. length xs ≡ 2) }
-{
-    let mut values = Values::new(alloc);
-    for value in [Value::Int(1), Value::Span(Span { begin: 0, end: 1 })] {
-        values.push(value).map_err(|refused| refused.1)?;
-    }
-    Ok(Environments::from_vec(vec![in alloc; Values::new(alloc), values]?))
-}
-
+// Two instances, of the root and of a nonterminal with the argument 1, with the environment without
+// values, that of the argument, and that of the argument and a label.
 #[test]
 fn reads_tables_of_items(rt: HostRuntime) -> Result<(), Fail> {
     let alloc = rt.alloc();
-    let first = Item {
-        instance: 0,
-        alternative: 1,
-        dot: 0,
+    let one = Value::Int(1);
+    let span = Value::Span(Span { begin: 0, end: 1 });
+    let mut envs = EnvironmentTable::new(alloc);
+    envs.push(&[])?;
+    envs.push(&[one])?;
+    envs.push(&[one, span])?;
+    let root = InstanceKey {
+        nonterminal: 0,
         env: 0,
-        position: 0,
+        start: 0,
     };
-    let list = ItemList::from_vec(vec![in alloc; first, SECOND]?);
-    let items = Items::of(instances(alloc)?, environments(alloc)?, list);
-    assert_eq!(rt; items.len(), 2);
-    assert_eq!(rt; items.item(1), Some(SECOND));
-    assert_eq!(rt; items.item(2), None);
+    let call = InstanceKey {
+        nonterminal: 2,
+        env: 1,
+        start: 0,
+    };
+    let keys = vec![in alloc; root, call]?;
+    let items = Items::of(keys, envs, vec![in alloc; SECOND]?);
+    assert_eq!(rt; items.len(), 1);
+    assert_eq!(rt; items.item(0), Some(SECOND));
+    assert_eq!(rt; items.item(1), None);
     assert_eq!(rt; items.instance(1).map(|x| x.nonterminal), Some(2));
     assert!(rt; items.instance(2).is_none());
-    assert_eq!(rt; items.env(1).map(|values| values.as_slice().len()), Some(2));
-    assert!(rt; items.env(2).is_none());
+    assert_eq!(rt; items.env(2).map(|values| values.len()), Some(2));
+    assert!(rt; items.env(3).is_none());
     Ok(())
 }
