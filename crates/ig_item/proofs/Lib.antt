@@ -13,3 +13,4 @@ pub mod Roots
 pub mod Fitting
 pub mod Examples
 pub mod FourItems
+pub mod PartLists

@@ -8,6 +8,7 @@ pub mod Fitting
 pub mod Regular
 pub mod Items
 pub mod Behind
+pub mod Parts
 pub mod Tables
 pub mod CoreTrees
 pub mod ItemTrees

@@ -16,6 +16,7 @@
 
 mod core_grammar;
 mod dot;
+mod environment_table;
 mod items;
 mod laws;
 mod run_fault;
@@ -26,7 +27,8 @@ mod visible;
 
 pub use core_grammar::{Core, CoreAlt, CoreAlts, MOST_DOTS, Nonterminal, Nonterminals};
 pub use dot::Behind;
-pub use items::{Environments, Instance, Instances, Item, ItemList, Items};
+pub use environment_table::EnvironmentTable;
+pub use items::{Instance, InstanceKey, InstanceView, Item, Items};
 pub use laws::{
     alternatives_are_one, alternatives_begin_together, behind_is_looked_up,
     complete_items_are_trees, complete_root_items_are_one, complete_root_items_are_trees,

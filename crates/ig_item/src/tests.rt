@@ -3,7 +3,7 @@ ghost use Rattle.std.specs.Prelude.{◌≡◌, [], ◌∷◌, IfOk};
 ghost use Rattle.ig_item.specs.Examples.{lone_root};
 
 use super::*;
-use ig_expr::{Expr, Kinds};
+use ig_expr::{Expr, Kinds, Value};
 use ig_text::{Tag, Word, Words};
 use std::alloc::{AllocError, Global};
 use std::test::Fail;
@@ -46,5 +46,14 @@ fn names_of_an_alternative(rt: HostRuntime) -> Result<(), Fail> {
     let names = core.names(alloc, 0, 1)?;
     assert!(rt; names.is_some_and(|names| names.at(0).is_some()));
     assert!(rt; core.names(alloc, 0, 2)?.is_none());
+    Ok(())
+}
+
+#[test]
+fn environments_are_added(rt: HostRuntime) -> Result<(), Fail> {
+    let mut envs = EnvironmentTable::new(rt.alloc());
+    envs.push(&[Value::Int(1)])?;
+    assert_eq!(rt; envs.get(0).map(|values| values.len()), Some(1));
+    assert!(rt; envs.get(1).is_none());
     Ok(())
 }
