@@ -1,15 +1,13 @@
 -- Items are reached by the trees before their dots, and trees by complete items.
-use Rattle.std.proofs.Common.{◌≡◌, ℕ, zero, suc, ◌<◌, ◌≤◌, List, [], ◌∷◌, ◌++◌, map, Option, Some, length, take, drop, slice_get, refl, sym, ap, ap₂, ◌∙◌, subst, arith, take_all, le_of_eq, append_assoc}
+use Rattle.std.proofs.Common.{◌≡◌, ℕ, suc, ◌≤◌, List, [], ◌∷◌, ◌++◌, length, drop, refl, sym, ap, ◌∙◌, subst, arith}
 use Rattle.std.proofs.lemmas.List.{append-nil}
 use Rattle.std.proofs.lemmas.Option.{same_Some}
-use Rattle.ig_text.specs.Tree.{Tree, Trees, Leaf, Node, none, more, one, join}
-use Rattle.ig_text.specs.Pattern.{Matches}
-use Rattle.ig_text.specs.declared.pattern.Pattern.{Pattern}
+use Rattle.ig_text.specs.Tree.{Tree, Trees, Leaf, Node, none, one, join}
 use Rattle.ig_expr.specs.declared.value.Value.{Value}
-use Rattle.ig_item.specs.Step.{Step, Test, Bind, Term, Call, names_of, labels}
+use Rattle.ig_item.specs.Step.{Step, Test, Bind, Term, Call, labels}
 use Rattle.ig_item.specs.Core.{IsAlternative, numbered}
 use Rattle.ig_item.specs.Visible.{names_at}
-use Rattle.ig_item.specs.WellKinded.{IsWellKinded, HasRoot}
+use Rattle.ig_item.specs.WellKinded.{HasRoot}
 use Rattle.ig_item.specs.ItemTrees as trees
 use Rattle.ig_item.specs.ItemTrees.{Passes, Comes, Completes}
 use Rattle.ig_item.specs.CoreTrees as core_trees
@@ -21,7 +19,7 @@ use Rattle.ig_item.specs.declared.core_grammar.Nonterminal.{Nonterminal}
 use Rattle.ig_item.specs.declared.core_grammar.CoreAlt.{CoreAlt}
 use Rattle.ig_item.specs.declared.items.Instance.{Instance}
 use Rattle.ig_item.proofs.Dots.{names_step, alone}
-use Rattle.ig_item.proofs.Lists.{take_step, Stands, stands, at_end}
+use Rattle.ig_item.proofs.Lists.{stands, at_end}
 use Rattle.ig_item.specs.Induction.{kept}
 use Rattle.ig_item.proofs.Reachability.{reach}
 use Rattle.ig_item.proofs.ItemTrees.{item_at, join_join, join-none, comes_tree}

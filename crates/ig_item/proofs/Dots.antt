@@ -1,5 +1,5 @@
 -- What is visible behind a step, and that the numbers of an alternative and a dot tell which it is.
-use Rattle.std.proofs.Common.{◌≡◌, ℕ, zero, suc, List, [], ◌∷◌, ◌++◌, Option, Some, None, take, refl, sym, ap, ◌∙◌, subst, append_assoc}
+use Rattle.std.proofs.Common.{◌≡◌, ℕ, zero, suc, List, [], ◌∷◌, ◌++◌, Option, Some, None, take, refl, sym, ap, ◌∙◌, append_assoc}
 use Rattle.std.specs.Prelude.{slice_get, option_and_then}
 use Rattle.std.specs.List.{flat_map}
 use Rattle.std.proofs.lemmas.Option.{same_Some}
@@ -7,8 +7,7 @@ use Rattle.std.proofs.lemmas.List.{append-nil}
 use Rattle.std.proofs.lemmas.Grind.{flat_map-append}
 use Rattle.ig_expr.specs.declared.kind.Kind.{Kind}
 use Rattle.ig_item.specs.Step.{Step, names_of}
-use Rattle.ig_item.specs.Core.{IsAlternative, numbered}
-use Rattle.ig_item.specs.Items.{Item, StandsBefore}
+use Rattle.ig_item.specs.Core.{numbered}
 use Rattle.ig_item.specs.Visible.{names_at, kinds_of, kinds_behind}
 use Rattle.ig_item.specs.Laws.{AlternativesAreOne, NamesGrow, StandsBeforeOne}
 use Rattle.ig_item.specs.declared.core_grammar.Nonterminal.{Nonterminal}

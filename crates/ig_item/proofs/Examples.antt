@@ -1,14 +1,12 @@
 -- The core grammars of two small grammars are well kinded.
-use Rattle.std.proofs.Common.{◌≡◌, ℕ, zero, suc, ◌<◌, ◌≤◌, List, [], ◌∷◌, ◌++◌, Some, None, Contains, length, refl, sym, ap, ◌∙◌, arith, lit<, lit≤, get_or}
+use Rattle.std.proofs.Common.{◌≡◌, ℕ, zero, suc, List, [], ◌∷◌, ◌++◌, Some, length, refl, sym, ap, ◌∙◌, arith, lit<, lit≤, get_or}
 use Rattle.std.specs.Prelude.{slice_get, codes}
-use Rattle.std.specs.List.{flat_map, All}
 use Rattle.std.proofs.lemmas.Option.{same_Some}
-use Rattle.std.proofs.lemmas.List.Elements.{All-contains}
 use Rattle.ig_text.specs.declared.tag.Tag.TheVariants.{Rule}
 use Rattle.ig_expr.specs.declared.kind.Kind.{Kind}
-use Rattle.ig_expr.specs.declared.kind.Kind.TheVariants.{Int, Span}
+use Rattle.ig_expr.specs.declared.kind.Kind.TheVariants.{Span}
 use Rattle.ig_item.specs.Step.{Step, names_of}
-use Rattle.ig_item.specs.Core.{IsAlternative, numbered, dots}
+use Rattle.ig_item.specs.Core.{IsAlternative, numbered}
 use Rattle.ig_item.specs.Visible.{names_at, kinds_of}
 use Rattle.ig_item.specs.WellKinded.{NoneTwice, HasRoot, ExpressionsFit, CallFits, StepFits, IsWellKinded}
 use Rattle.ig_item.specs.Examples.{one_letter, countdown, root, root_alternative, start, letter, counting, counted, at_zero, letter_and_less, lone_root, no_steps_alternative}
@@ -93,13 +91,13 @@ one_letter_is_well_kinded =
       few_nonterminals = lit< tt;
     }
 
-pub lone_root_is_well_kinded : IsWellKinded (lone_root ∷ [])
-lone_root_is_well_kinded =
-    let core = lone_root ∷ [] in
+pub lone_root_is_well_kinded : (name : List ℕ) → IsWellKinded (lone_root name ∷ [])
+lone_root_is_well_kinded name =
+    let core : List Nonterminal = lone_root name ∷ [] in
     record {
       root =
           record {
-            nonterminal = lone_root;
+            nonterminal = lone_root name;
             alternative = no_steps_alternative;
             first = refl;
             plain = refl;
@@ -107,10 +105,10 @@ lone_root_is_well_kinded =
             unbound = refl;
           };
       parameters = of_members Numbers core (refl, tt);
-      names = of_each Differ core ((differ_at lone_root no_steps_alternative no_names, tt), tt);
+      names = of_each Differ core ((differ_at (lone_root name) no_steps_alternative no_names, tt), tt);
       tags = of_each (Tags core) core (((λ b other i e. alone _ other b i.has), tt), tt);
       rules = of_each Rules core (((λ m k e. cc), tt), tt);
-      steps = of_each (StepsFit core) core ((each_fits core lone_root no_steps_alternative (no_steps _ _), tt), tt);
+      steps = of_each (StepsFit core) core ((each_fits core (lone_root name) no_steps_alternative (no_steps _ _), tt), tt);
       few_dots = lit≤ tt;
       few_nonterminals = lit< tt;
     }

@@ -1,5 +1,5 @@
 -- Well-kinded steps, told one after the other.
-use Rattle.std.proofs.Common.{◌≡◌, ℕ, zero, suc, ◌+◌, List, [], ◌∷◌, ◌++◌, Some, length, take, drop, refl, sym, ap, ◌∙◌, subst, append_assoc, arith, Contains}
+use Rattle.std.proofs.Common.{◌≡◌, ℕ, zero, suc, ◌+◌, List, [], ◌∷◌, ◌++◌, Some, take, drop, refl, sym, ap, ◌∙◌, subst, append_assoc, arith, Contains}
 use Rattle.std.specs.Prelude.{slice_get, option_and_then}
 use Rattle.std.specs.List.{flat_map}
 use Rattle.std.proofs.lemmas.Option.{same_Some}
@@ -8,10 +8,10 @@ use Rattle.std.proofs.lemmas.Grind.{flat_map-append}
 use Rattle.ig_expr.specs.declared.kind.Kind.{Kind}
 use Rattle.ig_item.specs.Step.{Step, names_of}
 use Rattle.ig_item.specs.Core.{numbered}
-use Rattle.ig_item.specs.Visible.{names_at, kinds_at, kinds_of, kinds_behind}
+use Rattle.ig_item.specs.Visible.{names_at, kinds_behind}
 use Rattle.ig_item.specs.Fitting.{AreFit, no_steps, next_step}
 use Rattle.ig_item.specs.Laws.{StepsFit, NamesDiffer}
-use Rattle.ig_item.specs.WellKinded.{NoneTwice, OfEach, ExpressionsFit, CallFits, StepFits}
+use Rattle.ig_item.specs.WellKinded.{NoneTwice, OfEach, ExpressionsFit, CallFits}
 use Rattle.ig_item.specs.declared.core_grammar.Nonterminal.{Nonterminal}
 use Rattle.ig_item.specs.declared.core_grammar.CoreAlt.{CoreAlt}
 use Rattle.ig_item.proofs.Lists.{at_from_contains, left_at}

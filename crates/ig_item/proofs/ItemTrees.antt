@@ -1,29 +1,21 @@
 -- The steps before an item's dot and those behind it lead from the start of its instance; so a complete item has a tree.
-use Rattle.std.proofs.Common.{◌≡◌, ℕ, zero, suc, ◌<◌, ◌≤◌, List, [], ◌∷◌, ◌++◌, map, Option, Some, length, take, drop, slice_get, refl, sym, ap, ap₂, ◌∙◌, subst, arith, take_all, le_of_eq, append_assoc}
+use Rattle.std.proofs.Common.{◌≡◌, ℕ, suc, ◌≤◌, List, [], ◌∷◌, ◌++◌, Some, length, take, slice_get, refl, sym, ap, ◌∙◌, subst, take_all, le_of_eq, append_assoc}
 use Rattle.std.proofs.lemmas.List.{append-nil}
-use Rattle.std.proofs.lemmas.Option.{same_Some}
-use Rattle.ig_text.specs.Tree.{Tree, Trees, Leaf, Node, none, more, one, join}
-use Rattle.ig_text.specs.Pattern.{Matches}
-use Rattle.ig_text.specs.declared.pattern.Pattern.{Pattern}
+use Rattle.ig_text.specs.Tree.{Trees, Leaf, Node, none, more, one, join}
 use Rattle.ig_expr.specs.declared.value.Value.{Value}
-use Rattle.ig_item.specs.Step.{Step, Test, Bind, Term, Call, names_of, labels}
-use Rattle.ig_item.specs.Core.{IsAlternative, numbered}
+use Rattle.ig_item.specs.Step.{Step, Test, Bind, Term, Call, names_of}
+use Rattle.ig_item.specs.Core.{IsAlternative}
 use Rattle.ig_item.specs.Visible.{names_at}
-use Rattle.ig_item.specs.WellKinded.{IsWellKinded, HasRoot}
 use Rattle.ig_item.specs.ItemTrees as trees
 use Rattle.ig_item.specs.ItemTrees.{Passes, Comes}
 use Rattle.ig_item.specs.CoreTrees as core_trees
 use Rattle.ig_item.specs.CoreTrees.{Leads, HasTree, CoreTree}
-use Rattle.ig_item.specs.Items as items
-use Rattle.ig_item.specs.Items.{Item, first, past, span_of, root_instance, StandsBefore, IsComplete, Calls, Follows, Reachable, IsCompleteRoot, RootIsComplete}
-use Rattle.ig_item.specs.Laws.{TreesByItems}
+use Rattle.ig_item.specs.Items.{Item, first, past, span_of, StandsBefore, IsComplete}
 use Rattle.ig_item.specs.declared.core_grammar.Nonterminal.{Nonterminal}
 use Rattle.ig_item.specs.declared.core_grammar.CoreAlt.{CoreAlt}
 use Rattle.ig_item.specs.declared.items.Instance.{Instance}
 use Rattle.ig_item.proofs.Dots.{names_step, same_alternative}
-use Rattle.ig_item.proofs.Lists.{take_step, Stands, stands, at_end}
-use Rattle.ig_item.specs.Induction.{kept}
-use Rattle.ig_item.proofs.Reachability.{reach}
+use Rattle.ig_item.proofs.Lists.{take_step}
 
 pub join_join : (ts us vs : Trees) → join (join ts us) vs ≡ join ts (join us vs)
 join_join none us vs = refl

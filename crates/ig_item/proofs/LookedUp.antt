@@ -1,16 +1,15 @@
 -- What is looked up behind a dot.
-use Rattle.std.proofs.Common.{◌≡◌, ◌↔◌, ℕ, zero, suc, ◌<◌, List, [], ◌∷◌, Option, Some, None, length, slice_get, refl, sym, ap, ◌∙◌, subst, arith}
+use Rattle.std.proofs.Common.{◌≡◌, ℕ, zero, suc, List, [], ◌∷◌, Option, Some, None, length, slice_get, refl, sym, ap, ◌∙◌, arith}
 use Rattle.std.specs.Prelude.{option_and_then, map}
 use Rattle.std.proofs.lemmas.List.{length-map}
 use Rattle.ig_item.specs.View.{step_of}
 use Rattle.ig_item.specs.declared.step.Step as program
 use Rattle.std.proofs.lemmas.Option.{same_Some}
 use Rattle.ig_item.specs.Step.{Step}
-use Rattle.ig_item.specs.Core.{IsAlternative, alternative_at, numbered}
-use Rattle.ig_item.specs.Behind.{Behind, Next, End, behind_dot, behind_at, behind_item}
-use Rattle.ig_item.specs.Items.{Item, StandsBefore, IsComplete}
+use Rattle.ig_item.specs.Core.{IsAlternative, numbered}
+use Rattle.ig_item.specs.Behind.{Behind, Next, End, behind_dot, behind_at}
 use Rattle.ig_item.specs.Visible.{names_at}
-use Rattle.ig_item.specs.Laws.{BehindTells, BehindIsLookedUp}
+use Rattle.ig_item.specs.Laws.{BehindIsLookedUp}
 use Rattle.ig_item.specs.declared.core_grammar.Nonterminal.{Nonterminal}
 use Rattle.ig_item.specs.declared.core_grammar.CoreAlt.{CoreAlt}
 

@@ -1,5 +1,5 @@
 -- What follows from reachable items is reachable, and what the rules keep holds of reachable items.
-use Rattle.std.proofs.Common.{◌≡◌, ◌⊎◌, ℕ, zero, suc, ◌+◌, ◌<◌, List, [], ◌∷◌, ◌++◌, Some, length, take, Contains, slice_get, refl, ⊎_elim, subst, arith}
+use Rattle.std.proofs.Common.{◌≡◌, ℕ, zero, suc, ◌+◌, List, [], ◌∷◌, ◌++◌, Some, length, Contains, slice_get, refl, ⊎_elim, subst}
 use Rattle.std.specs.Prelude.{IsTrue}
 use Rattle.std.proofs.lemmas.Option.{same_Some}
 use Rattle.ig_item.specs.Items as items
@@ -7,7 +7,7 @@ use Rattle.ig_item.specs.Items.{Item, Follows, IsDerivation, Reachable}
 use Rattle.ig_item.specs.Induction.{follows_more, kept}
 use Rattle.ig_item.specs.Laws.{ReachableIsClosed, ReachableFollows, ReachableIsLeast, MoreGivesNoLess}
 use Rattle.ig_item.specs.declared.core_grammar.Nonterminal.{Nonterminal}
-use Rattle.ig_item.proofs.Lists.{at_from_contains, contains_from_at, within_take, sides, left_before, right_before, all_before, left_contains, right_contains}
+use Rattle.ig_item.proofs.Lists.{contains_from_at, sides, left_before, right_before, all_before, left_contains, right_contains}
 
 module _ (core : List Nonterminal) (text : List ℕ) where
   pub joined : (xs ys : List Item) → IsDerivation core text xs → IsDerivation core text ys →

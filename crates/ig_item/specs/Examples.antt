@@ -5,7 +5,6 @@ use Rattle.ig_text.specs.declared.tag.Tag.TheVariants.{Rule, Root}
 use Rattle.ig_expr.specs.Expression.{Expression, Integer, Variable, Binary}
 use Rattle.ig_expr.specs.declared.kind.Kind.TheVariants.{Int}
 use Rattle.ig_expr.specs.declared.operator.Op.TheVariants.{Sub, Equal}
-use Rattle.ig_expr.specs.declared.value.Value.{Value}
 use Rattle.ig_item.specs.Step.{Step, Test, Term, Call}
 use Rattle.ig_item.specs.WellKinded.{IsWellKinded}
 use Rattle.ig_item.specs.Items.{Item, Reachable}
@@ -26,9 +25,9 @@ root = record { name = codes "$root"; params = []; kinds = []; alternatives = ro
 abbrev pub no_steps_alternative : CoreAlt
 no_steps_alternative = record { tag = Root; steps = [] }
 
--- a root that calls nothing
-abbrev pub lone_root : Nonterminal
-lone_root = record { name = []; params = []; kinds = []; alternatives = no_steps_alternative ∷ [] }
+-- a root of that name, which calls nothing
+abbrev pub lone_root : List ℕ → Nonterminal
+lone_root name = record { name = name; params = []; kinds = []; alternatives = no_steps_alternative ∷ [] }
 
 -- nonterminal 1, `S`, of one alternative
 abbrev pub start : CoreAlt → Nonterminal

@@ -1,11 +1,10 @@
 -- Which core grammars are regular: no literal in them is empty.
-use Rattle.std.specs.Prelude.{◌≢◌, ℕ, List, [], All, slice_get, ◌≡◌, Some}
+use Rattle.std.specs.Prelude.{◌≢◌, List, [], All}
 use Rattle.ig_text.specs.declared.pattern.Pattern.{Pattern}
 use Rattle.ig_text.specs.declared.pattern.Pattern.TheVariants.{Literal, OneOf}
 use Rattle.ig_item.specs.Step.{Step, Test, Bind, Term, Call}
 use Rattle.ig_item.specs.WellKinded.{OfEach}
 use Rattle.ig_item.specs.declared.core_grammar.Nonterminal.{Nonterminal}
-use Rattle.ig_item.specs.declared.core_grammar.CoreAlt.{CoreAlt}
 
 -- a literal has at least one character
 abbrev pub HasCharacter : Pattern → Type 0

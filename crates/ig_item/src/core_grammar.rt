@@ -2,7 +2,7 @@
 ghost use Rattle.std.specs.Prelude.{◌≡◌, ◌≤◌, length, slice_get, option_map, sum_by, IfOk};
 ghost use Rattle.std.specs.Option.{option_copied};
 ghost use Rattle.ig_item.specs.Behind.{behind_of, behind_at};
-ghost use Rattle.ig_item.specs.Core.{alternative_at, numbered};
+ghost use Rattle.ig_item.specs.Core.{alternative_at, steps_at, numbered};
 ghost use Rattle.ig_item.specs.Core.{dots, dots_of_alternative, dots_of_nonterminal};
 ghost use Rattle.ig_item.specs.Limits.{most_dots};
 ghost use Rattle.ig_item.specs.Visible.{names_in};
@@ -71,8 +71,8 @@ impl Core {
     /// parameters and one alternative, without a `Bind` or a label; each nonterminal has as many
     /// kinds as parameters; the names that are visible at one dot differ, and so do the tags of one
     /// nonterminal; a tag `Rule` has the number of its nonterminal; each call is of a nonterminal
-    /// that is there, with arguments of the number and kinds of its parameters; each expression has a
-    /// kind, and a `Test` is a truth value; there are at most `MOST_DOTS` dots, and fewer than
+    /// that is there, with arguments of the number and kinds of its parameters; each expression has
+    /// a kind, and a `Test` is a truth value; there are at most `MOST_DOTS` dots, and fewer than
     /// 4,294,967,296 nonterminals. Takes no memory.
     pub fn of(nonterminals: Nonterminals) -> Core
         requires { IsWellKinded nonterminals }
@@ -144,9 +144,7 @@ impl Core {
     /// The steps of an alternative; `None` exactly where the nonterminal's number, from 0, or the
     /// alternative's, from 1, isn't there. Takes no memory.
     pub fn steps(&self, nt: u32, alt: u32) -> Option<&Steps>
-        ensures {
-            option_copied result ≡ option_map (λ a. a.steps) (alternative_at self.now nt alt)
-        }
+        ensures { option_copied result ≡ steps_at self.now nt alt }
     {
         let nonterminal = self.nonterminal(nt)?;
         Some(&alternative_of(nonterminal, alt)?.steps)
@@ -165,7 +163,12 @@ impl Core {
     /// The names that are visible at each dot of an alternative; `None` exactly where the
     /// nonterminal's number, from 0, or the alternative's, from 1, isn't there. It is refused for
     /// want of memory alone.
-    pub fn names(&self, alloc: Global, nt: u32, alt: u32) -> Result<Option<VisibleNames>, AllocError>
+    pub fn names(
+        &self,
+        alloc: Global,
+        nt: u32,
+        alt: u32,
+    ) -> Result<Option<VisibleNames>, AllocError>
         ensures { IfOk result (λ names. names ≡ names_in self.now nt alt) }
     {
         let Some(nonterminal) = self.nonterminal(nt) else {

@@ -123,8 +123,8 @@ pub fn complete_root_items_are_one()
     environments_fit();
 }
 
-/// Of the core grammar of `start S; syntax S = "a";` and the text `a` four items are reachable: those
-/// of the root and of `S`, each at both of its dots. This law computes nothing.
+/// Of the core grammar of `start S; syntax S = "a";` and the text `a` four items are reachable:
+/// those of the root and of `S`, each at both of its dots. This law computes nothing.
 pub fn four_items_are_reachable()
     ensures { FourItemsAreReachable }
 {}

@@ -1,10 +1,10 @@
 //! Core grammars and the items of a run: what the engines, the forest and the printers speak of.
 //!
 //! A [`Core`] is what a grammar becomes before it is run: nonterminals with parameters, whose
-//! alternatives are lists of [`Step`]s. It is well kinded, as `specs/WellKinded.antt` says. Contracts
-//! see it as the list of its nonterminals, and a step as that of `specs/Step.antt`, with expressions
-//! as syntax trees. [`Items`] are what a run finds: three tables, of instances, of environments and
-//! of items that name them by number.
+//! alternatives are lists of [`Step`]s. It is well kinded, as `specs/WellKinded.antt` says.
+//! Contracts see it as the list of its nonterminals, and a step as that of `specs/Step.antt`, with
+//! expressions as syntax trees. [`Items`] are what a run finds: three tables, of instances, of
+//! environments and of items that name them by number.
 //!
 //! `specs/Items.antt` defines which items of a core grammar and a text are reachable,
 //! `specs/CoreTrees.antt` the trees of a core grammar without items, `specs/ItemTrees.antt` which

@@ -15,7 +15,8 @@ pub enum Step {
     Test(Expr),
     /// A name that is bound to the value of the expression.
     Bind(Word, Expr),
-    /// A match of the pattern, whose text is a match of no pattern of `not`. A label binds its span.
+    /// A match of the pattern, whose text is a match of no pattern of `not`. A label binds its
+    /// span.
     Term {
         what: Pattern,
         label: Option<Word>,

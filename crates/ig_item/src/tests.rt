@@ -22,16 +22,16 @@ fn steps_are_added_with_their_names(rt: HostRuntime) -> Result<(), Fail> {
     Ok(())
 }
 
-// A root of one alternative without steps.
-fn lone_root(alloc: Global) -> Result<Nonterminals, AllocError>
-    ensures { IfOk result (λ core. core ≡ lone_root ∷ []) }
+// A root of that name, of one alternative without steps.
+fn lone_root(alloc: Global, name: Word) -> Result<Nonterminals, AllocError>
+    ensures { IfOk result (λ core. core ≡ lone_root name ∷ []) }
 {
     let alternative = CoreAlt {
         tag: Tag::Root,
         steps: Steps::new(alloc),
     };
     let root = Nonterminal {
-        name: Word::new(alloc, "")?,
+        name,
         params: Words::new(alloc),
         kinds: Kinds::new(alloc),
         alternatives: CoreAlts::from_vec(vec![in alloc; alternative]?),
@@ -42,7 +42,7 @@ fn lone_root(alloc: Global) -> Result<Nonterminals, AllocError>
 #[test]
 fn names_of_an_alternative(rt: HostRuntime) -> Result<(), Fail> {
     let alloc = rt.alloc();
-    let core = Core::of(lone_root(alloc)?);
+    let core = Core::of(lone_root(alloc, Word::new(alloc, "$root")?)?);
     let names = core.names(alloc, 0, 1)?;
     assert!(rt; names.is_some_and(|names| names.at(0).is_some()));
     assert!(rt; core.names(alloc, 0, 2)?.is_none());
