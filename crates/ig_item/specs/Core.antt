@@ -1,5 +1,6 @@
 -- Reading a core grammar, which is the list of its nonterminals: they are numbered from 0, the alternatives of each from 1.
-use Rattle.std.specs.Prelude.{◌≡◌, ℕ, zero, suc, ◌+◌, List, length, Option, Some, None, option_and_then, slice_get, sum_by}
+use Rattle.std.specs.Prelude.{◌≡◌, ℕ, zero, suc, ◌+◌, List, length, Option, Some, None, option_map, option_and_then, slice_get, sum_by}
+use Rattle.ig_item.specs.Step.{Step}
 use Rattle.ig_item.specs.declared.core_grammar.Nonterminal.{Nonterminal}
 use Rattle.ig_item.specs.declared.core_grammar.CoreAlt.{CoreAlt}
 
@@ -11,6 +12,10 @@ numbered members (suc k) = slice_get members k
 -- alternative a of nonterminal n
 abbrev pub alternative_at : List Nonterminal → ℕ → ℕ → Option CoreAlt
 alternative_at core n a = option_and_then (λ nonterminal. numbered nonterminal.alternatives a) (slice_get core n)
+
+-- the steps of alternative a of nonterminal n
+abbrev pub steps_at : List Nonterminal → ℕ → ℕ → Option (List Step)
+steps_at core n a = option_map (λ alternative. alternative.steps) (alternative_at core n a)
 
 -- nonterminal n, and its alternative a
 pub record IsAlternative (core : List Nonterminal) (n a : ℕ) (nonterminal : Nonterminal) (alternative : CoreAlt) : Type 0 where

@@ -1,4 +1,4 @@
-use Rattle.std.proofs.Common.{◌≡◌, ◌+◌, ◌≤◌, arith}
+use Rattle.std.proofs.Common.{◌+◌, ◌≤◌, arith}
 use Rattle.ig_item.specs.Core.{dots_of_alternative, dots_of_nonterminal}
 use Rattle.ig_item.proofs.Sums.{step_within}
 use Rattle.ig_item.proofs.core_grammar.dots_of_nonterminal.Goals as goal

@@ -1,5 +1,4 @@
-use Rattle.std.proofs.Common.{◌≡◌, ◌≤◌, Some, length, slice_get, arith, ap, sym, ◌∙◌}
-use Rattle.std.specs.Option.{option_copied}
+use Rattle.std.proofs.Common.{◌≡◌, Some, length, slice_get, arith, ap, sym}
 use Rattle.ig_item.proofs.Sums.{alternatives_are_few}
 use Rattle.ig_item.proofs.core_grammar.Core.alternatives.Goals as goal
 

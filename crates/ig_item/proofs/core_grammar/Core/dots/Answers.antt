@@ -1,4 +1,4 @@
-use Rattle.std.proofs.Common.{◌≡◌, ◌+◌, ◌≤◌, length, arith, ap, sym, ◌∙◌}
+use Rattle.std.proofs.Common.{◌≡◌, ◌+◌, ◌≤◌, arith, ap}
 use Rattle.ig_item.specs.Core.{dots, dots_of_nonterminal}
 use Rattle.ig_item.proofs.Sums.{step_within}
 use Rattle.ig_item.proofs.core_grammar.Core.dots.Goals as goal
