@@ -1,1 +1,4 @@
-
+pub mod Lists
+pub mod TotalOrders
+pub mod Liveness
+pub mod Uniqueness
