@@ -4,5 +4,6 @@ pub mod Wanted
 pub mod Given
 pub mod Liveness
 pub mod Steps
+pub mod Trim
 pub mod Unfolding
 pub mod Uniqueness

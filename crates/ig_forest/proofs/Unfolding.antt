@@ -118,7 +118,7 @@ module _ (given : Given) (core : List Nonterminal) (text : List ℕ) (f : Forest
     pub at : slice_get r.items number ≡ Some x
     pub unfolds : OfItem f number d cursor ts
 
-  pub by_begin : (x : Item) (d : ℕ) → IsLive core text x → x.dot ≡ 0 → Unfolded x d none
+  abbrev pub by_begin : (x : Item) (d : ℕ) → IsLive core text x → x.dot ≡ 0 → Unfolded x d none
   by_begin x d l dot =
       let k = numbered x l in
       let it = partner r.item_nodes k.0 x k.1 in
@@ -130,7 +130,7 @@ module _ (given : Given) (core : List Nonterminal) (text : List ℕ) (f : Forest
         unfolds = ways.begin k.0 d i.0 it.0 (noted (length it.0.entries) i.0) it.1 i.1 refl;
       }
 
-  pub by_pass : (prev x : Item) (d : ℕ) (ts : Trees) → Unfolded prev d ts → IsLive core text x →
+  abbrev pub by_pass : (prev x : Item) (d : ℕ) (ts : Trees) → Unfolded prev d ts → IsLive core text x →
       Gives core text prev nothing x → Unfolded x d ts
   by_pass prev x d ts u l gives =
       let k = numbered x l in
@@ -146,7 +146,7 @@ module _ (given : Given) (core : List Nonterminal) (text : List ℕ) (f : Forest
         unfolds = ways.pass k.0 d i.0 u.number it.0 u.cursor cs ts it.1 i.1 u.unfolds refl;
       }
 
-  pub by_leaf : (prev x : Item) (d : ℕ) (ts : Trees) (span : Span) → Unfolded prev d ts → IsLive core text x →
+  abbrev pub by_leaf : (prev x : Item) (d : ℕ) (ts : Trees) (span : Span) → Unfolded prev d ts → IsLive core text x →
       Gives core text prev (leaf span) x → Unfolded x d (join ts (one (Leaf span.begin span.end)))
   by_leaf prev x d ts span u l gives =
       let k = numbered x l in
@@ -164,7 +164,7 @@ module _ (given : Given) (core : List Nonterminal) (text : List ℕ) (f : Forest
         unfolds = ways.leaf k.0 d i.0 u.number it.0 span u.cursor cs ts us it.1 i.1 u.unfolds refl refl;
       }
 
-  pub by_tree : (prev x : Item) (d : ℕ) (ts : Trees) (key : NodeKey) (t : Tree) (v : ℕ) (bs : List ℕ) → Unfolded prev d ts →
+  abbrev pub by_tree : (prev x : Item) (d : ℕ) (ts : Trees) (key : NodeKey) (t : Tree) (v : ℕ) (bs : List ℕ) → Unfolded prev d ts →
       IsLive core text x → Gives core text prev (tree key) x → slice_get r.keys v ≡ Some key → OfNode f v d bs t →
       Unfolded x d (join ts (one t))
   by_tree prev x d ts key t v bs u l gives at_v of_node =
@@ -184,7 +184,7 @@ module _ (given : Given) (core : List Nonterminal) (text : List ℕ) (f : Forest
       }
 
   -- a complete item of the forest, whose trees are those of one of its node's
-  pub chosen : (x : Item) (key : NodeKey) (d : ℕ) (ts : Trees) (t : Tree) (c : live.Completes core x key) →
+  abbrev pub chosen : (x : Item) (key : NodeKey) (d : ℕ) (ts : Trees) (t : Tree) (c : live.Completes core x key) →
       t ≡ Node c.complete.alternative.tag key.instance.start key.end ts → Unfolded x d ts → (v : ℕ) →
       slice_get r.keys v ≡ Some key → (cs : List ℕ) × OfNode f v (suc d) cs t
   chosen x key d ts t c e u v has =
@@ -269,7 +269,7 @@ module _ (given : Given) (core : List Nonterminal) (text : List ℕ) (f : Forest
         let n = below key t has low begun ended v.0 v.1 in
         record { gives = gives; number = v.0; at = v.1; cursor = n.0; of_node = n.1 }
 
-    item_unfolds : {x : Item} {ts : Trees} → Comes core text x ts → IsLive core text x → greatest_height ts ≤ d →
+    pub item_unfolds : {x : Item} {ts : Trees} → Comes core text x ts → IsLive core text x → greatest_height ts ≤ d →
         Unfolded x d ts
     item_unfolds (wanted.begin instance a x is) l low = by_begin x d l (ap (λ (y : Item). y.dot) is)
     item_unfolds (wanted.further it _ j ts us vs x comes (wanted.test names e _ before holds here) is joins) l low =
