@@ -6,4 +6,5 @@ pub mod Liveness
 pub mod Steps
 pub mod Trim
 pub mod Unfolding
+pub mod Usage
 pub mod Uniqueness
