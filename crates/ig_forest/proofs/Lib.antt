@@ -6,5 +6,7 @@ pub mod Liveness
 pub mod Steps
 pub mod Trim
 pub mod Unfolding
+pub mod Targets
+pub mod Cursors
 pub mod Usage
 pub mod Uniqueness
