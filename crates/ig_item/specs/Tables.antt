@@ -3,6 +3,8 @@ use Rattle.std.specs.Prelude.{ℕ, ◌<◌, List, [], map, length, Contains, sli
 use Rattle.ig_expr.specs.declared.value.Value.{Value}
 use Rattle.ig_item.specs.Items.{Item, root_instance}
 use Rattle.ig_item.specs.declared.items.Instance.{Instance}
+use Rattle.ig_item.specs.declared.items.InstanceKey.{InstanceKey}
+use Rattle.ig_item.specs.declared.items.InstanceView.{InstanceView}
 use Rattle.ig_item.specs.declared.items.Item as stored
 
 -- a table of instances, one of environments, and items that name them by number
@@ -33,3 +35,25 @@ item_of tables x =
 -- the items in order
 abbrev pub items_of : Tables → List Item
 items_of tables = map (item_of tables) tables.items
+
+-- the instance whose values are the environment of that number
+abbrev pub instance_by : List (List Value) → InstanceKey → Instance
+instance_by environments key =
+    record {
+      nonterminal = key.nonterminal;
+      values = slice_index_or environments key.env [];
+      start = key.start;
+    }
+
+-- each instance's values are an environment of the table
+abbrev pub HaveValues : List (List Value) → List InstanceKey → Type 0
+HaveValues environments keys = (key : InstanceKey) → Contains keys key → key.env < length environments
+
+-- tables whose instances name their values by number
+abbrev pub tables_by : List InstanceKey → List (List Value) → List stored.Item → Tables
+tables_by keys environments items =
+    record { instances = map (instance_by environments) keys; environments = environments; items = items }
+
+-- the instance that a view shows
+abbrev pub instance_of : InstanceView → Instance
+instance_of view = record { nonterminal = view.nonterminal; values = view.values.now; start = view.start }
