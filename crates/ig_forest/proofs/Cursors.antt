@@ -1,11 +1,11 @@
 -- In the reduced forest a tree has one cursor.
-use Rattle.std.proofs.Common.{◌≡◌, ℕ, zero, suc, ◌++◌, List, [], ◌∷◌, Some, length, slice_get, Contains, refl, sym, ap, ap₂, ◌∙◌, subst, subst₂, arith}
+use Rattle.std.proofs.Common.{◌≡◌, ℕ, suc, ◌++◌, List, Some, length, slice_get, refl, sym, ap, ap₂, ◌∙◌, subst, subst₂, arith}
 use Rattle.std.proofs.lemmas.Option.{same_Some}
 use Rattle.ig_text.specs.declared.tag.Tag.{Tag}
 use Rattle.ig_text.specs.declared.text.Span.{Span}
 use Rattle.ig_text.specs.Tree.{Tree, Trees, Leaf, Node, none, more, one, join}
 use Rattle.ig_item.specs.Core.{IsAlternative}
-use Rattle.ig_item.specs.Items.{Item, first, IsComplete}
+use Rattle.ig_item.specs.Items.{Item, first}
 use Rattle.ig_item.specs.WellKinded.{IsWellKinded}
 use Rattle.ig_item.specs.declared.core_grammar.Nonterminal.{Nonterminal}
 use Rattle.ig_item.specs.declared.core_grammar.CoreAlt.{CoreAlt}
@@ -17,20 +17,20 @@ use Rattle.ig_forest.specs.Unfold.{OfNode, OfItem, noted}
 use Rattle.ig_forest.specs.Live as live
 use Rattle.ig_forest.specs.Live.{NodeKey, Taken, Gives}
 use Rattle.ig_forest.specs.Orders.{item_cmp, node_cmp, choice_cmp, entry_cmp}
-use Rattle.ig_forest.specs.Reduced.{IsReduced, IsChoice, IsItemNode, IsNode}
+use Rattle.ig_forest.specs.Reduced.{IsReduced, IsChoice}
 use Rattle.ig_forest.specs.Laws.{HasOneCursor}
 use Rattle.ig_forest.specs.declared.entry.Choice.{Choice}
 use Rattle.ig_forest.specs.declared.entry.Entry.{Entry}
 use Rattle.ig_forest.specs.declared.entry.Entry.TheVariants.{Begin, Pass, Take}
 use Rattle.ig_forest.specs.declared.entry.Child.TheVariants as child
 use Rattle.ig_forest.proofs.Given.{Given}
-use Rattle.ig_forest.proofs.Wanted as wanted
-use Rattle.ig_forest.proofs.Wanted.{Comes}
+use Rattle.ig_item.specs.ItemTrees as reached
+use Rattle.ig_item.specs.ItemTrees.{Comes}
 use Rattle.ig_forest.proofs.Lists.{contains_from_at, both_at, key_at, one_place}
 use Rattle.ig_forest.proofs.TotalOrders.{item_total, node_total, choice_total, entry_total}
 use Rattle.ig_forest.proofs.Liveness.{live_is_reachable}
 use Rattle.ig_forest.proofs.Steps.{given_dot, begin_only, pass_only, leaf_only, node_only, Passed, TookLeaf, TookNode}
-use Rattle.ig_forest.proofs.Targets.{Alike, form, alike_before, same_form, same_target, one_callee}
+use Rattle.ig_forest.proofs.Targets.{Alike, alike_before, same_form, same_target, one_callee}
 use Rattle.ig_forest.proofs.Unfolding.{live_at}
 
 -- the last tree, and those before it
@@ -71,8 +71,8 @@ node_parts a b i j h k ts us e = record { tag = cc; children = cc }
 
 module _ (core : List Nonterminal) (text : List ℕ) where
   first_is : {x : Item} {ts : Trees} → Comes core text x ts → x.dot ≡ 0 → x ≡ first x.instance x.alternative
-  first_is (wanted.begin instance a x e) dot = e ∙ sym (ap (λ (y : Item). first y.instance y.alternative) e)
-  first_is (wanted.further it bound j ts us vs x comes passes is joins) dot =
+  first_is (reached.begin instance a x e) dot = e ∙ sym (ap (λ (y : Item). first y.instance y.alternative) e)
+  first_is (reached.further it bound j ts us vs x comes passes is joins) dot =
       let further : x.dot ≡ suc it.dot = ap (λ (y : Item). y.dot) is in absurd (omega arith)
 
 module _ (given : Given) (core : List Nonterminal) (text : List ℕ) (f : Forest) (r : IsReduced core text f)

@@ -1,6 +1,5 @@
 pub mod Lists
 pub mod TotalOrders
-pub mod Wanted
 pub mod Given
 pub mod Liveness
 pub mod Steps

@@ -1,14 +1,11 @@
 -- No part of the reduced forest is dead.
-use Rattle.std.proofs.Common.{◌≡◌, ◌⊎◌, inl, inr, ℕ, zero, suc, ◌+◌, ◌<◌, ◌≤◌, ◌++◌, List, [], Some, length, slice_get, Contains, refl, sym, ap, ◌∙◌, subst, arith}
-use Rattle.std.proofs.lemmas.Option.{same_Some, slice_get_within}
-use Rattle.ig_text.specs.declared.text.Span.{Span}
+use Rattle.std.proofs.Common.{◌≡◌, ◌⊎◌, inl, inr, ℕ, zero, suc, ◌+◌, ◌<◌, ◌++◌, List, Some, length, slice_get, refl, sym, ap, ◌∙◌, subst, arith}
+use Rattle.std.proofs.lemmas.Option.{slice_get_within}
 use Rattle.ig_text.specs.Tree.{Tree, Trees, Leaf, Node, none, one, join, greatest_height}
-use Rattle.ig_item.specs.Items.{Item, Reachable, IsComplete, StandsBefore}
+use Rattle.ig_item.specs.Items.{Item, IsComplete, StandsBefore}
 use Rattle.ig_item.specs.Step.{Step, Test, Bind, Term, Call}
-use Rattle.ig_item.specs.WellKinded.{IsWellKinded}
 use Rattle.ig_item.specs.declared.core_grammar.Nonterminal.{Nonterminal}
 use Rattle.ig_item.specs.declared.core_grammar.CoreAlt.{CoreAlt}
-use Rattle.ig_item.specs.declared.items.Instance.{Instance}
 use Rattle.ig_forest.specs.Forest as forest
 use Rattle.ig_forest.specs.Forest.{Forest, ItemNode}
 use Rattle.ig_forest.specs.Unfold as ways
@@ -19,15 +16,12 @@ use Rattle.ig_forest.specs.Orders.{item_cmp, node_cmp}
 use Rattle.ig_forest.specs.Reduced as reduced
 use Rattle.ig_forest.specs.Reduced.{IsReduced, IsEntry, root_key}
 use Rattle.ig_forest.specs.Laws.{ReducedIsTrim}
-use Rattle.ig_forest.specs.declared.entry.Choice.{Choice}
 use Rattle.ig_forest.specs.declared.entry.Entry.{Entry}
-use Rattle.ig_forest.specs.declared.entry.Entry.TheVariants.{Begin, Pass, Take}
-use Rattle.ig_forest.specs.declared.entry.Child.TheVariants as child
 use Rattle.ig_forest.proofs.Given.{Given}
-use Rattle.ig_forest.proofs.Lists.{at_from_contains, contains_from_at, at_within, key_at, partner, one_place}
+use Rattle.ig_forest.proofs.Lists.{at_from_contains, contains_from_at, at_within, key_at, one_place}
 use Rattle.ig_forest.proofs.TotalOrders.{item_total, node_total}
 use Rattle.ig_forest.proofs.Liveness.{live_is_reachable}
-use Rattle.ig_forest.proofs.Unfolding.{Unfolded, by_pass, by_leaf, by_tree, chosen, item_unfolds, nodes_unfold, live_at, numbered}
+use Rattle.ig_forest.proofs.Unfolding.{Unfolded, by_pass, by_leaf, by_tree, chosen, item_unfolds, nodes_unfold, live_at}
 use Rattle.ig_forest.proofs.Trim.{is_forest, onward_items}
 
 keep : {A B C : Type 0} → (B → C) → A ⊎ B → A ⊎ C
@@ -311,7 +305,7 @@ module _ (given : Given) (core : List Nonterminal) (text : List ℕ) (f : Forest
       let l = (r.are_items.members x.0).0 x.1 in
       let s = live_unfolds x.0 l in
       let o = completed x.0 key.0 s.depth s.trees x.2 s.unfolded v key.1 in
-      used f {uses = node_uses f o.1} (node_context x.0 l key.0 x.2 v key.1 (suc s.depth) o.0 _ o.1) (TheNode v) (inl refl)
+      used f {uses = node_uses f {cs = o.0} o.1} (node_context x.0 l key.0 x.2 v key.1 (suc s.depth) o.0 _ o.1) (TheNode v) (inl refl)
 
   -- an item of the forest unfolds at its number
   unfolds_at : (k : ℕ) (x : Item) → slice_get r.items k ≡ Some x → (d : ℕ) × (cs : List ℕ) × (ts : Trees) × OfItem f k d cs ts
