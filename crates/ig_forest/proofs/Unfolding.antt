@@ -341,6 +341,6 @@ pub unfolds_to_core_trees : Given → UnfoldsToCoreTrees
 unfolds_to_core_trees given core text f d t w r = (
   λ u. node_trees given core text f r u.1 (root_key text) r.root,
   λ h.
-  nodes_unfold given core text f r d (root_key text) t h.0 h.1 (root_begun given core text f r w)
-  (root_ended given core text f r w) f.root r.root,
+      nodes_unfold given core text f r d (root_key text) t h.0 h.1 (root_begun given core text f r w)
+      (root_ended given core text f r w) f.root r.root,
 )

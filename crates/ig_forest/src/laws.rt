@@ -1,10 +1,11 @@
 //! What the reduced forest keeps to. The functions do nothing: their contracts are the laws.
 ghost use Rattle.ig_forest.specs.Laws.{HasOneCursor, LiveIsLeast, LiveIsReachable, OnlyOne};
-ghost use Rattle.ig_forest.specs.Laws.{ReducedHasNoKeyTwice, ReducedIsTrim, RootIsThere, UnfoldsToCoreTrees};
+ghost use Rattle.ig_forest.specs.Laws.{ReducedHasNoKeyTwice, ReducedIsTrim, RootIsThere};
+ghost use Rattle.ig_forest.specs.Laws.{TrimHasTrees, UnfoldsToCoreTrees};
 
 use ig_item::{
-    alternatives_are_one, alternatives_begin_together, complete_items_are_trees,
-    items_are_in_text, items_are_reached_by_trees, reachable_is_closed, stands_before_one,
+    alternatives_are_one, alternatives_begin_together, complete_items_are_trees, items_are_in_text,
+    items_are_reached_by_trees, reachable_is_closed, stands_before_one,
 };
 
 /// A core grammar and a text have one reduced forest at most, so one text of it. This law
@@ -79,3 +80,9 @@ pub fn reduced_forest_is_trim()
     stands_before_one();
     alternatives_are_one();
 }
+
+/// Each node and each item node of a forest without dead parts has trees, to some depth. This law
+/// computes nothing.
+pub fn trim_forest_has_trees()
+    ensures { TrimHasTrees }
+{}
