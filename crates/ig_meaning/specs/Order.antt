@@ -32,7 +32,7 @@ abbrev mutual
   tree_cmp (Node tag bound i j ts) (Leaf k l) = Greater
   tree_cmp (Node tag bound i j ts) (Node other values k l us) =
       ordering_then (nat_cmp (number_of tag) (number_of other))
-        (ordering_then (values_cmp bound values) (ordering_then (starts_cmp ts us) (trees_cmp ts us)))
+      (ordering_then (values_cmp bound values) (ordering_then (starts_cmp ts us) (trees_cmp ts us)))
 
   pub trees_cmp : Trees → Trees → Ordering
   trees_cmp none none = Equal
