@@ -1,0 +1,17 @@
+pub mod Lists
+pub mod Numbers
+pub mod Environments
+pub mod Forth
+pub mod Back
+pub mod Places
+pub mod Law
+pub mod NameNumbers
+pub mod Building
+pub mod Lookups
+pub mod Scoped
+pub mod Kinded
+pub mod WellKinded
+pub mod Whole
+pub mod NameTexts
+pub mod BuiltForms
+pub mod RootNames
