@@ -1,5 +1,5 @@
 -- What follows from an item and the items that were taken before it.
-use Rattle.std.specs.Prelude.{◌≡◌, ℕ, List, [], ◌∷◌, Option, Contains, true}
+use Rattle.std.specs.Prelude.{◌≡◌, ℕ, ◌≤◌, List, [], ◌∷◌, Option, Contains, true}
 use Rattle.ig_text.specs.Pattern.{Matches}
 use Rattle.ig_text.specs.declared.pattern.Pattern.{Pattern}
 use Rattle.ig_expr.specs.Expression.{Expression}
@@ -49,3 +49,24 @@ pub record IsPastTerminal (core : List Nonterminal) (text : List ℕ) (it x : It
   pub before : StandsBefore core it names (Term what label excluded)
   pub matches : Matches text what it.position end
   pub is : x ≡ past it (span_of label it.position end) end
+
+-- x is the item after a terminal of that form, before which `it` stands
+abbrev pub IsBehind : List ℕ → Pattern → Option (List ℕ) → List Pattern → Item → Item → Type 0
+IsBehind text what label excluded it x =
+    (j : ℕ) × Matches text what it.position j × MatchesNone text excluded it.position j ×
+    (x ≡ past it (span_of label it.position j) j)
+
+-- x is the first item of an alternative of the instance, which is one of the first n
+pub record IsFirst (core : List Nonterminal) (callee : Instance) (n : ℕ) (x : Item) : Type 0 where
+  pub number : ℕ
+  pub nonterminal : Nonterminal
+  pub alternative : CoreAlt
+  pub has : IsAlternative core callee.nonterminal number nonterminal alternative
+  pub few : number ≤ n
+  pub is : x ≡ first callee number
+
+-- x is the first item of an alternative of the instance
+abbrev pub IsFirstOf : List Nonterminal → Instance → Item → Type 0
+IsFirstOf core callee x =
+    (a : ℕ) × (nonterminal : Nonterminal) × (alternative : CoreAlt) ×
+    IsAlternative core callee.nonterminal a nonterminal alternative × (x ≡ first callee a)

@@ -45,21 +45,27 @@ pub record IsWaiting (core : List Nonterminal) (text : List ℕ) (p : ℕ) (s : 
       slice_get w.called.items i ≡ Some called → HasCallers core text s taken w.callers.items called.callers callee
   pub ends : (i : ℕ) (callee : Instance) (called : Called) → slice_get (instances_in s) i ≡ Some callee →
       slice_get w.called.items i ≡ Some called → (called.last_end ≡ Some p) ↔ HasEnd core taken callee p
+  pub known : (x : Item) (callee : Instance) → Contains taken x → IsCaller core text x callee → Contains (instances_in s) callee
   pub before : (i : ℕ) (called : Called) (e : ℕ) → slice_get w.called.items i ≡ Some called → called.last_end ≡ Some e → e ≤ p
 
--- k of the items at p are taken
-pub record IsRun (core : List Nonterminal) (text : List ℕ) (budget p k : ℕ) (s : Found) (w : Waiting) : Type 0 where
+-- k of the items at p are taken: all are reachable, and all that follows from those taken is found
+pub record IsTaking (core : List Nonterminal) (text : List ℕ) (budget p k : ℕ) (s : Found) : Type 0 where
   pub stored : IsStored p s
   pub reachable : (x : Item) → Contains (found_in s ++ later_in s) x → Reachable core text x
   pub closed : (x : Item) → Follows core text (Contains (taken_in s k)) x → Contains (found_in s ++ later_in s) x
+  -- each of the later items came from a taken one, over a terminal
   pub came : (x : Item) → Contains (later_in s) x →
       (it : Item) × Contains (taken_in s k) it × IsPastTerminal core text it x
-  pub firsts : (callee : Instance) → Contains (instances_in s) callee → (a : ℕ) (nonterminal : Nonterminal)
-      (alternative : CoreAlt) → IsAlternative core callee.nonterminal a nonterminal alternative →
-      Contains (found_in s) (first callee a)
-  pub waiting : IsWaiting core text p s (taken_in s k) w
   pub few : k ≤ length s.here.keys
   pub within : count s ≤ budget
+
+-- the same, with the first items of each instance, and what waits for it
+pub record IsRun (core : List Nonterminal) (text : List ℕ) (budget p k : ℕ) (s : Found) (w : Waiting) : Type 0 where
+  pub taking : IsTaking core text budget p k s
+  pub firsts : (callee : Instance) → Contains (instances_in s) callee → (a : ℕ) (nonterminal : Nonterminal)
+      (alternative : CoreAlt) → IsAlternative core callee.nonterminal a nonterminal alternative →
+      Contains (found_in s ++ later_in s) (first callee a)
+  pub waiting : IsWaiting core text p s (taken_in s k) w
 
 -- why no items were given; want of memory may come at any time
 abbrev pub Refuses : List Nonterminal → List ℕ → ℕ → RunFault → Type 0
