@@ -9,3 +9,4 @@ pub mod Terminals
 pub mod Running
 pub mod Firsts
 pub mod Waiters
+pub mod Returns

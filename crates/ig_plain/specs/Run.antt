@@ -1,5 +1,5 @@
 -- What a run in rising positions keeps.
-use Rattle.std.specs.Prelude.{◌≡◌, ◌↔◌, ◌⊎◌, ℕ, zero, suc, ◌+◌, ◌<◌, ◌≤◌, List, [], ◌∷◌, ◌++◌, map, length, take, Contains, Option, Some, slice_get}
+use Rattle.std.specs.Prelude.{◌≡◌, ◌↔◌, ◌⊎◌, ℕ, zero, suc, ◌+◌, ◌<◌, ◌≤◌, List, [], ◌∷◌, ◌++◌, map, length, take, Contains, Option, Some, slice_get, Result, MatchResult}
 use Rattle.ig_item.specs.Core.{IsAlternative}
 use Rattle.ig_item.specs.Items.{Item, Follows, Reachable, MoreThan, IsComplete, first}
 use Rattle.ig_item.specs.declared.core_grammar.Nonterminal.{Nonterminal}
@@ -13,13 +13,29 @@ use Rattle.ig_plain.specs.declared.waiting.Waiting.{Waiting}
 use Rattle.ig_plain.specs.declared.waiting.Called.{Called}
 use Rattle.ig_plain.specs.declared.waiting.Caller.{Caller}
 use Rattle.ig_plain.specs.Found.{means, Named, instances_in, found_in, later_in, taken_in, count, IsStored}
-use Rattle.ig_plain.specs.Rules.{IsCaller, IsPastTerminal}
+use Rattle.ig_plain.specs.Rules.{IsCaller, IsPastTerminal, StandsAtCall, IsReturn}
 
 -- the callers in a chain that begins at a place + 1
 pub data Chains (cells : List Caller) : ℕ → List stored.Item → Type 0 where
   none : Chains cells zero []
   more : (k : ℕ) (cell : Caller) (xs : List stored.Item) → slice_get cells k ≡ Some cell → cell.next ≤ k →
       Chains cells cell.next xs → Chains cells (suc k) (cell.item ∷ xs)
+
+-- the items of the chain that begins there stand before calls
+pub record IsChainOf (core : List Nonterminal) (cells : List Caller) (head : ℕ) (s : Found) : Type 0 where
+  pub chain : List stored.Item
+  pub chained : Chains cells head chain
+  pub named : (y : stored.Item) → Contains chain y → Named s y
+  pub calls : (y : stored.Item) → Contains chain y → StandsAtCall core (means s y)
+
+-- x is the item after the call before which an item of the chain stands
+pub record IsReturnToOne (core : List Nonterminal) (text : List ℕ) (cells : List Caller) (head end : ℕ) (s : Found) (x : Item) :
+    Type 0 where
+  pub chain : List stored.Item
+  pub chained : Chains cells head chain
+  pub caller : stored.Item
+  pub among : Contains chain caller
+  pub returns : IsReturn core text (means s caller) end x
 
 -- the chain that begins there has exactly the taken items that call the instance
 pub record HasCallers (core : List Nonterminal) (text : List ℕ) (s : Found) (taken : List Item) (cells : List Caller) (head : ℕ)
@@ -71,3 +87,19 @@ pub record IsRun (core : List Nonterminal) (text : List ℕ) (budget p k : ℕ) 
 abbrev pub Refuses : List Nonterminal → List ℕ → ℕ → RunFault → Type 0
 Refuses core text budget fault.Budget = MoreThan core text budget
 Refuses core text budget fault.Memory = Unit {0}
+
+-- the item is the next one that is taken
+pub record Taking (core : List Nonterminal) (text : List ℕ) (budget : ℕ) (item : stored.Item) (s : Found) (w : Waiting) : Type 0 where
+  pub number : ℕ
+  pub run : IsRun core text budget item.position number s w
+  pub at : slice_get s.here.keys number ≡ Some item
+
+-- k items were taken, and then one more; or it was refused
+abbrev pub IsTaken : List Nonterminal → List ℕ → ℕ → ℕ → ℕ → Found → Waiting → Result (Unit {0}) RunFault → Type 0
+IsTaken core text budget p k t w result =
+    MatchResult result (λ u. IsRun core text budget p (suc k) t w) (Refuses core text budget)
+
+-- the item, which is one of those at the position, was taken or refused
+abbrev pub Takes : List Nonterminal → List ℕ → ℕ → stored.Item → Found → Found → Waiting → Result (Unit {0}) RunFault → Type 0
+Takes core text budget item s t w result =
+    (k : ℕ) → slice_get s.here.keys k ≡ Some item → IsTaken core text budget item.position k t w result
