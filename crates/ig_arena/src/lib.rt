@@ -6,7 +6,9 @@
 #![tactic(auto)]
 
 mod arena;
+mod chains;
 mod id;
 
 pub use arena::Arena;
+pub use chains::{Chains, Walk};
 pub use id::Id;
