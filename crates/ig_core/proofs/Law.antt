@@ -29,7 +29,9 @@ use Rattle.ig_item.specs.declared.core_grammar.CoreAlt.{CoreAlt}
 use Rattle.ig_core.specs.Remaining.{Remains}
 use Rattle.ig_core.specs.Steps.{steps_of}
 use Rattle.ig_core.specs.CoreOf.{Shaped, shaped, unrooted, root_among, or_else, written_root, start_symbols, root_of, place, number_of, alternatives_of, nonterminal_of, core_of}
-use Rattle.ig_core.specs.Laws.{IsCalled, HasCore, CoreTreesArePermitted}
+use Rattle.ig_core.proofs.Scoped.{ready_has_core}
+use Rattle.ig_core.proofs.Premises.{IsCalled, HasCore}
+use Rattle.ig_core.specs.Laws.{CoreTreesArePermitted}
 use Rattle.ig_core.proofs.Numbers.{Target, Source, Numbers}
 use Rattle.ig_core.proofs.Places.{kept, Origin, origin, root_cases, RootAt, NoRoot, found, there, nonterminal_at, nonterminal_was, alternative_at, alternative_was, only, beside, without_level, with_level, same_tag}
 use Rattle.ig_core.proofs.Forth.{leads}
@@ -350,5 +352,6 @@ module _ (g : Grammar) (shapes : List Shape) (text : List ℕ) (has : HasCore g 
           root_to decl a p.children t (rooted_root there.0 at ∙ decl_same) (ap (λ (z : Decl). z.params) (sym decl_same) ∙ rooted.2) is lead p.whole
 
 pub core_trees_permitted : TreesWithoutOperatorsAreClean → CoreTreesArePermitted
-core_trees_permitted clean g shapes text t has =
+core_trees_permitted clean g shapes text t ready =
+    let has = ready_has_core g shapes ready in
     (to_permitted g shapes text has clean t, from_permitted g shapes text has t)

@@ -1,4 +1,5 @@
 pub mod Lists
+pub mod Premises
 pub mod Numbers
 pub mod Environments
 pub mod Forth
@@ -15,3 +16,4 @@ pub mod Whole
 pub mod NameTexts
 pub mod BuiltForms
 pub mod RootNames
+pub mod RegularCores

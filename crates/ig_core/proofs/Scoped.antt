@@ -21,7 +21,8 @@ use Rattle.ig_grammar.specs.declared.grammar.Grammar.{Grammar}
 use Rattle.ig_grammar.specs.declared.place.Shape.{Shape}
 use Rattle.ig_grammar.specs.declared.place.Shape.TheVariants.{Root}
 use Rattle.ig_core.specs.Remaining.{IsTerm, IsExcluding, Remains, main_of, unfiltered}
-use Rattle.ig_core.specs.Laws.{IsCalled, HasCore, IsRemaining, CheckedHaveCore}
+use Rattle.ig_core.proofs.Premises.{IsCalled, HasCore}
+use Rattle.ig_core.specs.Laws.{IsRemaining, IsReady}
 use Rattle.ig_core.proofs.Lookups.{contains_at, at_contained, contains_first, contains_later, declared_named}
 
 abbrev pub Any : List ℕ → ℕ → Type 0
@@ -241,5 +242,5 @@ module _ (g : Grammar) (shapes : List Shape) (scoped : IsWellScoped g) (fit : Fi
             let root = beside shapes g.decls r Root (sym fit.counted) f in (root_at r root.0 root.1 f).after_rules k e;
       }
 
-pub checked_have_core : CheckedHaveCore
-checked_have_core g shapes scoped fit remaining = has_core g shapes scoped fit remaining
+pub ready_has_core : (g : Grammar) (shapes : List Shape) → IsReady g shapes → HasCore g shapes
+ready_has_core g shapes ready = has_core g shapes ready.scoped ready.fit ready.remaining

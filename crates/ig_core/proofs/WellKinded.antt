@@ -34,7 +34,8 @@ use Rattle.ig_item.specs.Laws.{StepsFit, NamesDiffer}
 use Rattle.ig_core.specs.Remaining.{Remains}
 use Rattle.ig_core.specs.Steps.{steps_of}
 use Rattle.ig_core.specs.CoreOf.{Shaped, shaped, unrooted, numbered, number_of, nonterminal_of, nonterminals_of, core_of, written_root, root_of, is_root}
-use Rattle.ig_core.specs.Laws.{HasCore, IsRemaining, CoresAreWellKinded}
+use Rattle.ig_core.proofs.Premises.{HasCore}
+use Rattle.ig_core.specs.Laws.{IsRemaining, CoresAreWellKinded}
 use Rattle.ig_core.proofs.Lookups.{contains_at, at_contained}
 use Rattle.ig_core.proofs.Places.{origin, root_cases, RootAt, NoRoot, nonterminal_from, without_level}
 use Rattle.ig_core.proofs.Law.{AtNumber, at_number, written_is, start_calls, calls_are, may_start, callee, rooted_root, unrooted_root, to_number, first_alternative}
@@ -126,21 +127,21 @@ taken_names (p ∷ ps) zero = refl
 taken_names (p ∷ ps) (suc j) = ap (λ z. p.name ∷ z) (taken_names ps j)
 
 module _ (g : Grammar) (shapes : List Shape) (scoped : IsWellScoped g) (fit : FitShapes g shapes) (remaining : IsRemaining g) where
-  abbrev core : List Nonterminal
+  abbrev pub core : List Nonterminal
   core = core_of g shapes
 
-  abbrev number : List ℕ → ℕ
+  abbrev pub number : List ℕ → ℕ
   number = number_of g shapes
 
-  core_has : HasCore g shapes
+  pub core_has : HasCore g shapes
   core_has = has_core g shapes scoped fit remaining
 
   -- a declaration of the grammar, or the root that is made
-  data Row (n : ℕ) (x : Shaped) : Type 0 where
+  pub data Row (n : ℕ) (x : Shaped) : Type 0 where
     declared_row : (k : ℕ) → slice_get g.decls k ≡ Some x.decl → slice_get shapes k ≡ Some x.shape → Row n x
     made_row : x ≡ shaped (written_root g) Root → NoRoot g.decls shapes → Row n x
 
-  row : (n : ℕ) (x : Shaped) → slice_get (numbered g shapes) n ≡ Some x → Row n x
+  pub row : (n : ℕ) (x : Shaped) → slice_get (numbered g shapes) n ≡ Some x → Row n x
   row zero x e = go (root_cases g.decls shapes)
     where
       is : shaped (root_of g shapes) Root ≡ x
@@ -173,13 +174,13 @@ module _ (g : Grammar) (shapes : List Shape) (scoped : IsWellScoped g) (fit : Fi
       cases (inr (inr behind)) = absurd (not_again k decl at j i name behind f e)
 
   -- an alternative of the core grammar
-  record Member (n a : ℕ) (nonterminal : Nonterminal) (alternative : CoreAlt) : Type 0 where
-    x : Shaped
-    at : slice_get (numbered g shapes) n ≡ Some x
-    is : nonterminal ≡ nonterminal_of number n x
-    of : AtNumber number n a x nonterminal alternative
+  pub record Member (n a : ℕ) (nonterminal : Nonterminal) (alternative : CoreAlt) : Type 0 where
+    pub x : Shaped
+    pub at : slice_get (numbered g shapes) n ≡ Some x
+    pub is : nonterminal ≡ nonterminal_of number n x
+    pub of : AtNumber number n a x nonterminal alternative
 
-  member : (n a : ℕ) (nonterminal : Nonterminal) (alternative : CoreAlt) → IsCoreAlternative core n a nonterminal alternative → Member n a nonterminal alternative
+  pub member : (n a : ℕ) (nonterminal : Nonterminal) (alternative : CoreAlt) → IsCoreAlternative core n a nonterminal alternative → Member n a nonterminal alternative
   member n a nonterminal alternative has =
       let from = nonterminal_from number 0 (numbered g shapes) n nonterminal has.there in
       let is : nonterminal ≡ nonterminal_of number n from.0 = from.2 ∙ ap (λ z. nonterminal_of number z from.0) (from_zero n) in
@@ -332,5 +333,5 @@ module _ (g : Grammar) (shapes : List Shape) (scoped : IsWellScoped g) (fit : Fi
       }
 
 pub cores_well_kinded : StepsFit → NamesDiffer → CoresAreWellKinded
-cores_well_kinded each_fits differ_at g shapes scoped fit remaining few few_dots =
-    well_kinded g shapes scoped fit remaining each_fits differ_at few few_dots
+cores_well_kinded each_fits differ_at g shapes ready few few_dots =
+    well_kinded g shapes ready.scoped ready.fit ready.remaining each_fits differ_at few few_dots

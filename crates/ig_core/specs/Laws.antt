@@ -1,9 +1,9 @@
 -- The core grammar of a grammar has the trees that the grammar permits.
-use Rattle.std.specs.Prelude.{◌≡◌, ◌≢◌, ◌↔◌, ℕ, ◌<◌, ◌≤◌, List, [], All, Contains, Some, None, length, slice_get, option_map, true}
+use Rattle.std.specs.Prelude.{◌≡◌, ◌↔◌, ℕ, ◌<◌, ◌≤◌, List, All, Contains, Some, None, length, slice_get, option_map, true}
 use Rattle.ig_text.specs.Tree.{Tree}
 use Rattle.ig_grammar.specs.Name.{is_name}
-use Rattle.ig_grammar.specs.Names.{names, AreDistinct}
 use Rattle.ig_grammar.specs.Numbering.{alternatives, layout_among}
+use Rattle.ig_grammar.specs.Regular as source
 use Rattle.ig_grammar.specs.Permitted.{Permitted}
 use Rattle.ig_grammar.specs.Laws.{HasNoOperators}
 use Rattle.ig_grammar.specs.WellScoped.{IsWellScoped}
@@ -12,10 +12,11 @@ use Rattle.ig_grammar.specs.declared.grammar.Grammar.{Grammar}
 use Rattle.ig_grammar.specs.declared.declaration.Decl.{Decl}
 use Rattle.ig_grammar.specs.declared.symbol.Alt.{Alt}
 use Rattle.ig_grammar.specs.declared.place.Shape.{Shape}
-use Rattle.ig_grammar.specs.declared.place.Shape.TheVariants.{Rule, Root}
+use Rattle.ig_grammar.specs.declared.place.Shape.TheVariants.{Root}
 use Rattle.ig_item.specs.CoreTrees.{CoreTree}
 use Rattle.ig_item.specs.Core.{dots}
 use Rattle.ig_item.specs.Limits.{most_dots}
+use Rattle.ig_item.specs.Regular.{IsRegular}
 use Rattle.ig_item.specs.WellKinded.{IsWellKinded}
 use Rattle.ig_core.specs.Limits.{most_declarations}
 use Rattle.ig_core.specs.Built.{IsBuiltGrammar}
@@ -23,46 +24,36 @@ use Rattle.ig_core.specs.Names.{root_name, HasNoAddedName}
 use Rattle.ig_core.specs.Remaining.{Remains}
 use Rattle.ig_core.specs.CoreOf.{core_of}
 
--- a name is that of a declaration that doesn't stand for the root, and has so many parameters
-abbrev pub IsCalled : Grammar → List Shape → List ℕ → ℕ → Type 0
-IsCalled g shapes name n =
-    (k : ℕ) × (decl : Decl) × (shape : Shape) × (slice_get g.decls k ≡ Some decl) × (slice_get shapes k ≡ Some shape) ×
-    (shape ≢ Root) × (decl.name ≡ name) × (length decl.params ≡ n)
-
--- what the last pass leaves, or a grammar as written with built forms alone
-pub record HasCore (g : Grammar) (shapes : List Shape) : Type 0 where
-  pub distinct : AreDistinct (names g.decls)
-  pub counted : length shapes ≡ length g.decls
+-- only forms that remain behind all passes, no levels and no layout
+pub record IsRemaining (g : Grammar) : Type 0 where
   -- no layout is declared, as where each declaration is plain
   pub no_layout : layout_among g.decls ≡ None
   pub free : (decl : Decl) → Contains g.decls decl → HasNoOperators decl.levels
-  pub remains : (decl : Decl) (a : Alt) → Contains g.decls decl → Contains (alternatives decl.levels) a → All (Remains (IsCalled g shapes)) a.symbols
-  -- the start is declared, and has no parameters
-  pub started : (start : List ℕ) × (g.start ≡ Some start) × ((k : ℕ) × (decl : Decl) × (slice_get g.decls k ≡ Some decl) × (decl.name ≡ start) × (length decl.params ≡ 0))
-  -- a declaration of the shape `Root` is the start and has one alternative, without parameters; it stands behind each rule
-  pub rooted : (k : ℕ) (decl : Decl) → slice_get g.decls k ≡ Some decl → slice_get shapes k ≡ Some Root →
-      (g.start ≡ Some decl.name) × (length (alternatives decl.levels) ≡ 1) × (decl.params ≡ [])
-  pub after_rules : (k r : ℕ) → slice_get shapes k ≡ Some Rule → slice_get shapes r ≡ Some Root → k < r
+  pub forms : (decl : Decl) (a : Alt) → Contains g.decls decl → Contains (alternatives decl.levels) a →
+      All (Remains (λ name n. Unit {0})) a.symbols
 
--- what is asked of a checked grammar: only forms that remain behind all passes, no levels and no layout
-pub record IsRemaining (g : Grammar) : Type 0 where
-  pub no_layout : layout_among g.decls ≡ None
-  pub free : (decl : Decl) → Contains g.decls decl → HasNoOperators decl.levels
-  pub forms : (decl : Decl) (a : Alt) → Contains g.decls decl → Contains (alternatives decl.levels) a → All (Remains (λ name n. Unit {0})) a.symbols
+-- a well-scoped grammar of these forms, with shapes that fit
+pub record IsReady (g : Grammar) (shapes : List Shape) : Type 0 where
+  pub scoped : IsWellScoped g
+  pub fit : FitShapes g shapes
+  pub remaining : IsRemaining g
 
-abbrev pub CheckedHaveCore : Type 0
-CheckedHaveCore = (g : Grammar) (shapes : List Shape) → IsWellScoped g → FitShapes g shapes → IsRemaining g → HasCore g shapes
-
--- a checked grammar has a well-kinded core grammar, where that has few dots
-abbrev pub CoresAreWellKinded : Type 0
-CoresAreWellKinded =
-    (g : Grammar) (shapes : List Shape) → IsWellScoped g → FitShapes g shapes → IsRemaining g → length g.decls < most_declarations →
-    dots (core_of g shapes) ≤ most_dots → IsWellKinded (core_of g shapes)
-
+-- its core grammar has the trees that it permits
 abbrev pub CoreTreesArePermitted : Type 0
 CoreTreesArePermitted =
-    (g : Grammar) (shapes : List Shape) (text : List ℕ) (t : Tree) → HasCore g shapes →
+    (g : Grammar) (shapes : List Shape) (text : List ℕ) (t : Tree) → IsReady g shapes →
     CoreTree (core_of g shapes) text t ↔ Permitted g shapes text t
+
+-- its core grammar is well kinded, where that has few dots
+abbrev pub CoresAreWellKinded : Type 0
+CoresAreWellKinded =
+    (g : Grammar) (shapes : List Shape) → IsReady g shapes → length g.decls < most_declarations →
+    dots (core_of g shapes) ≤ most_dots → IsWellKinded (core_of g shapes)
+
+-- no literal of its core grammar is empty, where none of the grammar is
+abbrev pub CoresAreRegular : Type 0
+CoresAreRegular =
+    (g : Grammar) (shapes : List Shape) → IsReady g shapes → source.IsRegular g → IsRegular (core_of g shapes)
 
 -- a grammar of built forms has only forms that remain behind all passes
 abbrev pub BuiltGrammarsRemain : Type 0

@@ -9,7 +9,7 @@ ghost use Rattle.ig_core.specs.declared.fault.CoreFault.TheVariants.{TooManyDots
 
 use crate::dots::has_few_dots;
 use crate::fault::CoreFault;
-use crate::laws::{checked_grammars_have_core, cores_are_well_kinded};
+use crate::laws::cores_are_well_kinded;
 use crate::naming::{count, number_names};
 use crate::nonterminals::add_nonterminals;
 use crate::roots::build_root;
@@ -47,7 +47,6 @@ fn build_core(alloc: Global, checked: &Checked) -> Result<Core, AllocError>
     requires few_dots { dots (core_of checked.now.grammar checked.now.shapes) ≤ most_dots }
     ensures { IfOk result (λ core. core ≡ core_of checked.now.grammar checked.now.shapes) }
 {
-    checked_grammars_have_core();
     cores_are_well_kinded();
     let decls = checked.grammar().decls.as_slice();
     let numbers = number_names(alloc, decls, checked)?;

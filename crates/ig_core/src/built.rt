@@ -6,8 +6,8 @@ ghost use Rattle.ig_core.specs.Built.{IsBuiltDeclaration, IsBuiltGrammar};
 use ig_grammar::{Alt, Assoc, Decl, DeclKind, Grammar, Level, Symbol};
 
 /// Whether the grammar has a form that isn't built: anything but syntax declarations of one level
-/// without associativity, whose alternatives hold literals, calls, labels of these, guards and lets.
-/// Takes no memory.
+/// without associativity, whose alternatives hold literals, calls, labels of these, guards and
+/// lets. Takes no memory.
 pub fn unbuilt(grammar: &Grammar) -> bool
     ensures { (result ≡ false) ↔ IsBuiltGrammar grammar.now }
 {

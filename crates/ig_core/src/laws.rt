@@ -1,6 +1,7 @@
-//! What core grammars have to do with the grammars that they are of. The functions do nothing: their
-//! contracts are the laws, each proved for all grammars, shapes, texts and trees that it speaks of.
-ghost use Rattle.ig_core.specs.Laws.{CoreTreesArePermitted, CheckedHaveCore, CoresAreWellKinded};
+//! What core grammars have to do with the grammars that they are of. The functions do nothing:
+//! their contracts are the laws, each proved for all grammars, shapes, texts and trees that it
+//! speaks of.
+ghost use Rattle.ig_core.specs.Laws.{CoreTreesArePermitted, CoresAreWellKinded, CoresAreRegular};
 ghost use Rattle.ig_core.specs.Laws.{BuiltGrammarsRemain, RootIsNamed, NamesAreNotAdded};
 
 use ig_grammar::trees_without_operators_are_clean;
@@ -14,12 +15,6 @@ pub fn core_trees_are_permitted_trees()
     trees_without_operators_are_clean();
 }
 
-/// A checked grammar of the forms that remain has a core grammar with its trees. This law computes
-/// nothing.
-pub fn checked_grammars_have_core()
-    ensures { CheckedHaveCore }
-{}
-
 /// The core grammar of a checked grammar of the forms that remain is well kinded. This law computes
 /// nothing.
 pub fn cores_are_well_kinded()
@@ -28,6 +23,11 @@ pub fn cores_are_well_kinded()
     steps_fit();
     names_differ();
 }
+
+/// Where no literal of the grammar is empty, none of its core grammar is. This law computes nothing.
+pub fn cores_are_regular()
+    ensures { CoresAreRegular }
+{}
 
 /// Each form that is built remains after all passes. This law computes nothing.
 pub fn built_grammars_remain()

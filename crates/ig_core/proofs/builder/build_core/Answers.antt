@@ -4,6 +4,7 @@ use Rattle.ig_grammar.specs.Names.{AreDistinct, names}
 use Rattle.ig_item.specs.WellKinded.{IsWellKinded}
 use Rattle.std.specs.Prelude.{Contains}
 use Rattle.ig_grammar.specs.declared.grammar.Grammar.{Grammar}
+use Rattle.ig_core.proofs.Scoped.{ready_has_core}
 use Rattle.ig_core.proofs.Whole.{few_root, few_each, few_names, built_whole}
 use Rattle.ig_core.proofs.builder.build_core.Goals as goal
 
@@ -13,7 +14,7 @@ declarations g = g.decls
 pub number_names-requires-clause-distinct : goal.number_names-requires-clause-distinct
 number_names-requires-clause-distinct c =
     subst (λ (z : List Decl). AreDistinct (names z)) (sym (c.as_slice-decls.ensures ∙ ap declarations c.grammar.ensures.same))
-    (c.checked_grammars_have_core.ensures c.args.checked.now.grammar c.args.checked.now.shapes c.grammar.ensures.scoped c.grammar.ensures.fit c.requires.remaining).distinct
+    (ready_has_core c.args.checked.now.grammar c.args.checked.now.shapes (record { scoped = c.grammar.ensures.scoped; fit = c.grammar.ensures.fit; remaining = c.requires.remaining })).distinct
 
 pub overflow_add-missing : goal.overflow_add-missing
 overflow_add-missing c =
@@ -39,7 +40,9 @@ of-requires c =
     (c.count-missing.result + 1) c.in_ok-root.root c.new-built.result.items c.push.new.self.items c.add_nonterminals.new.built.items c.from_vec.result
     (c.as_slice-decls.ensures ∙ ap declarations c.grammar.ensures.same) c.in_ok-numbers.ensures c.count-missing.ensures refl c.in_ok-root.ensures c.new-built.ensures.items c.in_ok-push.ensures.items
     c.in_ok-add_nonterminals.ensures c.from_vec.ensures))
-    (c.cores_are_well_kinded.ensures c.args.checked.now.grammar c.args.checked.now.shapes c.grammar.ensures.scoped c.grammar.ensures.fit c.requires.remaining c.requires.few c.requires.few_dots)
+    (c.cores_are_well_kinded.ensures c.args.checked.now.grammar c.args.checked.now.shapes
+    (record { scoped = c.grammar.ensures.scoped; fit = c.grammar.ensures.fit; remaining = c.requires.remaining })
+    c.requires.few c.requires.few_dots)
 
 pub returns : goal.returns
 returns c =
