@@ -1,4 +1,4 @@
--- Permitted trees that don't differ are equal.
+-- Permitted trees that don't differ are equal, and have one annotation.
 use Rattle.std.proofs.Common.{◌≡◌, ℕ, List, [], ◌∷◌, length, refl, sym, ◌∙◌, ap, subst, arith, Some}
 use Rattle.std.proofs.lemmas.Bool.Decides.{nat_tests}
 use Rattle.std.specs.declared.cmp.Ordering.{Ordering}
@@ -11,11 +11,11 @@ use Rattle.ig_grammar.specs.Symbol.{Symbol, Call}
 use Rattle.ig_grammar.specs.Names.{names, AreDistinct}
 use Rattle.ig_grammar.specs.Numbering.{Levelled, Declares, layout_among}
 use Rattle.ig_meaning.specs.Derivation.{Covers}
-use Rattle.ig_meaning.specs.Annotated.{Tree, Trees, Leaf, Node, none, more, bare_tree, bare_trees, bound_between, of_permitted}
+use Rattle.ig_meaning.specs.Annotated.{Tree, Trees, Leaf, Node, none, more, bare_tree, bare_trees, bound_between, Bind, Annotates}
 use Rattle.ig_meaning.specs.Laws as laws
 use Rattle.ig_text.specs.TagNumber.{number_of}
 use Rattle.ig_expr.specs.ValueOrder.{value_cmp}
-use Rattle.ig_meaning.specs.Order.{begin_of, starts_cmp, tree_cmp, trees_cmp, UndifferingTreesAreEqual}
+use Rattle.ig_meaning.specs.Order.{begin_of, starts_cmp, tree_cmp, trees_cmp, AnnotationsAreUnique, UndifferingTreesAreEqual}
 use Rattle.ig_meaning.proofs.Tags.{TagsTellAlternatives, fitting_shapes_tell}
 use Rattle.ig_meaning.specs.Permitted.{Permitted, IsRootAlternative, written, declared, behind_layout}
 use Rattle.ig_grammar.specs.declared.declaration.DeclKind.{DeclKind}
@@ -23,10 +23,9 @@ use Rattle.ig_grammar.specs.declared.declaration.Decl.{Decl}
 use Rattle.ig_grammar.specs.declared.grammar.Grammar.{Grammar}
 use Rattle.ig_grammar.specs.declared.place.Shape.{Shape}
 use Rattle.ig_grammar.specs.declared.place.Shape.TheVariants as shape
-use Rattle.ig_meaning.proofs.Annotation.{same_permitted}
 use Rattle.ig_meaning.proofs.Tiling.{AreClose, AllClose, AllSameTags, same_trees, covers_tiles}
 use Rattle.ig_meaning.proofs.Telling.{declared_once, alternative_once, covers_told, told_whole}
-use Rattle.ig_meaning.proofs.Determined.{moved_covers, covers_one}
+use Rattle.ig_meaning.proofs.Determined.{bind_once}
 
 then_parts : (a b : Ordering) → ordering_then a b ≡ Equal → (a ≡ Equal) × (b ≡ Equal)
 then_parts Less b e = absurd (cc)
@@ -84,11 +83,11 @@ module _ (g : Grammar) (shapes : List Shape) (text : List ℕ) (distinct : AreDi
       let alike : a ≡ b = alternative_once g shapes text distinct tells decl other 1 1 a b once.declaration refl numbered numbered' in
       (read ∙ ap (λ (q : Decl). q.kind) once.declaration ∙ sym read', same ∙ ap (λ (q : Levelled). q.alternative.symbols) alike ∙ sym same')
 
-  equal : (t u : plain.Tree) (p : Permitted g shapes text t) (q : Permitted g shapes text u) →
-      tree_cmp (of_permitted g shapes text p) (of_permitted g shapes text q) ≡ Equal → t ≡ u
-  equal t u p q same =
+  equal : (t u : plain.Tree) (one other : Tree) → Permitted g shapes text t → Permitted g shapes text u →
+      Annotates g shapes text t one → Annotates g shapes text u other → tree_cmp one other ≡ Equal → t ≡ u
+  equal t u one other p q of_first of_second same =
       let close : AreClose (plain.Node Root 0 (length text) p.children) (plain.Node Root 0 (length text) q.children) =
-      subst (AreClose (plain.Node Root 0 (length text) p.children)) (same_permitted g shapes text u q ∙ q.whole) (subst (λ z. AreClose z (bare_tree (of_permitted g shapes text q))) (same_permitted g shapes text t p ∙ p.whole) (close_tree (of_permitted g shapes text p) (of_permitted g shapes text q) same)) in
+      subst (AreClose (plain.Node Root 0 (length text) p.children)) (of_second.same ∙ q.whole) (subst (λ z. AreClose z (bare_tree other)) (of_first.same ∙ p.whole) (close_tree one other same)) in
       let root = one_root p.root q.root in
       let second = subst (λ xs. Covers g shapes text p.kind xs [] 0 (length text) q.children q.after q.starts) (sym root.1) (subst (λ c. Covers g shapes text c q.symbols [] 0 (length text) q.children q.after q.starts) (sym root.0) q.covered) in
       let told = covers_told g shapes text distinct tells p.covered [] q.after 0 (length text) q.children q.starts second in
@@ -97,20 +96,20 @@ module _ (g : Grammar) (shapes : List Shape) (text : List ℕ) (distinct : AreDi
       same_trees p.children q.children 0 (length text) (covers_tiles g shapes text p.covered) (covers_tiles g shapes text q.covered) close.1 tags in
       p.whole ∙ ap (plain.Node Root 0 (length text)) children ∙ sym q.whole
 
-  determined : (t : plain.Tree) (p q : Permitted g shapes text t) → of_permitted g shapes text p ≡ of_permitted g shapes text q
-  determined t p q =
-      let both : plain.Node Root 0 (length text) p.children ≡ plain.Node Root 0 (length text) q.children = sym p.whole ∙ q.whole in
-      let children : p.children ≡ q.children = cc in
+  determined : (t : plain.Tree) (u v : Tree) → Annotates g shapes text t u → Annotates g shapes text t v → u ≡ v
+  determined t u v p q =
+      let both : plain.Node Root 0 (length text) (bare_trees p.children) ≡ plain.Node Root 0 (length text) (bare_trees q.children) =
+      sym (ap bare_tree p.whole) ∙ p.same ∙ sym q.same ∙ ap bare_tree q.whole in
+      let children : bare_trees p.children ≡ bare_trees q.children = cc in
       let root = one_root p.root q.root in
-      let moved = moved_covers g shapes text distinct tells p.kind q.kind p.symbols q.symbols [] [] 0 0 (length text) q.children q.after q.starts root.0 root.1 refl refl q.covered in
-      let r = covers_one g shapes text distinct tells p.covered (length text) q.children q.after q.starts moved.0 children in
-      λ z. Node Root (bound_between [] (r.1 z)) 0 (length text) ((r.2 ∙ moved.1) z)
+      let second = subst (λ xs. Bind g shapes text p.kind xs [] 0 (length text) q.children q.after) (sym root.1) (subst (λ c. Bind g shapes text c q.symbols [] 0 (length text) q.children q.after) (sym root.0) q.binds) in
+      let r = bind_once g shapes text distinct tells p.binds (length text) q.children q.after plain.none plain.none second (ap (λ z. plain.join z plain.none) children) in
+      p.whole ∙ (λ z. Node Root (bound_between [] (r.1 z)) 0 (length text) (r.2 z)) ∙ sym q.whole
 
 pub undiffering : UndifferingTreesAreEqual
-undiffering =
-    record {
-      equal = λ g shapes text t u first second distinct fit same.
-          equal g shapes text distinct (fitting_shapes_tell g shapes fit) t u first second same;
-      determined = λ g shapes text t first second distinct fit.
-          determined g shapes text distinct (fitting_shapes_tell g shapes fit) t first second;
-    }
+undiffering g shapes text t u one other distinct fit first second of_first of_second same =
+    equal g shapes text distinct (fitting_shapes_tell g shapes fit) t u one other first second of_first of_second same
+
+pub unique : AnnotationsAreUnique
+unique g shapes text t u v distinct fit first second =
+    determined g shapes text distinct (fitting_shapes_tell g shapes fit) t u v first second

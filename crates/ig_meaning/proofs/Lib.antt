@@ -11,5 +11,5 @@ mod Tiling
 mod Telling
 mod Equality
 mod Transitivity
-mod AnnotatedInversion
+mod BindingInversion
 mod Determined

@@ -96,6 +96,11 @@ two_or_one e = omega (arith, e)
 same_some : {A : Type 0} (x y : A) → Some x ≡ Some y → x ≡ y
 same_some x y e = cc
 
+pub choice_once : (choices : Alternatives) (k : ℕ) (xs ys : Symbols) → IsChoice choices k xs → IsChoice choices k ys → xs ≡ ys
+choice_once choices k xs ys p q =
+    let places : p.0 ≡ q.0 = let both : suc p.0 ≡ suc q.0 = sym p.1 ∙ q.1 in omega (arith, both) in
+    same_some xs ys (sym p.2 ∙ ap (choice choices) places ∙ q.2)
+
 module _ (g : Grammar) (shapes : List Shape) (text : List ℕ) (distinct : AreDistinct (names g.decls)) (tells : TagsTellAlternatives g shapes) where
   pub record AreOne (d e : ℕ) (decl other : Decl) (shape form : Shape) : Type 0 where
     pub number : d ≡ e
@@ -288,11 +293,6 @@ module _ (g : Grammar) (shapes : List Shape) (text : List ℕ) (distinct : AreDi
       ListsTold c x t → Listed g shapes text c x env k f l us after starts → IsTold (one t) us
   listed_told c x t env after k f l us starts told (u, items, list, ends, same, kept) =
       told_single t u us same (told env k l u starts items list)
-
-  pub choice_once : (choices : Alternatives) (k : ℕ) (xs ys : Symbols) → IsChoice choices k xs → IsChoice choices k ys → xs ≡ ys
-  choice_once choices k xs ys p q =
-      let places : p.0 ≡ q.0 = let both : suc p.0 ≡ suc q.0 = sym p.1 ∙ q.1 in omega (arith, both) in
-      same_some xs ys (sym p.2 ∙ ap (choice choices) places ∙ q.2)
 
   group_told : (c : DeclKind) (choices : Alternatives) (k : ℕ) (xs : Symbols) (i j : ℕ) (ts : Trees) → IsChoice choices k xs →
       CoversTold c (listed xs) ts → (l : ℕ) (ys : Symbols) (env between : Environment) (m n : ℕ) (vs us : Trees) (starts : List ℕ) →

@@ -6,7 +6,7 @@ use Rattle.std.specs.Ordering.{ordering_then, ordering_reverse, nat_cmp}
 use Rattle.ig_text.specs.TagNumber.{number_of}
 use Rattle.ig_text.specs.Tree as plain
 use Rattle.ig_expr.specs.ValueOrder.{values_cmp}
-use Rattle.ig_meaning.specs.Annotated.{Tree, Trees, Leaf, Node, none, more, one, join, bare_tree, of_permitted}
+use Rattle.ig_meaning.specs.Annotated.{Tree, Trees, Leaf, Node, none, more, one, join, Annotates}
 use Rattle.ig_grammar.specs.Names.{names, AreDistinct}
 use Rattle.ig_grammar.specs.Checked.{FitShapes}
 use Rattle.ig_meaning.specs.Permitted.{Permitted}
@@ -44,11 +44,15 @@ abbrev mutual
 abbrev pub children_cmp : Trees → Trees → Ordering
 children_cmp ts us = ordering_then (starts_cmp ts us) (trees_cmp ts us)
 
--- the first of two permitted trees stands before the second in a listing
+-- the first of two permitted trees stands before the second in a listing: with their values it is less
 pub record Precedes (g : Grammar) (shapes : List Shape) (text : List ℕ) (t u : plain.Tree) : Type 0 where
   pub first : Permitted g shapes text t
   pub second : Permitted g shapes text u
-  pub less : tree_cmp (of_permitted g shapes text first) (of_permitted g shapes text second) ≡ Less
+  pub one : Tree
+  pub other : Tree
+  pub of_first : Annotates g shapes text t one
+  pub of_second : Annotates g shapes text u other
+  pub less : tree_cmp one other ≡ Less
 
 -- the number of trees
 abbrev pub count_of : Trees → ℕ
@@ -63,11 +67,17 @@ LastChildStartsDecide =
     children_cmp (join ts (one t)) (join us (one u)) ≡
     ordering_then (nat_cmp (begin_of t) (begin_of u)) (ordering_then (children_cmp ts us) (tree_cmp t u))
 
--- a permitted tree without the values that its derivation binds is that tree
-abbrev pub ComparedTreesArePermitted : Type 0
-ComparedTreesArePermitted =
-    (g : Grammar) (shapes : List Shape) (text : List ℕ) (t : plain.Tree) (permitted : Permitted g shapes text t) →
-    bare_tree (of_permitted g shapes text permitted) ≡ t
+-- each permitted tree has values
+abbrev pub PermittedTreesAreAnnotated : Type 0
+PermittedTreesAreAnnotated =
+    (g : Grammar) (shapes : List Shape) (text : List ℕ) (t : plain.Tree) → Permitted g shapes text t →
+    (u : Tree) × Annotates g shapes text t u
+
+-- and these alone, whatever its derivation, where no name is declared twice and each declaration is of its shape
+abbrev pub AnnotationsAreUnique : Type 0
+AnnotationsAreUnique =
+    (g : Grammar) (shapes : List Shape) (text : List ℕ) (t : plain.Tree) (u v : Tree) →
+    AreDistinct (names g.decls) → FitShapes g shapes → Annotates g shapes text t u → Annotates g shapes text t v → u ≡ v
 
 -- a tree doesn't differ from itself, of two trees that differ one stands before the other, what stands before a tree
 -- stands before all behind that one, and trees that don't differ stand alike to each other tree
@@ -77,13 +87,9 @@ pub record IsAnOrder : Type 0 where
   pub onward : (t u v : Tree) → tree_cmp t u ≡ Less → tree_cmp u v ≡ Less → tree_cmp t v ≡ Less
   pub alike : (t u v : Tree) → tree_cmp t u ≡ Equal → tree_cmp t v ≡ tree_cmp u v
 
--- permitted trees that don't differ are equal, where no name is declared twice and each declaration is of its shape
-pub record UndifferingTreesAreEqual : Type 0 where
-  pub equal : (g : Grammar) (shapes : List Shape) (text : List ℕ) (t u : plain.Tree)
-      (first : Permitted g shapes text t) (second : Permitted g shapes text u) →
-      AreDistinct (names g.decls) → FitShapes g shapes →
-      tree_cmp (of_permitted g shapes text first) (of_permitted g shapes text second) ≡ Equal → t ≡ u
-  -- and what is compared of a permitted tree is the same for each derivation of it
-  pub determined : (g : Grammar) (shapes : List Shape) (text : List ℕ) (t : plain.Tree)
-      (first second : Permitted g shapes text t) → AreDistinct (names g.decls) → FitShapes g shapes →
-      of_permitted g shapes text first ≡ of_permitted g shapes text second
+-- permitted trees that don't differ with their values are equal, under the same conditions
+abbrev pub UndifferingTreesAreEqual : Type 0
+UndifferingTreesAreEqual =
+    (g : Grammar) (shapes : List Shape) (text : List ℕ) (t u : plain.Tree) (one other : Tree) →
+    AreDistinct (names g.decls) → FitShapes g shapes → Permitted g shapes text t → Permitted g shapes text u →
+    Annotates g shapes text t one → Annotates g shapes text u other → tree_cmp one other ≡ Equal → t ≡ u

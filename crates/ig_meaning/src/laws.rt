@@ -1,8 +1,8 @@
 ghost use Rattle.ig_meaning.specs.Inversion.{DerivationsInvert};
 ghost use Rattle.ig_meaning.specs.Laws.{EnvironmentsGrow, LabelsBindOwnSpans, PermittedTreesAreWhole};
 ghost use Rattle.ig_meaning.specs.Laws.{SpansAreInOrder, TreesWithoutOperatorsAreClean};
-ghost use Rattle.ig_meaning.specs.Order.{ComparedTreesArePermitted, IsAnOrder};
-ghost use Rattle.ig_meaning.specs.Order.{LastChildStartsDecide, UndifferingTreesAreEqual};
+ghost use Rattle.ig_meaning.specs.Order.{AnnotationsAreUnique, IsAnOrder, LastChildStartsDecide};
+ghost use Rattle.ig_meaning.specs.Order.{PermittedTreesAreAnnotated, UndifferingTreesAreEqual};
 
 /// A derivation of each form of symbol consists of what the rules of derivations say of this form.
 /// This law, proved of every derivation, computes nothing.
@@ -40,10 +40,17 @@ pub fn trees_without_operators_are_clean()
     ensures { TreesWithoutOperatorsAreClean }
 {}
 
-/// What is compared of permitted trees, the trees with the values that their derivations bind, are
-/// these trees without the values. This law, proved of every derivation, computes nothing.
-pub fn compared_trees_are_permitted()
-    ensures { ComparedTreesArePermitted }
+/// Each permitted tree has values that its alternatives bind: there is a tree with values that is
+/// this tree without them. This law, proved of every derivation, computes nothing.
+pub fn permitted_trees_are_annotated()
+    ensures { PermittedTreesAreAnnotated }
+{}
+
+/// These values are the same for each derivation of the tree, where no name is declared twice and
+/// each declaration is of its shape, as in every checked grammar. This law, proved of every tree,
+/// computes nothing.
+pub fn annotations_are_unique()
+    ensures { AnnotationsAreUnique }
 {}
 
 /// Of the children of two trees the start of the last one decides first, then, by the same rule,
@@ -58,9 +65,9 @@ pub fn trees_are_ordered()
     ensures { IsAnOrder }
 {}
 
-/// Permitted trees that don't differ are equal, and what is compared of a tree is the same for each
-/// of its derivations, where no name is declared twice and each declaration is of its shape, as in
-/// every checked grammar. This law, proved of every derivation, computes nothing.
+/// Permitted trees that don't differ are equal, where no name is declared twice and each
+/// declaration is of its shape, as in every checked grammar. This law, proved of every derivation,
+/// computes nothing.
 pub fn undiffering_trees_are_equal()
     ensures { UndifferingTreesAreEqual }
 {}
