@@ -5,7 +5,8 @@ use Rattle.std.proofs.lemmas.Bool.Decides.{nat_tests}
 use Rattle.std.proofs.lemmas.Slice.Eq.{bytes_eq-Decides}
 use Rattle.unicode_ident.specs.Ident.{is_xid_continue}
 use Rattle.unicode_ident.proofs.IdentLemmas.{is_xid_continue-ascii}
-use Rattle.ig_expr.specs.Names.{is_word}
+use Rattle.ig_text.proofs.Lists.{closed_text}
+use Rattle.ig_text.specs.Words.{is_word}
 use Rattle.ig_text.specs.declared.class.Class.{Class}
 use Rattle.ig_syntax.specs.Token as token
 use Rattle.ig_syntax.specs.Token.{Token}
@@ -191,11 +192,6 @@ word_ended t rest h e = not_true (begins is_xid_continue rest) e
 keyword_ends : (cs : List ℕ) (t : Token) → entry keywords cs ≡ Some t → ends_as_word t ≡ true
 unfolding keywords
 keyword_ends cs t h = entry_all (λ w u. ends_as_word u) keywords cs t refl h
-
-closed_text : (front : List ℕ) (stop : ℕ) (inside rest : List ℕ) →
-    (front ++ (inside ++ stop ∷ [])) ++ rest ≡ front ++ (inside ++ stop ∷ rest)
-closed_text front stop inside rest =
-    append_assoc front (inside ++ stop ∷ []) rest ∙ ap (λ (z : List ℕ). front ++ z) (append_assoc inside (stop ∷ []) rest)
 
 -- the scanner finds the token
 ended_read : {front : List ℕ} {t : Token} → IsToken front t → (rest : List ℕ) → ends t rest ≡ true →
