@@ -9,7 +9,7 @@ use Rattle.unicode_ident.specs.Ident.{is_xid_start, is_xid_continue}
 use Rattle.unicode_ident.proofs.IdentLemmas.{is_xid_start-ascii, is_xid_continue-ascii, is_xid_start-is_xid_continue}
 use Rattle.ig_text.specs.declared.class.Class.{Class}
 use Rattle.ig_text.specs.declared.class.Class.TheVariants as class
-use Rattle.ig_syntax.proofs.Tables.{all_rows, found_row}
+use Rattle.ig_text.proofs.Tables.{all_rows, found_row}
 use Rattle.ig_text.specs.Words.{is_word}
 use Rattle.ig_text.specs.Words.{is_digit}
 use Rattle.ig_syntax.specs.Token as token
