@@ -4,7 +4,7 @@ use Rattle.std.specs.Prelude.{chars, IsUtf8, All}
 use Rattle.std.proofs.lemmas.List.{length-map}
 use Rattle.std.proofs.lemmas.List.Elements.{All-nil, All-cons}
 use Rattle.std.proofs.lemmas.Str.{encodes-chars, length-le-encodes}
-use Rattle.ig_syntax.proofs.Tables.{found_row}
+use Rattle.ig_text.proofs.Tables.{found_row}
 use Rattle.ig_text.specs.Words.{is_word}
 use Rattle.ig_syntax.specs.Token as token
 use Rattle.ig_syntax.specs.Token.{Token}

@@ -8,7 +8,6 @@ ghost use Rattle.ig_notation.specs.Outcome.{IsRead, IsReadFault, byte_of, refusa
 use crate::declarations::read_grammar;
 use crate::fault::{Large, ReadFault, RuleFault};
 use crate::limits::{is_shallow, numbers_fit};
-use crate::signs::Tokens;
 use ig_grammar::Grammar;
 use ig_tokens::{MOST_BYTES, Placed, tokenize};
 use std::alloc::Global;
@@ -42,8 +41,7 @@ pub fn read(alloc: Global, source: &str) -> Result<Grammar, ReadFault>
         });
     }
     ig_rules::run_stops();
-    let fitting = Tokens::new(tokens);
-    match read_grammar(alloc, &fitting) {
+    match read_grammar(alloc, tokens) {
         Ok(grammar) => Ok(grammar),
         Err(fault) => Err(refusal(tokens, fault, source)),
     }

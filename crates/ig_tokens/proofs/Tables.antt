@@ -1,9 +1,8 @@
 -- Tables of words.
-use Rattle.std.proofs.Common.{◌≡◌, ◌∙◌, ℕ, zero, suc, List, [], ◌∷◌, Bool, true, false, cond, ◌&&◌, ◌==◌, nat_lt, Option, Some, None, option_map, map, length, chars, IsUtf8, IsAscii, encode_utf8_all, refl, sym, ap, subst, arith, lit<}
+use Rattle.std.proofs.Common.{◌≡◌, ◌∙◌, ℕ, List, [], ◌∷◌, Bool, true, false, cond, ◌&&◌, ◌==◌, Option, Some, None, option_map, map, length, chars, IsUtf8, refl, sym, ap, subst, arith}
 use Rattle.std.proofs.lemmas.Bool.{and_parts}
 use Rattle.std.proofs.lemmas.Slice.Eq.{bytes_eq-Decides}
-use Rattle.std.proofs.lemmas.Str.{encodes-chars, IsUtf8-from_ascii, chars-IsAscii}
-use Rattle.std.proofs.lemmas.Bool.Decides.{nat_tests, same_from_decides}
+use Rattle.std.proofs.lemmas.Bool.Decides.{nat_tests}
 use Rattle.ig_text.specs.Words.{is_word}
 use Rattle.ig_text.proofs.Characters.{ascii, word_of_chars}
 use Rattle.ig_syntax.specs.Token as token

@@ -49,7 +49,7 @@ read_spells-returns-clause-ok t c =
 
 pub read_term-unreachable-requires : goal.read_term-unreachable-requires
 read_term-unreachable-requires t c =
-    no_larger _ _ _ c.fit.ensures (stands_as _ _ _ _ c.in_ok-digits.ensures.ok c.in-Number.is) c.in-None.ensures
+    no_larger _ _ _ c.requires (stands_as _ _ _ _ c.in_ok-digits.ensures.ok c.in-Number.is) c.in-None.ensures
 
 pub read_term-returns-in-Some-clause-ok : goal.read_term-returns-in-Some-clause-ok
 read_term-returns-in-Some-clause-ok t c = numeral _ _ _ _ (stands_as _ _ _ _ c.in_ok-digits.ensures.ok c.in-Number.is) (search rules)
