@@ -1,11 +1,10 @@
 -- Each derivation has its trees with the values that its alternatives bind.
 use Rattle.std.proofs.Common.{◌≡◌, ℕ, List, [], ◌∷◌, ◌++◌, length, refl, sym, ◌∙◌, ap, subst}
-use Rattle.std.specs.Prelude.{◌≢◌}
 use Rattle.ig_text.specs.declared.tag.Tag.{Tag}
 use Rattle.ig_text.specs.declared.tag.Tag.TheVariants as tag
 use Rattle.ig_text.specs.Tree as plain
 use Rattle.ig_expr.specs.declared.value.Value.{Value}
-use Rattle.ig_grammar.specs.Symbol.{Symbol, Call, Label, Opt, Star, Plus, SepStar, SepPlus, Group, Seq, Entry}
+use Rattle.ig_grammar.specs.Symbol.{Symbol, SepPlus, Seq}
 use Rattle.ig_meaning.specs.Environment.{Environment}
 use Rattle.ig_grammar.specs.Numbering.{tag_of}
 use Rattle.ig_meaning.specs.Derivation.{Covers, Derives, Lists, Items, Instance, Trails}
@@ -206,17 +205,19 @@ module _ (g : Grammar) (shapes : List Shape) (text : List ℕ) where
   permitted_annotated : {t : plain.Tree} → Permitted g shapes text t → (u : Tree) × Annotates g shapes text t u
   permitted_annotated p =
       let q = all_annotated p.covered in
-      let u : Tree = Node tag.Root (bound_between [] p.after) 0 (length text) q.trees in
-      (u, record {
-        kind = p.kind;
-        symbols = p.symbols;
-        children = q.trees;
-        after = p.after;
-        root = p.root;
-        binds = q.binds;
-        whole = refl;
-        same = ap (plain.Node tag.Root 0 (length text)) q.same ∙ sym p.whole;
-      })
+      let u : Tree = Node tag.Root (bound_between [] p.after) 0 (length text) q.trees in (
+        u,
+        record {
+          kind = p.kind;
+          symbols = p.symbols;
+          children = q.trees;
+          after = p.after;
+          root = p.root;
+          binds = q.binds;
+          whole = refl;
+          same = ap (plain.Node tag.Root 0 (length text)) q.same ∙ sym p.whole;
+        },
+      )
 
   all_annotated_by : {c : DeclKind} {xs : List Symbol} {env after : Environment} {i j : ℕ} {ts : plain.Trees} {starts : List ℕ} →
       Covers g shapes text c xs env i j ts after starts →

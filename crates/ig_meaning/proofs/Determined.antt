@@ -7,7 +7,6 @@ use Rattle.ig_expr.specs.Expression.{Expression}
 use Rattle.ig_expr.specs.Evaluation.{value_of}
 use Rattle.ig_expr.specs.declared.value.Value.{Value}
 use Rattle.ig_grammar.specs.Symbol.{Symbol}
-use Rattle.ig_grammar.specs.Symbol.{listed}
 use Rattle.ig_meaning.specs.Environment.{Environment, names, values, HaveValues, no_values, next_value, AreBound, no_parameters, next_parameter, replaced}
 use Rattle.ig_grammar.specs.Names as declared_names
 use Rattle.ig_grammar.specs.Numbering.{Levelled, Declares, IsAlternative, tag_of, layout_among}

@@ -1,15 +1,21 @@
--- Each derivation binds values, and its trees alone determine them.
+-- Each derivation binds values, its trees alone determine them, and they are one for each label and let.
 use Rattle.std.specs.Prelude.{◌≡◌, ℕ, List}
+use Rattle.std.specs.List.{flat_map}
 use Rattle.ig_text.specs.Tree as plain
 use Rattle.ig_expr.specs.declared.value.Value.{Value}
 use Rattle.ig_grammar.specs.Names.{names, AreDistinct}
 use Rattle.ig_grammar.specs.Checked.{FitShapes}
+use Rattle.ig_grammar.specs.Numbering.{Levelled, Declares, IsAlternative, tag_of}
+use Rattle.ig_grammar.specs.Subterms.{bound_names}
 use Rattle.ig_grammar.specs.Symbol.{Symbol}
-use Rattle.ig_meaning.specs.Environment.{Environment}
+use Rattle.ig_meaning.specs.Environment as environment
+use Rattle.ig_meaning.specs.Environment.{Environment, values}
 use Rattle.ig_meaning.specs.Derivation.{Covers, Derives, Instance}
 use Rattle.ig_meaning.specs.Permitted.{Permitted}
-use Rattle.ig_meaning.specs.Annotated.{Tree, Trees, bare_tree, bare_trees, Bind, Binds, Within, Annotates}
+use Rattle.ig_meaning.specs.Annotated.{Tree, Trees, Node, bare_tree, bare_trees, Bind, Binds, BindApart, Within, Annotates}
+use Rattle.ig_meaning.specs.Laws.{GrowsBy}
 use Rattle.ig_grammar.specs.declared.declaration.DeclKind.{DeclKind}
+use Rattle.ig_grammar.specs.declared.declaration.Decl.{Decl}
 use Rattle.ig_grammar.specs.declared.grammar.Grammar.{Grammar}
 use Rattle.ig_grammar.specs.declared.place.Shape.{Shape}
 
@@ -49,3 +55,35 @@ abbrev pub AnnotationsAreUnique : Type 0
 AnnotationsAreUnique =
     (g : Grammar) (shapes : List Shape) (text : List ℕ) → AreDistinct (names g.decls) → FitShapes g shapes →
     AreUnique g shapes text
+
+-- the values are those of the names that the symbols bind, in this order
+pub record AreOf (xs : List Symbol) (bound : List Value) : Type 0 where
+  pub added : Environment
+  pub named : environment.names added ≡ flat_map bound_names xs
+  pub valued : bound ≡ values added
+
+-- a node of the nonterminal has the values that the symbols of one of its alternatives bind, under the tag of this one
+pub record HasValues (g : Grammar) (shapes : List Shape) (name : List ℕ) (i e : ℕ) (t : Tree) : Type 0 where
+  pub d : ℕ
+  pub k : ℕ
+  pub decl : Decl
+  pub shape : Shape
+  pub a : Levelled
+  pub bound : List Value
+  pub children : Trees
+  pub declares : Declares g shapes name d decl shape
+  pub numbered : IsAlternative decl k a
+  pub node : t ≡ Node (tag_of shape d k) bound i e children
+  pub each : AreOf a.alternative.symbols bound
+
+-- each label and each let of an alternative, and of the parts of an option, a list or a group, has one value
+pub record AreComplete (g : Grammar) (shapes : List Shape) (text : List ℕ) : Type 0 where
+  pub bind : {c : DeclKind} {xs : List Symbol} {env after : Environment} {i j : ℕ} {ts : Trees} →
+      Bind g shapes text c xs env i j ts after → GrowsBy (flat_map bound_names xs) env after
+  pub apart : {c : DeclKind} {xs : List Symbol} {env : Environment} {i j : ℕ} {ts : Trees} {bound : List Value} →
+      BindApart g shapes text c xs env i j ts bound → AreOf xs bound
+  pub within : {name : List ℕ} {vs : List Value} {kind : DeclKind} {i e : ℕ} {t : Tree} →
+      Within g shapes text name vs kind i e t → HasValues g shapes name i e t
+
+abbrev pub AnnotationsAreComplete : Type 0
+AnnotationsAreComplete = (g : Grammar) (shapes : List Shape) (text : List ℕ) → AreComplete g shapes text

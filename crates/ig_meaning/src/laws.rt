@@ -1,4 +1,5 @@
-ghost use Rattle.ig_meaning.specs.AnnotatedLaws.{AnnotationsAreUnique, DerivationsAreAnnotated};
+ghost use Rattle.ig_meaning.specs.AnnotatedLaws.{AnnotationsAreComplete, AnnotationsAreUnique};
+ghost use Rattle.ig_meaning.specs.AnnotatedLaws.{DerivationsAreAnnotated};
 ghost use Rattle.ig_meaning.specs.Inversion.{DerivationsInvert};
 ghost use Rattle.ig_meaning.specs.Laws.{EnvironmentsGrow, LabelsBindOwnSpans};
 ghost use Rattle.ig_meaning.specs.Laws.{PermittedTreesAreWhole, SpansAreInOrder};
@@ -54,6 +55,13 @@ pub fn derivations_are_annotated()
 /// with values, computes nothing.
 pub fn annotations_are_unique()
     ensures { AnnotationsAreUnique }
+{}
+
+/// A node has one value for each label and each let of its alternative, in order, and so has the
+/// node of an option, a list or a group for those of its parts. This law, proved of all trees with
+/// values, computes nothing.
+pub fn annotations_are_complete()
+    ensures { AnnotationsAreComplete }
 {}
 
 /// Of the children of two trees the start of the last one decides first, then, by the same rule,
