@@ -1,11 +1,10 @@
 -- Each derivation has its trees with the values that its alternatives bind.
 use Rattle.std.proofs.Common.{◌≡◌, ℕ, List, [], ◌∷◌, ◌++◌, length, refl, sym, ◌∙◌, ap, subst}
-use Rattle.std.specs.Prelude.{◌≢◌}
 use Rattle.ig_text.specs.declared.tag.Tag.{Tag}
 use Rattle.ig_text.specs.declared.tag.Tag.TheVariants as tag
 use Rattle.ig_text.specs.Tree as plain
 use Rattle.ig_expr.specs.declared.value.Value.{Value}
-use Rattle.ig_grammar.specs.Symbol.{Symbol, Call, Label, Opt, Star, Plus, SepStar, SepPlus, Group, Seq, Entry}
+use Rattle.ig_grammar.specs.Symbol.{Symbol, SepPlus, Seq}
 use Rattle.ig_meaning.specs.Environment.{Environment}
 use Rattle.ig_grammar.specs.Numbering.{tag_of}
 use Rattle.ig_meaning.specs.Derivation.{Covers, Derives, Lists, Items, Instance, Trails}
@@ -13,6 +12,7 @@ use Rattle.ig_meaning.specs.Derivation as d
 use Rattle.ig_meaning.specs.Permitted.{Permitted}
 use Rattle.ig_meaning.specs.Annotated.{Trees, Tree, Leaf, Node, none, more, one, join, bare_tree, bare_trees, bound_between, HasParts, Bind, Binds, BindApart, Within, Behind, Annotates}
 use Rattle.ig_meaning.specs.Annotated as a
+use Rattle.ig_meaning.specs.AnnotatedLaws.{DerivationsAreAnnotated}
 use Rattle.ig_grammar.specs.declared.declaration.DeclKind.{DeclKind}
 use Rattle.ig_grammar.specs.declared.declaration.DeclKind.TheVariants.{Syntax, Lexical}
 use Rattle.ig_grammar.specs.declared.grammar.Grammar.{Grammar}
@@ -202,17 +202,43 @@ module _ (g : Grammar) (shapes : List Shape) (text : List ℕ) where
     behind (d.outside c e other) =
         record { trees = none; behind = a.no_layout c Lexical e (λ syntax lexical. absurd (other syntax)); same = refl }
 
-  pub permitted_annotated : (t : plain.Tree) → Permitted g shapes text t → (u : Tree) × Annotates g shapes text t u
-  permitted_annotated t p =
+  permitted_annotated : {t : plain.Tree} → Permitted g shapes text t → (u : Tree) × Annotates g shapes text t u
+  permitted_annotated p =
       let q = all_annotated p.covered in
-      let u : Tree = Node tag.Root (bound_between [] p.after) 0 (length text) q.trees in
-      (u, record {
-        kind = p.kind;
-        symbols = p.symbols;
-        children = q.trees;
-        after = p.after;
-        root = p.root;
-        binds = q.binds;
-        whole = refl;
-        same = ap (plain.Node tag.Root 0 (length text)) q.same ∙ sym p.whole;
-      })
+      let u : Tree = Node tag.Root (bound_between [] p.after) 0 (length text) q.trees in (
+        u,
+        record {
+          kind = p.kind;
+          symbols = p.symbols;
+          children = q.trees;
+          after = p.after;
+          root = p.root;
+          binds = q.binds;
+          whole = refl;
+          same = ap (plain.Node tag.Root 0 (length text)) q.same ∙ sym p.whole;
+        },
+      )
+
+  all_annotated_by : {c : DeclKind} {xs : List Symbol} {env after : Environment} {i j : ℕ} {ts : plain.Trees} {starts : List ℕ} →
+      Covers g shapes text c xs env i j ts after starts →
+      (us : Trees) × Bind g shapes text c xs env i j us after × (bare_trees us ≡ ts)
+  all_annotated_by d = let p = all_annotated d in (p.trees, p.binds, p.same)
+
+  annotated_by : {c : DeclKind} {x : Symbol} {env after : Environment} {i e j : ℕ} {ts : plain.Trees} {starts : List ℕ} →
+      Derives g shapes text c x env i e j ts after starts →
+      (us : Trees) × Binds g shapes text c x env i e j us after × (bare_trees us ≡ ts)
+  annotated_by d = let p = annotated d in (p.trees, p.binds, p.same)
+
+  within_by : {name : List ℕ} {vs : List Value} {kind : DeclKind} {i e : ℕ} {t : plain.Tree} {starts : List ℕ} →
+      Instance g shapes text name vs kind i e t starts →
+      (u : Tree) × Within g shapes text name vs kind i e u × (bare_tree u ≡ t)
+  within_by d = let p = within d in (p.tree, p.within, p.same)
+
+pub derivations_annotated : DerivationsAreAnnotated
+derivations_annotated g shapes text =
+    record {
+      covers = all_annotated_by g shapes text;
+      derives = annotated_by g shapes text;
+      instance = within_by g shapes text;
+      permitted = permitted_annotated g shapes text;
+    }

@@ -7,7 +7,6 @@ use Rattle.ig_expr.specs.Expression.{Expression}
 use Rattle.ig_expr.specs.Evaluation.{value_of}
 use Rattle.ig_expr.specs.declared.value.Value.{Value}
 use Rattle.ig_grammar.specs.Symbol.{Symbol}
-use Rattle.ig_grammar.specs.Symbol.{listed}
 use Rattle.ig_meaning.specs.Environment.{Environment, names, values, HaveValues, no_values, next_value, AreBound, no_parameters, next_parameter, replaced}
 use Rattle.ig_grammar.specs.Names as declared_names
 use Rattle.ig_grammar.specs.Numbering.{Levelled, Declares, IsAlternative, tag_of, layout_among}
@@ -85,7 +84,7 @@ abbrev AreOneBehind : ℕ → ℕ → Trees → Trees → plain.Trees → plain.
 AreOneBehind j k ts us rest others = (j ≡ k) × (ts ≡ us) × (rest ≡ others)
 
 -- the same ends, environment and trees, and the same behind them
-abbrev AreOne : ℕ → ℕ → ℕ → ℕ → Environment → Environment → Trees → Trees → plain.Trees → plain.Trees → Type 0
+abbrev pub AreOne : ℕ → ℕ → ℕ → ℕ → Environment → Environment → Trees → Trees → plain.Trees → plain.Trees → Type 0
 AreOne e f j k after later ts us rest others = (e ≡ f) × (j ≡ k) × (after ≡ later) × (ts ≡ us) × (rest ≡ others)
 
 module _ (g : Grammar) (shapes : List Shape) (text : List ℕ) (distinct : declared_names.AreDistinct (declared_names.names g.decls)) (tells : TagsTellAlternatives g shapes) where
@@ -95,7 +94,7 @@ module _ (g : Grammar) (shapes : List Shape) (text : List ℕ) (distinct : decla
       (k : ℕ) (us : Trees) (later : Environment) (rest others : plain.Trees) → Bind g shapes text c xs env i k us later →
       ahead ts rest ≡ ahead us others → (j ≡ k) × (after ≡ later) × (ts ≡ us) × (rest ≡ others)
 
-  abbrev BindsOnce : DeclKind → Symbol → Environment → ℕ → ℕ → ℕ → Trees → Environment → Type 0
+  abbrev pub BindsOnce : DeclKind → Symbol → Environment → ℕ → ℕ → ℕ → Trees → Environment → Type 0
   BindsOnce c x env i e j ts after =
       (f k : ℕ) (us : Trees) (later : Environment) (rest others : plain.Trees) → Binds g shapes text c x env i f k us later →
       ahead ts rest ≡ ahead us others → AreOne e f j k after later ts us rest others
@@ -105,7 +104,7 @@ module _ (g : Grammar) (shapes : List Shape) (text : List ℕ) (distinct : decla
       (k : ℕ) (us : Trees) (values : List Value) (rest others : plain.Trees) → BindApart g shapes text c xs env i k us values →
       ahead ts rest ≡ ahead us others → (j ≡ k) × (bound ≡ values) × (ts ≡ us) × (rest ≡ others)
 
-  abbrev WithinOnce : List ℕ → List Value → DeclKind → ℕ → ℕ → Tree → Type 0
+  abbrev pub WithinOnce : List ℕ → List Value → DeclKind → ℕ → ℕ → Tree → Type 0
   WithinOnce name vs kind i e t =
       (form : DeclKind) (f : ℕ) (u : Tree) → Within g shapes text name vs form i f u → bare_tree t ≡ bare_tree u →
       (kind ≡ form) × (e ≡ f) × (t ≡ u)
@@ -206,7 +205,7 @@ module _ (g : Grammar) (shapes : List Shape) (text : List ℕ) (distinct : decla
         let r = bind_once onward k b.4 later rest others q p.4 in
         (r.0, r.1, trees ∙ (λ z. join (p.3 z) (r.2 z)) ∙ sym b.7, r.3)
 
-    binds_once : {c : DeclKind} {x : Symbol} {env after : Environment} {i e j : ℕ} {ts : Trees} →
+    pub binds_once : {c : DeclKind} {x : Symbol} {env after : Environment} {i e j : ℕ} {ts : Trees} →
         Binds g shapes text c x env i e j ts after → BindsOnce c x env i e j ts after
     binds_once (a.literal c word env i e j us behind) f k ws later rest others second same =
         let b = binds_by g shapes text second in
@@ -255,7 +254,7 @@ module _ (g : Grammar) (shapes : List Shape) (text : List ℕ) (distinct : decla
         let r = apart_once onward k b.4 b.5 rest others q p.4 in
         (r.0, valued ∙ (λ z. bound_between env (p.2 z) ++ r.1 z) ∙ sym b.9, trees ∙ (λ z. join (p.3 z) (r.2 z)) ∙ sym b.8, r.3)
 
-    within_once : {name : List ℕ} {vs : List Value} {kind : DeclKind} {i e : ℕ} {t : Tree} →
+    pub within_once : {name : List ℕ} {vs : List Value} {kind : DeclKind} {i e : ℕ} {t : Tree} →
         Within g shapes text name vs kind i e t → WithinOnce name vs kind i e t
     within_once (a.alternative name vs kind d k decl shape by env after i e ts t declares numbered bound same binds tree) =
         alternative_within name vs kind d k decl shape by env after i e ts t declares numbered bound same tree (bind_once binds)

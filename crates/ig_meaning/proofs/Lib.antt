@@ -13,3 +13,4 @@ mod Equality
 mod Transitivity
 mod BindingInversion
 mod Determined
+mod Completeness

@@ -47,7 +47,7 @@ ToldBefore ts us rest others = AllClose (join ts rest) (join us others) → AllS
 abbrev IsTold : Trees → Trees → Type 0
 IsTold ts us = (rest others : Trees) → ToldBefore ts us rest others
 
-abbrev IsToldTree : Tree → Tree → Type 0
+abbrev pub IsToldTree : Tree → Tree → Type 0
 IsToldTree t u = AreClose t u → HaveSameTags t u
 
 told_as : (ts us vs ws : Trees) → vs ≡ ts → ws ≡ us → IsTold ts us → IsTold vs ws
@@ -157,7 +157,7 @@ module _ (g : Grammar) (shapes : List Shape) (text : List ℕ) (distinct : AreDi
   ItemsTold c x ts =
       (env after : Environment) (i e j : ℕ) (us : Trees) (starts items : List ℕ) → Items g shapes text c x env i e j us after starts items → IsTold ts us
 
-  abbrev InstanceTold : List ℕ → Tree → Type 0
+  abbrev pub InstanceTold : List ℕ → Tree → Type 0
   InstanceTold name t =
       (vs : List Value) (kind : DeclKind) (i e : ℕ) (u : Tree) (starts : List ℕ) → Instance g shapes text name vs kind i e u starts → IsToldTree t u
 
@@ -408,7 +408,7 @@ module _ (g : Grammar) (shapes : List Shape) (text : List ℕ) (distinct : AreDi
     items_told (with_filters c x filters env after i e j ts starts items inner passes) env' after' i' e' j' us starts' items' other =
         items_told inner env' after' i' e' j' us starts' items' (items_by g shapes text other).0
 
-    instance_told : {name : List ℕ} {vs : List Value} {kind : DeclKind} {i e : ℕ} {t : Tree} {starts : List ℕ} →
+    pub instance_told : {name : List ℕ} {vs : List Value} {kind : DeclKind} {i e : ℕ} {t : Tree} {starts : List ℕ} →
         Instance g shapes text name vs kind i e t starts → InstanceTold name t
     instance_told (alternative name vs kind d k decl shape a env after i e ts t starts declares numbered bound same covers tree) =
         alternative_told name vs kind d k decl shape a i e ts t declares numbered same tree (covers_told covers)

@@ -6,10 +6,15 @@ use Rattle.std.specs.Ordering.{ordering_then, ordering_reverse, nat_cmp}
 use Rattle.ig_text.specs.TagNumber.{number_of}
 use Rattle.ig_text.specs.Tree as plain
 use Rattle.ig_expr.specs.ValueOrder.{values_cmp}
-use Rattle.ig_meaning.specs.Annotated.{Tree, Trees, Leaf, Node, none, more, one, join, Annotates}
+use Rattle.ig_meaning.specs.Annotated.{Tree, Trees, Leaf, Node, none, more, one, join, bare_tree, bare_trees, Annotates}
 use Rattle.ig_grammar.specs.Names.{names, AreDistinct}
 use Rattle.ig_grammar.specs.Checked.{FitShapes}
+use Rattle.ig_expr.specs.declared.value.Value.{Value}
+use Rattle.ig_grammar.specs.Symbol.{Symbol}
+use Rattle.ig_meaning.specs.Environment.{Environment}
+use Rattle.ig_meaning.specs.Derivation.{Covers, Derives, Instance}
 use Rattle.ig_meaning.specs.Permitted.{Permitted}
+use Rattle.ig_grammar.specs.declared.declaration.DeclKind.{DeclKind}
 use Rattle.ig_grammar.specs.declared.grammar.Grammar.{Grammar}
 use Rattle.ig_grammar.specs.declared.place.Shape.{Shape}
 
@@ -67,18 +72,6 @@ LastChildStartsDecide =
     children_cmp (join ts (one t)) (join us (one u)) ≡
     ordering_then (nat_cmp (begin_of t) (begin_of u)) (ordering_then (children_cmp ts us) (tree_cmp t u))
 
--- each permitted tree has values
-abbrev pub PermittedTreesAreAnnotated : Type 0
-PermittedTreesAreAnnotated =
-    (g : Grammar) (shapes : List Shape) (text : List ℕ) (t : plain.Tree) → Permitted g shapes text t →
-    (u : Tree) × Annotates g shapes text t u
-
--- and these alone, whatever its derivation, where no name is declared twice and each declaration is of its shape
-abbrev pub AnnotationsAreUnique : Type 0
-AnnotationsAreUnique =
-    (g : Grammar) (shapes : List Shape) (text : List ℕ) (t : plain.Tree) (u v : Tree) →
-    AreDistinct (names g.decls) → FitShapes g shapes → Annotates g shapes text t u → Annotates g shapes text t v → u ≡ v
-
 -- a tree doesn't differ from itself, of two trees that differ one stands before the other, what stands before a tree
 -- stands before all behind that one, and trees that don't differ stand alike to each other tree
 pub record IsAnOrder : Type 0 where
@@ -87,9 +80,23 @@ pub record IsAnOrder : Type 0 where
   pub onward : (t u v : Tree) → tree_cmp t u ≡ Less → tree_cmp u v ≡ Less → tree_cmp t v ≡ Less
   pub alike : (t u v : Tree) → tree_cmp t u ≡ Equal → tree_cmp t v ≡ tree_cmp u v
 
--- permitted trees that don't differ with their values are equal, under the same conditions
+-- two trees of one symbol, over one span, that don't differ with values beside them are equal, and so are two of one
+-- list of symbols, of one nonterminal, and two permitted trees
+pub record AreToldApart (g : Grammar) (shapes : List Shape) (text : List ℕ) : Type 0 where
+  pub covers : {c : DeclKind} {xs : List Symbol} {env other after later : Environment} {i j : ℕ} {ks ls : List ℕ} (ts us : Trees) →
+      Covers g shapes text c xs env i j (bare_trees ts) after ks → Covers g shapes text c xs other i j (bare_trees us) later ls →
+      children_cmp ts us ≡ Equal → bare_trees ts ≡ bare_trees us
+  pub derives : {c : DeclKind} {x : Symbol} {env other after later : Environment} {i e f j : ℕ} {ks ls : List ℕ} (ts us : Trees) →
+      Derives g shapes text c x env i e j (bare_trees ts) after ks → Derives g shapes text c x other i f j (bare_trees us) later ls →
+      children_cmp ts us ≡ Equal → bare_trees ts ≡ bare_trees us
+  pub instance : {name : List ℕ} {vs ws : List Value} {kind form : DeclKind} {i e : ℕ} {ks ls : List ℕ} (t u : Tree) →
+      Instance g shapes text name vs kind i e (bare_tree t) ks → Instance g shapes text name ws form i e (bare_tree u) ls →
+      tree_cmp t u ≡ Equal → bare_tree t ≡ bare_tree u
+  pub permitted : (t u : Tree) → Permitted g shapes text (bare_tree t) → Permitted g shapes text (bare_tree u) →
+      tree_cmp t u ≡ Equal → bare_tree t ≡ bare_tree u
+
+-- where no name is declared twice and each declaration is of its shape
 abbrev pub UndifferingTreesAreEqual : Type 0
 UndifferingTreesAreEqual =
-    (g : Grammar) (shapes : List Shape) (text : List ℕ) (t u : plain.Tree) (one other : Tree) →
-    AreDistinct (names g.decls) → FitShapes g shapes → Permitted g shapes text t → Permitted g shapes text u →
-    Annotates g shapes text t one → Annotates g shapes text u other → tree_cmp one other ≡ Equal → t ≡ u
+    (g : Grammar) (shapes : List Shape) (text : List ℕ) → AreDistinct (names g.decls) → FitShapes g shapes →
+    AreToldApart g shapes text
