@@ -217,7 +217,7 @@ module _ {T : Type 0} where
     firsts i e e_at =
         elim (set_cases heads k i (Some (longer ends n)) e e_at) [
           | inl p ↦
-            sym (ap first_of p.1) ∙ first_longer ends at ∙ ap (first_owned 0 (c.owners ++ k ∷ [])) (sym p.0)
+              sym (ap first_of p.1) ∙ first_longer ends at ∙ ap (first_owned 0 (c.owners ++ k ∷ [])) (sym p.0)
           | inr p ↦ c.firsts i e p.1 ∙ sym (first_other 0 c.owners k i p.0)
         ]
 
@@ -225,10 +225,10 @@ module _ {T : Type 0} where
     lasts i e e_at =
         elim (set_cases heads k i (Some (longer ends n)) (Some e) e_at) [
           | inl p ↦
-            let ends_are : longer ends n ≡ e = same_Some (longer ends n) e p.1 in
-            let last : n ≡ e.last = sym (last_longer ends) ∙ ap (λ (z : Ends). z.last) ends_are in
-            subst₂ (λ (a b : ℕ). IsLastOwned (c.owners ++ k ∷ []) a b) (sym p.0) last
-            (last_new c.owners k n (omega (arith, n_is, linked_length 0 cells c.owners c.linked)))
+              let ends_are : longer ends n ≡ e = same_Some (longer ends n) e p.1 in
+              let last : n ≡ e.last = sym (last_longer ends) ∙ ap (λ (z : Ends). z.last) ends_are in
+              subst₂ (λ (a b : ℕ). IsLastOwned (c.owners ++ k ∷ []) a b) (sym p.0) last
+              (last_new c.owners k n (omega (arith, n_is, linked_length 0 cells c.owners c.linked)))
           | inr p ↦ last_other c.owners k i e.last p.0 (c.lasts i e p.1)
         ]
 
@@ -286,8 +286,8 @@ module _ {T : Type 0} where
             elim (push_cases heads None e i at) [
               | inl h ↦ c.firsts i e h
               | inr h ↦
-                sym (ap first_of h.1) ∙ sym (none_beyond 0 c.owners (length heads) c.owned) ∙
-                ap (first_owned 0 c.owners) (sym h.0)
+                  sym (ap first_of h.1) ∙ sym (none_beyond 0 c.owners (length heads) c.owned) ∙
+                  ap (first_owned 0 c.owners) (sym h.0)
             ];
         lasts =
             λ i e at.

@@ -99,8 +99,8 @@ first_behind a b (p ∷ owners) head h =
     elim (same_or_not p head) [
       | inl e ↦ subst (IsBehind a) (sym (some_side (p == head) _ _ (equal p head e))) h
       | inr e ↦
-        subst (IsBehind a) (sym (other_side (p == head) _ _ (differs p head e)))
-        (first_behind a (suc b) owners head (omega arith))
+          subst (IsBehind a) (sym (other_side (p == head) _ _ (differs p head e)))
+          (first_behind a (suc b) owners head (omega arith))
     ]
 
 module _ {T : Type 0} where
@@ -121,17 +121,17 @@ module _ {T : Type 0} where
   chain_owned b (c ∷ cells) (p ∷ owners) head linked =
       elim (same_or_not p head) [
         | inl e ↦
-          let test = equal p head e in
-          ap (chain b (c ∷ cells)) (some_side (p == head) _ _ test) ∙
-          then_side (b == b) _ _ (equal b b refl) ∙
-          ap (λ (xs : List T). c.value ∷ xs)
-          (ap (chain (suc b) cells) (linked.0 ∙ ap (first_owned (suc b) owners) e) ∙
-          chain_owned (suc b) cells owners head linked.1) ∙ sym (then_side (p == head) _ _ test)
+            let test = equal p head e in
+            ap (chain b (c ∷ cells)) (some_side (p == head) _ _ test) ∙
+            then_side (b == b) _ _ (equal b b refl) ∙
+            ap (λ (xs : List T). c.value ∷ xs)
+            (ap (chain (suc b) cells) (linked.0 ∙ ap (first_owned (suc b) owners) e) ∙
+            chain_owned (suc b) cells owners head linked.1) ∙ sym (then_side (p == head) _ _ test)
         | inr e ↦
-          let test = differs p head e in
-          ap (chain b (c ∷ cells)) (other_side (p == head) _ _ test) ∙
-          skips b c cells (first_owned (suc b) owners head) (first_behind b (suc b) owners head (omega arith)) ∙
-          chain_owned (suc b) cells owners head linked.1 ∙ sym (else_side (p == head) _ _ test)
+            let test = differs p head e in
+            ap (chain b (c ∷ cells)) (other_side (p == head) _ _ test) ∙
+            skips b c cells (first_owned (suc b) owners head) (first_behind b (suc b) owners head (omega arith)) ∙
+            chain_owned (suc b) cells owners head linked.1 ∙ sym (else_side (p == head) _ _ test)
       ]
 
   pub linked_length : (b : ℕ) (cells : List (Cell T)) (owners : List ℕ) → AreLinked b cells owners → length cells ≡ length owners

@@ -1,7 +1,11 @@
 -- Chains of cells: what a head's chain holds, and what keeps chains apart.
-use Rattle.std.specs.Prelude.{◌≡◌, ℕ, zero, suc, ◌<◌, ◌==◌, Bool, true, false, if◌then◌else◌, List, [], ◌∷◌, ◌++◌, map, length, Option, Some, None, slice_get}
+use Rattle.std.specs.Prelude.{◌≡◌, ℕ, zero, suc, ◌<◌, ◌==◌, Bool, true, false, if◌then◌else◌, List, [], ◌∷◌, ◌++◌, map, length, Option, Some, None, slice_get, slice_set, slice_index_or}
 use Rattle.ig_arena.specs.declared.chains.Cell.{Cell}
 use Rattle.ig_arena.specs.declared.chains.Ends.{Ends}
+
+-- the lists, where the one of that number has the value at its end, too
+abbrev pub longer_at : {T : Type 0} → List (List T) → ℕ → T → List (List T)
+longer_at lists k value = slice_set lists k (slice_index_or lists k [] ++ value ∷ [])
 
 -- the number is the one that is sought
 abbrev pub is_at : ℕ → Option ℕ → Bool

@@ -1,9 +1,9 @@
 //! Lists of values that grow side by side.
-ghost use Rattle.std.specs.Prelude.{◌≡◌, ◌<◌, [], ◌∷◌, ◌++◌, length, slice_get, slice_set, slice_index_or, option_and_then, None, IfOk, OnOk, OnErr, IfErr};
-
+ghost use Rattle.std.specs.Prelude.{◌≡◌, ◌<◌, [], ◌∷◌, ◌++◌, length, slice_get, slice_index_or};
+ghost use Rattle.std.specs.Prelude.{option_and_then, None, IfOk, OnOk, OnErr, IfErr};
 ghost use Rattle.std.specs.Option.{option_copied};
-ghost use Rattle.std.specs.Iterator.{YieldsFirst, item_count};
-ghost use Rattle.ig_arena.specs.Cells.{first_of, relinked, longer, LastIsThere};
+ghost use Rattle.std.specs.Iterator.{item_count};
+ghost use Rattle.ig_arena.specs.Cells.{first_of, longer_at, relinked, longer, LastIsThere};
 
 use crate::id::Id;
 use std::alloc::{AllocError, Global};
@@ -75,7 +75,7 @@ impl<K, T> Chains<K, T> {
     /// are as before.
     pub fn add(&mut self, head: Id<K>, value: T) -> Result<(), (T, AllocError)>
         requires { head < length self.old }
-        ensures ok { OnOk result (self.new ≡ slice_set self.old head (slice_index_or self.old head [] ++ value ∷ [])) }
+        ensures ok { OnOk result (self.new ≡ longer_at self.old head value) }
         ensures err { OnErr result (self.new ≡ self.old) }
         ensures value_returned { IfErr result (λ e. e.0 ≡ value) }
     {

@@ -8,6 +8,8 @@
 mod arena;
 mod chains;
 mod id;
+#[cfg(test)]
+mod tests;
 
 pub use arena::Arena;
 pub use chains::{Chains, Walk};
