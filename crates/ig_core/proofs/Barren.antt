@@ -1,5 +1,5 @@
 -- A grammar of one declaration without alternatives is well scoped, and has only forms that remain.
-use Rattle.std.proofs.Common.{◌≡◌, ◌∙◌, ℕ, zero, suc, ◌<◌, List, [], ◌∷◌, All, Bool, true, Option, Some, None, Contains, slice_get, if◌then◌else◌, refl, sym, ap, subst, arith}
+use Rattle.std.proofs.Common.{◌≡◌, ◌∙◌, ℕ, zero, suc, ◌<◌, List, [], ◌∷◌, Bool, true, Some, None, Contains, slice_get, if◌then◌else◌, refl, sym, ap, subst, arith}
 use Rattle.std.proofs.lemmas.Option.{same_Some}
 use Rattle.std.specs.Cmp.Lexicographic.{bytes_decides}
 use Rattle.ig_expr.specs.Names.{is_word}
@@ -9,12 +9,9 @@ use Rattle.ig_grammar.specs.Condition.{Condition, StartMeets, HeadMeets, declara
 use Rattle.ig_grammar.specs.Laws.{HasNoOperators}
 use Rattle.ig_grammar.specs.WellScoped.{GrammarHas, IsWellScoped}
 use Rattle.ig_grammar.specs.declared.declaration.Decl.{Decl}
-use Rattle.ig_grammar.specs.declared.symbol.Alt.{Alt}
 use Rattle.ig_core.specs.Examples.{barren, barren_grammar}
 use Rattle.ig_core.specs.Laws.{IsRemaining}
-use Rattle.ig_core.specs.Remaining.{Remains}
 use Rattle.ig_core.proofs.Lookups.{at_contained, declaration_first}
-use Rattle.ig_core.proofs.Scoped.{Any}
 
 in_empty : {X : Type 0} (x : X) → Contains [] x → ⊥
 in_empty x c = absurd (omega (arith, c.1))

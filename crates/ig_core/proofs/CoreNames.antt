@@ -1,5 +1,5 @@
 -- The names of the nonterminals of a core grammar differ.
-use Rattle.std.proofs.Common.{◌≡◌, ◌⊎◌, ℕ, zero, suc, List, [], ◌∷◌, map, Bool, true, false, if◌then◌else◌, Some, None, Contains, slice_get, refl, sym, ap, ◌∙◌, subst, arith, inl, inr}
+use Rattle.std.proofs.Common.{◌≡◌, ◌⊎◌, ℕ, zero, suc, List, [], ◌∷◌, map, Bool, true, false, if◌then◌else◌, Some, None, slice_get, refl, sym, ap, ◌∙◌, subst, arith, inl, inr}
 use Rattle.std.specs.Prelude.{◌≢◌}
 use Rattle.std.proofs.lemmas.Option.{same_Some}
 use Rattle.ig_grammar.specs.Names.{names, AreDistinct}
@@ -11,7 +11,7 @@ use Rattle.ig_item.specs.WellKinded.{NoneTwice}
 use Rattle.ig_item.specs.declared.core_grammar.Nonterminal.{Nonterminal}
 use Rattle.ig_core.specs.CoreOf.{Shaped, shaped, is_root, unrooted, root_among, root_of, written_root, or_else, numbered, number_of, nonterminals_of}
 use Rattle.ig_core.specs.Names.{root_name, HasNoAddedName}
-use Rattle.ig_core.specs.Laws.{IsReady, CoreNamesDiffer}
+use Rattle.ig_core.specs.Laws.{CoreNamesDiffer}
 use Rattle.ig_core.proofs.Lookups.{contains_at}
 use Rattle.ig_core.proofs.Places.{origin, root_cases, RootAt, NoRoot}
 use Rattle.ig_core.proofs.Scoped.{declared_at, distinct_names}

@@ -25,7 +25,8 @@ pub fn cores_are_well_kinded()
     names_differ();
 }
 
-/// Where no literal of the grammar is empty, none of its core grammar is. This law computes nothing.
+/// Where no literal of the grammar is empty, none of its core grammar is. This law computes
+/// nothing.
 pub fn cores_are_regular()
     ensures { CoresAreRegular }
 {}
@@ -46,8 +47,8 @@ pub fn names_are_not_added()
     ensures { NamesAreNotAdded }
 {}
 
-/// Where no declaration has the name `$root` already, the names of the nonterminals differ. This law
-/// computes nothing.
+/// Where no declaration has the name `$root` already, the names of the nonterminals differ. This
+/// law computes nothing.
 pub fn core_names_differ()
     ensures { CoreNamesDiffer }
 {}
