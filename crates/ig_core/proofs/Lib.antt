@@ -17,3 +17,5 @@ pub mod NameTexts
 pub mod BuiltForms
 pub mod RootNames
 pub mod RegularCores
+pub mod CoreNames
+pub mod Barren

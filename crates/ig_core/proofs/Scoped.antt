@@ -77,7 +77,7 @@ remains_by May (OneOf w) ok more = ok
 remains_by May (Call n es) ok more = more ok
 remains_by May x ok more = absurd ok
 
-declared_at : (ds : List Decl) (j : ℕ) (name : List ℕ) → slice_get (names ds) j ≡ Some name →
+pub declared_at : (ds : List Decl) (j : ℕ) (name : List ℕ) → slice_get (names ds) j ≡ Some name →
     (d : Decl) × (slice_get ds j ≡ Some d) × (d.name ≡ name)
 declared_at [] j name e = cc
 declared_at (d ∷ ds) zero name e = (d, refl, cc)

@@ -1,5 +1,5 @@
 -- The core grammar of a grammar has the trees that the grammar permits.
-use Rattle.std.specs.Prelude.{◌≡◌, ◌↔◌, ℕ, ◌<◌, ◌≤◌, List, All, Contains, Some, None, length, slice_get, option_map, true}
+use Rattle.std.specs.Prelude.{◌≡◌, ◌↔◌, ℕ, ◌<◌, ◌≤◌, List, All, Contains, Some, None, length, slice_get, option_map, map, true}
 use Rattle.ig_text.specs.Tree.{Tree}
 use Rattle.ig_grammar.specs.Name.{is_name}
 use Rattle.ig_grammar.specs.Numbering.{alternatives, layout_among}
@@ -17,12 +17,12 @@ use Rattle.ig_item.specs.CoreTrees.{CoreTree}
 use Rattle.ig_item.specs.Core.{dots}
 use Rattle.ig_item.specs.Limits.{most_dots}
 use Rattle.ig_item.specs.Regular.{IsRegular}
-use Rattle.ig_item.specs.WellKinded.{IsWellKinded}
+use Rattle.ig_item.specs.WellKinded.{IsWellKinded, NoneTwice}
 use Rattle.ig_core.specs.Limits.{most_declarations}
 use Rattle.ig_core.specs.Built.{IsBuiltGrammar}
 use Rattle.ig_core.specs.Names.{root_name, HasNoAddedName}
 use Rattle.ig_core.specs.Remaining.{Remains}
-use Rattle.ig_core.specs.CoreOf.{core_of}
+use Rattle.ig_core.specs.CoreOf.{core_of, root_among}
 
 -- only forms that remain behind all passes, no levels and no layout
 pub record IsRemaining (g : Grammar) : Type 0 where
@@ -70,3 +70,9 @@ RootIsNamed =
 abbrev pub NamesAreNotAdded : Type 0
 NamesAreNotAdded =
     (g : Grammar) → ((decl : Decl) → Contains g.decls decl → is_name decl.name ≡ true) → HasNoAddedName g
+
+-- where no added name occurs already, the names of the nonterminals differ
+abbrev pub CoreNamesDiffer : Type 0
+CoreNamesDiffer =
+    (g : Grammar) (shapes : List Shape) → IsReady g shapes → (root_among g.decls shapes ≡ None → HasNoAddedName g) →
+    NoneTwice (map (λ nonterminal. nonterminal.name) (core_of g shapes))

@@ -7,3 +7,4 @@ pub mod Names
 pub mod Tables
 pub mod Dots
 pub mod Laws
+pub mod Examples

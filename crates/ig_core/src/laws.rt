@@ -3,6 +3,7 @@
 //! speaks of.
 ghost use Rattle.ig_core.specs.Laws.{CoreTreesArePermitted, CoresAreWellKinded, CoresAreRegular};
 ghost use Rattle.ig_core.specs.Laws.{BuiltGrammarsRemain, RootIsNamed, NamesAreNotAdded};
+ghost use Rattle.ig_core.specs.Laws.{CoreNamesDiffer};
 
 use ig_meaning::trees_without_operators_are_clean;
 use ig_item::{names_differ, steps_fit};
@@ -24,7 +25,8 @@ pub fn cores_are_well_kinded()
     names_differ();
 }
 
-/// Where no literal of the grammar is empty, none of its core grammar is. This law computes nothing.
+/// Where no literal of the grammar is empty, none of its core grammar is. This law computes
+/// nothing.
 pub fn cores_are_regular()
     ensures { CoresAreRegular }
 {}
@@ -43,4 +45,10 @@ pub fn root_is_named()
 /// computes nothing.
 pub fn names_are_not_added()
     ensures { NamesAreNotAdded }
+{}
+
+/// Where no declaration has the name `$root` already, the names of the nonterminals differ. This
+/// law computes nothing.
+pub fn core_names_differ()
+    ensures { CoreNamesDiffer }
 {}

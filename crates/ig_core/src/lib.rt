@@ -19,11 +19,13 @@ mod naming;
 mod nonterminals;
 mod roots;
 mod steps;
+#[cfg(test)]
+mod tests;
 
 pub use builder::build;
 pub use built::unbuilt;
 pub use fault::CoreFault;
 pub use laws::{
-    built_grammars_remain, core_trees_are_permitted_trees, cores_are_regular,
+    built_grammars_remain, core_names_differ, core_trees_are_permitted_trees, cores_are_regular,
     cores_are_well_kinded, names_are_not_added, root_is_named,
 };
