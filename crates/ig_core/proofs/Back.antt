@@ -12,9 +12,9 @@ use Rattle.ig_expr.specs.Evaluation.{value_of}
 use Rattle.ig_expr.specs.declared.value.Value.{Value}
 use Rattle.ig_expr.specs.declared.value.Value.TheVariants as value
 use Rattle.ig_grammar.specs.Symbol.{Symbol, Literal, OneOf, Call, Label, Guard, Let, Filtered}
-use Rattle.ig_grammar.specs.Environment.{Environment, names, values, HaveValues, AreBound, no_parameters, next_parameter}
-use Rattle.ig_grammar.specs.Derivation.{exposed, Covers, Derives, Instance, Trails}
-use Rattle.ig_grammar.specs.Derivation.{empty, symbol, literal, one_of, token, call, label, guard, let_be, filtered, alternative, no_layout, outside}
+use Rattle.ig_meaning.specs.Environment.{Environment, names, values, HaveValues, AreBound, no_parameters, next_parameter}
+use Rattle.ig_meaning.specs.Derivation.{exposed, Covers, Derives, Instance, Trails}
+use Rattle.ig_meaning.specs.Derivation.{empty, symbol, literal, one_of, token, call, label, guard, let_be, filtered, alternative, no_layout, outside}
 use Rattle.ig_grammar.specs.declared.declaration.Param.{Param}
 use Rattle.ig_grammar.specs.declared.declaration.DeclKind.{DeclKind}
 use Rattle.ig_grammar.specs.declared.declaration.DeclKind.TheVariants.{Syntax, Lexical, Layout, Plain}

@@ -6,7 +6,7 @@ use Rattle.std.proofs.lemmas.List.Elements.{All-nil, All-cons, All-head, All-tai
 use Rattle.ig_grammar.specs.View.{symbol_of}
 use Rattle.ig_grammar.specs.Symbol.{Symbol, Literal, Call, Label, Guard, Let}
 use Rattle.ig_grammar.specs.Numbering.{alternatives, layout_among, name_of_layout}
-use Rattle.ig_grammar.specs.Laws.{HasNoOperators}
+use Rattle.ig_meaning.specs.Laws.{HasNoOperators}
 use Rattle.ig_grammar.specs.declared.symbol.Symbol as program
 use Rattle.ig_grammar.specs.declared.symbol.Alt.{Alt}
 use Rattle.ig_grammar.specs.declared.declaration.DeclKind.{DeclKind}

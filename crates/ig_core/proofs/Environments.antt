@@ -7,9 +7,9 @@ use Rattle.ig_expr.specs.Evaluation.{value_of}
 use Rattle.ig_expr.specs.declared.value.Value.{Value}
 use Rattle.std.specs.Prelude.{All}
 use Rattle.std.proofs.lemmas.List.Elements.{All-nil, All-cons, All-head, All-tail}
-use Rattle.ig_grammar.specs.Environment.{Environment, names, values, HaveValues, no_values, next_value, AreBound, no_parameters, next_parameter}
-use Rattle.ig_grammar.specs.Derivation.{span_value}
-use Rattle.ig_grammar.specs.Filtering.{Passes, PassesAll}
+use Rattle.ig_meaning.specs.Environment.{Environment, names, values, HaveValues, no_values, next_value, AreBound, no_parameters, next_parameter}
+use Rattle.ig_meaning.specs.Derivation.{span_value}
+use Rattle.ig_meaning.specs.Filtering.{Passes, PassesAll}
 use Rattle.ig_grammar.specs.declared.filter.Filter.{Filter}
 use Rattle.ig_grammar.specs.declared.filter.Filter.TheVariants.{NotFollowed, NotPreceded, Not}
 use Rattle.ig_grammar.specs.declared.declaration.Param.{Param}

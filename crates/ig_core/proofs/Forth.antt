@@ -9,9 +9,9 @@ use Rattle.ig_text.specs.Pattern.{Matches}
 use Rattle.ig_text.specs.declared.pattern.Pattern.TheVariants as pattern
 use Rattle.ig_expr.specs.declared.value.Value.{Value}
 use Rattle.ig_grammar.specs.Symbol.{Symbol}
-use Rattle.ig_grammar.specs.Environment.{Environment, names, values, HaveValues}
-use Rattle.ig_grammar.specs.Derivation.{Covers, Derives, Instance, Trails}
-use Rattle.ig_grammar.specs.Derivation.{empty, symbol, literal, one_of, token, call, label, guard, let_be, filtered, alternative, layout, no_layout, outside}
+use Rattle.ig_meaning.specs.Environment.{Environment, names, values, HaveValues}
+use Rattle.ig_meaning.specs.Derivation.{Covers, Derives, Instance, Trails}
+use Rattle.ig_meaning.specs.Derivation.{empty, symbol, literal, one_of, token, call, label, guard, let_be, filtered, alternative, layout, no_layout, outside}
 use Rattle.ig_grammar.specs.declared.declaration.DeclKind.{DeclKind}
 use Rattle.ig_grammar.specs.declared.grammar.Grammar.{Grammar}
 use Rattle.ig_grammar.specs.declared.place.Shape.{Shape}

@@ -6,12 +6,12 @@ use Rattle.std.proofs.lemmas.List.Elements.{All-nil, All-cons}
 use Rattle.ig_text.specs.declared.tag.Tag.TheVariants as tag
 use Rattle.ig_text.specs.Tree.{Tree, Trees, Node}
 use Rattle.ig_grammar.specs.Symbol.{Symbol, Call}
-use Rattle.ig_grammar.specs.Environment.{Environment}
+use Rattle.ig_meaning.specs.Environment.{Environment}
 use Rattle.ig_grammar.specs.Names.{names}
 use Rattle.ig_grammar.specs.Numbering.{Levelled, Declares, IsAlternative, alternatives, tag_of, layout_among}
-use Rattle.ig_grammar.specs.Derivation.{Covers}
-use Rattle.ig_grammar.specs.Permitted.{Permitted, IsRootAlternative, written, declared, behind_layout}
-use Rattle.ig_grammar.specs.Laws.{TreesWithoutOperatorsAreClean}
+use Rattle.ig_meaning.specs.Derivation.{Covers}
+use Rattle.ig_meaning.specs.Permitted.{Permitted, IsRootAlternative, written, declared, behind_layout}
+use Rattle.ig_meaning.specs.Laws.{TreesWithoutOperatorsAreClean}
 use Rattle.ig_grammar.specs.declared.declaration.DeclKind.{DeclKind}
 use Rattle.ig_grammar.specs.declared.declaration.DeclKind.TheVariants.{Syntax}
 use Rattle.ig_grammar.specs.declared.declaration.Decl.{Decl}

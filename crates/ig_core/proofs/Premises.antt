@@ -2,7 +2,7 @@
 use Rattle.std.specs.Prelude.{◌≡◌, ◌≢◌, ℕ, ◌<◌, List, [], All, Contains, Some, None, length, slice_get}
 use Rattle.ig_grammar.specs.Names.{names, AreDistinct}
 use Rattle.ig_grammar.specs.Numbering.{alternatives, layout_among}
-use Rattle.ig_grammar.specs.Laws.{HasNoOperators}
+use Rattle.ig_meaning.specs.Laws.{HasNoOperators}
 use Rattle.ig_grammar.specs.declared.grammar.Grammar.{Grammar}
 use Rattle.ig_grammar.specs.declared.declaration.Decl.{Decl}
 use Rattle.ig_grammar.specs.declared.symbol.Alt.{Alt}

@@ -7,7 +7,7 @@ use Rattle.std.specs.BTreeMap.{BTreeMap}
 use denote.Ref.{Bor}
 use Rattle.ig_grammar.specs.Symbol.{Call}
 use Rattle.ig_grammar.specs.Numbering.{alternatives, layout_among}
-use Rattle.ig_grammar.specs.Permitted.{behind_layout}
+use Rattle.ig_meaning.specs.Permitted.{behind_layout}
 use Rattle.ig_grammar.specs.Checked.{FitShapes}
 use Rattle.ig_grammar.specs.declared.symbol.Alt.{Alt}
 use Rattle.ig_grammar.specs.declared.declaration.Decl.{Decl}

@@ -1,9 +1,9 @@
 -- Core(G): the core grammar of a grammar with the shapes of its declarations.
 use Rattle.std.specs.Prelude.{ℕ, suc, List, [], ◌∷◌, Option, Some, None, map, if◌then◌else◌, Bool, true, false}
-use Rattle.ig_expr.specs.Names.{is_word}
+use Rattle.ig_text.specs.Words.{is_word}
 use Rattle.ig_grammar.specs.Symbol.{Symbol, Call}
 use Rattle.ig_grammar.specs.Numbering.{alternatives, tag_of, layout_among}
-use Rattle.ig_grammar.specs.Permitted.{behind_layout}
+use Rattle.ig_meaning.specs.Permitted.{behind_layout}
 use Rattle.ig_grammar.specs.declared.grammar.Grammar.{Grammar}
 use Rattle.ig_grammar.specs.declared.declaration.Assoc.TheVariants.{Free}
 use Rattle.ig_grammar.specs.declared.declaration.Decl.{Decl}

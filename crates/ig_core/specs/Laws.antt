@@ -4,8 +4,8 @@ use Rattle.ig_text.specs.Tree.{Tree}
 use Rattle.ig_grammar.specs.Name.{is_name}
 use Rattle.ig_grammar.specs.Numbering.{alternatives, layout_among}
 use Rattle.ig_grammar.specs.Regular as source
-use Rattle.ig_grammar.specs.Permitted.{Permitted}
-use Rattle.ig_grammar.specs.Laws.{HasNoOperators}
+use Rattle.ig_meaning.specs.Permitted.{Permitted}
+use Rattle.ig_meaning.specs.Laws.{HasNoOperators}
 use Rattle.ig_grammar.specs.WellScoped.{IsWellScoped}
 use Rattle.ig_grammar.specs.Checked.{FitShapes}
 use Rattle.ig_grammar.specs.declared.grammar.Grammar.{Grammar}

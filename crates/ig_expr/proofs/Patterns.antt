@@ -11,7 +11,7 @@ use Rattle.ig_text.specs.Pattern.{Matches}
 use Rattle.ig_text.specs.declared.class.Class.{Class}
 use Rattle.ig_text.specs.declared.pattern.Pattern.{Pattern}
 use Rattle.ig_text.specs.declared.pattern.Pattern.TheVariants.{Literal, OneOf}
-use Rattle.ig_expr.specs.Names.{is_word}
+use Rattle.ig_text.specs.Words.{is_word}
 use Rattle.ig_expr.specs.Matching.{width, is_some_of, matches_at, matches_before}
 
 -- a match begins at p
@@ -65,7 +65,7 @@ matches_at_is text pattern p (Some j) b e h =
     same_from_decides b (matches_at text pattern p) (λ t. (j, h), λ m. e) (begins text pattern p)
 
 -- a match is as long as the pattern says
-match_width : (text : List ℕ) (pattern : Pattern) (i j : ℕ) → Matches text pattern i j → j ≡ i + width pattern
+pub match_width : (text : List ℕ) (pattern : Pattern) (i j : ℕ) → Matches text pattern i j → j ≡ i + width pattern
 match_width text (Literal word) i j m = spell_width text word i j m
 match_width text (OneOf class) i j m = m.next
 

@@ -6,7 +6,7 @@ use Rattle.std.specs.Cmp.Lexicographic.{bytes_decides}
 use Rattle.std.proofs.lemmas.Bool.Decides.{Decides-like, nat_tests}
 use Rattle.ig_text.specs.Place.{IsInside, AreSame, Spells}
 use Rattle.ig_text.specs.declared.text.Span.{Span}
-use Rattle.ig_expr.specs.Names.{is_word}
+use Rattle.ig_text.specs.Words.{is_word}
 use Rattle.ig_expr.specs.Reading.{letters_of, are_equal}
 
 -- the option has the characters of the span, where it is in the text

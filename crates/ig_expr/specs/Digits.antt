@@ -1,6 +1,6 @@
 -- A number is read digit by digit, as long as it fits 64 bits.
 use Rattle.std.specs.Prelude.{ℕ, ◌+◌, ◌-◌, ◌*◌, ◌^◌, nat_lt, if◌then◌else◌, Option, Some, None}
-use Rattle.ig_expr.specs.Reading.{is_digit}
+use Rattle.ig_text.specs.Words.{is_digit}
 
 -- the value of a digit
 abbrev pub digit_of : ℕ → Option ℕ

@@ -10,3 +10,5 @@ pub mod Matching
 pub mod Blocks
 pub mod Evaluation
 pub mod Laws
+pub mod ValueOrder
+pub mod Examples

@@ -4,7 +4,7 @@ use Rattle.ig_text.specs.Class.{is_in_class}
 use Rattle.ig_text.specs.declared.class.Class.{Class}
 use Rattle.ig_text.specs.declared.pattern.Pattern.{Pattern}
 use Rattle.ig_text.specs.declared.pattern.Pattern.TheVariants.{Literal, OneOf}
-use Rattle.ig_expr.specs.Names.{is_word}
+use Rattle.ig_text.specs.Words.{is_word}
 
 -- how many characters a match has
 abbrev pub width : Pattern → ℕ

@@ -3,7 +3,7 @@ use Rattle.std.specs.Prelude.{ℕ, ◌+◌, ◌-◌, ◌*◌, nat_le, Bool, fals
 use Rattle.std.specs.List.{list_all}
 use Rattle.ig_text.specs.Lines.{line_at, column_at}
 use Rattle.ig_text.specs.declared.text.Span.{Span}
-use Rattle.ig_expr.specs.Names.{is_word}
+use Rattle.ig_text.specs.Words.{is_word, is_digit}
 use Rattle.ig_expr.specs.Operations.{whole, integer, truth}
 use Rattle.ig_expr.specs.declared.value.Value.{Value}
 use Rattle.ig_expr.specs.declared.value.Value.TheVariants as value
@@ -19,9 +19,6 @@ letters_of text span =
 abbrev pub are_equal : Option (List ℕ) → Option (List ℕ) → Bool
 are_equal (Some a) (Some b) = is_word a b
 are_equal _ _ = false
-
-abbrev pub is_digit : ℕ → Bool
-is_digit c = nat_le 48 c && nat_le c 57
 
 -- the number that digits spell behind the digits of n
 abbrev pub spelled : ℕ → List ℕ → ℕ

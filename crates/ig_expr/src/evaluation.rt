@@ -1,6 +1,8 @@
 //! The values of expressions.
 ghost use Rattle.std.specs.Prelude.{◌≡◌};
 ghost use Rattle.ig_expr.specs.Evaluation.{value_of};
+ghost use Rattle.ig_expr.specs.Examples.{WorkedValues};
+ghost use Rattle.ig_expr.specs.Laws.{DigitsGrow, MatchesAreDecided, MatchesHaveTheirWidth};
 ghost use Rattle.ig_expr.specs.Laws.{TestsLookFor, ValuesHaveKinds};
 ghost use Rattle.ig_expr.specs.View.{expression_of};
 
@@ -71,6 +73,30 @@ pub fn evaluate(e: &Expr, names: &[Word], values: &[Value], here: u32, text: &Te
 /// is no match: this law, proved for all texts, computes nothing.
 pub fn tests_look_for_matches()
     ensures { TestsLookFor }
+{}
+
+/// The tests of a pattern decide whether a match begins, or ends, at a position. This law, proved
+/// for all texts, computes nothing.
+pub fn matches_are_decided()
+    ensures { MatchesAreDecided }
+{}
+
+/// A match of a pattern is as long as the pattern says. This law, proved for all texts, computes
+/// nothing.
+pub fn matches_have_their_width()
+    ensures { MatchesHaveTheirWidth }
+{}
+
+/// Digits behind those of a number make no lesser number. This law, proved for all digits, computes
+/// nothing.
+pub fn digits_grow()
+    ensures { DigitsGrow }
+{}
+
+/// The worked values of expressions at the edges of numbers, texts and blocks. This law computes
+/// nothing.
+pub fn values_are_worked()
+    ensures { WorkedValues }
 {}
 
 /// Where the variables have values of their kinds, an expression has no value of another kind than

@@ -1,5 +1,6 @@
 ghost use Rattle.std.specs.Prelude.{◌≡◌, Some};
-ghost use Rattle.ig_expr.specs.Kinds.{of_one, of_two, of_equals, kind_of_operation, argument_of, kind_in};
+ghost use Rattle.ig_expr.specs.Kinds.{of_one, of_two, of_equals, kind_of_operation, argument_of};
+ghost use Rattle.ig_expr.specs.Kinds.{kind_in};
 ghost use Rattle.ig_expr.specs.View.{expression_of};
 
 use crate::expression::Expr;

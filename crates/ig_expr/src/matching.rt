@@ -27,7 +27,7 @@ fn width(pattern: &Pattern) -> usize
     ensures { result ≡ width pattern.now }
 {
     match pattern {
-        Pattern::Literal(word) => word.as_str().chars().count(),
+        Pattern::Literal(word) => word.len(),
         Pattern::OneOf(_) => 1,
     }
 }

@@ -1,6 +1,6 @@
 //! Environments: a list of names, and beside it a list with a member for each name.
 ghost use Rattle.std.specs.Prelude.{◌≡◌};
-ghost use Rattle.ig_expr.specs.Names.{is_word, place_of};
+ghost use Rattle.ig_expr.specs.Names.{place_of};
 
 use ig_text::Word;
 
@@ -9,12 +9,5 @@ use ig_text::Word;
 pub(crate) fn place_of(names: &[Word], name: &Word) -> Option<usize>
     ensures { result ≡ place_of names.now name.now }
 {
-    names.iter().position(|n| is_word(n, name))
-}
-
-/// Whether two words are equal. Takes no memory.
-fn is_word(a: &Word, b: &Word) -> bool
-    ensures { result ≡ is_word a.now b.now }
-{
-    a.as_str() == b.as_str()
+    names.iter().position(|n| *n == *name)
 }

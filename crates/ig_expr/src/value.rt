@@ -1,13 +1,15 @@
 ghost use Rattle.std.specs.Prelude.{◌≡◌, ◌↔◌, [], ◌∷◌, ◌++◌, IsTrue, OnOk, OnErr, IfErr};
+ghost use Rattle.ig_expr.specs.ValueOrder.{value_cmp, values_cmp};
 
 use ig_text::{Copied, Span};
 use smallvec::SmallVec;
 use std::alloc::{AllocError, Global};
+use std::cmp::Ordering;
 use std::hash::{Hash, Hasher};
 use std::marker::Model;
 
-/// What an expression gives. Values of one kind are ordered: integers by size, false before true,
-/// spans by their begin and then by their end.
+/// What an expression gives. Values are ordered as `value_cmp` of `specs/ValueOrder.antt` defines:
+/// integers by size, false before true, spans by their begin and then by their end.
 #[derive(Clone, Copy, PartialEq, Eq, PartialOrd, Ord, Hash, Debug)]
 pub enum Value {
     /// An integer.
@@ -117,3 +119,44 @@ impl Hash for Values {
         self.as_slice().hash(state);
     }
 }
+
+impl PartialOrd for Values {
+    ghost use Rattle.std.specs.Cmp.Lexicographic.{slice_partial_cmp, lists_po};
+    ghost use Rattle.ig_expr.specs.contracts.value.ValuePartialOrd.TheImpl.Laws as values;
+
+    ghost partial_cmp = { slice_partial_cmp ⟦<Value as PartialOrd>⟧.partial_cmp };
+
+    ghost laws = { lists_po values.laws-law };
+
+    fn partial_cmp(&self, other: &Values) -> Option<Ordering> {
+        self.as_slice().partial_cmp(other.as_slice())
+    }
+}
+
+/// Lists are ordered by their first difference, and a list stands before those that it begins.
+impl Ord for Values {
+    ghost use Rattle.std.specs.Cmp.Lexicographic.{slice_cmp, lists_total, lists_agrees, lists_ties};
+    ghost use Rattle.ig_expr.specs.contracts.value.ValueOrd.TheImpl.Laws as values;
+
+    ghost cmp = { slice_cmp ⟦<Value as Ord>⟧.cmp };
+
+    ghost total = { lists_total values.total-law };
+
+    ghost matches_partial_cmp = { lists_agrees values.matches_partial_cmp-law };
+
+    ghost matches_eq = { lists_ties ⟦<Value as Ord>⟧.cmp values.matches_eq-law };
+
+    /// How the lists are ordered. Takes no memory.
+    fn cmp(&self, other: &Values) -> Ordering
+        ensures value { result ≡ ⟦<Values as Ord>⟧.cmp self.now other.now }
+        ensures order { result ≡ values_cmp self.now other.now }
+    {
+        self.as_slice().cmp(other.as_slice())
+    }
+}
+
+/// `<` and `cmp` at values, as derived, are the order of `specs/ValueOrder.antt`. This law, proved
+/// for all values, computes nothing.
+pub fn values_are_ordered()
+    ensures { (a b : Value) → ⟦<Value as Ord>⟧.cmp a b ≡ value_cmp a b }
+{}

@@ -1,15 +1,2 @@
-pub mod Building
-pub mod Inversion
-pub mod Spans
-pub mod Clean
-pub mod ContextFree
-pub mod Labels
-pub mod Roots
-pub mod Annotation
-pub mod Order
-mod Tiling
-mod Telling
-mod Equality
-mod Transitivity
-mod AnnotatedInversion
-mod Determined
+pub mod ByForm
+pub mod KeywordTexts

@@ -1,13 +1,10 @@
 -- What a checked grammar is, as contracts see it: a well-scoped grammar, and a shape for each of its declarations.
-use Rattle.std.specs.Prelude.{◌≡◌, ◌≢◌, ℕ, ◌<◌, List, [], ◌∷◌, All, Contains, length, replicate, Option, Some, None, slice_get, refl}
-use Rattle.std.specs.Coded.{Coded, code_by, coded×, coded_list}
+use Rattle.std.specs.Prelude.{◌≡◌, ◌≢◌, ℕ, ◌<◌, List, [], ◌∷◌, All, Contains, length, replicate, Option, Some, None, slice_get}
 use Rattle.ig_expr.specs.Expression.{Expression}
 use Rattle.ig_grammar.specs.Symbol.{Symbol, Call, Seq, listed}
 use Rattle.ig_grammar.specs.Numbering.{alternatives}
 use Rattle.ig_grammar.specs.Visible.{Occurrence}
 use Rattle.ig_grammar.specs.Condition.{symbols_of}
-use Rattle.ig_grammar.specs.contracts.grammar.Grammar as grammar
-use Rattle.ig_grammar.specs.contracts.place.Shape as shape
 use Rattle.ig_grammar.specs.declared.symbol.Alt.{Alt}
 use Rattle.ig_grammar.specs.declared.declaration.Assoc.TheVariants.{Free}
 use Rattle.ig_grammar.specs.declared.declaration.DeclKind.TheVariants.{Layout}
@@ -20,10 +17,6 @@ use Rattle.ig_grammar.specs.declared.place.Shape.TheVariants.{Rule, Group, Root}
 pub record CheckedGrammar : Type 0 where
   pub grammar : Grammar
   pub shapes : List Shape
-
-abbrev pub checked_code : Coded CheckedGrammar
-checked_code =
-    code_by (Grammar × List Shape) (coded× grammar.the_row.coded (coded_list shape.the_row.coded)) (λ c. (c.grammar, c.shapes)) (λ p. record { grammar = p.0; shapes = p.1 }) (λ _. refl)
 
 -- the shape `Rule` for each declaration
 abbrev pub rules : Grammar → List Shape
@@ -41,7 +34,7 @@ MayHave Group n = Unit {0}
 MayHave Root n = n ≡ 1
 MayHave shape n = n ≡ 2
 
--- one level without an associativity
+-- one level, neither `left` nor `right` nor `nonassoc`
 abbrev pub IsOneFreeLevel : List Level → Type 0
 IsOneFreeLevel [] = ⊥
 IsOneFreeLevel (level ∷ []) = level.assoc ≡ Free

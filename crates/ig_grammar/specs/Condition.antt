@@ -17,6 +17,12 @@ use Rattle.ig_grammar.specs.declared.declaration.Param.{Param}
 use Rattle.ig_grammar.specs.declared.declaration.Decl.{Decl}
 use Rattle.ig_grammar.specs.declared.grammar.Grammar.{Grammar}
 
+-- what a grammar has too many of
+pub data Many : Type 0 where
+  Nonterminals : Many
+  Parameters : Many
+  Variables : Many
+
 pub data Condition : Type 0 where
   DuplicateName : Condition
   UnknownName : Condition
@@ -30,9 +36,7 @@ pub data Condition : Type 0 where
   AlignNotList : Condition
   MarkInLexical : Condition
   SyntaxInLexical : Condition
-  TooManyNonterminals : Condition
-  TooManyParameters : Condition
-  TooManyVariables : Condition
+  TooMany : Many → Condition
 
 -- of the conditions that hold at one place the one of the least number is told
 abbrev pub number : Condition → ℕ
@@ -48,9 +52,24 @@ number LayoutNotPlain = 9
 number AlignNotList = 10
 number MarkInLexical = 11
 number SyntaxInLexical = 12
-number TooManyNonterminals = 13
-number TooManyParameters = 14
-number TooManyVariables = 15
+number (TooMany many) = 13
+
+-- and of its cases that hold there the first
+abbrev pub case_number : Condition → ℕ
+case_number (TooMany Nonterminals) = 0
+case_number (TooMany Parameters) = 1
+case_number (TooMany Variables) = 2
+case_number c = 0
+
+-- the most declarations, parameters of a declaration, and parameters, labels and lets of an alternative
+abbrev pub most_nonterminals : ℕ
+most_nonterminals = 4096
+
+abbrev pub most_parameters : ℕ
+most_parameters = 16
+
+abbrev pub most_variables : ℕ
+most_variables = 32
 
 -- the declaration of a name is the first with that name
 abbrev pub declaration_of : List Decl → List ℕ → Option Decl
@@ -156,10 +175,10 @@ named_parameters decl = count_by (λ p. is_name p.name) decl.params
 
 -- what holds at an alternative as a whole
 pub data AlternativeMeets (decl : Decl) (alternative : Alt) : Condition → Type 0 where
-  -- 13: more than 32 parameters, labels and lets; names that passes add don't count, nor their declarations
+  -- 13: too many parameters, labels and lets; names that passes add don't count, nor their declarations
   too_many_variables : is_name decl.name ≡ true →
-      32 < named_parameters decl + count_by (λ o. binds_name o.symbol) (symbols_of decl alternative) →
-      AlternativeMeets decl alternative TooManyVariables
+      most_variables < named_parameters decl + count_by (λ o. binds_name o.symbol) (symbols_of decl alternative) →
+      AlternativeMeets decl alternative (TooMany Variables)
 
 -- a layout declaration isn't plain: it has parameters, more than one level or an associativity, or isn't the first
 pub data IsNotPlain (decls : List Decl) (before : ℕ) (decl : Decl) : Type 0 where
@@ -177,10 +196,12 @@ pub data HeadMeets (decls : List Decl) (before : ℕ) (decl : Decl) : Condition 
       Contains (names (parameters (take k decl.params))) p.name → HeadMeets decls before decl DuplicateVariable
   -- 9: a layout declaration isn't plain
   layout_not_plain : decl.kind ≡ Layout → IsNotPlain decls before decl → HeadMeets decls before decl LayoutNotPlain
-  -- 13: this is declaration 4,097, or it has more than 16 parameters; names that passes add don't count
-  too_many_nonterminals : is_name decl.name ≡ true → count_by (λ d. is_name d.name) (take before decls) ≡ 4096 →
-      HeadMeets decls before decl TooManyNonterminals
-  too_many_parameters : is_name decl.name ≡ true → 16 < named_parameters decl → HeadMeets decls before decl TooManyParameters
+  -- 13: this is the first declaration too many, or it has too many parameters; names that passes add don't count
+  too_many_nonterminals : is_name decl.name ≡ true →
+      count_by (λ d. is_name d.name) (take before decls) ≡ most_nonterminals →
+      HeadMeets decls before decl (TooMany Nonterminals)
+  too_many_parameters : is_name decl.name ≡ true → most_parameters < named_parameters decl →
+      HeadMeets decls before decl (TooMany Parameters)
 
 -- what holds at the start line
 pub data StartMeets (g : Grammar) : Condition → Type 0 where

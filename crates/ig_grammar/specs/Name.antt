@@ -3,7 +3,7 @@ use Rattle.std.specs.Prelude.{ℕ, Bool, false, not, ◌&&◌, List, [], ◌∷�
 use Rattle.std.specs.List.{list_any, list_all}
 use Rattle.ig_text.specs.declared.class.Class.TheVariants.{XidStart, XidContinue}
 use Rattle.ig_text.specs.Class.{is_in_class}
-use Rattle.ig_expr.specs.Names.{is_word}
+use Rattle.ig_text.specs.Words.{is_word}
 
 -- the words that are no names
 abbrev pub keywords : List (List ℕ)

@@ -1,10 +1,15 @@
 -- Which grammars are regular: what a grammar that was read, and each one that a pass makes of it, keeps to.
-use Rattle.std.specs.Prelude.{◌≡◌, ◌≢◌, ℕ, ◌+◌, ◌<◌, [], All, Contains, length, sum_by}
+use Rattle.std.specs.Prelude.{◌≡◌, ◌≢◌, ℕ, ◌+◌, ◌<◌, List, [], ◌∷◌, ◌++◌, map, All, Contains, length, sum_by}
+use Rattle.std.specs.List.{flat_map}
 use Rattle.ig_text.specs.declared.pattern.Pattern.{Pattern}
 use Rattle.ig_text.specs.declared.pattern.Pattern.TheVariants.{Literal as Spelled, OneOf as AnyOf}
-use Rattle.ig_grammar.specs.Symbol.{Symbol, Literal, OneOf, Call, Label, Guard, Let, Opt, Star, Plus, SepStar, SepPlus, Group, Offside, Ignore, Align, Filtered, Seq, Entry}
-use Rattle.ig_grammar.specs.Symbol.{Symbols, no_symbols, next_symbol, Alternatives, no_alternatives, next_alternative}
+use Rattle.ig_expr.specs.Expression as tree
+use Rattle.ig_expr.specs.Expression.{Expression}
+use Rattle.ig_grammar.specs.Symbol.{Symbol, Literal, Label, Guard, Let, Opt, Star, Plus, SepStar, SepPlus, Group, Offside, Ignore, Align, Filtered, Seq, Entry}
+use Rattle.ig_grammar.specs.Symbol.{Symbols, Alternatives, no_alternatives, next_alternative}
+use Rattle.ig_grammar.specs.Subterms.{subterms, subterms_of_symbols, subterms_of_alternatives, bound_names}
 use Rattle.ig_grammar.specs.Alternative.{gathered_alternatives}
+use Rattle.ig_grammar.specs.Condition.{expressions}
 use Rattle.ig_grammar.specs.declared.filter.Filter.{Filter}
 use Rattle.ig_grammar.specs.declared.filter.Filter.TheVariants.{NotFollowed, NotPreceded, Not}
 use Rattle.ig_grammar.specs.declared.declaration.DeclKind.TheVariants.{Plain}
@@ -32,6 +37,16 @@ abbrev pub MayHaveFilters : Symbol → Type 0
 MayHaveFilters (Filtered x filters) = ⊥
 MayHaveFilters x = MayHaveMark x
 
+-- what an option, a star or a plus may be of: what may have filters, or a sequence
+abbrev pub MayHaveSign : Symbol → Type 0
+MayHaveSign (Seq xs) = Unit {0}
+MayHaveSign x = MayHaveFilters x
+
+-- what a separated list may be of: what may have a label, or a sequence
+abbrev pub MayBeSeparated : Symbol → Type 0
+MayBeSeparated (Seq xs) = Unit {0}
+MayBeSeparated x = MayHaveLabel x
+
 -- a list, an option or a group
 abbrev pub MayHaveEntry : Symbol → Type 0
 MayHaveEntry (Opt x) = Unit {0}
@@ -42,147 +57,130 @@ MayHaveEntry (SepPlus x separator) = Unit {0}
 MayHaveEntry (Group choices) = Unit {0}
 MayHaveEntry x = ⊥
 
--- a literal has at least one character
-abbrev pub HasNoEmptyLiteral : Pattern → Type 0
-HasNoEmptyLiteral (Spelled word) = word ≢ []
-HasNoEmptyLiteral (AnyOf class) = Unit {0}
+abbrev pub BindsNothing : Symbol → Type 0
+BindsNothing x = bound_names x ≡ []
+
+-- what the symbol is directly round may stand there; items and separators bind nothing
+abbrev pub FitsRound : Symbol → Type 0
+FitsRound (Label name x) = MayHaveLabel x
+FitsRound (Opt x) = MayHaveSign x × BindsNothing x
+FitsRound (Star x) = MayHaveSign x × BindsNothing x
+FitsRound (Plus x) = MayHaveSign x × BindsNothing x
+FitsRound (SepStar x separator) =
+    MayBeSeparated x × MayBeSeparated separator × BindsNothing x × BindsNothing separator
+FitsRound (SepPlus x separator) =
+    MayBeSeparated x × MayBeSeparated separator × BindsNothing x × BindsNothing separator
+FitsRound (Offside x) = MayHaveMark x
+FitsRound (Ignore x) = MayHaveMark x
+FitsRound (Align x) = MayHaveMark x
+FitsRound (Filtered x filters) = MayHaveFilters x
+FitsRound (Entry bindings x) = MayHaveEntry x
+FitsRound x = Unit {0}
+
+-- the patterns in an expression
+abbrev pub patterns_in : Expression → List Pattern
+patterns_in (tree.Not a) = patterns_in a
+patterns_in (tree.Negative a) = patterns_in a
+patterns_in (tree.Binary op a b) = patterns_in a ++ patterns_in b
+patterns_in (tree.Of function a) = patterns_in a
+patterns_in (tree.Same a b) = patterns_in a ++ patterns_in b
+patterns_in (tree.Spells a word) = Spelled word ∷ patterns_in a
+patterns_in (tree.Outer a b) = patterns_in a ++ patterns_in b
+patterns_in (tree.Inside a b) = patterns_in a ++ patterns_in b
+patterns_in (tree.FreeBefore pattern) = pattern ∷ []
+patterns_in (tree.FreeAfter pattern) = pattern ∷ []
+patterns_in e = []
 
 abbrev pub pattern_of : Filter → Pattern
 pattern_of (NotFollowed pattern) = pattern
 pattern_of (NotPreceded pattern) = pattern
 pattern_of (Not pattern) = pattern
 
--- no literal in it is empty, and labels, marks, filters and entries in it stand where they may
-abbrev mutual
-  pub StandsWell : Symbol → Type 0
-  StandsWell (Literal word) = word ≢ []
-  StandsWell (OneOf class) = Unit {0}
-  StandsWell (Call name arguments) = Unit {0}
-  StandsWell (Label name x) = MayHaveLabel x × StandsWell x
-  StandsWell (Guard e) = Unit {0}
-  StandsWell (Let name e) = Unit {0}
-  StandsWell (Opt x) = StandsWell x
-  StandsWell (Star x) = StandsWell x
-  StandsWell (Plus x) = StandsWell x
-  StandsWell (SepStar x separator) = StandsWell x × StandsWell separator
-  StandsWell (SepPlus x separator) = StandsWell x × StandsWell separator
-  StandsWell (Group choices) = AlternativesStandWell choices
-  StandsWell (Offside x) = MayHaveMark x × StandsWell x
-  StandsWell (Ignore x) = MayHaveMark x × StandsWell x
-  StandsWell (Align x) = MayHaveMark x × StandsWell x
-  StandsWell (Filtered x filters) =
-      MayHaveFilters x × All (λ f. HasNoEmptyLiteral (pattern_of f)) filters × StandsWell x
-  StandsWell (Seq xs) = SymbolsStandWell xs
-  StandsWell (Entry bindings x) = MayHaveEntry x × StandsWell x
+-- the patterns of a symbol itself: its literal, those of its filters, and those in its expressions
+abbrev pub patterns_of : Symbol → List Pattern
+patterns_of (Literal word) = Spelled word ∷ []
+patterns_of (Filtered x filters) = map pattern_of filters
+patterns_of x = flat_map patterns_in (expressions x)
 
-  pub SymbolsStandWell : Symbols → Type 0
-  SymbolsStandWell no_symbols = Unit {0}
-  SymbolsStandWell (next_symbol x xs) = StandsWell x × SymbolsStandWell xs
+-- a literal has at least one character
+abbrev pub HasNoEmptyLiteral : Pattern → Type 0
+HasNoEmptyLiteral (Spelled word) = word ≢ []
+HasNoEmptyLiteral (AnyOf class) = Unit {0}
 
-  pub AlternativesStandWell : Alternatives → Type 0
-  AlternativesStandWell no_alternatives = Unit {0}
-  AlternativesStandWell (next_alternative xs others) = SymbolsStandWell xs × AlternativesStandWell others
+-- none of its own literals is empty, and it stands round what it may
+abbrev pub IsPlaced : Symbol → Type 0
+IsPlaced x = All HasNoEmptyLiteral (patterns_of x) × FitsRound x
 
--- no mark is in it
-abbrev mutual
-  pub HasNoMark : Symbol → Type 0
-  HasNoMark (Literal word) = Unit {0}
-  HasNoMark (OneOf class) = Unit {0}
-  HasNoMark (Call name arguments) = Unit {0}
-  HasNoMark (Label name x) = HasNoMark x
-  HasNoMark (Guard e) = Unit {0}
-  HasNoMark (Let name e) = Unit {0}
-  HasNoMark (Opt x) = HasNoMark x
-  HasNoMark (Star x) = HasNoMark x
-  HasNoMark (Plus x) = HasNoMark x
-  HasNoMark (SepStar x separator) = HasNoMark x × HasNoMark separator
-  HasNoMark (SepPlus x separator) = HasNoMark x × HasNoMark separator
-  HasNoMark (Group choices) = AlternativesHaveNoMark choices
-  HasNoMark (Offside x) = ⊥
-  HasNoMark (Ignore x) = ⊥
-  HasNoMark (Align x) = ⊥
-  HasNoMark (Filtered x filters) = HasNoMark x
-  HasNoMark (Seq xs) = SymbolsHaveNoMark xs
-  HasNoMark (Entry bindings x) = HasNoMark x
+abbrev pub IsNoMark : Symbol → Type 0
+IsNoMark (Offside x) = ⊥
+IsNoMark (Ignore x) = ⊥
+IsNoMark (Align x) = ⊥
+IsNoMark x = Unit {0}
 
-  pub SymbolsHaveNoMark : Symbols → Type 0
-  SymbolsHaveNoMark no_symbols = Unit {0}
-  SymbolsHaveNoMark (next_symbol x xs) = HasNoMark x × SymbolsHaveNoMark xs
+abbrev pub number_of_alternatives : Alternatives → ℕ
+number_of_alternatives no_alternatives = 0
+number_of_alternatives (next_alternative xs others) = number_of_alternatives others + 1
 
-  pub AlternativesHaveNoMark : Alternatives → Type 0
-  AlternativesHaveNoMark no_alternatives = Unit {0}
-  AlternativesHaveNoMark (next_alternative xs others) = SymbolsHaveNoMark xs × AlternativesHaveNoMark others
+-- how many alternatives a symbol itself has
+abbrev pub own_alternatives : Symbol → ℕ
+own_alternatives (Group choices) = number_of_alternatives choices
+own_alternatives x = 0
 
--- how many alternatives of groups are in it
-abbrev mutual
-  pub alternatives_inside : Symbol → ℕ
-  alternatives_inside (Literal word) = 0
-  alternatives_inside (OneOf class) = 0
-  alternatives_inside (Call name arguments) = 0
-  alternatives_inside (Label name x) = alternatives_inside x
-  alternatives_inside (Guard e) = 0
-  alternatives_inside (Let name e) = 0
-  alternatives_inside (Opt x) = alternatives_inside x
-  alternatives_inside (Star x) = alternatives_inside x
-  alternatives_inside (Plus x) = alternatives_inside x
-  alternatives_inside (SepStar x separator) = alternatives_inside x + alternatives_inside separator
-  alternatives_inside (SepPlus x separator) = alternatives_inside x + alternatives_inside separator
-  alternatives_inside (Group choices) = alternatives_among choices
-  alternatives_inside (Offside x) = alternatives_inside x
-  alternatives_inside (Ignore x) = alternatives_inside x
-  alternatives_inside (Align x) = alternatives_inside x
-  alternatives_inside (Filtered x filters) = alternatives_inside x
-  alternatives_inside (Seq xs) = alternatives_inside_symbols xs
-  alternatives_inside (Entry bindings x) = alternatives_inside x
-
-  pub alternatives_inside_symbols : Symbols → ℕ
-  alternatives_inside_symbols no_symbols = 0
-  alternatives_inside_symbols (next_symbol x xs) = alternatives_inside x + alternatives_inside_symbols xs
-
-  -- these alternatives, and those in them
-  pub alternatives_among : Alternatives → ℕ
-  alternatives_among no_alternatives = 0
-  alternatives_among (next_alternative xs others) = alternatives_inside_symbols xs + alternatives_among others + 1
-
--- how many symbols and filters it has, itself counted
-abbrev mutual
-  pub parts : Symbol → ℕ
-  parts (Literal word) = 1
-  parts (OneOf class) = 1
-  parts (Call name arguments) = 1
-  parts (Label name x) = parts x + 1
-  parts (Guard e) = 1
-  parts (Let name e) = 1
-  parts (Opt x) = parts x + 1
-  parts (Star x) = parts x + 1
-  parts (Plus x) = parts x + 1
-  parts (SepStar x separator) = parts x + parts separator + 1
-  parts (SepPlus x separator) = parts x + parts separator + 1
-  parts (Group choices) = parts_of_alternatives choices + 1
-  parts (Offside x) = parts x + 1
-  parts (Ignore x) = parts x + 1
-  parts (Align x) = parts x + 1
-  parts (Filtered x filters) = parts x + length filters + 1
-  parts (Seq xs) = parts_of_symbols xs + 1
-  parts (Entry bindings x) = parts x + 1
-
-  pub parts_of_symbols : Symbols → ℕ
-  parts_of_symbols no_symbols = 0
-  parts_of_symbols (next_symbol x xs) = parts x + parts_of_symbols xs
-
-  pub parts_of_alternatives : Alternatives → ℕ
-  parts_of_alternatives no_alternatives = 0
-  parts_of_alternatives (next_alternative xs others) = parts_of_symbols xs + parts_of_alternatives others
+-- a symbol counts with its filters
+abbrev pub own_parts : Symbol → ℕ
+own_parts (Filtered x filters) = length filters + 1
+own_parts x = 1
 
 -- a fact of the alternatives of each level
 abbrev pub OfEachLevel : (Alternatives → Type 0) → Grammar → Type 0
 OfEachLevel P g =
-    (decl : Decl) (level : Level) → Contains g.decls decl → Contains decl.levels level → P (gathered_alternatives level.alts)
+    (decl : Decl) (level : Level) → Contains g.decls decl → Contains decl.levels level →
+    P (gathered_alternatives level.alts)
 
 -- the sum of a count over the alternatives of each level
 abbrev pub sum_over_levels : (Alternatives → ℕ) → Grammar → ℕ
 sum_over_levels count g =
     sum_by (λ decl. sum_by (λ level. count (gathered_alternatives level.alts)) decl.levels) g.decls
+
+abbrev pub StandsWell : Symbol → Type 0
+StandsWell x = All IsPlaced (subterms x)
+
+abbrev pub SymbolsStandWell : Symbols → Type 0
+SymbolsStandWell xs = All IsPlaced (subterms_of_symbols xs)
+
+abbrev pub AlternativesStandWell : Alternatives → Type 0
+AlternativesStandWell choices = All IsPlaced (subterms_of_alternatives choices)
+
+abbrev pub HasNoMark : Symbol → Type 0
+HasNoMark x = All IsNoMark (subterms x)
+
+abbrev pub SymbolsHaveNoMark : Symbols → Type 0
+SymbolsHaveNoMark xs = All IsNoMark (subterms_of_symbols xs)
+
+abbrev pub AlternativesHaveNoMark : Alternatives → Type 0
+AlternativesHaveNoMark choices = All IsNoMark (subterms_of_alternatives choices)
+
+-- how many alternatives of groups are in it
+abbrev pub alternatives_inside : Symbol → ℕ
+alternatives_inside x = sum_by own_alternatives (subterms x)
+
+abbrev pub alternatives_inside_symbols : Symbols → ℕ
+alternatives_inside_symbols xs = sum_by own_alternatives (subterms_of_symbols xs)
+
+-- these alternatives, and those in them
+abbrev pub alternatives_among : Alternatives → ℕ
+alternatives_among choices =
+    number_of_alternatives choices + sum_by own_alternatives (subterms_of_alternatives choices)
+
+-- how many symbols and filters it has, itself counted
+abbrev pub parts : Symbol → ℕ
+parts x = sum_by own_parts (subterms x)
+
+abbrev pub parts_of_symbols : Symbols → ℕ
+parts_of_symbols xs = sum_by own_parts (subterms_of_symbols xs)
+
+abbrev pub parts_of_alternatives : Alternatives → ℕ
+parts_of_alternatives choices = sum_by own_parts (subterms_of_alternatives choices)
 
 -- fewer than so many declarations, levels, alternatives, and symbols with filters, each over the whole grammar
 pub record HasFewerThan (most : ℕ) (g : Grammar) : Type 0 where
@@ -191,8 +189,12 @@ pub record HasFewerThan (most : ℕ) (g : Grammar) : Type 0 where
   pub alternatives : sum_over_levels alternatives_among g < most
   pub symbols : sum_over_levels parts_of_alternatives g < most
 
+-- the bound on each count
+abbrev pub counts_bound : ℕ
+counts_bound = 4294967296
+
 pub record IsRegular (g : Grammar) : Type 0 where
   pub well : OfEachLevel AlternativesStandWell g
   -- where some declaration is plain, no mark is left
   pub unmarked : (decl : Decl) → Contains g.decls decl → decl.kind ≡ Plain → OfEachLevel AlternativesHaveNoMark g
-  pub counted : HasFewerThan 4294967296 g
+  pub counted : HasFewerThan counts_bound g

@@ -1,6 +1,6 @@
 -- Which grammars are well scoped, and which condition is told of one that isn't.
 use Rattle.std.specs.Prelude.{◌≡◌, ℕ, zero, suc, ◌<◌, ◌≤◌, ◌⊎◌, List, Some, slice_get}
-use Rattle.ig_grammar.specs.Condition.{Condition, number, symbols_of, SymbolMeets, AlternativeMeets, HeadMeets, StartMeets}
+use Rattle.ig_grammar.specs.Condition.{Condition, number, case_number, symbols_of, SymbolMeets, AlternativeMeets, HeadMeets, StartMeets}
 use Rattle.ig_grammar.specs.Numbering.{alternatives}
 use Rattle.ig_grammar.specs.Visible.{Occurrence}
 use Rattle.ig_grammar.specs.declared.place.Place.{Place}
@@ -44,10 +44,11 @@ abbrev pub IsBefore : Place → Place → Type 0
 IsBefore p q =
     (p.decl < q.decl) ⊎ ((p.decl ≡ q.decl) × ((p.alt < q.alt) ⊎ ((p.alt ≡ q.alt) × (p.symbol < q.symbol))))
 
--- the condition holds, and none of a lesser number does
+-- the condition holds, none of a lesser number does, and no earlier case of the same number
 pub record IsLeast (Holds : Condition → Type 0) (c : Condition) : Type 0 where
   pub holds : Holds c
   pub least : (other : Condition) → Holds other → number c ≤ number other
+  pub first_case : (other : Condition) → Holds other → number other ≡ number c → case_number c ≤ case_number other
 
 -- the condition is the first by place, then by number
 pub record IsFirst (g : Grammar) (place : Place) (c : Condition) : Type 0 where

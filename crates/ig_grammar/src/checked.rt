@@ -1,4 +1,4 @@
-ghost use Rattle.std.specs.Prelude.{◌≡◌, ◌<◌, MatchOption, length, slice_index_or};
+ghost use Rattle.std.specs.Prelude.{◌≡◌, ◌<◌, MatchOption, length, slice_get, slice_index_or};
 ghost use Rattle.ig_grammar.specs.declared.place.Shape.{Shape};
 ghost use Rattle.ig_grammar.specs.declared.place.Shape.TheVariants.{Rule};
 ghost use Rattle.ig_grammar.specs.Numbering.{HasShape};
@@ -18,16 +18,19 @@ pub struct Checked {
 }
 
 impl Model for Checked {
-    ghost use Rattle.ig_grammar.specs.Checked.{CheckedGrammar, checked_code, given_or_rules, FitShapes};
+    ghost use Rattle.ig_grammar.specs.Checked.{CheckedGrammar, given_or_rules, FitShapes};
+    ghost use Rattle.ig_grammar.specs.CodingChecked.{checked_code};
     ghost use Rattle.ig_grammar.specs.WellScoped.{IsWellScoped};
 
     ghost Value = { CheckedGrammar };
 
     ghost coded = { checked_code };
 
-    ghost view = { λ c. record { grammar = c.grammar; shapes = given_or_rules c.grammar c.shapes } };
+    ghost view = { λ c.
+        record { grammar = c.grammar; shapes = given_or_rules c.grammar c.shapes } };
 
-    ghost invariant = { λ c. IsWellScoped c.grammar × FitShapes c.grammar (given_or_rules c.grammar c.shapes) };
+    ghost invariant = { λ c. IsWellScoped c.grammar ×
+        FitShapes c.grammar (given_or_rules c.grammar c.shapes) };
 }
 
 impl Checked {
@@ -45,12 +48,12 @@ impl Checked {
     }
 
     /// The grammar, with these shapes of its declarations, as passes give them. The grammar is well
-    /// scoped. There are as many shapes as declarations. A declaration of the shape `Rule` or `Group`
-    /// has any number of alternatives, one of the shape `Root` has one, and one of any other shape
-    /// two. Every declaration of another shape than `Rule` has one level without an associativity.
-    /// One of the shape `Root` is the start, is no layout declaration, stands after each of the
-    /// shape `Rule`, and is named by no call; each of its symbols is a call or a `Seq` of calls.
-    /// Takes no memory.
+    /// scoped. There are as many shapes as declarations. A declaration of the shape `Rule` or
+    /// `Group` has any number of alternatives, one of the shape `Root` has one, and one of any other
+    /// shape two. Every declaration of another shape than `Rule` has one level, neither `left` nor
+    /// `right` nor `nonassoc`. One of the shape `Root` is the start, is no layout declaration, stands
+    /// after each of the shape `Rule`, and is named by no call; each of its symbols is a call or a
+    /// `Seq` of calls. Takes no memory.
     pub fn with_shapes(grammar: Grammar, shapes: Shapes) -> Checked
         requires scoped { IsWellScoped grammar }
         requires fit { FitShapes grammar shapes }
@@ -78,11 +81,18 @@ impl Checked {
         ensures { MatchOption result ((shape : Shape) → HasShape self.now.shapes decl shape → ⊥)
             (HasShape self.now.shapes decl) }
     {
-        let before = decl.checked_sub(1)? as usize;
+        self.shape_at(decl.checked_sub(1)? as usize)
+    }
+
+    /// The shape of the declaration at this index of the grammar's list, counted from 0; `None`
+    /// exactly where the list ends before it. Takes no memory.
+    pub fn shape_at(&self, index: usize) -> Option<Shape>
+        ensures { result ≡ slice_get self.now.shapes index }
+    {
         match &self.shapes {
-            Some(shapes) => shapes.as_slice().get(before).copied(),
+            Some(shapes) => shapes.as_slice().get(index).copied(),
             None => {
-                if before < self.grammar.decls.as_slice().len() {
+                if index < self.grammar.decls.as_slice().len() {
                     Some(Shape::Rule)
                 } else {
                     None

@@ -70,3 +70,27 @@ impl Copied for Param {
         })
     }
 }
+
+impl Copied for Level {
+    fn copy(&self, alloc: Global) -> Result<Level, AllocError> {
+        let alts = self.alts.copy(alloc)?;
+        Ok(Level {
+            assoc: self.assoc,
+            alts,
+        })
+    }
+}
+
+impl Copied for Decl {
+    fn copy(&self, alloc: Global) -> Result<Decl, AllocError> {
+        let name = self.name.copy(alloc)?;
+        let params = self.params.copy(alloc)?;
+        let levels = self.levels.copy(alloc)?;
+        Ok(Decl {
+            kind: self.kind,
+            name,
+            params,
+            levels,
+        })
+    }
+}

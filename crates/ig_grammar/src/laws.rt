@@ -1,61 +1,16 @@
-ghost use Rattle.ig_grammar.specs.Laws.{SpansAreInOrder, PermittedTreesAreWhole, TreesWithoutOperatorsAreClean, LabelsBindOwnSpans};
-ghost use Rattle.ig_grammar.specs.ContextFree.{BuiltGrammarsAreContextFree};
-ghost use Rattle.ig_grammar.specs.Order.{ComparedTreesArePermitted, LastChildStartsDecide, IsAnOrder, UndifferingTreesAreEqual};
+//! Laws of regular grammars. The functions compute nothing: their contracts are the laws.
 
-/// What a symbol covers begins before its own end, which lies before the layout behind it, and all
-/// of it is within the text. This law, proved of every derivation, computes nothing.
-pub fn spans_are_in_order()
-    ensures { SpansAreInOrder }
+ghost use Rattle.ig_grammar.specs.Laws.{CountsByForm, RegularityByForm};
+
+/// Where every symbol in a symbol stands well, or is no mark, this holds of the symbol itself and
+/// of those in the symbols directly inside it, and the other way about. This law, proved of all
+/// symbols, computes nothing.
+pub fn regularity_by_form()
+    ensures { RegularityByForm }
 {}
 
-/// A label binds the span of the first of its symbol's trees, without the layout behind it. This
-/// law, proved of every derivation, computes nothing.
-pub fn labels_bind_own_spans()
-    ensures { LabelsBindOwnSpans }
-{}
-
-/// A permitted tree is a root over the whole text. This law, proved of every grammar and text,
-/// computes nothing.
-pub fn permitted_trees_are_whole()
-    ensures { PermittedTreesAreWhole }
-{}
-
-/// Where no declaration has a second level or an associativity, every tree is clean. This law,
-/// proved of every such grammar, computes nothing.
-pub fn trees_without_operators_are_clean()
-    ensures { TreesWithoutOperatorsAreClean }
-{}
-
-/// A grammar with only built forms is a context-free grammar: its literals and calls derive their
-/// trees in any environment, change none, and have no layout behind them, and its permitted trees
-/// are roots over what the start symbol covers. This law, proved of every such grammar, computes
-/// nothing.
-pub fn built_grammars_are_context_free()
-    ensures { BuiltGrammarsAreContextFree }
-{}
-
-/// What is compared of permitted trees, the trees with the values that their derivations bind, are
-/// these trees without the values. This law, proved of every derivation, computes nothing.
-pub fn compared_trees_are_permitted()
-    ensures { ComparedTreesArePermitted }
-{}
-
-/// Of the children of two trees the start of the last one decides first, then, by the same rule,
-/// the children before it, and then the last one. This law, proved of all trees, computes nothing.
-pub fn last_child_starts_decide()
-    ensures { LastChildStartsDecide }
-{}
-
-/// A tree doesn't differ from itself, of two trees that differ one stands before the other, and the
-/// order is transitive. This law, proved of all trees, computes nothing.
-pub fn trees_are_ordered()
-    ensures { IsAnOrder }
-{}
-
-/// Permitted trees that don't differ are equal, and what is compared of a tree is the same for each
-/// of its derivations, where no name is declared twice and the numbers of tags tell the alternatives
-/// of each declaration apart, as they do in every grammar that was read. This law, proved of every
-/// derivation, computes nothing.
-pub fn undiffering_trees_are_equal()
-    ensures { UndifferingTreesAreEqual }
+/// The counts of a symbol are its own and those of the symbols directly inside it. This law,
+/// proved of all symbols, computes nothing.
+pub fn counts_by_form()
+    ensures { CountsByForm }
 {}

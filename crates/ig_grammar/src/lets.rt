@@ -14,7 +14,8 @@ pub struct Lets {
 
 impl Model for Lets {
     ghost use Rattle.std.specs.Prelude.{List, map};
-    ghost use Rattle.ig_grammar.specs.Binding.{Binding, binding_code, binding_of};
+    ghost use Rattle.ig_grammar.specs.Binding.{Binding, binding_of};
+    ghost use Rattle.ig_grammar.specs.CodingBindings.{binding_code};
     ghost use Rattle.std.specs.Coded.{coded_list};
 
     ghost Value = { List Binding };

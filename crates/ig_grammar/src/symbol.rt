@@ -60,11 +60,11 @@ pub struct Inner {
 
 impl Model for Inner {
     ghost use Rattle.ig_grammar.specs.Symbol as tree;
-    ghost use Rattle.ig_grammar.specs.Symbol.{nodes};
+    ghost use Rattle.ig_grammar.specs.CodingSizes.{nodes};
 
     ghost Value = { tree.Symbol };
 
-    ghost use Rattle.ig_grammar.specs.Stored.{symbol_code};
+    ghost use Rattle.ig_grammar.specs.CodingSymbols.{symbol_code};
 
     ghost coded = { symbol_code };
 
@@ -93,6 +93,13 @@ impl Inner {
     {
         &self.symbol
     }
+
+    /// The symbol, taken out. Takes no memory.
+    pub fn into_symbol(self) -> Symbol
+        ensures { symbol_of result ≡ self }
+    {
+        Box::into_inner(self.symbol)
+    }
 }
 
 /// A list of symbols.
@@ -105,12 +112,12 @@ pub struct Symbols {
 impl Model for Symbols {
     ghost use Rattle.std.specs.Prelude.{List, map};
     ghost use Rattle.ig_grammar.specs.Symbol as tree;
-    ghost use Rattle.ig_grammar.specs.Symbol.{list_nodes};
+    ghost use Rattle.ig_grammar.specs.CodingSizes.{list_nodes};
 
     ghost Value = { List tree.Symbol };
 
     ghost use Rattle.std.specs.Coded.{coded_list};
-    ghost use Rattle.ig_grammar.specs.Stored.{symbol_code};
+    ghost use Rattle.ig_grammar.specs.CodingSymbols.{symbol_code};
 
     ghost coded = { coded_list symbol_code };
 
@@ -121,7 +128,7 @@ impl Model for Symbols {
 
     ghost size = { list_nodes };
 
-    ghost use Rattle.ig_grammar.specs.Falls.{most_symbols};
+    ghost use Rattle.ig_grammar.specs.CodingFalls.{most_symbols};
 
     ghost size_decreases = { λ a h. Prim.omega (arith, most_symbols a.cells.items) };
 }
@@ -179,7 +186,7 @@ impl Model for Alts {
     ghost Value = { List Alt };
 
     ghost use Rattle.std.specs.Coded.{coded_list};
-    ghost use Rattle.ig_grammar.specs.Alternative.{alternative_code, alternatives_nodes};
+    ghost use Rattle.ig_grammar.specs.CodingAlternatives.{alternative_code, alternatives_nodes};
 
     ghost coded = { coded_list alternative_code };
 
@@ -189,7 +196,7 @@ impl Model for Alts {
 
     ghost size = { alternatives_nodes };
 
-    ghost use Rattle.ig_grammar.specs.Falls.{most_alternatives};
+    ghost use Rattle.ig_grammar.specs.CodingFalls.{most_alternatives};
 
     ghost size_decreases = { λ a h. Prim.omega (arith, most_alternatives a.cells.items) };
 }

@@ -1,8 +1,7 @@
-//! Lists and their copies, a symbol nested deep, and which forms are built.
-use crate::grammar::Grammar;
+//! Lists and their copies, and a symbol nested deep.
 use crate::symbol::{Alt, Alts, Symbol, Symbols};
 use crate::*;
-use ig_expr::{Expr, Exprs, Kind};
+use ig_expr::{Expr, Kind};
 use ig_text::{Class, Copied, Pattern, Word};
 use std::alloc::{AllocError, Global};
 use std::test::Fail;
@@ -73,50 +72,5 @@ fn copies_a_symbol_a_thousand_deep(rt: HostRuntime) -> Result<(), Fail> {
             assert!(rt; matches!(inmost(symbol, 1000), Some(Symbol::Class(Class::Any))));
         }
     }
-    Ok(())
-}
-
-fn alternative(alloc: Global, symbol: Symbol) -> Result<Alts, AllocError> {
-    let mut symbols = Symbols::new(alloc);
-    symbols.push(symbol).map_err(|refused| refused.1)?;
-    let mut alts = Alts::new(alloc);
-    alts.push(Alt { symbols }).map_err(|refused| refused.1)?;
-    Ok(alts)
-}
-
-// A grammar of one syntax declaration of one alternative with this symbol.
-fn grammar_of(alloc: Global, symbol: Symbol) -> Result<Grammar, AllocError> {
-    let mut levels = Levels::new(alloc);
-    let level = Level {
-        assoc: Assoc::Free,
-        alts: alternative(alloc, symbol)?,
-    };
-    levels.push(level).map_err(|refused| refused.1)?;
-    let decl = declaration::Decl {
-        kind: DeclKind::Syntax,
-        name: Word::new(alloc, "S")?,
-        params: Params::new(alloc),
-        levels,
-    };
-    let mut decls = declaration::Decls::new(alloc);
-    decls.push(decl).map_err(|refused| refused.1)?;
-    Ok(Grammar { start: None, decls })
-}
-
-// Whether a grammar with this symbol has a form that isn't built.
-fn is_unbuilt_with(alloc: Global, symbol: Symbol) -> Result<bool, AllocError> {
-    let grammar = grammar_of(alloc, symbol)?;
-    Ok(unbuilt(&grammar))
-}
-
-#[test]
-fn tells_forms_that_are_not_built(rt: HostRuntime) -> Result<(), Fail> {
-    let alloc = rt.alloc();
-    let call = Symbol::Call(Word::new(alloc, "S")?, Exprs::new(alloc));
-    let built = is_unbuilt_with(alloc, call)?;
-    assert!(rt; !built);
-    let group = Symbol::Group(alternative(alloc, Symbol::Class(Class::Any))?);
-    let unbuilt = is_unbuilt_with(alloc, group)?;
-    assert!(rt; unbuilt);
     Ok(())
 }

@@ -1,9 +1,15 @@
-pub mod Choosing
-pub mod Members
-pub mod Deciding
-pub mod Enumeration
-pub mod EnumerationSound
-pub mod EnumerationComplete
-pub mod CleanDeciding
-pub mod Exactness
-pub mod Rows
+pub mod Inversion
+pub mod Spans
+pub mod Growth
+pub mod Clean
+pub mod Labels
+pub mod Roots
+pub mod Annotation
+pub mod Order
+mod Tags
+mod Tiling
+mod Telling
+mod Equality
+mod Transitivity
+mod BindingInversion
+mod Determined

@@ -1,7 +1,11 @@
-pub mod Exactly
-pub mod Notation
-pub mod Nullable
-pub mod Operators
-pub mod Data
+pub mod Environment
 pub mod Blocks
-pub mod Keyword
+pub mod Filtering
+pub mod Derivation
+pub mod Operands
+pub mod Clean
+pub mod Permitted
+pub mod Laws
+pub mod Inversion
+pub mod Annotated
+pub mod Order

@@ -3,7 +3,7 @@ use Rattle.std.proofs.Common.{◌≡◌, ℕ, suc, ◌+◌, ◌≤◌, ◌<◌, 
 use Rattle.std.specs.Prelude.{Option, Some, None}
 use Rattle.std.proofs.lemmas.List.{append-nil, drop_all}
 use Rattle.ig_expr.specs.declared.kind.Kind.{Kind}
-use Rattle.ig_grammar.specs.Token.{Token, Name, Head, Colon, Comma, Close, Equals, Semicolon, Greater, Start}
+use Rattle.ig_syntax.specs.Token.{Token, Name, Head, Colon, Comma, Close, Equals, Semicolon, Greater, Start}
 use Rattle.ig_grammar.specs.Symbol.{Alternatives}
 use Rattle.ig_grammar.specs.Alternative.{gathered_alternatives}
 use Rattle.ig_grammar.specs.declared.symbol.Alt.{Alt}
@@ -13,8 +13,8 @@ use Rattle.ig_grammar.specs.declared.declaration.DeclKind.{DeclKind}
 use Rattle.ig_grammar.specs.declared.declaration.Param.{Param}
 use Rattle.ig_grammar.specs.declared.declaration.Level.{Level}
 use Rattle.ig_grammar.specs.declared.declaration.Decl.{Decl}
-use Rattle.ig_grammar.specs.Rules as rule
-use Rattle.ig_grammar.specs.Rules.{IsKind, IsDeclKind, ReadsAssociativity, ReadsAlternatives, ReadsLevel, ReadsLevels, ReadsParameters, ReadsDeclaration, ReadsDeclarations, FollowsRules}
+use Rattle.ig_syntax.specs.Rules as rule
+use Rattle.ig_syntax.specs.Rules.{IsKind, IsDeclKind, ReadsAssociativity, ReadsAlternatives, ReadsLevel, ReadsLevels, ReadsParameters, ReadsDeclaration, ReadsDeclarations, FollowsRules}
 use Rattle.ig_rules.specs.Machine as want
 use Rattle.ig_rules.specs.Machine.{Want, after, before, run, go, step, chosen, after_kind, after_declaration, after_declarations, after_grammar, alternatives_wants, level_wants, levels_wants, parameters_wants, declaration_wants}
 use Rattle.ig_rules.specs.Reading.{Goes}

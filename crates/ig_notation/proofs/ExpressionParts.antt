@@ -5,17 +5,17 @@ use Rattle.ig_expr.specs.Expression.{Expression, Integer, Variable, Binary, Of, 
 use Rattle.ig_expr.specs.Expression as tree
 use Rattle.ig_expr.specs.declared.operator.Op.{Op}
 use Rattle.ig_expr.specs.declared.operator.Function.{Function}
-use Rattle.ig_grammar.specs.Token as token
-use Rattle.ig_grammar.specs.Token.{Token, Name, Head, Number, Literal, Comma, Close}
-use Rattle.ig_grammar.specs.Rules as rule
-use Rattle.ig_grammar.specs.Rules.{IsOperator, ReadsTerm, ReadsExpression, ReadsArguments}
+use Rattle.ig_syntax.specs.Token as token
+use Rattle.ig_syntax.specs.Token.{Token, Name, Head, Number, Literal, Comma, Close}
+use Rattle.ig_syntax.specs.Rules as rule
+use Rattle.ig_syntax.specs.Rules.{IsOperator, ReadsTerm, ReadsExpression, ReadsArguments}
 use Rattle.ig_rules.specs.Machine as want
 use Rattle.ig_rules.specs.Machine.{Want, after, before, after_term, after_operator_rest, arguments_wants}
 use Rattle.ig_rules.specs.Reading.{Goes}
 use Rattle.ig_notation.specs.declared.fault.RuleFault.{RuleFault}
 use Rattle.ig_notation.specs.declared.expressions.Named.{Named}
 use Rattle.ig_notation.specs.declared.expressions.Named.TheVariants as named
-use Rattle.ig_notation.specs.Limits.{NumberFits}
+use Rattle.ig_notation.specs.Limits.{NumberFits, number_bound}
 use Rattle.ig_notation.specs.Readers.{Stands, Takes, Misses, StopsAt, Runs, Finds, Closed, Front, IsNamed, named_wants, ReadsNamed}
 use Rattle.ig_notation.proofs.Names.{named_rows}
 use Rattle.ig_notation.proofs.Lists.{one_more, the_last, no_more_arguments}
@@ -116,8 +116,8 @@ numeral T i n z h e =
     subst (λ y. Goes Expression ReadsTerm (want.term ∷ []) [] T i (i + 1) (Integer y)) (sym e)
     (by_itself ReadsTerm want.term [] (Number n) T i (Integer (pos n)) h refl (λ r. rule.number n r))
 
-pub no_larger : (T : List Token) (i n : ℕ) → All NumberFits T → Stands T i (Number n) → 2 ^ 63 ≤ n → ⊥
-no_larger T i n a h l = let m : n < 2 ^ 63 = each_there NumberFits T i (Number n) a h in omega arith
+pub no_larger : (T : List Token) (i n : ℕ) → All NumberFits T → Stands T i (Number n) → number_bound ≤ n → ⊥
+no_larger T i n a h l = let m : n < number_bound = each_there NumberFits T i (Number n) a h in omega arith
 
 pub variable : (T : List Token) (i : ℕ) (x y : List ℕ) → Stands T i (Name x) → y ≡ x → Goes Expression ReadsTerm (want.term ∷ []) [] T i (i + 1) (Variable y)
 variable T i x y h e =

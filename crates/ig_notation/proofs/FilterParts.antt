@@ -2,9 +2,9 @@
 use Rattle.std.proofs.Common.{◌≡◌, ℕ, ◌+◌, ◌≤◌, ◌<◌, List, [], ◌∷◌, ◌++◌, length, drop, refl, sym, ap, ◌∙◌, subst, arith}
 use Rattle.std.specs.Prelude.{Some}
 use Rattle.ig_text.specs.declared.pattern.Pattern.{Pattern}
-use Rattle.ig_grammar.specs.Token.{Token}
-use Rattle.ig_grammar.specs.Rules as rule
-use Rattle.ig_grammar.specs.Rules.{IsPattern, IsFilter, ReadsFilters}
+use Rattle.ig_syntax.specs.Token.{Token}
+use Rattle.ig_syntax.specs.Rules as rule
+use Rattle.ig_syntax.specs.Rules.{IsPattern, IsFilter, ReadsFilters}
 use Rattle.ig_grammar.specs.declared.filter.Filter.{Filter}
 use Rattle.ig_rules.specs.Machine as want
 use Rattle.ig_rules.specs.Machine.{Want, after, after_pattern, after_filters}

@@ -2,7 +2,7 @@
 use Rattle.std.proofs.Common.{◌≡◌, ℕ, ◌+◌, ◌≤◌, ◌<◌, List, [], ◌∷◌, ◌++◌, length, drop, refl, sym, ap, ◌∙◌, subst, true, arith, append_assoc}
 use Rattle.std.specs.Prelude.{Some, None}
 use Rattle.std.proofs.lemmas.List.{append-nil}
-use Rattle.ig_grammar.specs.Token.{Token, Comma}
+use Rattle.ig_syntax.specs.Token.{Token, Comma}
 use Rattle.ig_rules.specs.Machine.{Want, may_lack, after}
 use Rattle.ig_rules.specs.Machine as want
 use Rattle.ig_rules.specs.Reading.{Goes}

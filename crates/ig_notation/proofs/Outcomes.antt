@@ -2,9 +2,10 @@
 use Rattle.std.proofs.Common.{◌≡◌, ℕ, zero, suc, ◌≤◌, ◌<◌, List, [], ◌∷◌, length, get_or, refl, sym, ap, subst, arith}
 use Rattle.std.specs.Prelude.{Result, Ok, Err, IfErr, chars}
 use Rattle.std.specs.Result.{IsErrAnd}
-use Rattle.ig_grammar.specs.Rules.{FollowsRules}
-use Rattle.ig_grammar.specs.Lexing.{Lexes}
-use Rattle.ig_grammar.specs.Stops.{Stops}
+use Rattle.ig_syntax.specs.Notation.{most_bytes}
+use Rattle.ig_syntax.specs.Rules.{FollowsRules}
+use Rattle.ig_syntax.specs.Lexing.{Lexes}
+use Rattle.ig_syntax.specs.Stops.{Stops}
 use Rattle.ig_grammar.specs.declared.grammar.Grammar.{Grammar}
 use Rattle.ig_tokens.specs.View.{token_of, tokens_of}
 use Rattle.ig_tokens.specs.Faults.{IsFault}
@@ -27,11 +28,11 @@ same_tokens [] = refl
 same_tokens (p ∷ placed) = ap (λ z. token_of p.token ∷ z) (same_tokens placed)
 
 -- the text and its tokens, as the tests find them
-pub has_tokens : (source : List ℕ) (items placed : List Placed) → length source ≤ 262144 → Lexes 0 (chars source) (tokens_of items) → placed ≡ items →
+pub has_tokens : (source : List ℕ) (items placed : List Placed) → length source ≤ most_bytes → Lexes 0 (chars source) (tokens_of items) → placed ≡ items →
     HasTokens source (tokens_of placed)
 has_tokens source items placed l h e = record { bytes = l; lexed = subst (λ z. Lexes 0 (chars source) (tokens_of z)) (sym e) h }
 
-pub token_fault : (source : List ℕ) (fault : TokenFault) → length source ≤ 262144 → IsFault (chars source) fault → IsReadFault source (fault_of fault)
+pub token_fault : (source : List ℕ) (fault : TokenFault) → length source ≤ most_bytes → IsFault (chars source) fault → IsReadFault source (fault_of fault)
 token_fault source (Broken at) l h = no_token at l h
 token_fault source OutOfMemory l h = no_memory
 

@@ -1,30 +1,31 @@
 -- A text has one list of tokens, so it reads as one grammar at most, and one that is read has no fault.
 use Rattle.std.proofs.Common.{◌≡◌, ℕ, ◌≤◌, List, refl, sym, subst, arith}
 use Rattle.std.specs.Prelude.{chars, length}
-use Rattle.ig_grammar.specs.Token.{Token}
-use Rattle.ig_grammar.specs.Rules.{FollowsRules}
+use Rattle.ig_syntax.specs.Notation.{most_bytes}
+use Rattle.ig_syntax.specs.Token.{Token}
+use Rattle.ig_syntax.specs.Rules.{FollowsRules}
 use Rattle.ig_grammar.specs.declared.grammar.Grammar.{Grammar}
-use Rattle.ig_tokens.proofs.Lexed.{tokens_are_single, never_both}
-use Rattle.ig_rules.proofs.OneGrammar.{grammar_one}
+use Rattle.ig_tokens.specs.Laws.{TokensAreSingle, NeverBoth}
+use Rattle.ig_rules.specs.Laws as rules
 use Rattle.ig_notation.specs.Limits.{NumbersFit, IsShallow}
 use Rattle.ig_notation.specs.Outcome.{HasTokens, IsRead, too_many_bytes, no_token, large_number, deep, against_rules, no_memory, OneReading, ReadOrRefused, unplaced}
 
-same_tokens : (source : List ℕ) (g : Grammar) (read : IsRead source g) (tokens : List (Token × ℕ)) → HasTokens source tokens →
+same_tokens : TokensAreSingle → (source : List ℕ) (g : Grammar) (read : IsRead source g) (tokens : List (Token × ℕ)) → HasTokens source tokens →
     read.tokens ≡ tokens
-same_tokens source g read tokens has = tokens_are_single 0 (chars source) read.tokens tokens read.are_tokens.lexed has.lexed
+same_tokens single source g read tokens has = single 0 (chars source) read.tokens tokens read.are_tokens.lexed has.lexed
 
-pub only_reading : OneReading
-only_reading source g h a b =
-    grammar_one a.follows
-    (subst (λ (z : List (Token × ℕ)). FollowsRules (unplaced z) h) (sym (same_tokens source g a b.tokens b.are_tokens)) b.follows)
+pub only_reading : TokensAreSingle → rules.OneReading → OneReading
+only_reading single one source g h a b =
+    one (unplaced a.tokens) g h a.follows
+    (subst (λ (z : List (Token × ℕ)). FollowsRules (unplaced z) h) (sym (same_tokens single source g a b.tokens b.are_tokens)) b.follows)
 
-pub not_both : ReadOrRefused
-not_both source g fault a (too_many_bytes more) = let few : length source ≤ 262144 = a.are_tokens.bytes in absurd (omega arith)
-not_both source g fault a (no_token at few breaks) = absurd (never_both 0 (chars source) a.tokens at a.are_tokens.lexed breaks)
-not_both source g fault a (large_number tokens has large) =
-    absurd (large (subst (λ (z : List (Token × ℕ)). NumbersFit (unplaced z)) (same_tokens source g a tokens has) a.numbers))
-not_both source g fault a (deep tokens has fit large) =
-    absurd (large (subst (λ (z : List (Token × ℕ)). IsShallow (unplaced z)) (same_tokens source g a tokens has) a.shallow))
-not_both source g fault a (against_rules tokens number at has fit shallow stops e) =
-    absurd (stops.not_all (g, subst (λ (z : List (Token × ℕ)). FollowsRules (unplaced z) g) (same_tokens source g a tokens has) a.follows))
-not_both source g fault a no_memory = refl
+pub not_both : TokensAreSingle → NeverBoth → ReadOrRefused
+not_both single never source g fault a (too_many_bytes more) = let few : length source ≤ most_bytes = a.are_tokens.bytes in absurd (omega arith)
+not_both single never source g fault a (no_token at few breaks) = absurd (never 0 (chars source) a.tokens at a.are_tokens.lexed breaks)
+not_both single never source g fault a (large_number tokens has large) =
+    absurd (large (subst (λ (z : List (Token × ℕ)). NumbersFit (unplaced z)) (same_tokens single source g a tokens has) a.numbers))
+not_both single never source g fault a (deep tokens has fit large) =
+    absurd (large (subst (λ (z : List (Token × ℕ)). IsShallow (unplaced z)) (same_tokens single source g a tokens has) a.shallow))
+not_both single never source g fault a (against_rules tokens number at has fit shallow stops e) =
+    absurd (stops.not_all (g, subst (λ (z : List (Token × ℕ)). FollowsRules (unplaced z) g) (same_tokens single source g a tokens has) a.follows))
+not_both single never source g fault a no_memory = refl

@@ -3,7 +3,7 @@ use Rattle.std.proofs.Common.{◌≡◌, ℕ, zero, suc, ◌+◌, ◌≤◌, ◌
 use Rattle.std.specs.Prelude.{All, Result, Ok, Err, IfErr, Option, Some, None, ◌&&◌, if◌then◌else◌}
 use Rattle.std.proofs.lemmas.List.{length-map}
 use Rattle.std.specs.Result.{IsErrAnd}
-use Rattle.ig_grammar.specs.Token.{Token}
+use Rattle.ig_syntax.specs.Token.{Token}
 use Rattle.ig_tokens.specs.View.{token_of}
 use Rattle.ig_tokens.specs.declared.token.Placed.{Placed}
 use Rattle.ig_tokens.specs.declared.token.Token.{Token as Stored}

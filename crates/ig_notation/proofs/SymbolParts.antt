@@ -3,14 +3,14 @@ use Rattle.std.proofs.Common.{◌≡◌, ℕ, suc, ◌+◌, ◌≤◌, List, [],
 use Rattle.std.specs.Prelude.{Option, Some, None, is_some}
 use Rattle.ig_text.specs.declared.pattern.Pattern.{Pattern}
 use Rattle.ig_expr.specs.Expression.{Expression}
-use Rattle.ig_grammar.specs.Token as token
-use Rattle.ig_grammar.specs.Token.{Token, Name, Head, Colon, Open, Close, Equals, When, Bar, OpenBrace, CloseBrace}
+use Rattle.ig_syntax.specs.Token as token
+use Rattle.ig_syntax.specs.Token.{Token, Name, Head, Colon, Open, Close, Equals, When, Bar, OpenBrace, CloseBrace}
 use Rattle.ig_grammar.specs.Symbol as tree
 use Rattle.ig_grammar.specs.Symbol.{Symbol, Symbols, Alternatives, gathered}
 use Rattle.ig_grammar.specs.Alternative.{gathered_alternatives}
 use Rattle.ig_grammar.specs.declared.symbol.Alt.{Alt}
-use Rattle.ig_grammar.specs.Rules as rule
-use Rattle.ig_grammar.specs.Rules.{IsPattern, IsSeparated, ReadsExpression, ReadsArguments, ReadsFilters, ReadsSign, ReadsSymbol, ReadsMarked, ReadsPost, ReadsAtom, ReadsAlternative, ReadsAlternatives, filtered}
+use Rattle.ig_syntax.specs.Rules as rule
+use Rattle.ig_syntax.specs.Rules.{IsPattern, IsSeparated, ReadsExpression, ReadsArguments, ReadsFilters, ReadsSign, ReadsSymbol, ReadsMarked, ReadsPost, ReadsAtom, ReadsAlternative, ReadsAlternatives, filtered}
 use Rattle.ig_rules.specs.Machine as want
 use Rattle.ig_rules.specs.Machine.{Want, after, before, run, all_may_lack, after_symbol, after_atom, after_pattern, arguments_wants, alternatives_wants}
 use Rattle.ig_rules.specs.Reading.{Goes}

@@ -1,10 +1,17 @@
 -- The limits that the tokens of a grammar text keep.
 use Rattle.std.specs.Prelude.{◌≡◌, ℕ, ◌+◌, ◌-◌, ◌^◌, ◌<◌, ◌≤◌, List, [], ◌∷◌, ◌++◌, All}
-use Rattle.ig_grammar.specs.Token.{Token, Head, Number, Open, Close, OpenBrace, CloseBrace}
+use Rattle.ig_syntax.specs.Token.{Token, Head, Number, Open, Close, OpenBrace, CloseBrace}
 
--- a number is at most 9,223,372,036,854,775,807
+-- each number is below this one
+abbrev pub number_bound : ℕ
+number_bound = 2 ^ 63
+
+-- the most brackets that may be open at one place
+abbrev pub most_open : ℕ
+most_open = 64
+
 abbrev pub NumberFits : Token → Type 0
-NumberFits (Number n) = n < 2 ^ 63
+NumberFits (Number n) = n < number_bound
 NumberFits t = Unit {0}
 
 abbrev pub NumbersFit : List Token → Type 0
@@ -24,9 +31,9 @@ abbrev pub open_behind : ℕ → List Token → ℕ
 open_behind n [] = n
 open_behind n (t ∷ tokens) = open_behind (opened n t) tokens
 
--- nowhere are more than 64 open, where n are open at the front
+-- nowhere are more open than that, where n are open at the front
 abbrev pub IsShallowFrom : ℕ → List Token → Type 0
-IsShallowFrom n tokens = (front rest : List Token) → tokens ≡ front ++ rest → open_behind n front ≤ 64
+IsShallowFrom n tokens = (front rest : List Token) → tokens ≡ front ++ rest → open_behind n front ≤ most_open
 
 abbrev pub IsShallow : List Token → Type 0
 IsShallow tokens = IsShallowFrom 0 tokens

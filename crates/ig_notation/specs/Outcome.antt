@@ -1,12 +1,14 @@
 -- Which texts are read, and why others aren't.
 use Rattle.std.specs.Prelude.{◌≡◌, ℕ, zero, suc, ◌<◌, ◌≤◌, List, [], ◌∷◌, length, map, chars, IsUtf8}
-use Rattle.ig_grammar.specs.Token.{Token}
-use Rattle.ig_grammar.specs.Rules.{FollowsRules}
-use Rattle.ig_grammar.specs.Lexing.{Lexes, Breaks}
-use Rattle.ig_grammar.specs.Stops.{Stops}
+use Rattle.ig_syntax.specs.Token.{Token}
+use Rattle.ig_syntax.specs.Rules.{FollowsRules}
+use Rattle.ig_syntax.specs.Lexing.{Lexes, Breaks}
+use Rattle.ig_syntax.specs.Notation.{most_bytes}
+use Rattle.ig_syntax.specs.Stops.{Stops}
 use Rattle.ig_grammar.specs.Regular.{IsRegular, HasFewerThan}
 use Rattle.ig_grammar.specs.declared.grammar.Grammar.{Grammar}
 use Rattle.ig_rules.specs.Laws.{AreOfGrammar}
+use Rattle.ig_rules.specs.Names.{HasNames}
 use Rattle.ig_notation.specs.Limits.{NumbersFit, IsShallow}
 use Rattle.ig_tokens.specs.declared.token.TokenFault.{TokenFault}
 use Rattle.ig_tokens.specs.declared.token.TokenFault.TheVariants.{Broken, Memory as OutOfMemory}
@@ -20,9 +22,9 @@ use Rattle.ig_notation.specs.declared.fault.Large.TheVariants as large
 abbrev pub unplaced : List (Token × ℕ) → List Token
 unplaced tokens = map (λ p. p.0) tokens
 
--- the text has at most 262,144 bytes, and these tokens
+-- the text has at most so many bytes, and these tokens
 pub record HasTokens (source : List ℕ) (tokens : List (Token × ℕ)) : Type 0 where
-  pub bytes : length source ≤ 262144
+  pub bytes : length source ≤ most_bytes
   pub lexed : Lexes 0 (chars source) tokens
 
 -- a text, by its bytes, reads as the grammar
@@ -50,10 +52,10 @@ refusal_of end tokens Memory = faults.Memory
 
 -- why a text isn't read: the first of these tests that fails
 pub data IsReadFault (source : List ℕ) : ReadFault → Type 0 where
-  -- it has more than 262,144 bytes
-  too_many_bytes : 262144 < length source → IsReadFault source (faults.TooLarge large.Bytes)
+  -- it has too many bytes
+  too_many_bytes : most_bytes < length source → IsReadFault source (faults.TooLarge large.Bytes)
   -- behind some separators and tokens neither begins
-  no_token : (at : ℕ) → length source ≤ 262144 → Breaks 0 (chars source) at → IsReadFault source (faults.Syntax at)
+  no_token : (at : ℕ) → length source ≤ most_bytes → Breaks 0 (chars source) at → IsReadFault source (faults.Syntax at)
   -- a number is too large
   large_number : (tokens : List (Token × ℕ)) → HasTokens source tokens → (NumbersFit (unplaced tokens) → ⊥) →
       IsReadFault source (faults.TooLarge large.Number)
@@ -76,7 +78,12 @@ abbrev pub ReadOrRefused : Type 0
 ReadOrRefused =
     (source : List ℕ) (g : Grammar) (fault : ReadFault) → IsRead source g → IsReadFault source fault → fault ≡ faults.Memory
 
--- a grammar that is read is regular, and has at most 262,144 declarations, levels, alternatives and symbols
+-- a grammar that is read is regular, and has no more declarations, levels, alternatives and symbols than a text may have
+-- bytes
 abbrev pub ReadGrammarsAreRegular : Type 0
 ReadGrammarsAreRegular =
-    (source : List ℕ) (g : Grammar) → IsUtf8 source → IsRead source g → IsRegular g × HasFewerThan 262145 g
+    (source : List ℕ) (g : Grammar) → IsUtf8 source → IsRead source g → IsRegular g × HasFewerThan (suc most_bytes) g
+
+-- each name in a grammar that is read is a name of the notation
+abbrev pub ReadNamesAreNames : Type 0
+ReadNamesAreNames = (source : List ℕ) (g : Grammar) → IsRead source g → HasNames g

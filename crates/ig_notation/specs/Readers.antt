@@ -3,10 +3,10 @@ use Rattle.std.specs.Prelude.{◌≡◌, ℕ, ◌+◌, ◌<◌, List, [], ◌∷
 use Rattle.ig_text.specs.declared.pattern.Pattern.{Pattern}
 use Rattle.ig_text.specs.declared.pattern.Pattern.TheVariants.{Literal as Spelled, OneOf as AnyOf}
 use Rattle.ig_expr.specs.Expression.{Expression}
-use Rattle.ig_grammar.specs.Token as token
-use Rattle.ig_grammar.specs.Token.{Token, Name, Head, Close, Equals, Semicolon}
+use Rattle.ig_syntax.specs.Token as token
+use Rattle.ig_syntax.specs.Token.{Token, Name, Head, Close, Equals, Semicolon}
 use Rattle.ig_grammar.specs.Symbol as tree
-use Rattle.ig_grammar.specs.Rules.{IsFunction, ReadsTerm, ReadsFilters, ReadsPost, IsDeclKind, IsKind, ReadsLevels, ReadsDeclaration, ReadsDeclarations, ReadsAssociativity, filtered}
+use Rattle.ig_syntax.specs.Rules.{IsFunction, ReadsTerm, ReadsFilters, ReadsPost, IsDeclKind, IsKind, ReadsLevels, ReadsDeclaration, ReadsDeclarations, ReadsAssociativity, filtered}
 use Rattle.ig_grammar.specs.declared.filter.Filter.{Filter}
 use Rattle.ig_grammar.specs.declared.declaration.Assoc.{Assoc}
 use Rattle.ig_grammar.specs.declared.declaration.DeclKind.{DeclKind}

@@ -1,6 +1,6 @@
 //! Why a text gave no grammar.
 
-ghost use Rattle.std.specs.Prelude.{◌≡◌, [], ◌∷◌, ◌++◌, OnOk, IfErr};
+ghost use Rattle.std.specs.Prelude.{◌≡◌, [], ◌∷◌, ◌++◌, OnOk};
 
 use ig_tokens::TokenFault;
 use std::alloc::AllocError;
@@ -64,13 +64,20 @@ impl From<AllocError> for RuleFault {
     }
 }
 
-/// Adds the value at the end of the list.
-pub(crate) fn add<T: Drop>(list: &mut Vec<T>, value: T) -> Result<(), RuleFault>
-    ensures ok { OnOk result (list.new.items ≡ list.old.items ++ value ∷ []) }
-    ensures err { IfErr result (λ e. e ≡ RuleFault.Memory) }
-{
-    match list.push(value) {
-        Ok(()) => Ok(()),
-        Err(_) => Err(RuleFault::Memory),
+impl<T: Drop> From<(T, AllocError)> for RuleFault {
+    ghost use Rattle.ig_notation.specs.declared.fault.RuleFault.TheVariants.{Memory};
+
+    ghost from_gives = { λ _ fault. fault ≡ Memory };
+
+    fn from(_refused: (T, AllocError)) -> RuleFault {
+        RuleFault::Memory
     }
+}
+
+/// Adds the value at the end of the list.
+pub(crate) fn add<T: Drop>(list: &mut Vec<T>, value: T) -> Result<(), AllocError>
+    ensures ok { OnOk result (list.new.items ≡ list.old.items ++ value ∷ []) }
+{
+    list.push(value)?;
+    Ok(())
 }

@@ -1,20 +1,22 @@
-//! Reading filters. Each function reads from the token of number `at`, and returns what it read with
-//! the number of the first token behind it.
+//! Reading filters. Each function reads from the token of number `at`, and returns what it read
+//! with the number of the first token behind it.
 
-ghost use Rattle.std.specs.Prelude.{◌≡◌, ◌≤◌, [], ◌∷◌, List, length, None, IfOk, IfErr, MatchOption};
+ghost use Rattle.std.specs.Prelude.{◌≡◌, ◌≤◌, [], ◌∷◌, List, length, None, IfOk, IfErr};
+ghost use Rattle.std.specs.Prelude.{MatchOption};
 ghost use Rattle.ig_tokens.specs.View.{token_of};
-ghost use Rattle.ig_grammar.specs.Rules.{IsPattern, ReadsFilters};
+ghost use Rattle.ig_syntax.specs.Rules.{IsPattern, ReadsFilters};
 ghost use Rattle.ig_grammar.specs.declared.filter.Filter.{Filter as SpecFilter};
 ghost use Rattle.ig_rules.specs.Machine as want;
 ghost use Rattle.ig_rules.specs.Machine.{after_pattern};
 ghost use Rattle.ig_rules.specs.Reading.{Goes};
-ghost use Rattle.ig_notation.specs.Readers.{meanings, Stands, Misses, Finds, StopsAt, filter_token, filter_of};
+ghost use Rattle.ig_notation.specs.Readers.{Stands, Misses, Finds, StopsAt, filter_token};
+ghost use Rattle.ig_notation.specs.Readers.{filter_of};
 
 use crate::fault::{RuleFault, add};
-use crate::signs::{ahead, token_at};
+use crate::signs::{Tokens, ahead, token_at};
 use ig_grammar::{Filter, Filters};
 use ig_text::{Class, Pattern};
-use ig_tokens::{Placed, Token, class_of, literal_text};
+use ig_tokens::{Token, class_of, literal_text};
 use std::alloc::{AllocError, Global};
 
 /// The signs of filters.
@@ -28,12 +30,13 @@ pub(crate) enum FilterSign {
 /// Reads filters, maybe none.
 pub(crate) fn read_filters(
     alloc: Global,
-    tokens: &[Placed],
+    tokens: &Tokens,
     at: usize,
 ) -> Result<(Filters, usize), RuleFault>
-    requires { at ≤ length (meanings tokens.now) }
-    ensures ok { IfOk result (λ r. Goes (List SpecFilter) ReadsFilters (want.filters ∷ []) [] (meanings tokens.now) at r.1 r.0) }
-    ensures err { IfErr result (StopsAt (want.filters ∷ []) (meanings tokens.now) at) }
+    requires { at ≤ length tokens.now }
+    ensures ok { IfOk result (λ r. Goes (List SpecFilter) ReadsFilters (want.filters ∷ []) []
+        tokens.now at r.1 r.0) }
+    ensures err { IfErr result (StopsAt (want.filters ∷ []) tokens.now at) }
 {
     let mut filters = Vec::new(alloc);
     let mut end = at;
@@ -46,9 +49,9 @@ pub(crate) fn read_filters(
 }
 
 /// The pattern of a filter that stands there, in front of the token of the next number.
-fn read_pattern(alloc: Global, tokens: &[Placed], at: usize) -> Result<Pattern, RuleFault>
-    ensures ok { IfOk result (λ p. Finds (λ t. IsPattern t p) (meanings tokens.now) at) }
-    ensures err { IfErr result (StopsAt (want.pattern ∷ []) (meanings tokens.now) at) }
+fn read_pattern(alloc: Global, tokens: &Tokens, at: usize) -> Result<Pattern, RuleFault>
+    ensures ok { IfOk result (λ p. Finds (λ t. IsPattern t p) tokens.now at) }
+    ensures err { IfErr result (StopsAt (want.pattern ∷ []) tokens.now at) }
 {
     match pattern_of(alloc, ahead(tokens, at)?)? {
         Some(pattern) => Ok(pattern),
@@ -58,7 +61,8 @@ fn read_pattern(alloc: Global, tokens: &[Placed], at: usize) -> Result<Pattern, 
 
 /// The pattern that a token is, a literal or a class; `None` exactly where it is neither.
 pub(crate) fn pattern_of(alloc: Global, token: Token) -> Result<Option<Pattern>, AllocError>
-    ensures { IfOk result (λ r. MatchOption r (after_pattern (token_of token.entry) ≡ None) (IsPattern (token_of token.entry))) }
+    ensures { IfOk result (λ r. MatchOption r (after_pattern (token_of token.entry) ≡ None)
+        (IsPattern (token_of token.entry))) }
 {
     match token {
         Token::Literal(inside) => Ok(Some(Pattern::Literal(literal_text(alloc, inside)?))),
@@ -71,8 +75,9 @@ pub(crate) fn pattern_of(alloc: Global, token: Token) -> Result<Option<Pattern>,
 }
 
 /// The sign of a filter that stands there; `None` exactly where none does.
-fn filter_sign_at(tokens: &[Placed], at: usize) -> Option<FilterSign>
-    ensures { MatchOption result (Misses want.filters (meanings tokens.now) at) (λ s. Stands (meanings tokens.now) at (filter_token s)) }
+fn filter_sign_at(tokens: &Tokens, at: usize) -> Option<FilterSign>
+    ensures { MatchOption result (Misses want.filters tokens.now at)
+        (λ s. Stands tokens.now at (filter_token s)) }
 {
     match token_at(tokens, at)? {
         Token::NotFollowedBy => Some(FilterSign::NotFollowed),

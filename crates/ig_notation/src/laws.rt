@@ -1,6 +1,7 @@
 //! Laws of reading: each is the contract of a function that computes nothing.
 
-ghost use Rattle.ig_notation.specs.Outcome.{OneReading, ReadGrammarsAreRegular, ReadOrRefused};
+ghost use Rattle.ig_notation.specs.Outcome.{OneReading, ReadOrRefused};
+ghost use Rattle.ig_notation.specs.Outcome.{ReadGrammarsAreRegular, ReadNamesAreNames};
 
 /// A text reads as one grammar at most. This law, proved of all texts, computes nothing.
 pub fn one_reading()
@@ -19,8 +20,21 @@ pub fn texts_are_read_or_refused()
     ig_tokens::texts_never_do_both();
 }
 
-/// A grammar that is read is regular, and has at most as many declarations as a grammar text may have
-/// bytes. This law, proved of all texts, computes nothing.
+/// A grammar that is read is regular, and has at most as many declarations as a grammar text may
+/// have bytes. This law, proved of all texts, computes nothing.
 pub fn read_grammars_are_regular()
     ensures { ReadGrammarsAreRegular }
-{}
+{
+    ig_tokens::tokens_are_few();
+    ig_rules::reads_are_regular();
+    ig_rules::reads_are_counted();
+}
+
+/// Each name in a grammar that is read is a name of the notation: those declared, those of
+/// parameters, labels and lets, those called, and the variables of expressions. This law, proved of
+/// all texts, computes nothing.
+pub fn read_names_are_names()
+    ensures { ReadNamesAreNames }
+{
+    ig_rules::reads_are_named();
+}

@@ -1,11 +1,11 @@
 //! The reader of grammar texts.
 //!
 //! [`read`] gives the grammar that a text reads as, or why it doesn't read as one. It tests the
-//! number of bytes, the tokens, the numbers, the nesting of brackets, and last the rules, by recursive
-//! descent over the tokens. `specs/Outcome.antt` says which texts are read and what each fault means.
-//! Each function that reads a part promises that the tokens which it takes read as what it returns by
-//! the rules, and that the machine of ig_rules does the same on every stack; so where it stops, the
-//! tokens stop following the rules.
+//! number of bytes, the tokens, the numbers, the nesting of brackets, and last the rules, by
+//! recursive descent over the tokens. `specs/Outcome.antt` says which texts are read and what each
+//! fault means. Each function that reads a part promises that the tokens which it takes read as
+//! what it returns by the rules, and that the machine of ig_rules does the same on every stack; so
+//! where it stops, the tokens stop following the rules.
 #![tactic(auto)]
 
 mod declarations;
@@ -21,5 +21,8 @@ mod symbols;
 mod tests;
 
 pub use fault::{Large, ReadFault};
-pub use laws::{one_reading, read_grammars_are_regular, texts_are_read_or_refused};
-pub use source::{MOST_BYTES, read};
+pub use laws::{
+    one_reading, read_grammars_are_regular, read_names_are_names, texts_are_read_or_refused,
+};
+pub use ig_tokens::MOST_BYTES;
+pub use source::read;

@@ -2,7 +2,7 @@
 
 ghost use Rattle.std.specs.Prelude.{◌≡◌, ◌≤◌, ◌↔◌, IsTrue};
 ghost use Rattle.ig_tokens.specs.View.{token_of};
-ghost use Rattle.ig_notation.specs.Limits.{NumberFits, NumbersFit, IsShallow, opened};
+ghost use Rattle.ig_notation.specs.Limits.{NumberFits, NumbersFit, IsShallow, most_open, opened};
 ghost use Rattle.ig_notation.specs.Readers.{meanings};
 
 use ig_tokens::{Placed, Token, number_of};
@@ -49,7 +49,7 @@ pub(crate) fn is_shallow(tokens: &[Placed]) -> bool
 
 /// The number of brackets that are open behind the token, where `before` are before it.
 fn opened(before: usize, token: Token) -> usize
-    requires { before ≤ 64 }
+    requires { before ≤ most_open }
     ensures { result ≡ opened before (token_of token.entry) }
 {
     match token {

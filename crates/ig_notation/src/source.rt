@@ -1,26 +1,25 @@
 //! Reading a grammar text.
 
 ghost use Rattle.std.specs.Prelude.{◌≡◌, ◌≤◌, IfOk, IfErr, length};
+ghost use Rattle.ig_syntax.specs.Notation.{most_bytes};
 ghost use Rattle.ig_tokens.specs.View.{tokens_of};
 ghost use Rattle.ig_notation.specs.Outcome.{IsRead, IsReadFault, byte_of, refusal_of};
 
 use crate::declarations::read_grammar;
 use crate::fault::{Large, ReadFault, RuleFault};
 use crate::limits::{is_shallow, numbers_fit};
+use crate::signs::Tokens;
 use ig_grammar::Grammar;
-use ig_tokens::{Placed, tokenize};
+use ig_tokens::{MOST_BYTES, Placed, tokenize};
 use std::alloc::Global;
-
-/// The most bytes that a grammar text may have.
-pub const MOST_BYTES: usize = 262_144;
 
 /// The grammar that a text reads as. The first test that fails decides: more than 262,144 bytes are
 /// `TooLarge`; a text that is no sequence of tokens is `Syntax` at the byte at which, after the
 /// separators and tokens before it, neither a separator nor a token begins; a number greater than
 /// 9,223,372,036,854,775,807 is `TooLarge`; more than 64 brackets open at one place are `TooLarge`;
 /// tokens against the rules are `Syntax` at the first byte of the first token such that no sequence
-/// of tokens that follows the rules begins with the tokens up to and including it, and at the length
-/// of the text where there is no such token.
+/// of tokens that follows the rules begins with the tokens up to and including it, and at the
+/// length of the text where there is no such token.
 pub fn read(alloc: Global, source: &str) -> Result<Grammar, ReadFault>
     ensures ok { IfOk result (IsRead source.now) }
     ensures fault { IfErr result (IsReadFault source.now) }
@@ -43,7 +42,8 @@ pub fn read(alloc: Global, source: &str) -> Result<Grammar, ReadFault>
         });
     }
     ig_rules::run_stops();
-    match read_grammar(alloc, tokens) {
+    let fitting = Tokens::new(tokens);
+    match read_grammar(alloc, &fitting) {
         Ok(grammar) => Ok(grammar),
         Err(fault) => Err(refusal(tokens, fault, source)),
     }
@@ -51,7 +51,7 @@ pub fn read(alloc: Global, source: &str) -> Result<Grammar, ReadFault>
 
 /// The fault of the text, of which the tokens are at fault by the rules.
 fn refusal(tokens: &[Placed], fault: RuleFault, source: &str) -> ReadFault
-    requires { length source.now ≤ 262144 }
+    requires { length source.now ≤ most_bytes }
     ensures { result ≡ refusal_of (length source.now) (tokens_of tokens.now) fault }
 {
     match fault {
@@ -64,7 +64,7 @@ fn refusal(tokens: &[Placed], fault: RuleFault, source: &str) -> ReadFault
 
 /// The first byte of the token of that number, or the length of the text where there is none.
 fn byte_of(tokens: &[Placed], number: usize, source: &str) -> u32
-    requires { length source.now ≤ 262144 }
+    requires { length source.now ≤ most_bytes }
     ensures { result ≡ byte_of (length source.now) (tokens_of tokens.now) number }
 {
     match tokens.get(number) {

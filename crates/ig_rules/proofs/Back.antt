@@ -3,21 +3,21 @@ use Rattle.std.proofs.Common.{◌≡◌, ℕ, List, [], ◌∷◌, refl, sym, su
 use Rattle.std.specs.Prelude.{Option, Some, None, ◌||◌, ◌⊎◌, codes}
 use Rattle.std.specs.Cmp.Lexicographic.{bytes_decides}
 use Rattle.std.proofs.lemmas.Bool.{cond_both}
-use Rattle.ig_expr.specs.Names.{is_word}
+use Rattle.ig_text.specs.Words.{is_word}
 use Rattle.ig_expr.specs.Expression.{Expression}
 use Rattle.ig_expr.specs.declared.operator.Op.{Op}
 use Rattle.ig_expr.specs.declared.operator.Op.TheVariants as op
 use Rattle.ig_expr.specs.declared.operator.Function.{Function}
 use Rattle.ig_expr.specs.declared.operator.Function.TheVariants as functions
 use Rattle.ig_text.specs.declared.pattern.Pattern.{Pattern}
-use Rattle.ig_grammar.specs.Token.{Token, Name, Head, Number, Literal, OneOf, Equals, Bar, Greater, Colon, Comma, Open, Close, OpenBrace, Question, Star, Plus, Minus, Backslash, NotFollowedBy, NotPrecededBy, EqualTo, NotEqualTo, Less, AtMost, AtLeast}
-use Rattle.ig_grammar.specs.Token.{Offside, Ignore, Align, When, Let, Here, True, False, And, Or, Not, Div, Mod}
+use Rattle.ig_syntax.specs.Token.{Token, Name, Head, Number, Literal, OneOf, Equals, Bar, Greater, Colon, Comma, Open, Close, OpenBrace, Question, Star, Plus, Minus, Backslash, NotFollowedBy, NotPrecededBy, EqualTo, NotEqualTo, Less, AtMost, AtLeast}
+use Rattle.ig_syntax.specs.Token.{Offside, Ignore, Align, When, Let, Here, True, False, And, Or, Not, Div, Mod}
 use Rattle.ig_grammar.specs.Symbol as tree
 use Rattle.ig_grammar.specs.Symbol.{Symbol, Symbols, Alternatives}
 use Rattle.ig_grammar.specs.declared.filter.Filter.{Filter}
-use Rattle.ig_grammar.specs.Rules as rule
-use Rattle.ig_grammar.specs.Rules.{IsFunction, IsOperator, IsPattern, IsSeparated, IsFilter, IsDeclKind, ReadsTerm, ReadsExpression, ReadsArguments, ReadsFilters, ReadsSign, filtered}
-use Rattle.ig_grammar.specs.Rules.{ReadsSymbol, ReadsMarked, ReadsPost, ReadsAtom, ReadsAlternatives, ReadsAlternative, ReadsLevels, ReadsParameters, ReadsDeclaration}
+use Rattle.ig_syntax.specs.Rules as rule
+use Rattle.ig_syntax.specs.Rules.{IsFunction, IsOperator, IsPattern, IsSeparated, IsFilter, IsDeclKind, ReadsTerm, ReadsExpression, ReadsArguments, ReadsFilters, ReadsSign, filtered}
+use Rattle.ig_syntax.specs.Rules.{ReadsSymbol, ReadsMarked, ReadsPost, ReadsAtom, ReadsAlternatives, ReadsAlternative, ReadsLevels, ReadsParameters, ReadsDeclaration}
 use Rattle.ig_rules.specs.Machine.{Want, alternative, symbol, marked, post, atom, expression, term}
 use Rattle.ig_rules.specs.Machine.{alternatives_rest, arguments_rest, operator_rest, filters, sign, name_rest, pattern, list_sign}
 use Rattle.ig_rules.specs.Machine.{name, literal, equals, comma, open_bracket, close_bracket, close_brace}

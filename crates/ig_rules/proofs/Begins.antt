@@ -6,8 +6,8 @@ use Rattle.ig_expr.specs.declared.operator.Op.{Op}
 use Rattle.ig_expr.specs.declared.operator.Function.{Function}
 use Rattle.ig_expr.specs.declared.kind.Kind.{Kind}
 use Rattle.ig_text.specs.declared.pattern.Pattern.{Pattern}
-use Rattle.ig_grammar.specs.Token.{Token, Name, Head, Number, Literal, OneOf, Semicolon, Equals, Bar, Greater, Colon, Comma, Open, Close, OpenBrace, CloseBrace, Question, Star, Plus, Minus}
-use Rattle.ig_grammar.specs.Token.{Start, Left, Right, Nonassoc, Offside, Ignore, Align, When, Let, Here, True, False, Not}
+use Rattle.ig_syntax.specs.Token.{Token, Name, Head, Number, Literal, OneOf, Semicolon, Equals, Bar, Greater, Colon, Comma, Open, Close, OpenBrace, CloseBrace, Question, Star, Plus, Minus}
+use Rattle.ig_syntax.specs.Token.{Start, Left, Right, Nonassoc, Offside, Ignore, Align, When, Let, Here, True, False, Not}
 use Rattle.ig_grammar.specs.Symbol as tree
 use Rattle.ig_grammar.specs.Symbol.{Symbol, Symbols, Alternatives}
 use Rattle.ig_grammar.specs.declared.filter.Filter.{Filter}
@@ -16,9 +16,9 @@ use Rattle.ig_grammar.specs.declared.declaration.Assoc.{Assoc}
 use Rattle.ig_grammar.specs.declared.declaration.DeclKind.{DeclKind}
 use Rattle.ig_grammar.specs.declared.declaration.Level.{Level}
 use Rattle.ig_grammar.specs.declared.declaration.Decl.{Decl}
-use Rattle.ig_grammar.specs.Rules as rule
-use Rattle.ig_grammar.specs.Rules.{IsFunction, IsOperator, IsPattern, IsSeparated, IsFilter, IsKind, IsDeclKind, ReadsTerm, ReadsExpression, ReadsArguments, ReadsFilters, ReadsSign}
-use Rattle.ig_grammar.specs.Rules.{ReadsSymbol, ReadsMarked, ReadsPost, ReadsAtom, ReadsAlternatives, ReadsAlternative, ReadsAssociativity, ReadsLevel, ReadsLevels, ReadsParameters, ReadsDeclaration}
+use Rattle.ig_syntax.specs.Rules as rule
+use Rattle.ig_syntax.specs.Rules.{IsFunction, IsOperator, IsPattern, IsSeparated, IsFilter, IsKind, IsDeclKind, ReadsTerm, ReadsExpression, ReadsArguments, ReadsFilters, ReadsSign}
+use Rattle.ig_syntax.specs.Rules.{ReadsSymbol, ReadsMarked, ReadsPost, ReadsAtom, ReadsAlternatives, ReadsAlternative, ReadsAssociativity, ReadsLevel, ReadsLevels, ReadsParameters, ReadsDeclaration}
 use Rattle.ig_rules.specs.Machine.{Want, grammar, declarations, associativity, alternative, declaration, symbol, marked, post, atom, expression, term}
 use Rattle.ig_rules.specs.Machine.{operator_rest, filters, sign, name_rest, kind, pattern, list_sign}
 use Rattle.ig_rules.specs.Machine.{literal, comma, close_bracket}

@@ -2,10 +2,10 @@
 use Rattle.std.proofs.Common.{◌≡◌, ℕ, ◌+◌, List, [], ◌∷◌, ◌++◌, length, refl, sym, ap, subst, ◌∙◌, true, false, arith, inl, inr}
 use Rattle.std.specs.Prelude.{Some, None, ◌⊎◌}
 use Rattle.std.proofs.lemmas.List.{append_assoc}
-use Rattle.ig_grammar.specs.Token.{Token}
-use Rattle.ig_grammar.specs.Rules as rule
-use Rattle.ig_grammar.specs.Rules.{ReadsDeclarations, FollowsRules}
-use Rattle.ig_grammar.specs.Stops.{Stops}
+use Rattle.ig_syntax.specs.Token.{Token}
+use Rattle.ig_syntax.specs.Rules as rule
+use Rattle.ig_syntax.specs.Rules.{ReadsDeclarations, FollowsRules}
+use Rattle.ig_syntax.specs.Stops.{Stops}
 use Rattle.ig_grammar.specs.declared.declaration.Decl.{Decl}
 use Rattle.ig_grammar.specs.declared.grammar.Grammar.{Grammar}
 use Rattle.ig_rules.specs.Machine.{Want, grammar, declarations, all_may_lack, step, run}

@@ -1,7 +1,7 @@
 -- Tokens that a want doesn't bar stand behind it.
 use Rattle.std.proofs.Common.{◌≡◌, List, [], ◌∷◌, refl, subst, Bool, true, false}
 use Rattle.std.specs.Prelude.{Some, None}
-use Rattle.ig_grammar.specs.Token.{Token}
+use Rattle.ig_syntax.specs.Token.{Token}
 use Rattle.ig_rules.specs.Machine.{Want, may_lack, after, step}
 use Rattle.ig_rules.proofs.Begins.{Begins, takes, passed}
 use Rattle.ig_rules.proofs.Clear.{ends, some, Apart, Within, barred}

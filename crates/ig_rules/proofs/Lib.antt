@@ -10,7 +10,10 @@ pub mod OneExpression
 pub mod OneSymbol
 pub mod OneGrammar
 pub mod Tails
+pub mod Forms
 pub mod Standing
+pub mod Placing
+pub mod Naming
 pub mod Counting
 pub mod Regularity
 pub mod Moves

@@ -3,7 +3,7 @@
 use Rattle.std.proofs.Common.{◌≡◌, ℕ, suc, List, [], ◌∷◌, ◌++◌, refl, ap, Bool, true, false}
 use Rattle.std.specs.Prelude.{Option, Some, None}
 use Rattle.std.proofs.lemmas.List.{append_assoc}
-use Rattle.ig_grammar.specs.Token.{Token, Name, Colon, Question, Star, Plus, Minus, OpenBrace, Start, Offside, Ignore, Align, When, Let, Not}
+use Rattle.ig_syntax.specs.Token.{Token, Name, Colon, Question, Star, Plus, Minus, OpenBrace, Start, Offside, Ignore, Align, When, Let, Not}
 use Rattle.ig_rules.specs.Machine.{Want, grammar, declarations, declaration, alternative, symbol, marked, post, atom, expression, term, operator_rest, filters, sign, name_rest}
 use Rattle.ig_rules.specs.Machine.{before, may_lack, after, after_symbol, after_declaration, chosen, step, go, run}
 

@@ -2,7 +2,7 @@
 use Rattle.std.proofs.Common.{◌≡◌, List, [], ◌∷◌, refl, sym, ap, subst, ◌∙◌}
 use Rattle.std.specs.Prelude.{Some, None}
 use Rattle.ig_expr.specs.declared.kind.Kind.{Kind}
-use Rattle.ig_grammar.specs.Token.{Token, Equals, Bar, Greater, Close, Semicolon, Start}
+use Rattle.ig_syntax.specs.Token.{Token, Equals, Bar, Greater, Close, Semicolon, Start}
 use Rattle.ig_grammar.specs.Symbol.{Symbol, Alternatives, listed, gathered}
 use Rattle.ig_grammar.specs.Alternative.{gathered_alternatives}
 use Rattle.ig_grammar.specs.declared.symbol.Alt.{Alt}
@@ -12,8 +12,8 @@ use Rattle.ig_grammar.specs.declared.declaration.DeclKind.{DeclKind}
 use Rattle.ig_grammar.specs.declared.declaration.Level.{Level}
 use Rattle.ig_grammar.specs.declared.declaration.Decl.{Decl}
 use Rattle.ig_grammar.specs.declared.grammar.Grammar.{Grammar}
-use Rattle.ig_grammar.specs.Rules as rule
-use Rattle.ig_grammar.specs.Rules.{IsKind, IsDeclKind, ReadsAlternatives, ReadsAssociativity, ReadsLevel, ReadsLevels, ReadsParameters, ReadsDeclaration, ReadsDeclarations, FollowsRules}
+use Rattle.ig_syntax.specs.Rules as rule
+use Rattle.ig_syntax.specs.Rules.{IsKind, IsDeclKind, ReadsAlternatives, ReadsAssociativity, ReadsLevel, ReadsLevels, ReadsParameters, ReadsDeclaration, ReadsDeclarations, FollowsRules}
 use Rattle.ig_rules.specs.Machine.{associativity, alternative, alternatives_rest, levels_rest, parameters_rest}
 use Rattle.ig_rules.proofs.Begins.{alternative_begins, declaration_begins}
 use Rattle.ig_rules.proofs.BackDeclarations.{alternatives_list}

@@ -3,13 +3,13 @@ use Rattle.std.proofs.Common.{◌≡◌, ℕ, List, [], ◌∷◌, refl, sym, ap
 use Rattle.std.specs.Prelude.{Some}
 use Rattle.ig_text.specs.declared.pattern.Pattern.{Pattern}
 use Rattle.ig_expr.specs.Expression.{Expression}
-use Rattle.ig_grammar.specs.Token.{Token, Name, Bar, Colon, Close, CloseBrace, Offside, Ignore, Align, When, Let}
+use Rattle.ig_syntax.specs.Token.{Token, Name, Bar, Colon, Close, CloseBrace, Offside, Ignore, Align, When, Let}
 use Rattle.ig_grammar.specs.Symbol as tree
 use Rattle.ig_grammar.specs.Symbol.{Symbol, Symbols, next_symbol, Alternatives, no_alternatives, next_alternative}
 use Rattle.ig_grammar.specs.declared.filter.Filter.{Filter}
-use Rattle.ig_grammar.specs.Rules as rule
-use Rattle.ig_grammar.specs.Rules.{IsPattern, IsSeparated, IsFilter, ReadsExpression, ReadsArguments, ReadsFilters, ReadsSign, filtered}
-use Rattle.ig_grammar.specs.Rules.{ReadsSymbol, ReadsMarked, ReadsPost, ReadsAtom, ReadsAlternatives, ReadsAlternative}
+use Rattle.ig_syntax.specs.Rules as rule
+use Rattle.ig_syntax.specs.Rules.{IsPattern, IsSeparated, IsFilter, ReadsExpression, ReadsArguments, ReadsFilters, ReadsSign, filtered}
+use Rattle.ig_syntax.specs.Rules.{ReadsSymbol, ReadsMarked, ReadsPost, ReadsAtom, ReadsAlternatives, ReadsAlternative}
 use Rattle.ig_rules.specs.Machine.{alternative, symbol, marked, post, alternatives_rest, filters, pattern, sign, name_rest}
 use Rattle.ig_rules.specs.Machine.{before, after}
 use Rattle.ig_rules.proofs.Begins.{Begins, takes, passed, filter_row, filters_begin, post_begins, marked_begins, symbol_begins, alternative_begins}

@@ -2,15 +2,15 @@
 -- goes on.
 use Rattle.std.proofs.Common.{◌≡◌, ℕ, suc, ◌+◌, List, [], ◌∷◌, ◌++◌, length, refl, ap, subst, Bool, true, false, arith}
 use Rattle.std.specs.Prelude.{Option, Some, None, ◌&&◌, if◌then◌else◌, codes}
-use Rattle.ig_grammar.specs.Token.{Token, Name, Literal, Semicolon, Equals, Colon, Comma, Open, Close, CloseBrace, Star, Syntax, Here, Int}
+use Rattle.ig_syntax.specs.Token.{Token, Name, Literal, Semicolon, Equals, Colon, Comma, Open, Close, CloseBrace, Star, Syntax, Here, Int}
 use Rattle.ig_expr.specs.declared.kind.Kind.TheVariants as kinds
 use Rattle.ig_text.specs.declared.pattern.Pattern.TheVariants as patterns
 use Rattle.ig_grammar.specs.Symbol as tree
 use Rattle.ig_grammar.specs.Symbol.{Symbol}
 use Rattle.ig_grammar.specs.declared.declaration.Assoc.TheVariants as assoc
 use Rattle.ig_grammar.specs.declared.declaration.DeclKind.TheVariants as decls
-use Rattle.ig_grammar.specs.Rules as rule
-use Rattle.ig_grammar.specs.Rules.{ReadsAtom, ReadsPost, ReadsMarked, ReadsTerm}
+use Rattle.ig_syntax.specs.Rules as rule
+use Rattle.ig_syntax.specs.Rules.{ReadsAtom, ReadsPost, ReadsMarked, ReadsTerm}
 use Rattle.ig_rules.specs.Machine.{Want, declaration, parameter, symbol, marked, post, atom, expression, term}
 use Rattle.ig_rules.specs.Machine.{heading, kind, pattern, list_sign}
 use Rattle.ig_rules.specs.Machine.{name, literal, semicolon, equals, colon, comma, open_bracket, close_bracket, close_brace}

@@ -5,15 +5,15 @@ use Rattle.ig_expr.specs.Expression.{Expression}
 use Rattle.ig_expr.specs.declared.operator.Op.{Op}
 use Rattle.ig_expr.specs.declared.kind.Kind.{Kind}
 use Rattle.ig_text.specs.declared.pattern.Pattern.{Pattern}
-use Rattle.ig_grammar.specs.Token.{Token, Name, Head, Literal, Semicolon, Equals, Bar, Greater, Colon, Comma, Open, Close, CloseBrace, Start}
+use Rattle.ig_syntax.specs.Token.{Token, Name, Head, Literal, Semicolon, Equals, Bar, Greater, Colon, Comma, Open, Close, CloseBrace, Start}
 use Rattle.ig_grammar.specs.Symbol.{Symbol, Symbols, Alternatives}
 use Rattle.ig_grammar.specs.declared.filter.Filter.{Filter}
 use Rattle.ig_grammar.specs.declared.declaration.Param.{Param}
 use Rattle.ig_grammar.specs.declared.declaration.Assoc.{Assoc}
 use Rattle.ig_grammar.specs.declared.declaration.Level.{Level}
 use Rattle.ig_grammar.specs.declared.declaration.Decl.{Decl}
-use Rattle.ig_grammar.specs.Rules.{IsOperator, IsKind, IsPattern, IsSeparated, ReadsTerm, ReadsExpression, ReadsArguments, ReadsFilters, ReadsSign}
-use Rattle.ig_grammar.specs.Rules.{ReadsSymbol, ReadsMarked, ReadsPost, ReadsAtom, ReadsAlternatives, ReadsAlternative, ReadsAssociativity, ReadsLevels, ReadsParameters, ReadsDeclaration}
+use Rattle.ig_syntax.specs.Rules.{IsOperator, IsKind, IsPattern, IsSeparated, ReadsTerm, ReadsExpression, ReadsArguments, ReadsFilters, ReadsSign}
+use Rattle.ig_syntax.specs.Rules.{ReadsSymbol, ReadsMarked, ReadsPost, ReadsAtom, ReadsAlternatives, ReadsAlternative, ReadsAssociativity, ReadsLevels, ReadsParameters, ReadsDeclaration}
 use Rattle.ig_rules.specs.Machine.{Want, grammar, declarations, associativity, alternative, declaration, parameter, symbol, marked, post, atom, expression, term}
 use Rattle.ig_rules.specs.Machine.{parameters_rest, levels_rest, alternatives_rest, arguments_rest, operator_rest, filters, sign, name_rest, heading, kind, pattern, list_sign}
 use Rattle.ig_rules.specs.Machine.{name, literal, semicolon, equals, colon, comma, open_bracket, close_bracket, close_brace}

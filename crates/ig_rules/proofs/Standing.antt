@@ -1,89 +1,27 @@
--- Grammars that are read have only forms that can be written, and their labels, marks and filters stand where they may.
-use Rattle.std.proofs.Common.{◌≡◌, List, [], ◌∷◌, sym, subst}
-use Rattle.std.specs.Prelude.{◌≢◌, All, Contains}
-use Rattle.std.proofs.lemmas.List.Elements.{All-head, All-tail, All-nil, All-cons, All-contains}
-use Rattle.ig_text.specs.declared.pattern.Pattern.{Pattern}
-use Rattle.ig_grammar.specs.Token as token
-use Rattle.ig_grammar.specs.Token.{Token}
+-- What the tokens give for each symbol holds of all symbols in a grammar that is read.
+use Rattle.std.proofs.Common.{◌≡◌, ◌∙◌, ℕ, List, [], ◌∷◌, ◌++◌, sym, subst, refl}
+use Rattle.std.specs.Prelude.{All, Contains}
+use Rattle.std.proofs.lemmas.List.Elements.{All-head, All-tail, All-nil, All-cons, All-append, All-contains}
+use Rattle.ig_text.specs.declared.class.Class.{Class}
+use Rattle.ig_expr.specs.Expression.{Expression}
+use Rattle.ig_syntax.specs.Token as token
+use Rattle.ig_syntax.specs.Token.{Token}
+use Rattle.ig_grammar.specs.Symbol as tree
 use Rattle.ig_grammar.specs.Symbol.{Symbol, Offside, Ignore, Align, Filtered, Symbols, Alternatives}
+use Rattle.ig_grammar.specs.Subterms.{subterms, subterms_of_symbols, subterms_of_alternatives}
 use Rattle.ig_grammar.specs.Alternative.{gathered_alternatives}
-use Rattle.ig_grammar.specs.Regular.{MayHaveLabel, MayHaveMark, MayHaveFilters, HasNoEmptyLiteral, pattern_of, StandsWell, SymbolsStandWell, AlternativesStandWell, OfEachLevel}
+use Rattle.ig_grammar.specs.Regular.{MayHaveLabel, MayHaveMark, MayHaveFilters, BindsNothing, OfEachLevel}
 use Rattle.ig_grammar.specs.declared.filter.Filter.{Filter}
-use Rattle.ig_grammar.specs.declared.declaration.DeclKind.{DeclKind}
-use Rattle.ig_grammar.specs.declared.declaration.DeclKind.TheVariants.{Plain}
-use Rattle.ig_grammar.specs.declared.declaration.Param.{Param}
-use Rattle.ig_grammar.specs.declared.declaration.Assoc.{Assoc}
 use Rattle.ig_grammar.specs.declared.declaration.Level.{Level}
 use Rattle.ig_grammar.specs.declared.declaration.Decl.{Decl}
 use Rattle.ig_grammar.specs.declared.grammar.Grammar.{Grammar}
-use Rattle.ig_grammar.specs.Rules as rule
-use Rattle.ig_grammar.specs.Rules.{IsPattern, IsSeparated, IsFilter, IsDeclKind, ReadsFilters, ReadsSign, filtered, ReadsSymbol, ReadsMarked, ReadsPost, ReadsAtom, ReadsAlternatives, ReadsAlternative}
-use Rattle.ig_grammar.specs.Rules.{ReadsAssociativity, ReadsLevel, ReadsLevels, ReadsParameters, ReadsDeclaration, ReadsDeclarations, FollowsRules}
-use Rattle.ig_rules.specs.Written.{IsWritten, SymbolsAreWritten, AlternativesAreWritten, HasText}
-use Rattle.ig_rules.proofs.Tails.{EndsBy, all_tail, expression_tail, arguments_tail, expression_written, arguments_written}
+use Rattle.ig_syntax.specs.Rules as rule
+use Rattle.ig_syntax.specs.Rules.{IsSeparated, ReadsExpression, ReadsArguments, ReadsFilters, ReadsSign, filtered}
+use Rattle.ig_syntax.specs.Rules.{ReadsSymbol, ReadsMarked, ReadsPost, ReadsAtom, ReadsAlternatives, ReadsAlternative}
+use Rattle.ig_syntax.specs.Rules.{ReadsLevel, ReadsLevels, ReadsDeclaration, ReadsDeclarations, FollowsRules}
+use Rattle.ig_rules.proofs.Tails.{Facts, tail, head, behind, ends_by, sign_tail, symbol_tail, marked_tail, atom_tail, alternative_tail, associativity_tail, level_tail, parameters_tail, declaration_tail}
 
--- forms that can be written
-filtered_written : (x : Symbol) (fs : List Filter) → IsWritten x → IsWritten (filtered x fs)
-filtered_written x [] h = h
-filtered_written x (f ∷ fs) h = h
-
-sign_written : {s r : List Token} {x y : Symbol} → ReadsSign s r x y → IsWritten x → IsWritten y
-sign_written (rule.once r x) h = h
-sign_written (rule.option r x) h = h
-sign_written (rule.star r x) h = h
-sign_written (rule.plus r x) h = h
-
-separated_written : {t : Token} {x y z : Symbol} → IsSeparated t x y z → IsWritten x → IsWritten y → IsWritten z
-separated_written (rule.separated_star x y) h k = (h, k)
-separated_written (rule.separated_plus x y) h k = (h, k)
-
-mutual
-  symbol_written : {s r : List Token} {x : Symbol} → ReadsSymbol s r x → IsWritten x
-  symbol_written (rule.guard s r e d) = expression_written d
-  symbol_written (rule.let_be n s r e d) = expression_written d
-  symbol_written (rule.labelled n s r x d) = marked_written d
-  symbol_written (rule.unlabelled s r x d) = marked_written d
-
-  marked_written : {s r : List Token} {x : Symbol} → ReadsMarked s r x → IsWritten x
-  marked_written (rule.offside s r x d) = post_written d
-  marked_written (rule.ignore s r x d) = post_written d
-  marked_written (rule.align s r x d) = post_written d
-  marked_written (rule.unmarked s r x d) = post_written d
-
-  post_written : {s r : List Token} {x : Symbol} → ReadsPost s r x → IsWritten x
-  post_written (rule.atom s m q r x y z fs d e f h) =
-      subst IsWritten (sym h) (filtered_written y fs (sign_written e (atom_written d)))
-  post_written (rule.separated t s m q r x y z o fs d e is f h) =
-      subst IsWritten (sym h) (filtered_written z fs (separated_written is (marked_written d) (marked_written e)))
-
-  atom_written : {s r : List Token} {x : Symbol} → ReadsAtom s r x → IsWritten x
-  atom_written (rule.literal w r) = tt
-  atom_written (rule.class c r) = tt
-  atom_written (rule.bare_call n r) = All-nil _
-  atom_written (rule.call n s r es d) = arguments_written d
-  atom_written (rule.group s r ys d) = alternatives_written d
-
-  alternatives_written : {s r : List Token} {ys : Alternatives} → ReadsAlternatives s r ys → AlternativesAreWritten ys
-  alternatives_written (rule.last_alternative s r xs d) = (alternative_written d, tt)
-  alternatives_written (rule.further_alternative s m r xs ys d e) = (alternative_written d, alternatives_written e)
-
-  alternative_written : {s r : List Token} {xs : Symbols} → ReadsAlternative s r xs → SymbolsAreWritten xs
-  alternative_written (rule.no_symbol r) = tt
-  alternative_written (rule.further_symbol s m r x xs d e) = (symbol_written d, alternative_written e)
-
--- labels, marks and filters
-record Texts (s : List Token) : Type 0 where
-  all : All HasText s
-
-tail : {t : Token} {s : List Token} → Texts (t ∷ s) → Texts s
-tail {t} {s} h = record { all = All-tail HasText t s h.all }
-
-head : {t : Token} {s : List Token} → Texts (t ∷ s) → HasText t
-head {t} {s} h = All-head HasText t s h.all
-
-ending : {r s : List Token} → EndsBy r s → Texts s → Texts r
-ending e h = record { all = all_tail HasText e h.all }
-
+-- what labels, marks, signs and filters may stand round
 may_have_mark : (x : Symbol) → MayHaveFilters x → MayHaveMark x
 may_have_mark (Filtered x filters) h = absurd h
 may_have_mark x h = h
@@ -94,189 +32,201 @@ may_have_label (Ignore x) h = absurd h
 may_have_label (Align x) h = absurd h
 may_have_label x h = h
 
--- a symbol that stands well, and the texts behind it
-abbrev Stands : (Symbol → Type 0) → Symbol → List Token → Type 0
-Stands May x r = May x × StandsWell x × Texts r
+abbrev pub Fits : (Symbol → Type 0) → Symbol → Type 0
+Fits May x = May x × BindsNothing x
 
-sign_stands : {s r : List Token} {x y : Symbol} → ReadsSign s r x y → Stands MayHaveFilters x s → Stands MayHaveFilters y r
-sign_stands (rule.once r x) h = h
-sign_stands (rule.option r x) h = (tt, h.1, tail h.2)
-sign_stands (rule.star r x) h = (tt, h.1, tail h.2)
-sign_stands (rule.plus r x) h = (tt, h.1, tail h.2)
+atom_fits : {s r : List Token} {x : Symbol} → ReadsAtom s r x → Fits MayHaveFilters x
+atom_fits (rule.literal w r) = (tt, refl)
+atom_fits (rule.class c r) = (tt, refl)
+atom_fits (rule.bare_call n r) = (tt, refl)
+atom_fits (rule.call n s r es d) = (tt, refl)
+atom_fits (rule.group s r ys d) = (tt, refl)
 
-separated_stands : {t : Token} {x y z : Symbol} → IsSeparated t x y z → StandsWell x → StandsWell y → MayHaveFilters z × StandsWell z
-separated_stands (rule.separated_star x y) h k = (tt, (h, k))
-separated_stands (rule.separated_plus x y) h k = (tt, (h, k))
+sign_fits : {s r : List Token} {x y : Symbol} → ReadsSign s r x y → Fits MayHaveFilters x → Fits MayHaveFilters y
+sign_fits (rule.once r x) h = h
+sign_fits (rule.option r x) h = (tt, refl)
+sign_fits (rule.star r x) h = (tt, refl)
+sign_fits (rule.plus r x) h = (tt, refl)
 
-abbrev FilterStands : Filter → Type 0
-FilterStands f = HasNoEmptyLiteral (pattern_of f)
+separated_fits : {t : Token} {x y z : Symbol} → IsSeparated t x y z → Fits MayHaveFilters z
+separated_fits (rule.separated_star x y) = (tt, refl)
+separated_fits (rule.separated_plus x y) = (tt, refl)
 
-filter_stands : {t u : Token} {p : Pattern} {f : Filter} → IsFilter t p f → IsPattern u p → HasText u → FilterStands f
-filter_stands (rule.not_followed p) (rule.literal_pattern w) h = h
-filter_stands (rule.not_followed p) (rule.class_pattern c) h = tt
-filter_stands (rule.not_preceded p) (rule.literal_pattern w) h = h
-filter_stands (rule.not_preceded p) (rule.class_pattern c) h = tt
-filter_stands (rule.excluded p) (rule.literal_pattern w) h = h
-filter_stands (rule.excluded p) (rule.class_pattern c) h = tt
+filtered_fits : (x : Symbol) (fs : List Filter) → Fits MayHaveFilters x → Fits MayHaveMark (filtered x fs)
+filtered_fits x [] h = (may_have_mark x h.0, h.1)
+filtered_fits x (f ∷ fs) h = (tt, h.1)
 
-filters_stand : {s r : List Token} {fs : List Filter} → ReadsFilters s r fs → Texts s → All FilterStands fs × Texts r
-filters_stand (rule.no_filter r) h = (All-nil FilterStands, h)
-filters_stand (rule.next_filter t u p f s r fs is ist d) h =
-    let behind : Texts (u ∷ s) = tail h in
-    let rest : All FilterStands fs × Texts r = filters_stand d (tail behind) in
-    (All-cons FilterStands f fs (filter_stands is ist (head behind)) rest.0, rest.1)
+post_fits : {s r : List Token} {x : Symbol} → ReadsPost s r x → Fits MayHaveMark x
+post_fits (rule.atom s m q r x y z fs d e f h) =
+    subst (Fits MayHaveMark) (sym h) (filtered_fits y fs (sign_fits e (atom_fits d)))
+post_fits (rule.separated t s m q r x y z o fs d e is f h) =
+    subst (Fits MayHaveMark) (sym h) (filtered_fits z fs (separated_fits is))
 
-filtered_stands : (x : Symbol) (fs : List Filter) → MayHaveFilters x → StandsWell x → All FilterStands fs →
-    MayHaveMark (filtered x fs) × StandsWell (filtered x fs)
-filtered_stands x [] may well all = (may_have_mark x may, well)
-filtered_stands x (f ∷ fs) may well all = (tt, (may, all, well))
+marked_fits : {s r : List Token} {x : Symbol} → ReadsMarked s r x → Fits MayHaveLabel x
+marked_fits (rule.offside s r x d) = (tt, (post_fits d).1)
+marked_fits (rule.ignore s r x d) = (tt, (post_fits d).1)
+marked_fits (rule.align s r x d) = (tt, (post_fits d).1)
+marked_fits (rule.unmarked s r x d) = let h = post_fits d in (may_have_label x h.0, h.1)
 
-post_with : (x y : Symbol) (fs : List Filter) (q r : List Token) → y ≡ filtered x fs → Stands MayHaveFilters x q → ReadsFilters q r fs →
-    Stands MayHaveMark y r
-post_with x y fs q r e h d =
-    let f : All FilterStands fs × Texts r = filters_stand d h.2 in
-    let both : MayHaveMark (filtered x fs) × StandsWell (filtered x fs) = filtered_stands x fs h.0 h.1 f.0 in
-    (subst MayHaveMark (sym e) both.0, subst StandsWell (sym e) both.1, f.1)
+-- what facts of tokens give for the symbols that they read as, each by itself
+pub record Gives (P : Token → Type 0) (Q : Symbol → Type 0) : Type 0 where
+  pub guard : (s r : List Token) (e : Expression) → ReadsExpression s r e → Facts P s → Q (tree.Guard e)
+  pub let_be : (name : List ℕ) (s r : List Token) (e : Expression) → P (token.Name name) → ReadsExpression s r e →
+      Facts P s → Q (tree.Let name e)
+  pub label : (name : List ℕ) (x : Symbol) → P (token.Name name) → MayHaveLabel x → Q (tree.Label name x)
+  pub offside : (x : Symbol) → MayHaveMark x → Q (Offside x)
+  pub ignore : (x : Symbol) → MayHaveMark x → Q (Ignore x)
+  pub align : (x : Symbol) → MayHaveMark x → Q (Align x)
+  pub signed : (s r : List Token) (x y : Symbol) → ReadsSign s r x y → Fits MayHaveFilters x → Q x → Q y
+  pub separated : (t : Token) (x y z : Symbol) → IsSeparated t x y z → Fits MayHaveLabel x → Fits MayHaveLabel y → Q z
+  pub with_filters : (s r : List Token) (x : Symbol) (fs : List Filter) → ReadsFilters s r fs → Facts P s → MayHaveFilters x →
+      Q (Filtered x fs)
+  pub literal : (word : List ℕ) → P (token.Literal word) → Q (tree.Literal word)
+  pub class : (c : Class) → Q (tree.OneOf c)
+  pub bare_call : (name : List ℕ) → P (token.Name name) → Q (tree.Call name [])
+  pub call : (name : List ℕ) (s r : List Token) (es : List Expression) → P (token.Head name) → ReadsArguments s r es →
+      Facts P s → Q (tree.Call name es)
+  pub group : (ys : Alternatives) → Q (tree.Group ys)
 
-mutual
-  symbol_stands : {s r : List Token} {x : Symbol} → ReadsSymbol s r x → Texts s → StandsWell x × Texts r
-  symbol_stands (rule.guard s r e d) h = (tt, tail (ending (expression_tail d) (tail (tail h))))
-  symbol_stands (rule.let_be n s r e d) h = (
-    tt,
-    tail (ending (expression_tail d)
-        (tail (tail (tail (tail h))))),
-  )
-  symbol_stands (rule.labelled n s r x d) h =
-      let m : Stands MayHaveLabel x r = marked_stands d (tail (tail h)) in ((m.0, m.1), m.2)
-  symbol_stands (rule.unlabelled s r x d) h = let m : Stands MayHaveLabel x r = marked_stands d h in (m.1, m.2)
+module _ {P : Token → Type 0} {Q : Symbol → Type 0} (gives : Gives P Q) where
+  abbrev Holds : Symbol → Type 0
+  Holds x = All Q (subterms x)
 
-  marked_stands : {s r : List Token} {x : Symbol} → ReadsMarked s r x → Texts s → Stands MayHaveLabel x r
-  marked_stands (rule.offside s r x d) h = let p : Stands MayHaveMark x r = post_stands d (tail h) in (tt, (p.0, p.1), p.2)
-  marked_stands (rule.ignore s r x d) h = let p : Stands MayHaveMark x r = post_stands d (tail h) in (tt, (p.0, p.1), p.2)
-  marked_stands (rule.align s r x d) h = let p : Stands MayHaveMark x r = post_stands d (tail h) in (tt, (p.0, p.1), p.2)
-  marked_stands (rule.unmarked s r x d) h = let p : Stands MayHaveMark x r = post_stands d h in (may_have_label x p.0, p.1, p.2)
+  first : (x : Symbol) → Holds x → Q x
+  first (tree.Literal w) h = All-head Q (tree.Literal w) [] h
+  first (tree.OneOf c) h = All-head Q (tree.OneOf c) [] h
+  first (tree.Call n es) h = All-head Q (tree.Call n es) [] h
+  first (tree.Label n x) h = All-head Q (tree.Label n x) (subterms x) h
+  first (tree.Guard e) h = All-head Q (tree.Guard e) [] h
+  first (tree.Let n e) h = All-head Q (tree.Let n e) [] h
+  first (tree.Opt x) h = All-head Q (tree.Opt x) (subterms x) h
+  first (tree.Star x) h = All-head Q (tree.Star x) (subterms x) h
+  first (tree.Plus x) h = All-head Q (tree.Plus x) (subterms x) h
+  first (tree.SepStar x y) h = All-head Q (tree.SepStar x y) (subterms x ++ subterms y) h
+  first (tree.SepPlus x y) h = All-head Q (tree.SepPlus x y) (subterms x ++ subterms y) h
+  first (tree.Group ys) h = All-head Q (tree.Group ys) (subterms_of_alternatives ys) h
+  first (tree.Offside x) h = All-head Q (tree.Offside x) (subterms x) h
+  first (tree.Ignore x) h = All-head Q (tree.Ignore x) (subterms x) h
+  first (tree.Align x) h = All-head Q (tree.Align x) (subterms x) h
+  first (tree.Filtered x fs) h = All-head Q (tree.Filtered x fs) (subterms x) h
+  first (tree.Seq xs) h = All-head Q (tree.Seq xs) (subterms_of_symbols xs) h
+  first (tree.Entry bs x) h = All-head Q (tree.Entry bs x) (subterms x) h
 
-  post_stands : {s r : List Token} {x : Symbol} → ReadsPost s r x → Texts s → Stands MayHaveMark x r
-  post_stands (rule.atom s m q r x y z fs d e f g) h = post_with y z fs q r g (sign_stands e (atom_stands d h)) f
-  post_stands (rule.separated t s m q r x y z o fs d e is f g) h =
-      let a : Stands MayHaveLabel x m = marked_stands d (tail h) in
-      let b : Stands MayHaveLabel y (token.CloseBrace ∷ t ∷ q) = marked_stands e a.2 in
-      let c : MayHaveFilters z × StandsWell z = separated_stands is a.1 b.1 in
-      post_with z o fs q r g (c.0, c.1, tail (tail b.2)) f
+  alone : (x : Symbol) → Q x → All Q (x ∷ [])
+  alone x h = All-cons Q x [] h (All-nil Q)
 
-  atom_stands : {s r : List Token} {x : Symbol} → ReadsAtom s r x → Texts s → Stands MayHaveFilters x r
-  atom_stands (rule.literal w r) h = (tt, head h, tail h)
-  atom_stands (rule.class c r) h = (tt, tt, tail h)
-  atom_stands (rule.bare_call n r) h = (tt, tt, tail h)
-  atom_stands (rule.call n s r es d) h = (tt, tt, tail (ending (arguments_tail d) (tail h)))
-  atom_stands (rule.group s r ys d) h =
-      let a : AlternativesStandWell ys × Texts (token.Close ∷ r) = alternatives_stand d (tail h) in
-      (tt, a.0, tail a.1)
+  sign_holds : {s r : List Token} {x y : Symbol} → ReadsSign s r x y → Fits MayHaveFilters x → Holds x → Holds y
+  sign_holds (rule.once r x) f h = h
+  sign_holds (rule.option r x) f h =
+      All-cons Q (tree.Opt x) (subterms x) (gives.signed _ r x _ (rule.option r x) f (first x h)) h
+  sign_holds (rule.star r x) f h =
+      All-cons Q (tree.Star x) (subterms x) (gives.signed _ r x _ (rule.star r x) f (first x h)) h
+  sign_holds (rule.plus r x) f h =
+      All-cons Q (tree.Plus x) (subterms x) (gives.signed _ r x _ (rule.plus r x) f (first x h)) h
 
-  alternatives_stand : {s r : List Token} {ys : Alternatives} → ReadsAlternatives s r ys → Texts s → AlternativesStandWell ys × Texts r
-  alternatives_stand (rule.last_alternative s r xs d) h = let a : SymbolsStandWell xs × Texts r = alternative_stands d h in ((a.0, tt), a.1)
-  alternatives_stand (rule.further_alternative s m r xs ys d e) h =
-      let a : SymbolsStandWell xs × Texts (token.Bar ∷ m) = alternative_stands d h in
-      let b : AlternativesStandWell ys × Texts r = alternatives_stand e (tail a.1) in
-      ((a.0, b.0), b.1)
+  separated_holds : {t : Token} {x y z : Symbol} → IsSeparated t x y z → Fits MayHaveLabel x → Fits MayHaveLabel y →
+      Holds x → Holds y → Holds z
+  separated_holds (rule.separated_star x y) f g h k =
+      All-cons Q (tree.SepStar x y) _ (gives.separated _ x y _ (rule.separated_star x y) f g)
+      (All-append Q (subterms x) (subterms y) h k)
+  separated_holds (rule.separated_plus x y) f g h k =
+      All-cons Q (tree.SepPlus x y) _ (gives.separated _ x y _ (rule.separated_plus x y) f g)
+      (All-append Q (subterms x) (subterms y) h k)
 
-  alternative_stands : {s r : List Token} {xs : Symbols} → ReadsAlternative s r xs → Texts s → SymbolsStandWell xs × Texts r
-  alternative_stands (rule.no_symbol r) h = (tt, h)
-  alternative_stands (rule.further_symbol s m r x xs d e) h =
-      let a : StandsWell x × Texts m = symbol_stands d h in
-      let b : SymbolsStandWell xs × Texts r = alternative_stands e a.1 in
-      ((a.0, b.0), b.1)
+  filtered_holds : (x : Symbol) {s r : List Token} {fs : List Filter} → ReadsFilters s r fs → Facts P s → MayHaveFilters x →
+      Holds x → Holds (filtered x fs)
+  filtered_holds x (rule.no_filter r) a m h = h
+  filtered_holds x (rule.next_filter t u p f s r fs is ist d) a m h =
+      All-cons Q (Filtered x (f ∷ fs)) (subterms x)
+      (gives.with_filters _ r x (f ∷ fs) (rule.next_filter t u p f s r fs is ist d) a m) h
 
--- levels and declarations
-abbrev LevelIs : (Alternatives → Type 0) → Level → Type 0
-LevelIs P level = P (gathered_alternatives level.alts)
+  mutual
+    symbol_holds : {s r : List Token} {x : Symbol} → ReadsSymbol s r x → Facts P s → Holds x
+    symbol_holds (rule.guard s r e d) a = alone (tree.Guard e) (gives.guard s _ e d (tail (tail a)))
+    symbol_holds (rule.let_be n s r e d) a =
+        alone (tree.Let n e) (gives.let_be n s _ e (head (tail a)) d (tail (tail (tail (tail a)))))
+    symbol_holds (rule.labelled n s r x d) a =
+        All-cons Q (tree.Label n x) (subterms x) (gives.label n x (head a) (marked_fits d).0) (marked_holds d (tail (tail a)))
+    symbol_holds (rule.unlabelled s r x d) a = marked_holds d a
 
-abbrev LevelsAre : (Alternatives → Type 0) → Decl → Type 0
-LevelsAre P d = All (LevelIs P) d.levels
+    marked_holds : {s r : List Token} {x : Symbol} → ReadsMarked s r x → Facts P s → Holds x
+    marked_holds (rule.offside s r x d) a =
+        All-cons Q (Offside x) (subterms x) (gives.offside x (post_fits d).0) (post_holds d (tail a))
+    marked_holds (rule.ignore s r x d) a =
+        All-cons Q (Ignore x) (subterms x) (gives.ignore x (post_fits d).0) (post_holds d (tail a))
+    marked_holds (rule.align s r x d) a =
+        All-cons Q (Align x) (subterms x) (gives.align x (post_fits d).0) (post_holds d (tail a))
+    marked_holds (rule.unmarked s r x d) a = post_holds d a
 
-level_written : {s r : List Token} {l : Level} → ReadsLevel s r l → LevelIs AlternativesAreWritten l
-level_written (rule.level s m r a alts ys d e h) = subst AlternativesAreWritten h (alternatives_written e)
+    post_holds : {s r : List Token} {x : Symbol} → ReadsPost s r x → Facts P s → Holds x
+    post_holds (rule.atom s m q r x y z fs d e f h) a =
+        let rest : Facts P q = behind (ends_by (sign_tail e) (atom_tail d)) a in
+        subst Holds (sym h) (filtered_holds y f rest (sign_fits e (atom_fits d)).0 (sign_holds e (atom_fits d) (atom_holds d a)))
+    post_holds (rule.separated t s m q r x y z o fs d e is f h) a =
+        let item : Facts P m = behind (marked_tail d) (tail a) in
+        let rest : Facts P (token.CloseBrace ∷ t ∷ q) = behind (marked_tail e) item in
+        subst Holds (sym h) (filtered_holds z f (tail (tail rest)) (separated_fits is).0
+        (separated_holds is (marked_fits d) (marked_fits e) (marked_holds d (tail a)) (marked_holds e item)))
 
-levels_written : {s r : List Token} {ls : List Level} → ReadsLevels s r ls → All (LevelIs AlternativesAreWritten) ls
-levels_written (rule.last_level s r l d) = All-cons (LevelIs AlternativesAreWritten) l [] (level_written d) (All-nil (LevelIs AlternativesAreWritten))
-levels_written (rule.further_level s m r l ls d e) = All-cons (LevelIs AlternativesAreWritten) l ls (level_written d) (levels_written e)
+    atom_holds : {s r : List Token} {x : Symbol} → ReadsAtom s r x → Facts P s → Holds x
+    atom_holds (rule.literal w r) a = alone (tree.Literal w) (gives.literal w (head a))
+    atom_holds (rule.class c r) a = alone (tree.OneOf c) (gives.class c)
+    atom_holds (rule.bare_call n r) a = alone (tree.Call n []) (gives.bare_call n (head a))
+    atom_holds (rule.call n s r es d) a = alone (tree.Call n es) (gives.call n s _ es (head a) d (tail a))
+    atom_holds (rule.group s r ys d) a =
+        All-cons Q (tree.Group ys) (subterms_of_alternatives ys) (gives.group ys) (alternatives_hold d (tail a))
 
-not_plain : {t : Token} {k : DeclKind} → IsDeclKind t k → k ≢ Plain
-not_plain rule.syntax e = cc
-not_plain rule.lexical e = cc
-not_plain rule.layout e = cc
+    alternatives_hold : {s r : List Token} {ys : Alternatives} → ReadsAlternatives s r ys → Facts P s →
+        All Q (subterms_of_alternatives ys)
+    alternatives_hold (rule.last_alternative s r xs d) a =
+        All-append Q (subterms_of_symbols xs) [] (alternative_holds d a) (All-nil Q)
+    alternatives_hold (rule.further_alternative s m r xs ys d e) a =
+        All-append Q (subterms_of_symbols xs) (subterms_of_alternatives ys) (alternative_holds d a)
+        (alternatives_hold e (tail (behind (alternative_tail d) a)))
 
-abbrev DeclIsWritten : Decl → Type 0
-DeclIsWritten d = LevelsAre AlternativesAreWritten d × (d.kind ≢ Plain)
+    alternative_holds : {s r : List Token} {xs : Symbols} → ReadsAlternative s r xs → Facts P s → All Q (subterms_of_symbols xs)
+    alternative_holds (rule.no_symbol r) a = All-nil Q
+    alternative_holds (rule.further_symbol s m r x xs d e) a =
+        All-append Q (subterms x) (subterms_of_symbols xs) (symbol_holds d a)
+        (alternative_holds e (behind (symbol_tail d) a))
 
-declaration_written : {s r : List Token} {d : Decl} → ReadsDeclaration s r d → DeclIsWritten d
-declaration_written (rule.without_parameters t k x s r ls is d) = (levels_written d, not_plain is)
-declaration_written (rule.with_parameters t k x s m r ps ls is d e) = (levels_written e, not_plain is)
+  -- levels and declarations
+  abbrev Among : Alternatives → Type 0
+  Among ys = All Q (subterms_of_alternatives ys)
 
-declarations_written : {s : List Token} {ds : List Decl} → ReadsDeclarations s ds → All DeclIsWritten ds
-declarations_written rule.no_declaration = All-nil DeclIsWritten
-declarations_written (rule.further_declaration s m d ds e f) = All-cons DeclIsWritten d ds (declaration_written e) (declarations_written f)
+  abbrev LevelHolds : Level → Type 0
+  LevelHolds l = Among (gathered_alternatives l.alts)
 
-written_by : (g : Grammar) → All DeclIsWritten g.decls → OfEachLevel AlternativesAreWritten g × ((d : Decl) → Contains g.decls d → d.kind ≢ Plain)
-written_by g all = (
-  (λ d l in_grammar in_decl. All-contains (LevelIs AlternativesAreWritten) d.levels l (All-contains DeclIsWritten g.decls d all in_grammar).0 in_decl),
-  (λ d in_grammar. (All-contains DeclIsWritten g.decls d all in_grammar).1),
-)
+  level_holds : {s r : List Token} {l : Level} → ReadsLevel s r l → Facts P s → LevelHolds l
+  level_holds (rule.level s m r a alts ys d e h) all =
+      subst Among h (alternatives_hold e (behind (associativity_tail d) all))
 
-pub grammar_written : {tokens : List Token} {g : Grammar} → FollowsRules tokens g →
-    OfEachLevel AlternativesAreWritten g × ((d : Decl) → Contains g.decls d → d.kind ≢ Plain)
-grammar_written {g = g} (rule.with_start x s ds d) = written_by g (declarations_written d)
-grammar_written {g = g} (rule.without_start s ds d) = written_by g (declarations_written d)
+  levels_hold : {s r : List Token} {ls : List Level} → ReadsLevels s r ls → Facts P s → All LevelHolds ls
+  levels_hold (rule.last_level s r l d) a = All-cons LevelHolds l [] (level_holds d a) (All-nil LevelHolds)
+  levels_hold (rule.further_level s m r l ls d e) a =
+      All-cons LevelHolds l ls (level_holds d a) (levels_hold e (tail (behind (level_tail d) a)))
 
-associativity_texts : {s r : List Token} {a : Assoc} → ReadsAssociativity s r a → Texts s → Texts r
-associativity_texts (rule.free r) h = h
-associativity_texts (rule.left r) h = tail h
-associativity_texts (rule.right r) h = tail h
-associativity_texts (rule.nonassoc r) h = tail h
+  abbrev DeclHolds : Decl → Type 0
+  DeclHolds d = All LevelHolds d.levels
 
-level_stands : {s r : List Token} {l : Level} → ReadsLevel s r l → Texts s → LevelIs AlternativesStandWell l × Texts r
-level_stands (rule.level s m r a alts ys d e h) f =
-    let g : AlternativesStandWell ys × Texts r = alternatives_stand e (associativity_texts d f) in
-    (subst AlternativesStandWell h g.0, g.1)
+  declaration_holds : {s r : List Token} {d : Decl} → ReadsDeclaration s r d → Facts P s → DeclHolds d
+  declaration_holds (rule.without_parameters t k x s r ls is d) a = levels_hold d (tail (tail (tail a)))
+  declaration_holds (rule.with_parameters t k x s m r ps ls is d e) a =
+      levels_hold e (tail (tail (behind (parameters_tail d) (tail (tail a)))))
 
-levels_stand : {s r : List Token} {ls : List Level} → ReadsLevels s r ls → Texts s → All (LevelIs AlternativesStandWell) ls × Texts r
-levels_stand (rule.last_level s r l d) h =
-    let a : LevelIs AlternativesStandWell l × Texts r = level_stands d h in
-    (All-cons (LevelIs AlternativesStandWell) l [] a.0 (All-nil (LevelIs AlternativesStandWell)), a.1)
-levels_stand (rule.further_level s m r l ls d e) h =
-    let a : LevelIs AlternativesStandWell l × Texts (token.Greater ∷ m) = level_stands d h in
-    let b : All (LevelIs AlternativesStandWell) ls × Texts r = levels_stand e (tail a.1) in
-    (All-cons (LevelIs AlternativesStandWell) l ls a.0 b.0, b.1)
+  declarations_hold : {s : List Token} {ds : List Decl} → ReadsDeclarations s ds → Facts P s → All DeclHolds ds
+  declarations_hold rule.no_declaration a = All-nil DeclHolds
+  declarations_hold (rule.further_declaration s m d ds e f) a =
+      All-cons DeclHolds d ds (declaration_holds e a) (declarations_hold f (behind (declaration_tail e) a))
 
-parameters_texts : {s r : List Token} {ps : List Param} → ReadsParameters s r ps → Texts s → Texts r
-parameters_texts (rule.last_parameter x t k r is) h = tail (tail (tail h))
-parameters_texts (rule.further_parameter x t k s r ps is d) h =
-    parameters_texts d (tail (tail (tail (tail h))))
+  of_each : (g : Grammar) → All DeclHolds g.decls → OfEachLevel Among g
+  of_each g all d l in_grammar in_decl =
+      All-contains LevelHolds d.levels l (All-contains DeclHolds g.decls d all in_grammar) in_decl
 
-declaration_stands : {s r : List Token} {d : Decl} → ReadsDeclaration s r d → Texts s → LevelsAre AlternativesStandWell d × Texts r
-declaration_stands (rule.without_parameters t k x s r ls is d) h =
-    let a : All (LevelIs AlternativesStandWell) ls × Texts (token.Semicolon ∷ r) =
-    levels_stand d (tail (tail (tail h))) in
-    (a.0, tail a.1)
-declaration_stands (rule.with_parameters t k x s m r ps ls is d e) h =
-    let p : Texts (token.Close ∷ token.Equals ∷ m) = parameters_texts d (tail (tail h)) in
-    let a : All (LevelIs AlternativesStandWell) ls × Texts (token.Semicolon ∷ r) =
-    levels_stand e (tail (tail p)) in
-    (a.0, tail a.1)
+  holds_by : {tokens : List Token} {g : Grammar} → FollowsRules tokens g → Facts P tokens → OfEachLevel Among g
+  holds_by {g = g} (rule.with_start x s ds d) a = of_each g (declarations_hold d (tail (tail (tail a))))
+  holds_by {g = g} (rule.without_start s ds d) a = of_each g (declarations_hold d a)
 
-declarations_stand : {s : List Token} {ds : List Decl} → ReadsDeclarations s ds → Texts s → All (LevelsAre AlternativesStandWell) ds
-declarations_stand rule.no_declaration h = All-nil (LevelsAre AlternativesStandWell)
-declarations_stand (rule.further_declaration s m d ds e f) h =
-    let a : LevelsAre AlternativesStandWell d × Texts m = declaration_stands e h in
-    All-cons (LevelsAre AlternativesStandWell) d ds a.0 (declarations_stand f a.1)
-
-stands_by : (g : Grammar) → All (LevelsAre AlternativesStandWell) g.decls → OfEachLevel AlternativesStandWell g
-stands_by g all = λ d l in_grammar in_decl.
-    All-contains (LevelIs AlternativesStandWell) d.levels l (All-contains (LevelsAre AlternativesStandWell) g.decls d all in_grammar) in_decl
-
-texts_stand : {tokens : List Token} {g : Grammar} → FollowsRules tokens g → Texts tokens → OfEachLevel AlternativesStandWell g
-texts_stand {g = g} (rule.with_start x s ds d) h = stands_by g (declarations_stand d (tail (tail (tail h))))
-texts_stand {g = g} (rule.without_start s ds d) h = stands_by g (declarations_stand d h)
-
-pub grammar_stands : {tokens : List Token} {g : Grammar} → FollowsRules tokens g → All HasText tokens → OfEachLevel AlternativesStandWell g
-grammar_stands f h = texts_stand f (record { all = h })
+  pub grammar_holds : {tokens : List Token} {g : Grammar} → FollowsRules tokens g → All P tokens →
+      OfEachLevel (λ ys. All Q (subterms_of_alternatives ys)) g
+  grammar_holds d a = holds_by d (record { all = a })

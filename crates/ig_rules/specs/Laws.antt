@@ -1,14 +1,15 @@
 -- Laws of the rules of the notation.
 use Rattle.std.specs.Prelude.{◌≡◌, ◌≢◌, ℕ, ◌<◌, List, [], ◌∷◌, Some, None, All, Contains, length}
-use Rattle.ig_grammar.specs.Token.{Token}
-use Rattle.ig_grammar.specs.Rules.{FollowsRules}
-use Rattle.ig_grammar.specs.Stops.{Stops}
-use Rattle.ig_grammar.specs.Regular.{AlternativesStandWell, OfEachLevel, HasFewerThan, IsRegular}
+use Rattle.ig_syntax.specs.Token.{Token}
+use Rattle.ig_syntax.specs.Rules.{FollowsRules}
+use Rattle.ig_syntax.specs.Stops.{Stops}
+use Rattle.ig_grammar.specs.Regular.{AlternativesStandWell, OfEachLevel, HasFewerThan, counts_bound, IsRegular}
 use Rattle.ig_grammar.specs.declared.declaration.DeclKind.TheVariants.{Plain}
 use Rattle.ig_grammar.specs.declared.declaration.Decl.{Decl}
 use Rattle.ig_grammar.specs.declared.grammar.Grammar.{Grammar}
 use Rattle.ig_rules.specs.Machine.{grammar, run}
 use Rattle.ig_rules.specs.Written.{AlternativesAreWritten, HasText}
+use Rattle.ig_rules.specs.Names.{HasName, HasNames}
 
 -- some grammar has these tokens
 abbrev pub AreOfGrammar : List Token → Type 0
@@ -41,6 +42,10 @@ abbrev pub ReadsStandWell : Type 0
 ReadsStandWell =
     (tokens : List Token) (g : Grammar) → FollowsRules tokens g → All HasText tokens → OfEachLevel AlternativesStandWell g
 
+-- its names are those of the tokens
+abbrev pub ReadsAreNamed : Type 0
+ReadsAreNamed = (tokens : List Token) (g : Grammar) → FollowsRules tokens g → All HasName tokens → HasNames g
+
 -- it has no more declarations, levels, alternatives or symbols than tokens
 abbrev pub ReadsAreCounted : Type 0
 ReadsAreCounted =
@@ -49,4 +54,4 @@ ReadsAreCounted =
 -- so it is regular
 abbrev pub ReadsAreRegular : Type 0
 ReadsAreRegular =
-    (tokens : List Token) (g : Grammar) → FollowsRules tokens g → All HasText tokens → length tokens < 4294967296 → IsRegular g
+    (tokens : List Token) (g : Grammar) → FollowsRules tokens g → All HasText tokens → length tokens < counts_bound → IsRegular g

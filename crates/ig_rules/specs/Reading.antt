@@ -1,6 +1,6 @@
 -- What a reader of a part of the rules promises, in terms of the machine.
 use Rattle.std.specs.Prelude.{◌≡◌, ℕ, ◌≤◌, List, ◌++◌, length, drop, Some}
-use Rattle.ig_grammar.specs.Token.{Token}
+use Rattle.ig_syntax.specs.Token.{Token}
 use Rattle.ig_rules.specs.Machine.{Want, run}
 
 -- The tokens from number i up to number j read as the value; and the machine, with `wanted` on any stack at i, does

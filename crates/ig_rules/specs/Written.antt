@@ -1,8 +1,8 @@
 -- The forms that a text of the notation can have. The others come from passes alone.
 use Rattle.std.specs.Prelude.{◌≢◌, [], All}
 use Rattle.ig_expr.specs.Expression.{Expression, Integer, Truth, Here, Variable, Not, Negative, Binary, Of, Same, Spells, Outer, Inside, FreeBefore, FreeAfter}
-use Rattle.ig_grammar.specs.Token as token
-use Rattle.ig_grammar.specs.Token.{Token}
+use Rattle.ig_syntax.specs.Token as token
+use Rattle.ig_syntax.specs.Token.{Token}
 use Rattle.ig_grammar.specs.Symbol.{Symbol, Literal, OneOf, Call, Label, Guard, Let, Opt, Star, Plus, SepStar, SepPlus, Group, Offside, Ignore, Align, Filtered, Seq, Entry}
 use Rattle.ig_grammar.specs.Symbol.{Symbols, no_symbols, next_symbol, Alternatives, no_alternatives, next_alternative}
 

@@ -2,7 +2,8 @@
 #![tactic(auto)]
 
 ghost use Rattle.ig_rules.specs.Laws.{OneReading, ReadRuns, RunStops, StopsOnce};
-ghost use Rattle.ig_rules.specs.Laws.{ReadsAreCounted, ReadsAreRegular, ReadsAreWritten, ReadsStandWell};
+ghost use Rattle.ig_rules.specs.Laws.{ReadsAreCounted, ReadsAreNamed, ReadsAreRegular};
+ghost use Rattle.ig_rules.specs.Laws.{ReadsAreWritten, ReadsStandWell};
 
 /// Tokens read as one grammar at most. This law, proved of all tokens, computes nothing.
 pub fn one_reading()
@@ -27,26 +28,37 @@ pub fn stops_once()
     ensures { StopsOnce }
 {}
 
-/// A grammar that tokens read as has only forms that can be written. This law, proved of all tokens,
-/// computes nothing.
+/// A grammar that tokens read as has only forms that can be written. This law, proved of all
+/// tokens, computes nothing.
 pub fn reads_are_written()
     ensures { ReadsAreWritten }
 {}
 
-/// Labels, marks and filters of a grammar that tokens read as stand where they may, and no literal is
-/// empty if none of the tokens is an empty literal. This law, proved of all tokens, computes nothing.
+/// Labels, marks, signs and filters of a grammar that tokens read as stand where they may, and no
+/// literal is empty if none of the tokens is an empty literal. This law, proved of all tokens,
+/// computes nothing.
 pub fn reads_stand_well()
     ensures { ReadsStandWell }
+{}
+
+/// Each name in a grammar that tokens read as is a name of the notation, if those of the tokens
+/// are. This law, proved of all tokens, computes nothing.
+pub fn reads_are_named()
+    ensures { ReadsAreNamed }
 {}
 
 /// A grammar that tokens read as has no more declarations, levels, alternatives or symbols than
 /// there are tokens. This law, proved of all tokens, computes nothing.
 pub fn reads_are_counted()
     ensures { ReadsAreCounted }
-{}
+{
+    ig_grammar::counts_by_form();
+}
 
 /// A grammar that fewer than 4,294,967,296 tokens, none an empty literal, read as is regular. This
 /// law, proved of all tokens, computes nothing.
 pub fn reads_are_regular()
     ensures { ReadsAreRegular }
-{}
+{
+    ig_grammar::counts_by_form();
+}

@@ -1,17 +1,21 @@
 -- What each part of the check tells: that no condition holds in what it looked at, or the first fault there.
-use Rattle.std.specs.Prelude.{◌≡◌, ◌≢◌, ℕ, zero, suc, ◌+◌, ◌<◌, ◌⊎◌, List, ◌∷◌, ◌++◌, All, Contains, length, Result, Ok, Err, Some, None, slice_get}
+use Rattle.std.specs.Prelude.{◌≡◌, ◌≢◌, ℕ, zero, suc, ◌+◌, ◌<◌, ◌⊎◌, List, ◌∷◌, ◌++◌, All, Contains, length, Result, Ok, Err, Option, Some, None, slice_get}
 use Rattle.ig_expr.specs.Expression.{Expression}
 use Rattle.ig_grammar.specs.Symbol.{Symbol}
 use Rattle.ig_grammar.specs.Numbering.{alternatives}
 use Rattle.ig_grammar.specs.Visible.{Visible, Occurrence, at, inside, kind_at}
-use Rattle.ig_grammar.specs.Condition.{Condition, SymbolMeets, NamesUnknown, symbols_of}
+use Rattle.ig_grammar.specs.Condition.{Condition, SymbolMeets, NamesUnknown, IsInLexical}
 use Rattle.ig_grammar.specs.WellScoped.{IsLeast, IsFirst, IsWellScoped, AlternativeHas, DeclarationHas}
 use Rattle.ig_grammar.specs.declared.symbol.Alt.{Alt}
 use Rattle.ig_grammar.specs.declared.declaration.DeclKind.{DeclKind}
 use Rattle.ig_grammar.specs.declared.declaration.Param.{Param}
 use Rattle.ig_grammar.specs.declared.declaration.Decl.{Decl}
 use Rattle.ig_grammar.specs.declared.grammar.Grammar.{Grammar}
-use Rattle.ig_scope.specs.Causes.{condition_of, NoneHolds}
+use Rattle.ig_scope.specs.Causes.{condition_of, NoneHolds, Tells}
+use Rattle.ig_scope.specs.declared.numbered.Numbered.{Numbered}
+use Rattle.ig_scope.specs.declared.places.Surroundings.{Surroundings}
+use Rattle.ig_scope.specs.declared.fault.ScopeCause.{ScopeCause}
+use Rattle.ig_scope.specs.declared.fault.ScopeCause.TheVariants.{MarkInLexical}
 use Rattle.ig_scope.specs.declared.fault.ScopeFault.{ScopeFault}
 use Rattle.ig_scope.specs.declared.fault.ScopeFault.TheVariants.{Broken, Memory}
 
@@ -58,23 +62,32 @@ module _ (decls : List Decl) (within : DeclKind) where
   abbrev pub SymbolCaught : Condition → Occurrence → Type 0
   SymbolCaught c o = IsLeast (SymbolMeets decls within o.visible o.symbol) c
 
-  -- the symbols passed, which bind something; or the fault at one of them, of which so many stand before them
-  abbrev pub Walked : (decl alt before : ℕ) → List Occurrence → Visible → Visible → Visible → Result ℕ ScopeFault → Type 0
-  Walked decl alt before os binding old new (Ok next) =
-      (next ≡ before + length os) × All SymbolFree os × (new ≡ old ++ binding)
-  Walked decl alt before os binding old new (Err (Broken cause place)) =
-      (k : ℕ) × (place ≡ record { decl = decl; alt = alt; symbol = before + k + 1 }) × FirstIn SymbolFree (SymbolCaught (condition_of cause)) os k
-  Walked decl alt before os binding old new (Err Memory) = Unit {0}
+  -- the fault at one of these symbols, of which so many stand before them
+  abbrev pub StoppedAt : (decl alt before : ℕ) → List Occurrence → ScopeFault → Type 0
+  StoppedAt decl alt before os (Broken cause place) =
+      (k : ℕ) × (place ≡ record { decl = decl; alt = alt; symbol = before + k + 1 }) ×
+      FirstIn SymbolFree (SymbolCaught (condition_of cause)) os k
+  StoppedAt decl alt before os Memory = Unit {0}
 
--- the numbers of alternatives and symbols fit in 32 bits
-pub record FitsPlaces (decl : Decl) : Type 0 where
-  pub count : length (alternatives decl.levels) < 4294967296
-  pub symbols : (a : Alt) → Contains (alternatives decl.levels) a → length (symbols_of decl a) < 4294967296
+-- of a symbol itself, in an alternative of a declaration, where these variables are visible
+abbrev pub TellsSymbol : Surroundings → Visible → Symbol → Option ScopeCause → Type 0
+TellsSymbol around v x = Tells (SymbolMeets around.declarations.now around.kind v x)
 
--- so do the numbers of declarations, and those in each
-pub record FitsAll (decls : List Decl) : Type 0 where
-  pub declarations : length decls < 4294967296
-  pub each : (decl : Decl) → Contains decls decl → FitsPlaces decl
+-- of a mark in a declaration of this kind, which stands where it may
+abbrev pub TellsMark : DeclKind → Option ScopeCause → Type 0
+TellsMark kind None = IsInLexical kind → ⊥
+TellsMark kind (Some cause) = (cause ≡ MarkInLexical) × IsInLexical kind
+
+-- the fault at the symbol that has so many before it
+abbrev pub fault_at : Surroundings → ScopeCause → ℕ → ScopeFault
+fault_at around cause before = Broken cause (record { decl = around.decl; alt = around.alt; symbol = before + 1 })
+
+-- the symbols passed, which bind something; or the fault at one of them, of which so many stand before them
+abbrev pub Walked : Surroundings → ℕ → List Occurrence → Visible → Visible → Visible → Result ℕ ScopeFault → Type 0
+Walked around before os binding old new (Ok next) =
+    (next ≡ before + length os) × All (SymbolFree around.declarations.now around.kind) os × (new ≡ old ++ binding)
+Walked around before os binding old new (Err fault) =
+    StoppedAt around.declarations.now around.kind around.decl around.alt before os fault
 
 module _ (decls : List Decl) (decl : Decl) where
   abbrev pub AlternativeFree : Alt → Type 0
@@ -83,29 +96,42 @@ module _ (decls : List Decl) (decl : Decl) where
   abbrev pub AlternativeCaught : ℕ → Condition → Alt → Type 0
   AlternativeCaught symbol c a = FirstNumber (AlternativeHas decls decl a) symbol c
 
-  -- of an alternative
-  abbrev pub TellsAlternative : (number alt : ℕ) → Alt → {T : Type 0} → Result T ScopeFault → Type 0
-  TellsAlternative number alt a (Ok done) = AlternativeFree a
-  TellsAlternative number alt a (Err (Broken cause place)) =
-      (place.decl ≡ number) × (place.alt ≡ alt) × AlternativeCaught place.symbol (condition_of cause) a
-  TellsAlternative number alt a (Err Memory) = Unit {0}
+module _ (decls : List Decl) (decl : Decl) (number : ℕ) where
+  -- of an alternative of the declaration of this number
+  abbrev pub OfAlternative : ℕ → Alt → {T : Type 0} → Result T ScopeFault → Type 0
+  OfAlternative alt a (Ok done) = AlternativeFree decls decl a
+  OfAlternative alt a (Err (Broken cause place)) =
+      (place.decl ≡ number) × (place.alt ≡ alt) × AlternativeCaught decls decl place.symbol (condition_of cause) a
+  OfAlternative alt a (Err Memory) = Unit {0}
 
   -- of alternatives that have so many before them, and how many stand before what comes next
-  abbrev pub TellsLevel : (number before : ℕ) → List Alt → Result ℕ ScopeFault → Type 0
-  TellsLevel number before alts (Ok next) = (next ≡ before + length alts) × All AlternativeFree alts
-  TellsLevel number before alts (Err (Broken cause place)) =
+  abbrev pub OfLevel : ℕ → List Alt → Result ℕ ScopeFault → Type 0
+  OfLevel before alts (Ok next) = (next ≡ before + length alts) × All (AlternativeFree decls decl) alts
+  OfLevel before alts (Err (Broken cause place)) =
       (k : ℕ) × (place.decl ≡ number) × (place.alt ≡ before + k + 1) ×
-      FirstIn AlternativeFree (AlternativeCaught place.symbol (condition_of cause)) alts k
-  TellsLevel number before alts (Err Memory) = Unit {0}
+      FirstIn (AlternativeFree decls decl) (AlternativeCaught decls decl place.symbol (condition_of cause)) alts k
+  OfLevel before alts (Err Memory) = Unit {0}
 
   -- of all alternatives
-  abbrev pub TellsAlternatives : ℕ → {T : Type 0} → Result T ScopeFault → Type 0
-  TellsAlternatives number (Ok done) = All AlternativeFree (alternatives decl.levels)
-  TellsAlternatives number (Err (Broken cause place)) =
+  abbrev pub OfAlternatives : {T : Type 0} → Result T ScopeFault → Type 0
+  OfAlternatives (Ok done) = All (AlternativeFree decls decl) (alternatives decl.levels)
+  OfAlternatives (Err (Broken cause place)) =
       (k : ℕ) × (place.decl ≡ number) × (place.alt ≡ k + 1) ×
-      FirstIn AlternativeFree (AlternativeCaught place.symbol (condition_of cause)) (alternatives decl.levels) k
-  TellsAlternatives number (Err Memory) = Unit {0}
+      FirstIn (AlternativeFree decls decl) (AlternativeCaught decls decl place.symbol (condition_of cause))
+      (alternatives decl.levels) k
+  OfAlternatives (Err Memory) = Unit {0}
 
+-- the same of a declaration with its number
+abbrev pub TellsAlternative : Numbered → ℕ → Alt → {T : Type 0} → Result T ScopeFault → Type 0
+TellsAlternative numbered = OfAlternative numbered.declarations.now numbered.decl.now numbered.number
+
+abbrev pub TellsLevel : Numbered → ℕ → List Alt → Result ℕ ScopeFault → Type 0
+TellsLevel numbered = OfLevel numbered.declarations.now numbered.decl.now numbered.number
+
+abbrev pub TellsAlternatives : Numbered → {T : Type 0} → Result T ScopeFault → Type 0
+TellsAlternatives numbered = OfAlternatives numbered.declarations.now numbered.decl.now numbered.number
+
+module _ (decls : List Decl) (decl : Decl) where
   -- of the declaration, which has so many before it
   abbrev pub TellsDeclaration : ℕ → {T : Type 0} → Result T ScopeFault → Type 0
   TellsDeclaration index (Ok done) = (a symbol : ℕ) → NoneHolds (DeclarationHas decls index decl a symbol)

@@ -11,8 +11,7 @@ ghost use Rattle.ig_grammar.specs.Condition.{binds_name};
 ghost use Rattle.ig_scope.specs.Binders.{Leaves, binders};
 ghost use Rattle.ig_scope.specs.Told.{from};
 
-use crate::names::is_name;
-use ig_grammar::{Alts, Symbol, Symbols};
+use ig_grammar::{Alts, Symbol, Symbols, is_name};
 
 /// Of a symbol and those inside it.
 #[cycle(binders)]
@@ -51,7 +50,8 @@ fn leave(room: usize, symbol: &Symbol) -> Option<usize>
 /// Of the symbols of a sequence and those inside them.
 #[cycle(binders)]
 pub(crate) fn leave_sequence(room: usize, symbols: &Symbols) -> Option<usize>
-    ensures { (v : Visible) → Leaves room (binders (inside_sequence v (gathered symbols.now))) result }
+    ensures { (v : Visible)
+        → Leaves room (binders (inside_sequence v (gathered symbols.now))) result }
 {
     let mut left = room;
     for symbol in symbols.as_slice() {
@@ -63,7 +63,8 @@ pub(crate) fn leave_sequence(room: usize, symbols: &Symbols) -> Option<usize>
 /// Of the alternatives of a group.
 #[cycle(binders)]
 fn leave_choices(room: usize, choices: &Alts) -> Option<usize>
-    ensures { (v : Visible) → Leaves room (binders (inside_choices v (gathered_alternatives choices.now))) result }
+    ensures { (v : Visible)
+        → Leaves room (binders (inside_choices v (gathered_alternatives choices.now))) result }
 {
     let mut left = room;
     for choice in choices.as_slice() {

@@ -1,5 +1,6 @@
 ghost use Rattle.std.specs.Prelude.{◌≡◌, ◌+◌, ◌<◌};
-ghost use Rattle.ig_scope.specs.declared.fault.ScopeFault.{ScopeFault};
+ghost use Rattle.ig_grammar.specs.Regular.{counts_bound};
+ghost use Rattle.ig_scope.specs.Told.{fault_at};
 
 use crate::declarations::Declarations;
 use crate::fault::{ScopeCause, ScopeFault};
@@ -7,8 +8,8 @@ use ig_grammar::{DeclKind, Place};
 
 /// The alternative in which symbols stand, and the declarations that they call.
 #[derive(Clone, Copy)]
-pub(crate) struct Surroundings<'a> {
-    pub(crate) declarations: &'a Declarations<'a>,
+pub(crate) struct Surroundings<'d, 'g> {
+    pub(crate) declarations: &'d Declarations<'g>,
     /// What the declaration of the alternative is.
     pub(crate) kind: DeclKind,
     /// The number of that declaration.
@@ -17,11 +18,11 @@ pub(crate) struct Surroundings<'a> {
     pub(crate) alt: u32,
 }
 
-impl Surroundings<'_> {
+impl Surroundings<'_, '_> {
     /// The fault at the symbol that has so many before it in the alternative.
     pub(crate) fn fault(&self, cause: ScopeCause, before: u32) -> ScopeFault
-        requires { before + 1 < 4294967296 }
-        ensures { result ≡ ScopeFault.Broken cause (record { decl = self.now.decl; alt = self.now.alt; symbol = before + 1 }) }
+        requires { before + 1 < counts_bound }
+        ensures { result ≡ fault_at self.now cause before }
     {
         let place = Place {
             decl: self.decl,

@@ -3,16 +3,16 @@ use Rattle.std.proofs.Common.{◌≡◌, ◌∙◌, sym, subst, refl, ℕ, ◌+�
 use Rattle.std.proofs.lemmas.List.Elements.{All-cons, All-nil, All-head}
 use Rattle.std.specs.Prelude.{codes, flat_map}
 use Rattle.std.proofs.lemmas.Bool.Decides.{nat_tests}
-use Rattle.ig_text.specs.Ranges.{IsNormalFrom, NoneFalls, normal_form, is_among}
-use Rattle.ig_text.proofs.Insertion.{form_is_normal, ranges_stay}
+use Rattle.ig_text.specs.Ranges.{IsNormalFrom, NoneFalls, NormalFormIsNormal, NormalRangesStay, normal_form, is_among}
 use Rattle.ig_text.specs.declared.class.Class.{Class}
 use Rattle.ig_text.specs.declared.class.Class.TheVariants as class
+use Rattle.ig_text.specs.Words.{is_word}
 use Rattle.ig_expr.specs.Reading.{spelled}
-use Rattle.ig_grammar.specs.Token as token
-use Rattle.ig_grammar.specs.Token.{Token}
-use Rattle.ig_grammar.specs.Spelling.{IsToken, entry, signs, keywords, named_classes, is_one_of, literal_signs, class_signs, IsLetter, SpellsText, SpellsRanges}
-use Rattle.ig_grammar.specs.Spelling as table
-use Rattle.ig_tokens.proofs.Entries.{entry_all}
+use Rattle.ig_syntax.specs.Token as token
+use Rattle.ig_syntax.specs.Token.{Token}
+use Rattle.ig_syntax.specs.Spelling.{IsToken, entry, signs, keywords, named_classes, is_one_of, literal_signs, class_signs, IsLetter, SpellsText, SpellsRanges}
+use Rattle.ig_syntax.specs.Spelling as table
+use Rattle.ig_syntax.proofs.Tables.{found_row}
 use Rattle.ig_show.specs.Spelling.{spelling, numeral, literal_character, class_character, range_spelling, control_or, escape}
 use Rattle.ig_show.proofs.Numerals.{spells_numeral}
 
@@ -179,11 +179,11 @@ ranges_spelled low [] n = table.no_range
 ranges_spelled low (r ∷ rs) n = one_range r rs n.1 (r.0 == r.1) refl (ranges_spelled (r.1 + 2) rs n.2)
 
 -- ranges in normal form, of which there are some
-class_spelled : (negated : Bool) (r : ℕ × ℕ) (rs : List (ℕ × ℕ)) → IsNormalFrom 0 (r ∷ rs) → IsSpelled (token.OneOf (class.Ranges negated (r ∷ rs)))
-class_spelled false r rs n =
+class_spelled : NormalRangesStay → (negated : Bool) (r : ℕ × ℕ) (rs : List (ℕ × ℕ)) → IsNormalFrom 0 (r ∷ rs) → IsSpelled (token.OneOf (class.Ranges negated (r ∷ rs)))
+class_spelled ranges_stay false r rs n =
     subst (λ z. IsToken (spelling (token.OneOf (class.Ranges false (r ∷ rs)))) (token.OneOf (class.Ranges false z))) (ranges_stay (r ∷ rs) n)
     (table.ranges (flat_map range_spelling (r ∷ rs)) _ r rs (ranges_spelled 0 (r ∷ rs) n) refl)
-class_spelled true r rs n =
+class_spelled ranges_stay true r rs n =
     subst (λ z. IsToken (spelling (token.OneOf (class.Ranges true (r ∷ rs)))) (token.OneOf (class.Ranges true z))) (ranges_stay (r ∷ rs) n)
     (table.other_ranges (flat_map range_spelling (r ∷ rs)) _ r rs (ranges_spelled 0 (r ∷ rs) n) refl)
 
@@ -198,17 +198,17 @@ among_first p ps h =
     let a : nat_le p.0 p.0 ≡ true = grind (arith, nat_tests) in
     let b : nat_le p.0 p.1 ≡ true = grind (arith, nat_tests) in rw (a, b) refl
 
-some_ranges : (negated : Bool) (c : ℕ) (rs : List (ℕ × ℕ)) → is_among rs c ≡ true → IsNormalFrom 0 rs → IsSpelled (token.OneOf (class.Ranges negated rs))
-some_ranges negated c [] h n = absurd (cc)
-some_ranges negated c (r ∷ rs) h n = class_spelled negated r rs n
+some_ranges : NormalRangesStay → (negated : Bool) (c : ℕ) (rs : List (ℕ × ℕ)) → is_among rs c ≡ true → IsNormalFrom 0 rs → IsSpelled (token.OneOf (class.Ranges negated rs))
+some_ranges ranges_stay negated c [] h n = absurd (cc)
+some_ranges ranges_stay negated c (r ∷ rs) h n = class_spelled ranges_stay negated r rs n
 
-ranges_canonical : (negated : Bool) {inside : List ℕ} (p : ℕ × ℕ) (ps : List (ℕ × ℕ)) → SpellsRanges inside (p ∷ ps) →
+ranges_canonical : NormalFormIsNormal → NormalRangesStay → (negated : Bool) {inside : List ℕ} (p : ℕ × ℕ) (ps : List (ℕ × ℕ)) → SpellsRanges inside (p ∷ ps) →
     IsSpelled (token.OneOf (class.Ranges negated (normal_form (p ∷ ps))))
-ranges_canonical negated p ps s =
+ranges_canonical form_is_normal ranges_stay negated p ps s =
     let falls = none_fall s in
     let form = form_is_normal (p ∷ ps) falls in
     let first : p.0 ≤ p.1 = All-head (λ r. r.0 ≤ r.1) p ps falls in
-    some_ranges negated p.0 (normal_form (p ∷ ps)) (form.members p.0 ∙ among_first p ps first) form.normal
+    some_ranges ranges_stay negated p.0 (normal_form (p ∷ ps)) (form.members p.0 ∙ among_first p ps first) form.normal
 
 abbrev is_named : Class → Bool
 is_named (class.Ranges negated rs) = false
@@ -225,24 +225,24 @@ named_spelled class.Any h = table.named_class (codes "any") class.Any refl
 
 class_is_named : (cs : List ℕ) (c : Class) → entry named_classes cs ≡ Some c → is_named c ≡ true
 unfolding named_classes
-class_is_named cs c h = entry_all (λ w u. is_named u) named_classes cs c refl h
+class_is_named cs c h = (found_row (λ w. is_word w cs) (λ w u. is_named u) named_classes c refl h).passes
 
 sign_is_fixed : (cs : List ℕ) (t : Token) → entry signs cs ≡ Some t → is_fixed t ≡ true
 unfolding signs
-sign_is_fixed cs t h = entry_all (λ w u. is_fixed u) signs cs t refl h
+sign_is_fixed cs t h = (found_row (λ w. is_word w cs) (λ w u. is_fixed u) signs t refl h).passes
 
 keyword_is_fixed : (cs : List ℕ) (t : Token) → entry keywords cs ≡ Some t → is_fixed t ≡ true
 unfolding keywords
-keyword_is_fixed cs t h = entry_all (λ w u. is_fixed u) keywords cs t refl h
+keyword_is_fixed cs t h = (found_row (λ w. is_word w cs) (λ w u. is_fixed u) keywords t refl h).passes
 
 -- a token that is spelled in any way is spelled so
-pub canonical : {front : List ℕ} {t : Token} → IsToken front t → IsSpelled t
-canonical (table.name cs i n) = table.name cs i n
-canonical (table.head cs whole i n e) = table.head cs (cs ++ 40 ∷ []) i n refl
-canonical (table.number cs i) = number_spelled (spelled 0 cs)
-canonical (table.literal inside whole c cs s e) = table.literal (flat_map literal_character (c ∷ cs)) _ c cs (text_spelled (c ∷ cs)) refl
-canonical (table.ranges inside whole p ps s e) = ranges_canonical false p ps s
-canonical (table.other_ranges inside whole p ps s e) = ranges_canonical true p ps s
-canonical (table.named_class cs c h) = named_spelled c (class_is_named cs c h)
-canonical (table.sign cs t h) = fixed t (sign_is_fixed cs t h)
-canonical (table.keyword cs t h) = fixed t (keyword_is_fixed cs t h)
+pub canonical : NormalFormIsNormal → NormalRangesStay → {front : List ℕ} {t : Token} → IsToken front t → IsSpelled t
+canonical form_is_normal ranges_stay (table.name cs n) = table.name cs n
+canonical form_is_normal ranges_stay (table.head cs whole n e) = table.head cs (cs ++ 40 ∷ []) n refl
+canonical form_is_normal ranges_stay (table.number cs i) = number_spelled (spelled 0 cs)
+canonical form_is_normal ranges_stay (table.literal inside whole c cs s e) = table.literal (flat_map literal_character (c ∷ cs)) _ c cs (text_spelled (c ∷ cs)) refl
+canonical form_is_normal ranges_stay (table.ranges inside whole p ps s e) = ranges_canonical form_is_normal ranges_stay false p ps s
+canonical form_is_normal ranges_stay (table.other_ranges inside whole p ps s e) = ranges_canonical form_is_normal ranges_stay true p ps s
+canonical form_is_normal ranges_stay (table.named_class cs c h) = named_spelled c (class_is_named cs c h)
+canonical form_is_normal ranges_stay (table.sign cs t h) = fixed t (sign_is_fixed cs t h)
+canonical form_is_normal ranges_stay (table.keyword cs t h) = fixed t (keyword_is_fixed cs t h)

@@ -4,9 +4,10 @@ use Rattle.std.specs.List.{list_all}
 use Rattle.std.specs.Fmt.{decimal}
 use Rattle.std.proofs.lemmas.Fmt.{decimal_digit, decimal_step}
 use Rattle.std.proofs.lemmas.Bool.Decides.{nat_tests}
-use Rattle.ig_expr.specs.Reading.{is_digit, spelled}
-use Rattle.ig_tokens.proofs.Runs.{both}
-use Rattle.ig_grammar.specs.Spelling.{IsNumeral, nought, digits}
+use Rattle.ig_text.specs.Words.{is_digit}
+use Rattle.ig_expr.specs.Reading.{spelled}
+use Rattle.std.proofs.lemmas.Bool.{and_parts}
+use Rattle.ig_syntax.specs.Spelling.{IsNumeral, nought, digits}
 use Rattle.ig_show.specs.Spelling.{digits_within, numeral}
 
 -- the list is a numeral that spells n, and what the library writes for n
@@ -25,7 +26,7 @@ digit_test n h = grind (arith, nat_tests)
 all_more : (ds : List ℕ) (c : ℕ) → list_all is_digit ds ≡ true → is_digit c ≡ true → list_all is_digit (ds ++ c ∷ []) ≡ true
 all_more [] c h k = rw k refl
 all_more (d ∷ ds) c h k =
-    let parts = both (is_digit d) (list_all is_digit ds) h in rw parts.0 (all_more ds c parts.1 k)
+    let parts = and_parts (is_digit d) (list_all is_digit ds) h in rw parts.0 (all_more ds c parts.1 k)
 
 numeral_more : {ds : List ℕ} (c : ℕ) → IsNumeral ds → (spelled 0 ds ≡ 0 → ⊥) → is_digit c ≡ true → IsNumeral (ds ++ c ∷ [])
 numeral_more c nought n k = absurd (n refl)

@@ -1,6 +1,6 @@
 -- The pieces of a canonical text.
 use Rattle.std.specs.Prelude.{ℕ, List, [], ◌∷◌, ◌++◌}
-use Rattle.ig_grammar.specs.Token.{Token}
+use Rattle.ig_syntax.specs.Token.{Token}
 use Rattle.ig_show.specs.Spelling.{spelling}
 
 -- a space, a line feed or a token

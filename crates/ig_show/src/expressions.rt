@@ -1,11 +1,13 @@
 //! Expressions and their lists.
 
 ghost use Rattle.std.specs.Prelude.{◌≡◌, ◌++◌, ◌∷◌, [], OnOk, map, chars, string_bytes};
-ghost use Rattle.ig_grammar.specs.Token.{Name, Head, Literal, Comma, Close};
+ghost use Rattle.ig_syntax.specs.Token.{Name, Head, Literal, Comma, Close};
 ghost use Rattle.ig_expr.specs.Expression.{Truth};
 ghost use Rattle.ig_expr.specs.View.{expression_of};
 ghost use Rattle.ig_show.specs.Pieces.{token, blank};
-ghost use Rattle.ig_show.specs.CanonicalText.{expression_pieces, part_pieces, operator_token, function_name, has_operator, joined, separated, comma, call_pieces, pattern_token};
+ghost use Rattle.ig_show.specs.CanonicalText.{expression_pieces, part_pieces, operator_token};
+ghost use Rattle.ig_show.specs.CanonicalText.{function_name, has_operator, joined, separated};
+ghost use Rattle.ig_show.specs.CanonicalText.{comma, call_pieces, pattern_token};
 ghost use Rattle.ig_show.specs.Writing.{Adds, Appends};
 
 use crate::spelling::{push_head, push_integer, push_literal, push_name, push_pattern, push_text};
@@ -15,7 +17,8 @@ use std::alloc::AllocError;
 
 /// Adds an operator with a space on each side.
 fn push_operator(out: &mut String, op: Op) -> Result<(), AllocError>
-    ensures { OnOk result (Adds (string_bytes out.old) (string_bytes out.new) (λ ps. blank ∷ token (operator_token op) ∷ blank ∷ ps)) }
+    ensures { OnOk result (Adds (string_bytes out.old) (string_bytes out.new)
+        (λ ps. blank ∷ token (operator_token op) ∷ blank ∷ ps)) }
 {
     match op {
         Op::Add => push_text(out, " + "),
@@ -36,7 +39,8 @@ fn push_operator(out: &mut String, op: Op) -> Result<(), AllocError>
 
 /// Adds the name of a function, with `(` directly behind it.
 fn push_function(out: &mut String, function: Function) -> Result<(), AllocError>
-    ensures { OnOk result (Adds (string_bytes out.old) (string_bytes out.new) (λ ps. token (Head (function_name function)) ∷ ps)) }
+    ensures { OnOk result (Adds (string_bytes out.old) (string_bytes out.new)
+        (λ ps. token (Head (function_name function)) ∷ ps)) }
 {
     match function {
         Function::Begin => push_text(out, "begin("),
@@ -50,7 +54,8 @@ fn push_function(out: &mut String, function: Function) -> Result<(), AllocError>
 
 /// Adds a truth value.
 fn push_truth(out: &mut String, truth: bool) -> Result<(), AllocError>
-    ensures { OnOk result (Adds (string_bytes out.old) (string_bytes out.new) (expression_pieces (Truth truth))) }
+    ensures { OnOk result (Adds (string_bytes out.old) (string_bytes out.new)
+        (expression_pieces (Truth truth))) }
 {
     if truth {
         push_text(out, "true")
@@ -74,7 +79,8 @@ fn has_operator(expression: &Expr) -> bool
 /// Adds an expression.
 #[cycle(expressions)]
 pub(crate) fn push_expression(out: &mut String, expression: &Expr) -> Result<(), AllocError>
-    ensures { OnOk result (Adds (string_bytes out.old) (string_bytes out.new) (expression_pieces (expression_of expression.now))) }
+    ensures { OnOk result (Adds (string_bytes out.old) (string_bytes out.new)
+        (expression_pieces (expression_of expression.now))) }
 {
     match expression {
         Expr::Int(number) => push_integer(out, *number),
@@ -141,7 +147,8 @@ pub(crate) fn push_expression(out: &mut String, expression: &Expr) -> Result<(),
 /// Adds a part of an expression, in parentheses where it has an operator.
 #[cycle(expressions)]
 fn push_part(out: &mut String, part: &Operand) -> Result<(), AllocError>
-    ensures { OnOk result (Adds (string_bytes out.old) (string_bytes out.new) (part_pieces part.now)) }
+    ensures { OnOk result (Adds (string_bytes out.old) (string_bytes out.new)
+        (part_pieces part.now)) }
 {
     let expression = part.as_expr();
     if has_operator(expression) {
@@ -155,7 +162,8 @@ fn push_part(out: &mut String, part: &Operand) -> Result<(), AllocError>
 
 /// Adds `, `, a literal and `)`.
 fn push_word_behind(out: &mut String, word: &Word) -> Result<(), AllocError>
-    ensures { OnOk result (Adds (string_bytes out.old) (string_bytes out.new) (λ ps. token Comma ∷ blank ∷ token (Literal word.now) ∷ token Close ∷ ps)) }
+    ensures { OnOk result (Adds (string_bytes out.old) (string_bytes out.new)
+        (λ ps. token Comma ∷ blank ∷ token (Literal word.now) ∷ token Close ∷ ps)) }
 {
     push_text(out, ", ")?;
     push_literal(out, word)?;
@@ -164,7 +172,8 @@ fn push_word_behind(out: &mut String, word: &Word) -> Result<(), AllocError>
 
 /// Adds expressions with `, ` between two.
 fn push_expressions(out: &mut String, expressions: &[Expr]) -> Result<(), AllocError>
-    ensures { OnOk result (Adds (string_bytes out.old) (string_bytes out.new) (joined comma expression_pieces (map expression_of expressions.now))) }
+    ensures { OnOk result (Adds (string_bytes out.old) (string_bytes out.new)
+        (joined comma expression_pieces (map expression_of expressions.now))) }
 {
     let Some((first, others)) = expressions.split_first() else {
         return Ok(());
@@ -179,7 +188,8 @@ fn push_expressions(out: &mut String, expressions: &[Expr]) -> Result<(), AllocE
 
 /// Adds a call: the name, and the arguments in parentheses where there are any.
 pub(crate) fn push_call(out: &mut String, name: &Word, arguments: &[Expr]) -> Result<(), AllocError>
-    ensures { OnOk result (Adds (string_bytes out.old) (string_bytes out.new) (call_pieces name.now (map expression_of arguments.now))) }
+    ensures { OnOk result (Adds (string_bytes out.old) (string_bytes out.new)
+        (call_pieces name.now (map expression_of arguments.now))) }
 {
     if arguments.is_empty() {
         return push_name(out, name);

@@ -1,10 +1,15 @@
 //! Grammars and their declarations.
 
-ghost use Rattle.std.specs.Prelude.{◌≡◌, ◌++◌, ◌∷◌, [], OnOk, IfOk, Some, IsUtf8, map, chars, string_bytes};
+ghost use Rattle.std.specs.Prelude.{◌≡◌, ◌++◌, ◌∷◌, [], OnOk, IfOk, Some, IsUtf8, map, chars};
+ghost use Rattle.std.specs.Prelude.{string_bytes};
 ghost use Rattle.ig_expr.specs.View.{expression_of};
-ghost use Rattle.ig_grammar.specs.Token.{Name, Head, Semicolon};
+ghost use Rattle.ig_syntax.specs.Token.{Name, Head, Semicolon};
 ghost use Rattle.ig_show.specs.Pieces.{token, blank, line_end};
-ghost use Rattle.ig_show.specs.CanonicalText.{text_of, expression_text, pattern_text, associativity_pieces, level_pieces, levels_pieces, parameter_pieces, head_pieces, joined, comma, declaration_token, declaration_pieces, separated, start_pieces};
+ghost use Rattle.ig_show.specs.CanonicalText.{text_of, expression_text, pattern_text};
+ghost use Rattle.ig_show.specs.CanonicalText.{associativity_pieces, level_pieces, levels_pieces};
+ghost use Rattle.ig_show.specs.CanonicalText.{parameter_pieces, head_pieces, joined, comma};
+ghost use Rattle.ig_show.specs.CanonicalText.{declaration_token, declaration_pieces, separated};
+ghost use Rattle.ig_show.specs.CanonicalText.{start_pieces};
 ghost use Rattle.ig_show.specs.Writing.{Adds, IsText};
 
 use crate::expressions::push_expression;
@@ -17,7 +22,8 @@ use std::alloc::{AllocError, Global};
 
 /// Adds an associativity and a space, and nothing where there is none.
 fn push_associativity(out: &mut String, assoc: Assoc) -> Result<(), AllocError>
-    ensures { OnOk result (Adds (string_bytes out.old) (string_bytes out.new) (associativity_pieces assoc)) }
+    ensures { OnOk result (Adds (string_bytes out.old) (string_bytes out.new)
+        (associativity_pieces assoc)) }
 {
     match assoc {
         Assoc::Free => Ok(()),
@@ -29,7 +35,8 @@ fn push_associativity(out: &mut String, assoc: Assoc) -> Result<(), AllocError>
 
 /// Adds a level.
 fn push_level(out: &mut String, level: &Level) -> Result<(), AllocError>
-    ensures { OnOk result (Adds (string_bytes out.old) (string_bytes out.new) (level_pieces level.now)) }
+    ensures { OnOk result (Adds (string_bytes out.old) (string_bytes out.new)
+        (level_pieces level.now)) }
 {
     push_associativity(out, level.assoc)?;
     push_alternatives(out, &level.alts)
@@ -37,7 +44,8 @@ fn push_level(out: &mut String, level: &Level) -> Result<(), AllocError>
 
 /// Adds levels, with ` > ` between two.
 fn push_levels(out: &mut String, levels: &[Level]) -> Result<(), AllocError>
-    ensures { OnOk result (Adds (string_bytes out.old) (string_bytes out.new) (levels_pieces levels.now)) }
+    ensures { OnOk result (Adds (string_bytes out.old) (string_bytes out.new)
+        (levels_pieces levels.now)) }
 {
     let Some((first, others)) = levels.split_first() else {
         return Ok(());
@@ -52,7 +60,8 @@ fn push_levels(out: &mut String, levels: &[Level]) -> Result<(), AllocError>
 
 /// Adds a parameter: its name, `: ` and its kind.
 fn push_parameter(out: &mut String, param: &Param) -> Result<(), AllocError>
-    ensures { OnOk result (Adds (string_bytes out.old) (string_bytes out.new) (parameter_pieces param.now)) }
+    ensures { OnOk result (Adds (string_bytes out.old) (string_bytes out.new)
+        (parameter_pieces param.now)) }
 {
     push_name(out, &param.name)?;
     match param.kind {
@@ -64,7 +73,8 @@ fn push_parameter(out: &mut String, param: &Param) -> Result<(), AllocError>
 
 /// Adds parameters, with `, ` between two.
 fn push_parameters(out: &mut String, params: &[Param]) -> Result<(), AllocError>
-    ensures { OnOk result (Adds (string_bytes out.old) (string_bytes out.new) (joined comma parameter_pieces params.now)) }
+    ensures { OnOk result (Adds (string_bytes out.old) (string_bytes out.new)
+        (joined comma parameter_pieces params.now)) }
 {
     let Some((first, others)) = params.split_first() else {
         return Ok(());
@@ -79,7 +89,8 @@ fn push_parameters(out: &mut String, params: &[Param]) -> Result<(), AllocError>
 
 /// Adds a declared name, and the parameters in parentheses where there are any.
 fn push_declared(out: &mut String, name: &Word, params: &[Param]) -> Result<(), AllocError>
-    ensures { OnOk result (Adds (string_bytes out.old) (string_bytes out.new) (head_pieces name.now params.now)) }
+    ensures { OnOk result (Adds (string_bytes out.old) (string_bytes out.new)
+        (head_pieces name.now params.now)) }
 {
     if params.is_empty() {
         return push_name(out, name);
@@ -91,7 +102,8 @@ fn push_declared(out: &mut String, name: &Word, params: &[Param]) -> Result<(), 
 
 /// Adds the kind of a declaration and a space.
 fn push_kind(out: &mut String, kind: DeclKind) -> Result<(), AllocError>
-    ensures { OnOk result (Adds (string_bytes out.old) (string_bytes out.new) (λ ps. token (declaration_token kind) ∷ blank ∷ ps)) }
+    ensures { OnOk result (Adds (string_bytes out.old) (string_bytes out.new)
+        (λ ps. token (declaration_token kind) ∷ blank ∷ ps)) }
 {
     match kind {
         DeclKind::Syntax => push_text(out, "syntax "),
@@ -103,7 +115,8 @@ fn push_kind(out: &mut String, kind: DeclKind) -> Result<(), AllocError>
 
 /// Adds a declaration as a line.
 fn push_declaration(out: &mut String, decl: &Decl) -> Result<(), AllocError>
-    ensures { OnOk result (Adds (string_bytes out.old) (string_bytes out.new) (declaration_pieces decl.now)) }
+    ensures { OnOk result (Adds (string_bytes out.old) (string_bytes out.new)
+        (declaration_pieces decl.now)) }
 {
     push_kind(out, decl.kind)?;
     push_declared(out, &decl.name, decl.params.as_slice())?;
@@ -114,7 +127,8 @@ fn push_declaration(out: &mut String, decl: &Decl) -> Result<(), AllocError>
 
 /// Adds declarations.
 fn push_declarations(out: &mut String, decls: &[Decl]) -> Result<(), AllocError>
-    ensures { OnOk result (Adds (string_bytes out.old) (string_bytes out.new) (separated [] declaration_pieces decls.now)) }
+    ensures { OnOk result (Adds (string_bytes out.old) (string_bytes out.new)
+        (separated [] declaration_pieces decls.now)) }
 {
     for decl in decls {
         push_declaration(out, decl)?;
@@ -124,7 +138,8 @@ fn push_declarations(out: &mut String, decls: &[Decl]) -> Result<(), AllocError>
 
 /// Adds the line of a start symbol, where there is one.
 fn push_start(out: &mut String, start: &Option<Word>) -> Result<(), AllocError>
-    ensures { OnOk result (Adds (string_bytes out.old) (string_bytes out.new) (start_pieces start.now)) }
+    ensures { OnOk result (Adds (string_bytes out.old) (string_bytes out.new)
+        (start_pieces start.now)) }
 {
     match start {
         None => Ok(()),
@@ -134,7 +149,8 @@ fn push_start(out: &mut String, start: &Option<Word>) -> Result<(), AllocError>
 
 /// Adds the line of a start symbol.
 fn push_start_line(out: &mut String, name: &Word) -> Result<(), AllocError>
-    ensures { OnOk result (Adds (string_bytes out.old) (string_bytes out.new) (start_pieces (Some name.now))) }
+    ensures { OnOk result (Adds (string_bytes out.old) (string_bytes out.new)
+        (start_pieces (Some name.now))) }
 {
     push_text(out, "start ")?;
     push_name(out, name)?;
@@ -142,8 +158,8 @@ fn push_start_line(out: &mut String, name: &Word) -> Result<(), AllocError>
 }
 
 /// The canonical text of a grammar, as UTF-8: the line `start NAME;` where there is a start, and a
-/// line for each declaration. Reading it gives the grammar again, where some text does. Refuses only
-/// for want of memory.
+/// line for each declaration. Reading it gives the grammar again, where some text does. Refuses
+/// only for want of memory.
 pub fn show_grammar(alloc: Global, grammar: &Grammar) -> Result<Vec<u8>, AllocError>
     ensures { IfOk result (λ bytes. IsText bytes.items (text_of grammar.now)) }
 {
@@ -155,15 +171,16 @@ pub fn show_grammar(alloc: Global, grammar: &Grammar) -> Result<Vec<u8>, AllocEr
 
 /// The canonical text of an expression, as UTF-8. Refuses only for want of memory.
 pub fn show_expression(alloc: Global, expression: &Expr) -> Result<Vec<u8>, AllocError>
-    ensures { IfOk result (λ bytes. IsText bytes.items (expression_text (expression_of expression.now))) }
+    ensures { IfOk result (λ bytes. IsText bytes.items (expression_text
+        (expression_of expression.now))) }
 {
     let mut out = String::new(alloc);
     push_expression(&mut out, expression)?;
     Ok(out.into_bytes())
 }
 
-/// The canonical text of a pattern, as UTF-8: a literal in quotes, or a class. Refuses only for want
-/// of memory.
+/// The canonical text of a pattern, as UTF-8: a literal in quotes, or a class. Refuses only for
+/// want of memory.
 pub fn show_pattern(alloc: Global, pattern: &Pattern) -> Result<Vec<u8>, AllocError>
     ensures { IfOk result (λ bytes. IsText bytes.items (pattern_text pattern.now)) }
 {

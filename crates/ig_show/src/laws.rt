@@ -10,4 +10,8 @@ pub fn canonical_tokens_follow()
 /// every grammar, computes nothing.
 pub fn canonical_text_reads_back()
     ensures { CanonicalTextReadsBack }
-{}
+{
+    ig_tokens::ended_tokens_are_longest();
+    ig_text::normal_form_is_normal();
+    ig_text::normal_ranges_stay();
+}

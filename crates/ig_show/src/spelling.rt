@@ -1,9 +1,10 @@
 //! How tokens that hold something are spelled: numbers, literals and classes.
 
 ghost use Rattle.std.specs.Prelude.{◌≡◌, ◌++◌, ◌∷◌, [], OnOk, IfOk, chars, string_bytes, flat_map};
-ghost use Rattle.ig_grammar.specs.Token.{Name, Head, Literal, OneOf};
+ghost use Rattle.ig_syntax.specs.Token.{Name, Head, Literal, OneOf};
 ghost use Rattle.ig_show.specs.Pieces.{token};
-ghost use Rattle.ig_show.specs.Spelling.{literal_character, class_character, range_spelling, negation, class_spelling, literal_spelling};
+ghost use Rattle.ig_show.specs.Spelling.{literal_character, class_character, range_spelling};
+ghost use Rattle.ig_show.specs.Spelling.{negation, class_spelling, literal_spelling};
 ghost use Rattle.ig_show.specs.CanonicalText.{integer_pieces, pattern_token};
 ghost use Rattle.ig_show.specs.Writing.{Adds, Appends};
 
@@ -27,14 +28,16 @@ fn push_character(out: &mut String, character: char) -> Result<(), AllocError>
 
 /// Adds a name.
 pub(crate) fn push_name(out: &mut String, name: &Word) -> Result<(), AllocError>
-    ensures { OnOk result (Adds (string_bytes out.old) (string_bytes out.new) (λ ps. token (Name name.now) ∷ ps)) }
+    ensures { OnOk result (Adds (string_bytes out.old) (string_bytes out.new)
+        (λ ps. token (Name name.now) ∷ ps)) }
 {
     push_text(out, name.as_str())
 }
 
 /// Adds a name with `(` directly behind it.
 pub(crate) fn push_head(out: &mut String, name: &Word) -> Result<(), AllocError>
-    ensures { OnOk result (Adds (string_bytes out.old) (string_bytes out.new) (λ ps. token (Head name.now) ∷ ps)) }
+    ensures { OnOk result (Adds (string_bytes out.old) (string_bytes out.new)
+        (λ ps. token (Head name.now) ∷ ps)) }
 {
     push_text(out, name.as_str())?;
     push_text(out, "(")
@@ -42,7 +45,8 @@ pub(crate) fn push_head(out: &mut String, name: &Word) -> Result<(), AllocError>
 
 /// Adds an integer in decimal, with `-` where it is negative.
 pub(crate) fn push_integer(out: &mut String, number: i64) -> Result<(), AllocError>
-    ensures { OnOk result (Adds (string_bytes out.old) (string_bytes out.new) (integer_pieces number)) }
+    ensures { OnOk result (Adds (string_bytes out.old) (string_bytes out.new)
+        (integer_pieces number)) }
 {
     let mut buffer = Buffer::new();
     push_text(out, buffer.format(number))
@@ -50,7 +54,8 @@ pub(crate) fn push_integer(out: &mut String, number: i64) -> Result<(), AllocErr
 
 /// Adds a character of a literal: `"`, `\`, a line feed, a carriage return and a tab as escapes.
 fn push_literal_character(out: &mut String, character: char) -> Result<(), AllocError>
-    ensures { OnOk result (Appends (string_bytes out.old) (string_bytes out.new) (literal_character character)) }
+    ensures { OnOk result (Appends (string_bytes out.old) (string_bytes out.new)
+        (literal_character character)) }
 {
     match character {
         '"' => push_text(out, "\\\""),
@@ -64,7 +69,8 @@ fn push_literal_character(out: &mut String, character: char) -> Result<(), Alloc
 
 /// Adds the characters of a literal.
 fn push_literal_characters(out: &mut String, characters: &[char]) -> Result<(), AllocError>
-    ensures { OnOk result (Appends (string_bytes out.old) (string_bytes out.new) (flat_map literal_character characters.now)) }
+    ensures { OnOk result (Appends (string_bytes out.old) (string_bytes out.new)
+        (flat_map literal_character characters.now)) }
 {
     for character in characters {
         push_literal_character(out, *character)?;
@@ -74,17 +80,19 @@ fn push_literal_characters(out: &mut String, characters: &[char]) -> Result<(), 
 
 /// Adds a literal, in quotes.
 pub(crate) fn push_literal(out: &mut String, word: &Word) -> Result<(), AllocError>
-    ensures { OnOk result (Adds (string_bytes out.old) (string_bytes out.new) (λ ps. token (Literal word.now) ∷ ps)) }
+    ensures { OnOk result (Adds (string_bytes out.old) (string_bytes out.new)
+        (λ ps. token (Literal word.now) ∷ ps)) }
 {
     push_text(out, "\"")?;
     push_literal_characters(out, word.as_chars())?;
     push_text(out, "\"")
 }
 
-/// Adds a character of a class: `[`, `]`, `^`, `-`, `\`, a line feed, a carriage return and a tab as
-/// escapes.
+/// Adds a character of a class: `[`, `]`, `^`, `-`, `\`, a line feed, a carriage return and a tab
+/// as escapes.
 fn push_class_character(out: &mut String, character: char) -> Result<(), AllocError>
-    ensures { OnOk result (Appends (string_bytes out.old) (string_bytes out.new) (class_character character)) }
+    ensures { OnOk result (Appends (string_bytes out.old) (string_bytes out.new)
+        (class_character character)) }
 {
     match character {
         '[' => push_text(out, "\\["),
@@ -101,7 +109,8 @@ fn push_class_character(out: &mut String, character: char) -> Result<(), AllocEr
 
 /// Adds a range of characters: one character alone, else the first, `-` and the last.
 fn push_range(out: &mut String, first: char, last: char) -> Result<(), AllocError>
-    ensures { OnOk result (Appends (string_bytes out.old) (string_bytes out.new) (range_spelling (first, last))) }
+    ensures { OnOk result (Appends (string_bytes out.old) (string_bytes out.new)
+        (range_spelling (first, last))) }
 {
     if first == last {
         return push_class_character(out, first);
@@ -113,7 +122,8 @@ fn push_range(out: &mut String, first: char, last: char) -> Result<(), AllocErro
 
 /// Adds the ranges of a class.
 fn push_ranges(out: &mut String, ranges: &[(char, char)]) -> Result<(), AllocError>
-    ensures { OnOk result (Appends (string_bytes out.old) (string_bytes out.new) (flat_map range_spelling ranges.now)) }
+    ensures { OnOk result (Appends (string_bytes out.old) (string_bytes out.new)
+        (flat_map range_spelling ranges.now)) }
 {
     for (first, last) in ranges {
         push_range(out, *first, *last)?;
@@ -123,7 +133,8 @@ fn push_ranges(out: &mut String, ranges: &[(char, char)]) -> Result<(), AllocErr
 
 /// Adds `^` where a class is negated.
 fn push_negation(out: &mut String, negated: bool) -> Result<(), AllocError>
-    ensures { OnOk result (Appends (string_bytes out.old) (string_bytes out.new) (negation negated)) }
+    ensures { OnOk result (Appends (string_bytes out.old) (string_bytes out.new) (negation negated))
+        }
 {
     if negated { push_text(out, "^") } else { Ok(()) }
 }
@@ -134,7 +145,8 @@ fn push_bracketed(
     negated: bool,
     ranges: &[(char, char)],
 ) -> Result<(), AllocError>
-    ensures { OnOk result (Appends (string_bytes out.old) (string_bytes out.new) (class_spelling (Class.Ranges negated ranges.now))) }
+    ensures { OnOk result (Appends (string_bytes out.old) (string_bytes out.new)
+        (class_spelling (Class.Ranges negated ranges.now))) }
 {
     push_text(out, "[")?;
     push_negation(out, negated)?;
@@ -144,7 +156,8 @@ fn push_bracketed(
 
 /// Adds a class.
 pub(crate) fn push_class(out: &mut String, class: &Class) -> Result<(), AllocError>
-    ensures { OnOk result (Adds (string_bytes out.old) (string_bytes out.new) (λ ps. token (OneOf class.now) ∷ ps)) }
+    ensures { OnOk result (Adds (string_bytes out.old) (string_bytes out.new)
+        (λ ps. token (OneOf class.now) ∷ ps)) }
 {
     match class {
         Class::Ranges { negated, ranges } => push_bracketed(out, *negated, ranges.as_slice()),
@@ -156,7 +169,8 @@ pub(crate) fn push_class(out: &mut String, class: &Class) -> Result<(), AllocErr
 
 /// Adds a pattern.
 pub(crate) fn push_pattern(out: &mut String, pattern: &Pattern) -> Result<(), AllocError>
-    ensures { OnOk result (Adds (string_bytes out.old) (string_bytes out.new) (λ ps. token (pattern_token pattern.now) ∷ ps)) }
+    ensures { OnOk result (Adds (string_bytes out.old) (string_bytes out.new)
+        (λ ps. token (pattern_token pattern.now) ∷ ps)) }
 {
     match pattern {
         Pattern::Literal(word) => push_literal(out, word),

@@ -7,7 +7,10 @@ ghost use Rattle.ig_grammar.specs.Binding.{binding_of};
 ghost use Rattle.ig_grammar.specs.View.{symbol_of};
 ghost use Rattle.ig_expr.specs.View.{expression_of};
 ghost use Rattle.ig_show.specs.Pieces.{token, blank};
-ghost use Rattle.ig_show.specs.CanonicalText.{symbol_pieces, alternative_pieces, alternatives_pieces, filter_pieces, separated, guard_pieces, let_pieces, bindings_pieces, filter_sign};
+ghost use Rattle.ig_show.specs.CanonicalText.{symbol_pieces, alternative_pieces};
+ghost use Rattle.ig_show.specs.CanonicalText.{alternatives_pieces, filter_pieces, separated};
+ghost use Rattle.ig_show.specs.CanonicalText.{guard_pieces, let_pieces, bindings_pieces};
+ghost use Rattle.ig_show.specs.CanonicalText.{filter_sign};
 ghost use Rattle.ig_show.specs.Writing.{Adds, Appends};
 
 use crate::expressions::{push_call, push_expression};
@@ -19,7 +22,8 @@ use std::alloc::AllocError;
 
 /// Adds `when (e)`.
 fn push_guard(out: &mut String, condition: &Expr) -> Result<(), AllocError>
-    ensures { OnOk result (Adds (string_bytes out.old) (string_bytes out.new) (guard_pieces (expression_of condition.now))) }
+    ensures { OnOk result (Adds (string_bytes out.old) (string_bytes out.new)
+        (guard_pieces (expression_of condition.now))) }
 {
     push_text(out, "when (")?;
     push_expression(out, condition)?;
@@ -28,7 +32,8 @@ fn push_guard(out: &mut String, condition: &Expr) -> Result<(), AllocError>
 
 /// Adds `let x = (e)`.
 fn push_let(out: &mut String, name: &Word, value: &Expr) -> Result<(), AllocError>
-    ensures { OnOk result (Adds (string_bytes out.old) (string_bytes out.new) (let_pieces name.now (expression_of value.now))) }
+    ensures { OnOk result (Adds (string_bytes out.old) (string_bytes out.new)
+        (let_pieces name.now (expression_of value.now))) }
 {
     push_text(out, "let ")?;
     push_name(out, name)?;
@@ -39,7 +44,8 @@ fn push_let(out: &mut String, name: &Word, value: &Expr) -> Result<(), AllocErro
 
 /// Adds bindings, each with a space behind it.
 fn push_bindings(out: &mut String, bindings: &[(Word, Expr)]) -> Result<(), AllocError>
-    ensures { OnOk result (Adds (string_bytes out.old) (string_bytes out.new) (bindings_pieces (map binding_of bindings.now))) }
+    ensures { OnOk result (Adds (string_bytes out.old) (string_bytes out.new)
+        (bindings_pieces (map binding_of bindings.now))) }
 {
     for binding in bindings {
         push_let(out, &binding.0, &binding.1)?;
@@ -50,7 +56,8 @@ fn push_bindings(out: &mut String, bindings: &[(Word, Expr)]) -> Result<(), Allo
 
 /// Adds a filter: its sign, a space and its pattern.
 fn push_filter(out: &mut String, filter: &Filter) -> Result<(), AllocError>
-    ensures { OnOk result (Adds (string_bytes out.old) (string_bytes out.new) (filter_pieces filter.now)) }
+    ensures { OnOk result (Adds (string_bytes out.old) (string_bytes out.new)
+        (filter_pieces filter.now)) }
 {
     match filter {
         Filter::NotFollowed(pattern) => {
@@ -70,7 +77,8 @@ fn push_filter(out: &mut String, filter: &Filter) -> Result<(), AllocError>
 
 /// Adds filters, each with a space before it.
 fn push_filters(out: &mut String, filters: &[Filter]) -> Result<(), AllocError>
-    ensures { OnOk result (Adds (string_bytes out.old) (string_bytes out.new) (separated (blank ∷ []) filter_pieces filters.now)) }
+    ensures { OnOk result (Adds (string_bytes out.old) (string_bytes out.new)
+        (separated (blank ∷ []) filter_pieces filters.now)) }
 {
     for filter in filters {
         push_text(out, " ")?;
@@ -82,7 +90,8 @@ fn push_filters(out: &mut String, filters: &[Filter]) -> Result<(), AllocError>
 /// Adds a symbol.
 #[cycle(symbols)]
 pub(crate) fn push_symbol(out: &mut String, symbol: &Symbol) -> Result<(), AllocError>
-    ensures { OnOk result (Adds (string_bytes out.old) (string_bytes out.new) (symbol_pieces (symbol_of symbol.now))) }
+    ensures { OnOk result (Adds (string_bytes out.old) (string_bytes out.new)
+        (symbol_pieces (symbol_of symbol.now))) }
 {
     match symbol {
         Symbol::Literal(word) => push_literal(out, word),
@@ -153,7 +162,8 @@ pub(crate) fn push_symbol(out: &mut String, symbol: &Symbol) -> Result<(), Alloc
 /// Adds a symbol inside another one.
 #[cycle(symbols)]
 fn push_inner(out: &mut String, inner: &Inner) -> Result<(), AllocError>
-    ensures { OnOk result (Adds (string_bytes out.old) (string_bytes out.new) (symbol_pieces inner.now)) }
+    ensures { OnOk result (Adds (string_bytes out.old) (string_bytes out.new)
+        (symbol_pieces inner.now)) }
 {
     push_symbol(out, inner.as_symbol())
 }
@@ -161,7 +171,8 @@ fn push_inner(out: &mut String, inner: &Inner) -> Result<(), AllocError>
 /// Adds the symbols of an alternative, with a space between two.
 #[cycle(symbols)]
 fn push_alternative(out: &mut String, symbols: &Symbols) -> Result<(), AllocError>
-    ensures { OnOk result (Adds (string_bytes out.old) (string_bytes out.new) (alternative_pieces (gathered symbols.now))) }
+    ensures { OnOk result (Adds (string_bytes out.old) (string_bytes out.new)
+        (alternative_pieces (gathered symbols.now))) }
 {
     let Some((first, others)) = symbols.as_slice().split_first() else {
         return Ok(());
@@ -177,7 +188,8 @@ fn push_alternative(out: &mut String, symbols: &Symbols) -> Result<(), AllocErro
 /// Adds alternatives, with ` | ` between two.
 #[cycle(symbols)]
 pub(crate) fn push_alternatives(out: &mut String, alternatives: &Alts) -> Result<(), AllocError>
-    ensures { OnOk result (Adds (string_bytes out.old) (string_bytes out.new) (alternatives_pieces (gathered_alternatives alternatives.now))) }
+    ensures { OnOk result (Adds (string_bytes out.old) (string_bytes out.new)
+        (alternatives_pieces (gathered_alternatives alternatives.now))) }
 {
     let Some((first, others)) = alternatives.as_slice().split_first() else {
         return Ok(());

@@ -1,19 +1,15 @@
 -- Putting ranges among ranges in normal form, one after another, gives the normal form.
-use Rattle.std.proofs.Common.{◌≡◌, ◌∙◌, ℕ, ◌+◌, ◌≤◌, ◌||◌, min, max, List, [], ◌∷◌, Bool, true, false, cond, ltb, refl, ap, arith}
+use Rattle.std.proofs.Common.{◌≡◌, ◌∙◌, ℕ, ◌+◌, ◌≤◌, ◌||◌, min, max, List, [], ◌∷◌, true, false, cond, ltb, refl, ap, arith}
 use Rattle.std.proofs.lemmas.Bool.Decides.{nat_tests}
 use Rattle.std.proofs.lemmas.List.Elements.{All-tail, All-cons, All-nil}
 use Rattle.ig_text.specs.Ranges.{NoneFalls, IsNormalFrom, IsNormalFormOf, NormalFormIsNormal, NormalRangesStay, is_within, is_among, with_range, normal_form}
+use Rattle.ig_text.proofs.Booleans.{or_assoc, or_swap}
+use Rattle.ig_text.proofs.Numbers.{far, near}
 use Rattle.ig_text.proofs.NormalForm.{one_normal_form}
 
 -- the range from the lesser begin to the greater end
 abbrev hull : ℕ × ℕ → ℕ × ℕ → ℕ × ℕ
 hull r s = (min r.0 s.0, max r.1 s.1)
-
-before : (a b : ℕ) → ltb (a + 1) b ≡ true → a + 2 ≤ b
-before a b e = grind (arith, nat_tests)
-
-reaches : (a b : ℕ) → ltb (a + 1) b ≡ false → b ≤ a + 1
-reaches a b e = grind (arith, nat_tests)
 
 normal_from : (low more : ℕ) (xs : List (ℕ × ℕ)) → low ≤ more → IsNormalFrom more xs → IsNormalFrom low xs
 normal_from low more [] h n = tt
@@ -26,13 +22,13 @@ put_normal low r (s ∷ rest) h k n =
     (elim (ltb (r.1 + 1) s.0) as
     (λ v. ltb (r.1 + 1) s.0 ≡ v →
     IsNormalFrom low (cond v (r ∷ s ∷ rest) (cond (ltb (s.1 + 1) r.0) (s ∷ with_range r rest) (with_range (hull r s) rest)))) [
-      | true ↦ λ e. (h, k, (before r.1 s.0 e, n.1, n.2))
+      | true ↦ λ e. (h, k, (far r.1 s.0 e, n.1, n.2))
       | false ↦
           λ e.
           (elim (ltb (s.1 + 1) r.0) as
           (λ v. ltb (s.1 + 1) r.0 ≡ v →
           IsNormalFrom low (cond v (s ∷ with_range r rest) (with_range (hull r s) rest))) [
-            | true ↦ λ f. (n.0, n.1, put_normal (s.1 + 2) r rest (before s.1 r.0 f) k n.2)
+            | true ↦ λ f. (n.0, n.1, put_normal (s.1 + 2) r rest (far s.1 r.0 f) k n.2)
             | false ↦
                 λ f.
                 put_normal low (hull r s) rest (omega (arith, n.0)) (omega (arith, n.1))
@@ -45,15 +41,6 @@ put_normal low r (s ∷ rest) h k n =
 in_hull : (r s : ℕ × ℕ) (c : ℕ) → r.0 ≤ r.1 → s.0 ≤ s.1 → s.0 ≤ r.1 + 1 → r.0 ≤ s.1 + 1 →
     is_within (hull r s) c ≡ (is_within r c || is_within s c)
 in_hull r s c h k l m = grind (arith, nat_tests)
-
-or_assoc : (a b c : Bool) → ((a || b) || c) ≡ (a || (b || c))
-or_assoc true b c = refl
-or_assoc false b c = refl
-
-or_swap : (a b c : Bool) → (a || (b || c)) ≡ (b || (a || c))
-or_swap true true c = refl
-or_swap true false c = refl
-or_swap false b c = refl
 
 put_members : (low : ℕ) (r : ℕ × ℕ) (xs : List (ℕ × ℕ)) (c : ℕ) → r.0 ≤ r.1 → IsNormalFrom low xs →
     is_among (with_range r xs) c ≡ (is_within r c || is_among xs c)
@@ -77,7 +64,7 @@ put_members low r (s ∷ rest) c k n =
             | false ↦
                 λ f.
                 put_members (s.1 + 2) (hull r s) rest c (omega (arith, n.1)) n.2 ∙
-                ap (λ z. z || is_among rest c) (in_hull r s c k n.1 (reaches r.1 s.0 e) (reaches s.1 r.0 f)) ∙
+                ap (λ z. z || is_among rest c) (in_hull r s c k n.1 (near r.1 s.0 e) (near s.1 r.0 f)) ∙
                 or_assoc (is_within r c) (is_within s c) (is_among rest c)
           ])
           refl

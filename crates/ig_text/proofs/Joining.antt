@@ -1,7 +1,9 @@
 -- Joining ascending ranges that overlap or touch gives their normal form.
-use Rattle.std.proofs.Common.{◌≡◌, ◌∙◌, ℕ, ◌+◌, ◌≤◌, ◌||◌, List, [], ◌∷◌, ◌++◌, Bool, true, false, cond, ltb, length, drop, refl, sym, ap, subst, arith}
+use Rattle.std.proofs.Common.{◌≡◌, ◌∙◌, ℕ, ◌+◌, ◌≤◌, ◌||◌, List, [], ◌∷◌, ◌++◌, true, false, cond, ltb, length, drop, refl, sym, ap, subst, arith}
 use Rattle.std.proofs.lemmas.Bool.Decides.{nat_tests}
 use Rattle.std.proofs.lemmas.List.{drop_all}
+use Rattle.ig_text.proofs.Booleans.{or_assoc}
+use Rattle.ig_text.proofs.Numbers.{far, near}
 use Rattle.ig_text.specs.Ranges.{Ascends, IsNormalFrom, IsNormalFormOf, is_within, is_among}
 
 -- the first range, with the end of the second where that is greater
@@ -15,12 +17,6 @@ joined r (s ∷ rest) = cond (ltb (r.1 + 1) s.0) (r ∷ joined s rest) (joined (
 
 end_grown : (r s : ℕ × ℕ) → (r.1 ≤ (grown r s).1) × (s.1 ≤ (grown r s).1)
 end_grown r s = (grind (arith, nat_tests), grind (arith, nat_tests))
-
-far : (a b : ℕ) → ltb (a + 1) b ≡ true → a + 2 ≤ b
-far a b e = grind (arith, nat_tests)
-
-near : (a b : ℕ) → ltb (a + 1) b ≡ false → b ≤ a + 1
-near a b e = grind (arith, nat_tests)
 
 ascends_from : (low more : ℕ) (xs : List (ℕ × ℕ)) → low ≤ more → Ascends more xs → Ascends low xs
 ascends_from low more [] h a = tt
@@ -41,10 +37,6 @@ normal low r (s ∷ rest) h k a =
 both_within : (r s : ℕ × ℕ) (c : ℕ) → r.0 ≤ r.1 → r.0 ≤ s.0 → s.0 ≤ s.1 → s.0 ≤ r.1 + 1 →
     is_within (grown r s) c ≡ (is_within r c || is_within s c)
 both_within r s c h k l m = grind (arith, nat_tests)
-
-or_assoc : (a b c : Bool) → ((a || b) || c) ≡ (a || (b || c))
-or_assoc true b c = refl
-or_assoc false b c = refl
 
 members : (r : ℕ × ℕ) (rest : List (ℕ × ℕ)) (c : ℕ) → r.0 ≤ r.1 → Ascends r.0 rest →
     is_among (joined r rest) c ≡ is_among (r ∷ rest) c

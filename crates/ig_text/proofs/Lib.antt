@@ -5,3 +5,9 @@ pub mod Joining
 pub mod LineTable
 pub mod Spelling
 pub mod Ascending
+pub mod Lists
+pub mod Options
+pub mod Characters
+pub mod Trees
+pub mod Booleans
+pub mod Numbers

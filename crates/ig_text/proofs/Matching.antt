@@ -2,10 +2,12 @@
 use Rattle.std.proofs.Common.{◌≡◌, ℕ, ◌+◌, ◌-◌, ◌≤◌, List, ◌++◌, length, take, drop, Bool, true, sym, ◌∙◌, ap, subst, arith, length-drop, length-append}
 use Rattle.std.specs.Prelude.{nat_eq}
 use Rattle.std.specs.List.{starts_with}
+use Rattle.std.proofs.Math.ListN.{length-take}
 use Rattle.std.proofs.Math.Seq.{take-append_seam}
 use Rattle.std.proofs.lemmas.List.{take-append-drop}
 use Rattle.std.proofs.lemmas.Slice.Eq.{starts_is}
 use Rattle.std.proofs.lemmas.Bool.Decides.{Decides-eqb}
+use Rattle.ig_text.specs.Laws.{WordsEndBehindTheirLetters}
 use Rattle.ig_text.specs.Place.{Spells}
 
 begins : (word rest : List ℕ) (r : Bool) → r ≡ starts_with nat_eq rest word → r ≡ true →
@@ -35,3 +37,10 @@ pub start_by_spells : (text word rest : List ℕ) (i j : ℕ) (r : Bool) → res
 start_by_spells text word rest i j r e s sp =
     (starts_is Decides-eqb rest word r s).1 (drop (j - i) rest)
     (sym (take-append-drop (j - i) rest) ∙ ap (λ (z : List ℕ). z ++ drop (j - i) rest) (rw e sp.letters))
+
+pub spelled_width : WordsEndBehindTheirLetters
+spelled_width text word i j s =
+    let len : length (take (j - i) (drop i text)) ≡ length word = ap length s.letters in
+    let onward = s.onward in
+    let within = s.within in
+    omega (arith, len, length-take (j - i) (drop i text), length-drop i text)

@@ -5,6 +5,7 @@ use Rattle.std.specs.Option.{option_eq}
 use Rattle.std.proofs.lemmas.Bool.Decides.{Decides-eqb}
 use Rattle.std.proofs.lemmas.List.{append_cancel_left, append-nil, append_assoc, take-append-drop, drop_more, take_more, take_all}
 use Rattle.std.proofs.lemmas.Str.{chars_past_char, IsUtf8-past_char}
+use Rattle.ig_text.proofs.Options.{is_missing}
 
 -- the first i letters are the first characters of the text, and the others of its characters are left
 pub record IsLeft (letters text rest : List ℕ) (i : ℕ) : Type 0 where
@@ -57,18 +58,12 @@ is_empty : (xs : List ℕ) → is_none (slice_get xs 0) ≡ true → xs ≡ []
 is_empty [] e = refl
 is_empty (x ∷ xs) e = cc
 
-none_is : (r : Option ℕ) (all : Bool) → is_some r ≡ not all → all ≡ is_none r
-none_is None true e = refl
-none_is None false e = cc
-none_is (Some c) true e = cc
-none_is (Some c) false e = refl
-
 pub none_left : (letters text rest : List ℕ) (i : ℕ) (r : Option ℕ) (all : Bool) → IsLeft letters text rest i →
     length letters ≤ i → r ≡ slice_get (chars rest) 0 → is_some r ≡ not all → IsTrue all ↔ (letters ≡ chars text)
 none_left letters text rest i r all l over next e =
     let same : chars text ≡ letters ++ chars rest =
     l.same ∙ ap (λ (z : List ℕ). z ++ chars rest) (take_all i letters over) in
-    let ends : all ≡ is_none (slice_get (chars rest) 0) = none_is r all e ∙ ap is_none next in (
+    let ends : all ≡ is_none (slice_get (chars rest) 0) = sym (is_missing r all e) ∙ ap is_none next in (
       λ t.
           let none : chars rest ≡ [] = is_empty (chars rest) (sym ends ∙ t) in
           sym (same ∙ ap (λ (z : List ℕ). letters ++ z) none ∙ append-nil letters),

@@ -1,6 +1,7 @@
 -- Which text bytes are, and why bytes are none.
 use Rattle.std.specs.Prelude.{◌≡◌, ℕ, ◌<◌, ◌≤◌, ◌⊎◌, List, length, IsUtf8, chars}
 use Rattle.std.specs.Str.{IsValidUpTo}
+use Rattle.ig_text.specs.Limits.{most_bytes, most_characters}
 use Rattle.ig_text.specs.declared.text.TextFault.{TextFault}
 use Rattle.ig_text.specs.declared.text.TextFault.TheVariants.{NotUtf8, TooLong, Memory}
 
@@ -8,17 +9,17 @@ use Rattle.ig_text.specs.declared.text.TextFault.TheVariants.{NotUtf8, TooLong, 
 pub record IsDecoded (bytes text : List ℕ) : Type 0 where
   pub utf8 : IsUtf8 bytes
   pub characters : text ≡ chars bytes
-  pub few_bytes : length bytes ≤ 4194304
-  pub few_characters : length text ≤ 1048576
+  pub few_bytes : length bytes ≤ most_bytes
+  pub few_characters : length text ≤ most_characters
 
 -- the bytes aren't UTF-8, and n is the length of their longest valid prefix
 pub record IsNotUtf8 (bytes : List ℕ) (n : ℕ) : Type 0 where
-  pub few_bytes : length bytes ≤ 4194304
+  pub few_bytes : length bytes ≤ most_bytes
   pub not_utf8 : IsUtf8 bytes → ⊥
   pub longest : IsValidUpTo bytes n
 
 -- when each refusal comes; want of memory may come at any time
 abbrev pub IsFaulty : List ℕ → TextFault → Type 0
 IsFaulty bytes (NotUtf8 at) = IsNotUtf8 bytes at
-IsFaulty bytes TooLong = (4194304 < length bytes) ⊎ (IsUtf8 bytes × (1048576 < length (chars bytes)))
+IsFaulty bytes TooLong = (most_bytes < length bytes) ⊎ (IsUtf8 bytes × (most_characters < length (chars bytes)))
 IsFaulty bytes Memory = Unit {0}

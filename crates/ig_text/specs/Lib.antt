@@ -1,4 +1,5 @@
 pub mod Tree
+pub mod Limits
 pub mod Place
 pub mod Lines
 pub mod LineTable
@@ -6,3 +7,6 @@ pub mod Ranges
 pub mod Class
 pub mod Pattern
 pub mod Decoding
+pub mod Laws
+pub mod Words
+pub mod TagNumber

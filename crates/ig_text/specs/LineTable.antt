@@ -1,5 +1,6 @@
 -- The table of line starts that a text keeps.
 use Rattle.std.specs.Prelude.{◌≡◌, ℕ, ◌+◌, ◌<◌, ◌≤◌, if◌then◌else◌, List, [], ◌∷◌, length, slice_index}
+use Rattle.ig_text.specs.Limits.{most_characters}
 use Rattle.ig_text.specs.Lines.{is_line_feed}
 
 -- the positions directly behind the line feeds of the characters, which begin at position p
@@ -19,5 +20,5 @@ pub record IsSplitAt (numbers : List ℕ) (p k : ℕ) : Type 0 where
 
 -- the characters are few enough for a text, and these are the positions at which its lines begin
 pub record IsIndexed (characters starts : List ℕ) : Type 0 where
-  pub few : length characters ≤ 1048576
+  pub few : length characters ≤ most_characters
   pub lines : starts ≡ line_starts characters

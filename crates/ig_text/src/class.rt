@@ -1,5 +1,7 @@
 ghost use Rattle.std.specs.Prelude.{◌≡◌, ◌+◌, ◌<◌, ◌↔◌, IfOk, IsTrue};
-ghost use Rattle.ig_text.specs.Ranges.{NoneFalls, Ascends, is_among, IsNormalFormOf, HasOneNormalForm, normal_form, NormalFormIsNormal, NormalRangesStay};
+ghost use Rattle.ig_text.specs.Ranges.{NoneFalls, Ascends, is_among, IsNormalFormOf};
+ghost use Rattle.ig_text.specs.Ranges.{HasOneNormalForm, normal_form, NormalFormIsNormal};
+ghost use Rattle.ig_text.specs.Ranges.{NormalRangesStay};
 ghost use Rattle.ig_text.specs.declared.class.Class.TheVariants.{Ranges};
 ghost use Rattle.ig_text.specs.Class.{is_in_class, IsClassOf};
 
@@ -24,9 +26,9 @@ pub enum Class {
 }
 
 impl Class {
-    /// The class of the characters in some pair, or with `negated` of all others. Its ranges are in
-    /// normal form: sorted, and those joined that overlap or of which one begins at the number after
-    /// the other's end. In no pair may the first character be greater than the last.
+    /// The class of the characters in some pair, or with `negated` of all others. Its ranges are
+    /// in normal form: sorted, and those joined that overlap or of which one begins at the number
+    /// after the other's end. In no pair may the first character be greater than the last.
     pub fn ranges(alloc: Global, negated: bool, pairs: &[(char, char)]) -> Result<Class, AllocError>
         requires { NoneFalls pairs.now }
         ensures members { IfOk result (IsClassOf negated pairs.now) }

@@ -6,6 +6,9 @@
 //! word or a [`Class`] of characters, and `ends_at` says where its match ends. A [`Sequence`] is a
 //! list at whose end `push` adds, and [`Copied`] makes an equal value of one that owns memory.
 //! `specs/Tree.antt` defines derivation trees and their height.
+//!
+//! `proofs/` has a shelf of general lemmas, which the proofs of all crates cite: `Lists`,
+//! `Options`, `Booleans`, `Numbers`, `Characters` and `Trees`.
 #![tactic(auto)]
 
 mod class;
@@ -23,7 +26,7 @@ pub use pattern::{Pattern, Patterns};
 pub use sequence::Sequence;
 pub use tag::Tag;
 pub use text::{Span, Text, TextFault};
-pub use word::{Word, Words};
+pub use word::{Word, Words, words_end_behind_their_letters};
 
 #[cfg(test)]
 mod tests;

@@ -1,13 +1,14 @@
 //! The table of the positions at which the lines of a text begin.
 ghost use Rattle.std.specs.Prelude.{◌≡◌, ◌≤◌, length, IfOk};
 ghost use Rattle.std.specs.List.Sorted.{IsNonDecreasing};
+ghost use Rattle.ig_text.specs.Limits.{most_characters};
 ghost use Rattle.ig_text.specs.LineTable.{line_starts, IsSplitAt};
 
 use std::alloc::{AllocError, Global};
 
 /// The positions at which the lines of the characters begin, ascending.
 pub(crate) fn starts_of(alloc: Global, characters: &[char]) -> Result<Vec<u32>, AllocError>
-    requires { length characters.now ≤ 1048576 }
+    requires { length characters.now ≤ most_characters }
     ensures { IfOk result (λ v. v.items ≡ line_starts characters.now) }
 {
     let mut starts = Vec::new(alloc);

@@ -1,4 +1,6 @@
-ghost use Rattle.std.specs.Prelude.{◌≡◌, ◌+◌, ◌<◌, ◌≤◌, ◌↔◌, ℕ, IfOk, IfErr, IsTrue, MatchOption, chars, drop, length, slice_get, slice_range};
+ghost use Rattle.std.specs.Prelude.{◌≡◌, ◌+◌, ◌<◌, ◌≤◌, ◌↔◌, ℕ, chars, drop, length, slice_get};
+ghost use Rattle.std.specs.Prelude.{slice_range, IfOk, IfErr, IsTrue, MatchOption};
+ghost use Rattle.ig_text.specs.Limits.{most_bytes, most_characters};
 ghost use Rattle.ig_text.specs.Decoding.{IsDecoded, IsFaulty};
 ghost use Rattle.ig_text.specs.Lines.{line_at, column_at, column_of};
 ghost use Rattle.ig_text.specs.Place.{IsInside, Spells, AreSame};
@@ -82,7 +84,7 @@ impl Text {
 
     /// The characters of a string, `TooLong` where there are more than 1,048,576.
     fn of_str(alloc: Global, text: &str) -> Result<Text, TextFault>
-        requires { length text.now ≤ 4194304 }
+        requires { length text.now ≤ most_bytes }
         ensures text { IfOk result (IsDecoded text.now) }
         ensures fault { IfErr result (IsFaulty text.now) }
     {
@@ -100,7 +102,7 @@ impl Text {
     /// The number of characters. Takes no memory.
     pub fn len(&self) -> u32
         ensures length { result ≡ length self.now }
-        ensures limit { result ≤ 1048576 }
+        ensures limit { result ≤ most_characters }
     {
         self.characters.len() as u32
     }
@@ -191,7 +193,8 @@ impl Text {
     /// The characters from a position on; `None` exactly where the position is past the end.
     pub(crate) fn from(&self, position: u32) -> Option<&[char]>
         ensures { MatchOption result (length self.now < position)
-            (λ r. (position ≤ length self.now) × (r.now ≡ drop position self.now) × (length self.now ≤ 1048576)) }
+            (λ r. (position ≤ length self.now) × (r.now ≡ drop position self.now)
+            × (length self.now ≤ most_characters)) }
     {
         self.characters.get(position as usize..)
     }

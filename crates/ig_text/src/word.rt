@@ -1,10 +1,13 @@
-ghost use Rattle.std.specs.Prelude.{◌≡◌, ℕ, IfOk, MatchOption, chars};
+ghost use Rattle.std.specs.Prelude.{◌≡◌, ◌↔◌, ℕ, IfOk, IsTrue, MatchOption, chars, length};
+ghost use Rattle.ig_text.specs.Laws.{WordsEndBehindTheirLetters};
 ghost use Rattle.ig_text.specs.Place.{Spells};
+ghost use Rattle.ig_text.specs.Words.{is_word};
 
 use crate::copied::Copied;
 use crate::sequence::Sequence;
 use crate::text::Text;
 use std::alloc::{AllocError, Global};
+use std::hash::{Hash, Hasher};
 use std::marker::Model;
 
 /// A text that stands in a grammar: a name, or what a literal matches. It keeps its characters
@@ -52,6 +55,13 @@ impl Word {
         self.characters.as_slice()
     }
 
+    /// The number of characters. Takes no memory.
+    pub fn len(&self) -> usize
+        ensures { result ≡ length self.now }
+    {
+        self.characters.len()
+    }
+
     /// The position at which a match of the word at this position ends; `None` exactly where the
     /// word doesn't match there. Takes no memory.
     pub fn ends_at(&self, text: &Text, position: u32) -> Option<u32>
@@ -73,5 +83,48 @@ impl Copied for Word {
         let text = String::from_str(alloc, self.text.as_str())?;
         let characters = Vec::from_slice(alloc, self.characters.as_slice())?;
         Ok(Word { text, characters })
+    }
+}
+
+/// A match of a word ends behind as many characters as the word has. This law, proved for all
+/// texts, computes nothing.
+pub fn words_end_behind_their_letters()
+    ensures { WordsEndBehindTheirLetters }
+{}
+
+impl PartialEq for Word {
+    ghost use Rattle.std.specs.Cmp as compared;
+    ghost use Rattle.std.specs.Cmp.Lexicographic.{nat_list_eq_equiv};
+
+    ghost eq = { is_word };
+
+    ghost laws = { compared.partial_equiv_from_equiv nat_list_eq_equiv };
+
+    /// Whether both words have equal characters.
+    fn eq(&self, other: &Word) -> bool
+        ensures value { result ≡ is_word self.now other.now }
+        ensures exact { IsTrue result ↔ (self.now ≡ other.now) }
+    {
+        self.as_chars() == other.as_chars()
+    }
+}
+
+impl Eq for Word {
+    ghost use Rattle.std.specs.Cmp.Lexicographic.{nat_list_eq_equiv};
+
+    ghost laws = { nat_list_eq_equiv };
+}
+
+impl Hash for Word {
+    ghost use Rattle.std.specs.Cmp.Lexicographic.{bytes_decides};
+    ghost use Rattle.std.specs.Hash as fed;
+    ghost use Rattle.std.specs.Hash.{same_Alike};
+
+    ghost hash_input = { fed.slice fed.char };
+
+    ghost respects_eq = { (same_Alike (fed.slice fed.char) bytes_decides).fed };
+
+    fn hash<H: Hasher>(&self, state: &mut H) {
+        self.as_chars().hash(state);
     }
 }

@@ -6,16 +6,19 @@ use Rattle.std.proofs.lemmas.List.{take_at, drop_at, take_all, drop_all}
 use Rattle.std.proofs.lemmas.Bool.Decides.{nat_tests}
 use Rattle.unicode_ident.specs.Ident.{is_xid_continue}
 use Rattle.unicode_ident.proofs.IdentLemmas.{is_xid_continue-ascii}
+use Rattle.ig_text.proofs.Lists.{closed_text}
 use Rattle.ig_text.specs.Ranges.{normal_form}
 use Rattle.ig_text.specs.declared.class.Class.{Class}
 use Rattle.ig_text.specs.declared.class.Class.TheVariants as class
-use Rattle.ig_expr.specs.Reading.{is_digit, spelled}
-use Rattle.ig_grammar.specs.Token as token
-use Rattle.ig_grammar.specs.Token.{Token}
-use Rattle.ig_grammar.specs.Spelling.{entry, signs, keywords, named_classes, is_one_of, blanks, class_signs, begins, may_precede, IsWord, word, IsNumeral, nought, digits, IsLetter, bare, escaped, IsToken, StandsFirst, IsSeparator, blank, EndsLine, SpellsText, SpellsRanges, one_character, two_characters}
-use Rattle.ig_grammar.specs.Spelling as spelling
-use Rattle.ig_grammar.specs.Lexing as lexing
-use Rattle.ig_grammar.specs.Lexing.{Next, next, run, past, word_token, keyword_or_name, name_token, numeral, number_token, literal_token, class_token, named_class, named_token, sign_token, sign_of, comment, separator, ended, broken, body, closed, literal_of, not_empty, text_of, class_of, class_with, ranges_of, between}
+use Rattle.ig_text.specs.Words.{is_digit}
+use Rattle.ig_expr.specs.Reading.{spelled}
+use Rattle.ig_syntax.specs.Token as token
+use Rattle.ig_syntax.specs.Token.{Token}
+use Rattle.ig_syntax.specs.Spelling.{entry, signs, keywords, named_classes, is_one_of, blanks, class_signs, begins, may_precede, IsNumeral, nought, digits, IsLetter, bare, escaped, IsToken, StandsFirst, IsSeparator, blank, EndsLine, SpellsText, SpellsRanges, one_character, two_characters}
+use Rattle.ig_syntax.specs.Spelling as spelling
+use Rattle.ig_tokens.specs.Scanner as scanner
+use Rattle.ig_tokens.specs.Scanner.{Next, next, run, past, word_token, keyword_or_name, name_token, numeral, number_token, literal_token, class_token, named_class, named_token, sign_token, sign_of, comment, separator, ended, broken, body, closed, literal_of, not_empty, text_of, class_of, class_with, ranges_of, between}
+use Rattle.ig_tokens.proofs.Named.{IsWord, word, name_word, name_entry}
 use Rattle.ig_tokens.proofs.Runs.{run_front, past_front, run_none, past_none, past_shorter, line_all, line_ends}
 use Rattle.ig_tokens.proofs.Spelled.{text_read, text_body, body_more, no_member, or_false}
 use Rattle.ig_tokens.proofs.SpelledRanges.{ranges_read, ranges_body}
@@ -26,14 +29,14 @@ use Rattle.ig_tokens.proofs.Dispatch.{next_word, next_digit, next_quote, next_do
 abbrev pub Covers : Next → Token → List ℕ → Type 0
 Covers ended u more = ⊥
 Covers (separator rest) u more = ⊥
-Covers (lexing.token t rest) u more = (length rest < length more) ⊎ ((u ≡ t) × (more ≡ rest))
+Covers (scanner.token t rest) u more = (length rest < length more) ⊎ ((u ≡ t) × (more ≡ rest))
 Covers broken u more = ⊥
 
 -- words
 name_shorter : (w rest : List ℕ) (u : Token) (more : List ℕ) → length rest < length more → Covers (name_token w rest) u more
 name_shorter w [] u more h = inl h
 name_shorter w (c ∷ cs) u more h =
-    elim (c == 40) as (λ v. Covers (cond v (lexing.token (token.Head w) cs) (lexing.token (token.Name w) (c ∷ cs))) u more) [
+    elim (c == 40) as (λ v. Covers (cond v (scanner.token (token.Head w) cs) (scanner.token (token.Name w) (c ∷ cs))) u more) [
       | true ↦ inl (omega arith)
       | false ↦ inl h
     ]
@@ -61,15 +64,15 @@ word_read w rest i h =
     next_of_word i rest ∙ ap (λ (z : List ℕ). read_word z (past is_xid_continue (w ++ rest))) r ∙ ap (read_word w) p
 
 pub keyword_read : (w rest : List ℕ) (t : Token) → entry keywords w ≡ Some t → begins is_xid_continue rest ≡ false →
-    next (w ++ rest) ≡ lexing.token t rest
+    next (w ++ rest) ≡ scanner.token t rest
 keyword_read w rest t h k = word_read w rest (keyword_word w t h) k ∙ rw h refl
 
-no_head : (w rest : List ℕ) → begins (λ c. c == 40) rest ≡ false → name_token w rest ≡ lexing.token (token.Name w) rest
+no_head : (w rest : List ℕ) → begins (λ c. c == 40) rest ≡ false → name_token w rest ≡ scanner.token (token.Name w) rest
 no_head w [] h = refl
 no_head w (c ∷ cs) h = rw h refl
 
 pub name_read : (w rest : List ℕ) → IsWord w → entry keywords w ≡ None → begins is_xid_continue rest ≡ false →
-    begins (λ c. c == 40) rest ≡ false → next (w ++ rest) ≡ lexing.token (token.Name w) rest
+    begins (λ c. c == 40) rest ≡ false → next (w ++ rest) ≡ scanner.token (token.Name w) rest
 name_read w rest i h k b = word_read w rest i k ∙ rw h (no_head w rest b)
 
 word_covers : (w rest : List ℕ) (u : Token) (b : Bool) → IsWord w → begins is_xid_continue rest ≡ b → Covers (read_word w rest) u rest →
@@ -86,7 +89,7 @@ name_covers : (w rest : List ℕ) → entry keywords w ≡ None → Covers (read
 name_covers w [] h = rw h (inr (refl, refl))
 name_covers w (c ∷ cs) h =
     rw h (elim (c == 40) as
-    (λ v. Covers (cond v (lexing.token (token.Head w) cs) (lexing.token (token.Name w) (c ∷ cs))) (token.Name w) (c ∷ cs)) [
+    (λ v. Covers (cond v (scanner.token (token.Head w) cs) (scanner.token (token.Name w) (c ∷ cs))) (token.Name w) (c ∷ cs)) [
       | true ↦ inl (omega arith)
       | false ↦ inr (refl, refl)
     ])
@@ -95,7 +98,7 @@ keyword_covers : (w rest : List ℕ) (t : Token) → entry keywords w ≡ Some t
 keyword_covers w rest t h = rw h (inr (refl, refl))
 
 -- the bracket of a head ends its name
-pub head_read : (w rest : List ℕ) → IsWord w → entry keywords w ≡ None → next (w ++ 40 ∷ rest) ≡ lexing.token (token.Head w) rest
+pub head_read : (w rest : List ℕ) → IsWord w → entry keywords w ≡ None → next (w ++ 40 ∷ rest) ≡ scanner.token (token.Head w) rest
 head_read w rest i h =
     let n : is_xid_continue 40 ≡ false = is_xid_continue-ascii 40 (lit< tt) in word_read w (40 ∷ rest) i n ∙ rw h refl
 
@@ -118,14 +121,14 @@ not_true true e = absurd (cc)
 not_true false e = refl
 
 number_here : (w rest : List ℕ) → begins is_xid_continue rest ≡ false →
-    number_token w rest ≡ lexing.token (token.Number (spelled 0 w)) rest
+    number_token w rest ≡ scanner.token (token.Number (spelled 0 w)) rest
 number_here w rest h = rw h refl
 
 differs : (c : ℕ) → (c ≡ 48 → ⊥) → (c == 48) ≡ false
 differs c h = grind (arith, nat_tests)
 
 pub number_read : {w : List ℕ} → IsNumeral w → (rest : List ℕ) → begins is_xid_continue rest ≡ false →
-    next (w ++ rest) ≡ lexing.token (token.Number (spelled 0 w)) rest
+    next (w ++ rest) ≡ scanner.token (token.Number (spelled 0 w)) rest
 number_read nought rest h = next_digit 48 rest refl ∙ number_here (48 ∷ []) rest h
 number_read (digits c cs d n all) rest h =
     let k = no_digit rest h in
@@ -136,18 +139,12 @@ number_read (digits c cs d n all) rest h =
     next_digit c (cs ++ rest) d ∙ e ∙ number_here (c ∷ cs) rest h
 
 -- tokens that are closed
-closed_text : (front : List ℕ) (stop : ℕ) (inside rest : List ℕ) →
-    (front ++ (inside ++ stop ∷ [])) ++ rest ≡ front ++ (inside ++ stop ∷ rest)
-closed_text front stop inside rest =
-    append_assoc front (inside ++ stop ∷ []) rest ∙
-    ap (λ (z : List ℕ). front ++ z) (append_assoc inside (stop ∷ []) rest)
-
 pub literal_read : (inside rest : List ℕ) (c : ℕ) (t : List ℕ) → SpellsText inside (c ∷ t) →
-    next (34 ∷ (inside ++ 34 ∷ rest)) ≡ lexing.token (token.Literal (c ∷ t)) rest
+    next (34 ∷ (inside ++ 34 ∷ rest)) ≡ scanner.token (token.Literal (c ∷ t)) rest
 literal_read inside rest c t s =
     let r = text_read s in
     let b : body 34 false (inside ++ 34 ∷ rest) ≡ Some (inside, rest) = text_body inside false (c ∷ t) rest r in
-    let e : literal_token (inside ++ 34 ∷ rest) ≡ lexing.token (token.Literal (c ∷ t)) rest = rw (b, r) refl in
+    let e : literal_token (inside ++ 34 ∷ rest) ≡ scanner.token (token.Literal (c ∷ t)) rest = rw (b, r) refl in
     next_quote (inside ++ 34 ∷ rest) ∙ e
 
 -- no range begins with `^`
@@ -179,37 +176,37 @@ plain_class : (inside : List ℕ) → BeginsRange inside → class_of inside ≡
 plain_class inside b = rw (b.parts, b.no_caret) refl
 
 pub class_read : (inside rest : List ℕ) (p : ℕ × ℕ) (ps : List (ℕ × ℕ)) → SpellsRanges inside (p ∷ ps) →
-    next (91 ∷ (inside ++ 93 ∷ rest)) ≡ lexing.token (token.OneOf (class.Ranges false (normal_form (p ∷ ps)))) rest
+    next (91 ∷ (inside ++ 93 ∷ rest)) ≡ scanner.token (token.OneOf (class.Ranges false (normal_form (p ∷ ps)))) rest
 class_read inside rest p ps s =
     let r = ranges_read s in
     let b : body 93 false (inside ++ 93 ∷ rest) ≡ Some (inside, rest) = ranges_body inside rest false between (p ∷ ps) r in
     let c : class_of inside ≡ class_with false (ranges_of false between inside) = plain_class inside (range_begins s p ps refl) in
     let d : class_of inside ≡ Some (class.Ranges false (normal_form (p ∷ ps))) = c ∙ ap (class_with false) r in
-    let e : class_token (inside ++ 93 ∷ rest) ≡ lexing.token (token.OneOf (class.Ranges false (normal_form (p ∷ ps)))) rest =
+    let e : class_token (inside ++ 93 ∷ rest) ≡ scanner.token (token.OneOf (class.Ranges false (normal_form (p ∷ ps)))) rest =
     rw (b, d) refl in
     next_bracket (inside ++ 93 ∷ rest) ∙ e
 
 pub negated_read : (inside rest : List ℕ) (p : ℕ × ℕ) (ps : List (ℕ × ℕ)) → SpellsRanges inside (p ∷ ps) →
-    next (91 ∷ 94 ∷ (inside ++ 93 ∷ rest)) ≡ lexing.token (token.OneOf (class.Ranges true (normal_form (p ∷ ps)))) rest
+    next (91 ∷ 94 ∷ (inside ++ 93 ∷ rest)) ≡ scanner.token (token.OneOf (class.Ranges true (normal_form (p ∷ ps)))) rest
 negated_read inside rest p ps s =
     let r = ranges_read s in
     let b : body 93 false (94 ∷ (inside ++ 93 ∷ rest)) ≡ Some (94 ∷ inside, rest) =
     body_more 93 false false 94 inside rest refl refl (ranges_body inside rest false between (p ∷ ps) r) in
     let d : class_of (94 ∷ inside) ≡ Some (class.Ranges true (normal_form (p ∷ ps))) = ap (class_with true) r in
-    let e : class_token (94 ∷ (inside ++ 93 ∷ rest)) ≡ lexing.token (token.OneOf (class.Ranges true (normal_form (p ∷ ps)))) rest =
+    let e : class_token (94 ∷ (inside ++ 93 ∷ rest)) ≡ scanner.token (token.OneOf (class.Ranges true (normal_form (p ∷ ps)))) rest =
     rw (b, d) refl in
     next_bracket (94 ∷ (inside ++ 93 ∷ rest)) ∙ e
 
 -- classes with names
 pub named_read : (cs rest : List ℕ) (c : Class) → entry named_classes cs ≡ Some c → begins is_xid_continue rest ≡ false →
-    next (36 ∷ (cs ++ rest)) ≡ lexing.token (token.OneOf c) rest
+    next (36 ∷ (cs ++ rest)) ≡ scanner.token (token.OneOf c) rest
 named_read cs rest c h k =
     let all = class_name_continues cs c h in
     let p : past is_xid_continue (cs ++ rest) ≡ rest =
     past_front is_xid_continue cs rest all ∙ past_none is_xid_continue rest k in
     let r : run is_xid_continue (cs ++ rest) ≡ cs =
     run_front is_xid_continue cs rest all ∙ ap (λ (z : List ℕ). cs ++ z) (run_none is_xid_continue rest k) ∙ append-nil cs in
-    let e : named_class (cs ++ rest) ≡ lexing.token (token.OneOf c) rest = rw (r, p, h) refl in
+    let e : named_class (cs ++ rest) ≡ scanner.token (token.OneOf c) rest = rw (r, p, h) refl in
     next_dollar (cs ++ rest) ∙ e
 
 -- signs
@@ -237,7 +234,7 @@ cut n cs rest h = go (n == length cs) refl
 sign_cut : (n : ℕ) (cs rest : List ℕ) (t : Token) (r : Option Token) (other : Next) → entry signs cs ≡ Some t →
     entry signs (take n (cs ++ rest)) ≡ r → Cut n cs rest →
     (length cs < n → Covers other t rest) → length cs ≤ n →
-    Covers (unwrap_or (option_map (λ u. lexing.token u (drop n (cs ++ rest))) r) other) t rest
+    Covers (unwrap_or (option_map (λ u. scanner.token u (drop n (cs ++ rest))) r) other) t rest
 sign_cut n cs rest t (Some u) other h e (inl s) o l = inl s
 sign_cut n cs rest t (Some u) other h e (inr s) o l =
     let q : Some t ≡ Some u = sym h ∙ ap (entry signs) (sym s.0) ∙ e in
@@ -267,16 +264,17 @@ sign_covers cs rest t h s =
     rw s.parts (next_sign s.first (s.others ++ rest) s.start) in
     subst (λ (z : Next). Covers z t rest) (sym e) read
 
-equal_covers : (n : Next) (t : Token) (rest : List ℕ) → n ≡ lexing.token t rest → Covers n t rest
+equal_covers : (n : Next) (t : Token) (rest : List ℕ) → n ≡ scanner.token t rest → Covers n t rest
 equal_covers n t rest e = rw e (inr (refl, refl))
 
 -- each token of the table
 pub token_covers : {front : List ℕ} {u : Token} → IsToken front u → (rest : List ℕ) → may_precede u rest ≡ true →
     Covers (next (front ++ rest)) u rest
-token_covers (spelling.name cs i n) rest f =
-    word_covers cs rest (token.Name cs) (begins is_xid_continue rest) i refl (name_covers cs rest n)
-token_covers (spelling.head cs whole i n e) rest f =
-    rw e (subst (λ (z : List ℕ). Covers (next z) (token.Head cs) rest) (sym (append_assoc cs (40 ∷ []) rest)) (equal_covers (next (cs ++ 40 ∷ rest)) (token.Head cs) rest (head_read cs rest i n)))
+token_covers (spelling.name cs n) rest f =
+    word_covers cs rest (token.Name cs) (begins is_xid_continue rest) (name_word cs n) refl
+    (name_covers cs rest (name_entry cs n))
+token_covers (spelling.head cs whole n e) rest f =
+    rw e (subst (λ (z : List ℕ). Covers (next z) (token.Head cs) rest) (sym (append_assoc cs (40 ∷ []) rest)) (equal_covers (next (cs ++ 40 ∷ rest)) (token.Head cs) rest (head_read cs rest (name_word cs n) (name_entry cs n))))
 token_covers (spelling.number cs i) rest f =
     equal_covers (next (cs ++ rest)) (token.Number (spelled 0 cs)) rest
     (number_read i rest (not_true (begins is_xid_continue rest) f))

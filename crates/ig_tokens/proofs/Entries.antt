@@ -1,5 +1,6 @@
 -- What the tables of the notation have in common.
-use Rattle.std.proofs.Common.{◌≡◌, ◌∙◌, ℕ, ◌<◌, ◌≤◌, List, [], ◌∷◌, Bool, true, false, cond, not, ◌&&◌, ◌||◌, ◌==◌, nat_lt, nat_le, Option, Some, length, refl, arith}
+use Rattle.std.proofs.Common.{◌≡◌, ◌∙◌, ℕ, ◌<◌, ◌≤◌, List, [], ◌∷◌, Bool, true, false, cond, not, ◌&&◌, ◌||◌, ◌==◌, nat_lt, nat_le, Option, Some, length, refl, subst, arith}
+use Rattle.std.proofs.lemmas.Bool.{and_parts}
 use Rattle.std.specs.Char.{is_ascii_alphabetic, is_ascii_alphanumeric}
 use Rattle.std.specs.List.{list_all}
 use Rattle.std.proofs.lemmas.Slice.Eq.{bytes_eq-Decides}
@@ -8,31 +9,20 @@ use Rattle.unicode_ident.specs.Ident.{is_xid_start, is_xid_continue}
 use Rattle.unicode_ident.proofs.IdentLemmas.{is_xid_start-ascii, is_xid_continue-ascii, is_xid_start-is_xid_continue}
 use Rattle.ig_text.specs.declared.class.Class.{Class}
 use Rattle.ig_text.specs.declared.class.Class.TheVariants as class
-use Rattle.ig_expr.specs.Names.{is_word}
-use Rattle.ig_expr.specs.Reading.{is_digit}
-use Rattle.ig_grammar.specs.Token as token
-use Rattle.ig_grammar.specs.Token.{Token}
-use Rattle.ig_grammar.specs.Spelling.{entry, signs, keywords, named_classes, is_one_of, blanks, begins, may_precede, IsWord, word}
-use Rattle.ig_tokens.proofs.Runs.{both}
-
-abbrev pub all_rows : {A : Type 0} → (List ℕ → A → Bool) → List (List ℕ × A) → Bool
-all_rows test [] = true
-all_rows test (row ∷ rows) = test row.0 row.1 && all_rows test rows
-
-one_entry : {A : Type 0} (test : List ℕ → A → Bool) (w text : List ℕ) (x y : A) (r : Option A) (b : Bool) → is_word w text ≡ b →
-    test w x ≡ true → (r ≡ Some y → test text y ≡ true) → cond b (Some x) r ≡ Some y → test text y ≡ true
-one_entry test w text x y r true e t k h =
-    let p : w ≡ text = (bytes_eq-Decides w text).0 e in
-    let q : x ≡ y = let s : Some x ≡ Some y = h in cc in rw (← p, ← q) t
-one_entry test w text x y r false e t k h = k h
+use Rattle.ig_syntax.proofs.Tables.{all_rows, found_row}
+use Rattle.ig_text.specs.Words.{is_word, is_digit}
+use Rattle.ig_syntax.specs.Token as token
+use Rattle.ig_syntax.specs.Token.{Token}
+use Rattle.ig_syntax.specs.Spelling.{entry, signs, keywords, named_classes, is_one_of, blanks, begins, may_precede}
+use Rattle.ig_tokens.proofs.Named.{IsWord, word}
 
 -- what holds of all rows holds of the one that is found
 pub entry_all : {A : Type 0} (test : List ℕ → A → Bool) (table : List (List ℕ × A)) (text : List ℕ) (y : A) →
     all_rows test table ≡ true → entry table text ≡ Some y → test text y ≡ true
-entry_all test [] text y a h = absurd (cc)
-entry_all test (row ∷ rows) text y a h =
-    let k = both (test row.0 row.1) (all_rows test rows) a in
-    one_entry test row.0 text row.1 y (entry rows text) (is_word row.0 text) refl k.0 (entry_all test rows text y k.1) h
+entry_all test table text y a h =
+    let row = found_row (λ w. is_word w text) test table y a h in
+    let same : row.key ≡ text = (bytes_eq-Decides row.key text).0 row.found in
+    subst (λ (z : List ℕ). test z y ≡ true) same row.passes
 
 -- behind which tokens anything may stand
 abbrev pub is_free : Token → Bool
@@ -85,21 +75,21 @@ below c h = grind (arith, nat_tests)
 
 letter_starts : (c : ℕ) → is_letter c ≡ true → is_xid_start c ≡ true
 letter_starts c h =
-    let k = both (nat_lt c 128) (is_ascii_alphabetic c) h in is_xid_start-ascii c (below c k.0) ∙ k.1
+    let k = and_parts (nat_lt c 128) (is_ascii_alphabetic c) h in is_xid_start-ascii c (below c k.0) ∙ k.1
 
 joining_continues : (c : ℕ) → is_joining c ≡ true → is_xid_continue c ≡ true
 joining_continues c h =
-    let k = both (nat_lt c 128) (is_ascii_alphanumeric c || (c == 95)) h in is_xid_continue-ascii c (below c k.0) ∙ k.1
+    let k = and_parts (nat_lt c 128) (is_ascii_alphanumeric c || (c == 95)) h in is_xid_continue-ascii c (below c k.0) ∙ k.1
 
 all_continue : (cs : List ℕ) → list_all is_joining cs ≡ true → list_all is_xid_continue cs ≡ true
 all_continue [] h = refl
 all_continue (c ∷ cs) h =
-    let k = both (is_joining c) (list_all is_joining cs) h in rw (joining_continues c k.0) (all_continue cs k.1)
+    let k = and_parts (is_joining c) (list_all is_joining cs) h in rw (joining_continues c k.0) (all_continue cs k.1)
 
 ascii_word : (cs : List ℕ) → is_ascii_word cs ≡ true → IsWord cs
 ascii_word [] h = absurd (cc)
 ascii_word (c ∷ cs) h =
-    let k = both (is_letter c) (list_all is_joining cs) h in word c cs (letter_starts c k.0) (all_continue cs k.1)
+    let k = and_parts (is_letter c) (list_all is_joining cs) h in word c cs (letter_starts c k.0) (all_continue cs k.1)
 
 pub keyword_word : (text : List ℕ) (t : Token) → entry keywords text ≡ Some t → IsWord text
 unfolding keywords
@@ -148,10 +138,10 @@ or_both false b e = (refl, e)
 
 sign_start : (c : ℕ) → is_sign_start c ≡ true → SignStart c
 sign_start c h =
-    let small = both (nat_lt c 128) _ h in
-    let letter = both (not (is_ascii_alphabetic c)) _ small.1 in
-    let digit = both (not (is_digit c)) _ letter.1 in
-    let blank = both (not (is_one_of blanks c)) (not (is_one_of (47 ∷ 34 ∷ 91 ∷ 36 ∷ []) c)) digit.1 in
+    let small = and_parts (nat_lt c 128) _ h in
+    let letter = and_parts (not (is_ascii_alphabetic c)) _ small.1 in
+    let digit = and_parts (not (is_digit c)) _ letter.1 in
+    let blank = and_parts (not (is_one_of blanks c)) (not (is_one_of (47 ∷ 34 ∷ 91 ∷ 36 ∷ []) c)) digit.1 in
     let n = below c small.0 in
     let special = or_both (47 == c) _ (negated (is_one_of (47 ∷ 34 ∷ 91 ∷ 36 ∷ []) c) blank.1) in
     let quote = or_both (34 == c) _ special.1 in
@@ -177,7 +167,7 @@ pub record IsSignText (text : List ℕ) : Type 0 where
 sign_parts : (text : List ℕ) → is_sign text ≡ true → IsSignText text
 sign_parts [] h = absurd (cc)
 sign_parts (c ∷ cs) h =
-    let k = both (is_sign_start c) (nat_le (length cs) 2) h in
+    let k = and_parts (is_sign_start c) (nat_le (length cs) 2) h in
     record {
       first = c;
       others = cs;

@@ -4,9 +4,9 @@ use Rattle.std.proofs.lemmas.List.{append_cancel_right, nil_from_length}
 use Rattle.std.proofs.lemmas.Bool.Decides.{nat_tests}
 use Rattle.std.proofs.lemmas.Str.{chars-append, chars-nil, encodes-chars, encodes-append, chars_from_encodes}
 use Rattle.ig_expr.specs.Reading.{spelled}
-use Rattle.ig_grammar.specs.Spelling.{literal_signs}
-use Rattle.ig_grammar.specs.Lexing as lexing
-use Rattle.ig_grammar.specs.Lexing.{letter, text_of, text_behind, not_empty, literal_of, backslash, stands_for, numeral, number_token}
+use Rattle.ig_syntax.specs.Spelling.{literal_signs}
+use Rattle.ig_tokens.specs.Scanner as scanner
+use Rattle.ig_tokens.specs.Scanner.{letter, text_of, text_behind, not_empty, literal_of, backslash, stands_for, numeral, number_token}
 use Rattle.ig_tokens.specs.View.{literal_text}
 use Rattle.ig_tokens.specs.Steps.{Begins}
 
@@ -14,7 +14,7 @@ never : (d : ℕ) (r : Option (List ℕ)) → option_map (λ text. d ∷ text) r
 never d None q = cc
 never d (Some t) q = cc
 
-some_behind : (l : Option lexing.Letter) (behind : Bool → Option (List ℕ)) → (behind true ≡ Some [] → ⊥) →
+some_behind : (l : Option scanner.Letter) (behind : Bool → Option (List ℕ)) → (behind true ≡ Some [] → ⊥) →
     text_behind l behind ≡ Some [] → ⊥
 some_behind None behind h q = cc
 some_behind (Some backslash) behind h q = h q

@@ -5,9 +5,11 @@ pub mod Tables
 pub mod Runs
 pub mod Spelled
 pub mod SpelledRanges
+pub mod Named
 pub mod Entries
 pub mod Dispatch
 pub mod Sound
 pub mod Complete
 pub mod Longest
 pub mod Lexed
+pub mod Ended

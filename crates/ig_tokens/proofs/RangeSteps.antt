@@ -3,9 +3,9 @@ use Rattle.std.proofs.Common.{◌≡◌, ◌∙◌, ℕ, ◌≤◌, List, [], �
 use Rattle.std.proofs.lemmas.Bool.Decides.{nat_tests}
 use Rattle.std.proofs.lemmas.List.Elements.{All-nil, All-cons}
 use Rattle.ig_text.specs.Ranges.{NoneFalls}
-use Rattle.ig_grammar.specs.Spelling.{class_signs}
-use Rattle.ig_grammar.specs.Lexing as lexing
-use Rattle.ig_grammar.specs.Lexing.{letter, ranges_of, ranges_behind, class_step, class_with, class_of, dash, character, placed, with_range, between, behind_character, behind_dash, backslash, stands_for}
+use Rattle.ig_syntax.specs.Spelling.{class_signs}
+use Rattle.ig_tokens.specs.Scanner as scanner
+use Rattle.ig_tokens.specs.Scanner.{letter, ranges_of, ranges_behind, class_step, class_with, class_of, dash, character, placed, with_range, between, behind_character, behind_dash, backslash, stands_for}
 use Rattle.ig_tokens.specs.Steps.{AddsRanges, IsNegation}
 use Rattle.std.proofs.lemmas.List.{nil_from_length}
 use Rattle.std.proofs.lemmas.Str.{chars-nil}
@@ -18,7 +18,7 @@ pub record IsAdded (all : Option (List (ℕ × ℕ))) (old new : List (ℕ × �
   pub same : all ≡ option_map (λ rs. added ++ rs) rest
 
 -- what is known of each step
-pub record Known (s : lexing.ClassStep) : Type 0 where
+pub record Known (s : scanner.ClassStep) : Type 0 where
   -- a range that ends doesn't fall
   pub rises : (range : ℕ × ℕ) → s.range ≡ Some range → range.0 ≤ range.1
   -- the reading stands between two ranges only behind one that has just ended
@@ -33,11 +33,11 @@ same_range a b r e =
     (ap (λ (z : ℕ × ℕ). z.0) (sym q), ap (λ (z : ℕ × ℕ). z.1) (sym q))
 
 -- a step that ends no range stands at this place
-no_range_known : (e : Bool) (p : lexing.Place) → (e ≡ false → p ≡ between → ⊥) →
+no_range_known : (e : Bool) (p : scanner.Place) → (e ≡ false → p ≡ between → ⊥) →
     Known (record { is_escaped = e; place = p; range = None })
 no_range_known e p h = record { rises = λ r q. absurd (cc); ends = λ q. h }
 
-range_known : (e : Bool) (p : lexing.Place) (a b : ℕ) → a ≤ b →
+range_known : (e : Bool) (p : scanner.Place) (a b : ℕ) → a ≤ b →
     Known (record { is_escaped = e; place = p; range = Some (a, b) })
 range_known e p a b h =
     record {
@@ -45,13 +45,13 @@ range_known e p a b h =
       ends = λ q f g. (cc);
     }
 
-dash_known : (p : lexing.Place) (s : lexing.ClassStep) → dash p ≡ Some s → Known s
+dash_known : (p : scanner.Place) (s : scanner.ClassStep) → dash p ≡ Some s → Known s
 dash_known between s e = absurd (cc)
 dash_known (behind_dash a) s e = absurd (cc)
 dash_known (behind_character a) s e =
     subst Known (some_same _ s e) (no_range_known false (behind_dash a) (λ f g. (cc)))
 
-character_known : (p : lexing.Place) (c : ℕ) (s : lexing.ClassStep) → character p c ≡ Some s → Known s
+character_known : (p : scanner.Place) (c : ℕ) (s : scanner.ClassStep) → character p c ≡ Some s → Known s
 character_known between c s e = subst Known (some_same _ s e) (no_range_known false (behind_character c) (λ f g. (cc)))
 character_known (behind_character a) c s e =
     subst Known (some_same _ s e) (range_known false (behind_character c) a a (omega arith))
@@ -62,20 +62,20 @@ character_known (behind_dash a) c s e = go (nat_le a c) refl e
     go true h q = subst Known (some_same _ s q) (range_known false between a c (grind (arith, nat_tests)))
     go false h q = absurd (cc)
 
-placed_known : (p : lexing.Place) (l : lexing.Letter) (s : lexing.ClassStep) → placed p l ≡ Some s → Known s
+placed_known : (p : scanner.Place) (l : scanner.Letter) (s : scanner.ClassStep) → placed p l ≡ Some s → Known s
 placed_known p backslash s e = subst Known (some_same _ s e) (no_range_known true p (λ f g. (cc)))
 placed_known p (stands_for c) s e = character_known p c s e
 
-letter_known : (p : lexing.Place) (l : Option lexing.Letter) (s : lexing.ClassStep) → option_and_then (placed p) l ≡ Some s → Known s
+letter_known : (p : scanner.Place) (l : Option scanner.Letter) (s : scanner.ClassStep) → option_and_then (placed p) l ≡ Some s → Known s
 letter_known p None s e = absurd (cc)
 letter_known p (Some l) s e = placed_known p l s e
 
-either_known : (b : Bool) (x y : Option lexing.ClassStep) (s : lexing.ClassStep) → (x ≡ Some s → Known s) → (y ≡ Some s → Known s) →
+either_known : (b : Bool) (x y : Option scanner.ClassStep) (s : scanner.ClassStep) → (x ≡ Some s → Known s) → (y ≡ Some s → Known s) →
     cond b x y ≡ Some s → Known s
 either_known true x y s h k e = h e
 either_known false x y s h k e = k e
 
-pub step_known : (e : Bool) (p : lexing.Place) (c : ℕ) (s : lexing.ClassStep) → class_step e p c ≡ Some s → Known s
+pub step_known : (e : Bool) (p : scanner.Place) (c : ℕ) (s : scanner.ClassStep) → class_step e p c ≡ Some s → Known s
 step_known e p c s h =
     either_known (not e && (c == 45)) (dash p) (option_and_then (placed p) (letter class_signs e c)) s (dash_known p s)
     (letter_known p (letter class_signs e c) s) h
@@ -89,15 +89,15 @@ put_rises None (Some qs) ps h k e = subst NoneFalls (some_same qs ps e) (k qs re
 put_rises (Some x) (Some qs) ps h k e =
     subst NoneFalls (some_same (x ∷ qs) ps e) (All-cons (λ r. r.0 ≤ r.1) x qs (h x refl) (k qs refl))
 
-behind_rise : (r : Option lexing.ClassStep) (behind : Bool → lexing.Place → Option (List (ℕ × ℕ))) (ps : List (ℕ × ℕ)) →
-    ((s : lexing.ClassStep) → r ≡ Some s → Known s) →
-    ((e : Bool) (p : lexing.Place) (qs : List (ℕ × ℕ)) → behind e p ≡ Some qs → NoneFalls qs) →
+behind_rise : (r : Option scanner.ClassStep) (behind : Bool → scanner.Place → Option (List (ℕ × ℕ))) (ps : List (ℕ × ℕ)) →
+    ((s : scanner.ClassStep) → r ≡ Some s → Known s) →
+    ((e : Bool) (p : scanner.Place) (qs : List (ℕ × ℕ)) → behind e p ≡ Some qs → NoneFalls qs) →
     ranges_behind r behind ≡ Some ps → NoneFalls ps
 behind_rise None behind ps h k e = absurd (cc)
 behind_rise (Some s) behind ps h k e =
     put_rises s.range (behind s.is_escaped s.place) ps (h s refl).rises (k s.is_escaped s.place) e
 
-pub ranges_rise : (cs : List ℕ) (e : Bool) (p : lexing.Place) (ps : List (ℕ × ℕ)) → ranges_of e p cs ≡ Some ps → NoneFalls ps
+pub ranges_rise : (cs : List ℕ) (e : Bool) (p : scanner.Place) (ps : List (ℕ × ℕ)) → ranges_of e p cs ≡ Some ps → NoneFalls ps
 ranges_rise [] true p ps h = absurd (cc)
 ranges_rise [] false between ps h = subst NoneFalls (some_same [] ps h) (All-nil (λ r. r.0 ≤ r.1))
 ranges_rise [] false (behind_character a) ps h =
@@ -113,15 +113,15 @@ put_some range None h e = cc
 put_some None (Some qs) h e = h refl e
 put_some (Some x) (Some qs) h e = cc
 
-behind_some : (r : Option lexing.ClassStep) (behind : Bool → lexing.Place → Option (List (ℕ × ℕ))) →
-    ((s : lexing.ClassStep) → r ≡ Some s → Known s) →
-    ((e : Bool) (p : lexing.Place) → (e ≡ false → p ≡ between → ⊥) → behind e p ≡ Some [] → ⊥) →
+behind_some : (r : Option scanner.ClassStep) (behind : Bool → scanner.Place → Option (List (ℕ × ℕ))) →
+    ((s : scanner.ClassStep) → r ≡ Some s → Known s) →
+    ((e : Bool) (p : scanner.Place) → (e ≡ false → p ≡ between → ⊥) → behind e p ≡ Some [] → ⊥) →
     ranges_behind r behind ≡ Some [] → ⊥
 behind_some None behind h k e = cc
 behind_some (Some s) behind h k e =
     put_some s.range (behind s.is_escaped s.place) (λ q. k s.is_escaped s.place ((h s refl).ends q)) e
 
-some_range : (cs : List ℕ) (e : Bool) (p : lexing.Place) → (e ≡ false → p ≡ between → ⊥) → ranges_of e p cs ≡ Some [] → ⊥
+some_range : (cs : List ℕ) (e : Bool) (p : scanner.Place) → (e ≡ false → p ≡ between → ⊥) → ranges_of e p cs ≡ Some [] → ⊥
 some_range [] true p n h = cc
 some_range [] false between n h = n refl refl
 some_range [] false (behind_character a) n h = cc

@@ -2,7 +2,7 @@
 use Rattle.std.proofs.Common.{◌≡◌, ◌∙◌, ℕ, ◌+◌, ◌-◌, ◌<◌, List, [], ◌∷◌, ◌++◌, Bool, true, false, cond, not, ◌&&◌, ◌==◌, Option, Some, None, option_map, length, IsUtf8, IsCharBoundary, chars, encode_utf8, encode_utf8_all, refl, sym, ap, subst, arith, append_assoc, append-nil, length-append}
 use Rattle.std.proofs.lemmas.List.{append_cancel_right}
 use Rattle.std.proofs.lemmas.Str.{chars-append, encodes-chars, encodes-append, chars_past_char, IsUtf8-past_char, IsCharBoundary-at_seam}
-use Rattle.ig_grammar.specs.Lexing.{run, past, body, with_first}
+use Rattle.ig_tokens.specs.Scanner.{run, past, body, with_first}
 use Rattle.ig_tokens.specs.Steps.{Begins, IsSplit, IsBehind, IsCut, belongs}
 use Rattle.ig_tokens.specs.declared.characters.Run.{Run}
 

@@ -1,13 +1,10 @@
 -- The longest front of a kind of characters, and what stands behind it.
 use Rattle.std.proofs.Common.{◌≡◌, ℕ, suc, ◌<◌, ◌≤◌, List, [], ◌∷◌, ◌++◌, Bool, true, false, cond, not, ◌&&◌, ◌||◌, ◌==◌, length, refl, ap, arith}
+use Rattle.std.proofs.lemmas.Bool.{and_parts}
 use Rattle.std.proofs.lemmas.Bool.Decides.{nat_tests}
 use Rattle.std.specs.List.{list_all}
-use Rattle.ig_grammar.specs.Spelling.{begins, is_one_of, EndsLine}
-use Rattle.ig_grammar.specs.Lexing.{run, past}
-
-pub both : (a b : Bool) → (a && b) ≡ true → (a ≡ true) × (b ≡ true)
-both true b e = (refl, e)
-both false b e = cc
+use Rattle.ig_syntax.specs.Spelling.{begins, is_one_of, EndsLine}
+use Rattle.ig_tokens.specs.Scanner.{run, past}
 
 pub all_run : (p : ℕ → Bool) (cs : List ℕ) → list_all p (run p cs) ≡ true
 all_run p [] = refl
@@ -30,11 +27,11 @@ past_begins p (c ∷ cs) =
 pub run_front : (p : ℕ → Bool) (a b : List ℕ) → list_all p a ≡ true → run p (a ++ b) ≡ a ++ run p b
 run_front p [] b h = refl
 run_front p (c ∷ cs) b h =
-    let k = both (p c) (list_all p cs) h in rw k.0 (ap (λ (z : List ℕ). c ∷ z) (run_front p cs b k.1))
+    let k = and_parts (p c) (list_all p cs) h in rw k.0 (ap (λ (z : List ℕ). c ∷ z) (run_front p cs b k.1))
 
 pub past_front : (p : ℕ → Bool) (a b : List ℕ) → list_all p a ≡ true → past p (a ++ b) ≡ past p b
 past_front p [] b h = refl
-past_front p (c ∷ cs) b h = let k = both (p c) (list_all p cs) h in rw k.0 (past_front p cs b k.1)
+past_front p (c ∷ cs) b h = let k = and_parts (p c) (list_all p cs) h in rw k.0 (past_front p cs b k.1)
 
 pub run_none : (p : ℕ → Bool) (cs : List ℕ) → begins p cs ≡ false → run p cs ≡ []
 run_none p [] h = refl
@@ -72,7 +69,7 @@ line_ends (c ∷ cs) h = let e : (c == 10) ≡ true = grind (arith, nat_tests) i
 pub all_line : (line : List ℕ) → list_all (λ d. not (d == 10)) line ≡ true → is_one_of line 10 ≡ false
 all_line [] h = refl
 all_line (c ∷ cs) h =
-    let k = both (not (c == 10)) (list_all (λ d. not (d == 10)) cs) h in
+    let k = and_parts (not (c == 10)) (list_all (λ d. not (d == 10)) cs) h in
     let n : (c == 10) ≡ false = negated (c == 10) k.0 in rw n (all_line cs k.1)
   where
     negated : (b : Bool) → not b ≡ true → b ≡ false

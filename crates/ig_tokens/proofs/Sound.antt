@@ -6,13 +6,15 @@ use Rattle.std.proofs.lemmas.Bool.Decides.{nat_tests}
 use Rattle.unicode_ident.specs.Ident.{is_xid_start, is_xid_continue}
 use Rattle.unicode_ident.proofs.IdentLemmas.{is_xid_start-is_xid_continue}
 use Rattle.ig_text.specs.declared.class.Class.{Class}
-use Rattle.ig_expr.specs.Reading.{is_digit, spelled}
-use Rattle.ig_grammar.specs.Token as token
-use Rattle.ig_grammar.specs.Token.{Token}
-use Rattle.ig_grammar.specs.Spelling.{entry, signs, keywords, named_classes, is_one_of, blanks, begins, may_precede, IsWord, word, IsNumeral, nought, digits, IsToken, StandsFirst, IsSeparator, blank, EndsLine, SpellsText, SpellsRanges}
-use Rattle.ig_grammar.specs.Spelling as spelling
-use Rattle.ig_grammar.specs.Lexing as lexing
-use Rattle.ig_grammar.specs.Lexing.{Next, next, run, past, word_token, keyword_or_name, name_token, numeral, number_token, literal_token, class_token, named_class, named_token, sign_token, sign_of, comment, separator, ended, broken, body, closed, literal_of, not_empty, text_of, class_of, class_with, ranges_of, between}
+use Rattle.ig_text.specs.Words.{is_digit}
+use Rattle.ig_expr.specs.Reading.{spelled}
+use Rattle.ig_syntax.specs.Token as token
+use Rattle.ig_syntax.specs.Token.{Token}
+use Rattle.ig_syntax.specs.Spelling.{entry, signs, keywords, named_classes, is_one_of, blanks, begins, may_precede, IsNumeral, nought, digits, IsToken, StandsFirst, IsSeparator, blank, EndsLine, SpellsText, SpellsRanges}
+use Rattle.ig_syntax.specs.Spelling as spelling
+use Rattle.ig_tokens.specs.Scanner as scanner
+use Rattle.ig_tokens.specs.Scanner.{Next, next, run, past, word_token, keyword_or_name, name_token, numeral, number_token, literal_token, class_token, named_class, named_token, sign_token, sign_of, comment, separator, ended, broken, body, closed, literal_of, not_empty, text_of, class_of, class_with, ranges_of, between}
+use Rattle.ig_tokens.proofs.Named.{IsWord, word, named}
 use Rattle.ig_tokens.proofs.Runs.{all_run, past_begins, all_line, ends_line}
 use Rattle.ig_tokens.proofs.Reading.{run_past}
 use Rattle.ig_tokens.proofs.Spelled.{body_parts, text_spelled}
@@ -23,7 +25,7 @@ use Rattle.ig_tokens.proofs.Entries.{keyword_free, sign_free, named_class_preced
 abbrev pub IsSound : List ℕ → Next → Type 0
 IsSound text ended = text ≡ []
 IsSound text (separator rest) = IsSeparator text rest
-IsSound text (lexing.token t rest) = StandsFirst text t rest
+IsSound text (scanner.token t rest) = StandsFirst text t rest
 IsSound text broken = Unit {0}
 
 either : (text : List ℕ) (b : Bool) (x y : Next) → (b ≡ true → IsSound text x) → (b ≡ false → IsSound text y) →
@@ -37,19 +39,19 @@ number_here c k h = grind (arith, nat_tests)
 -- words
 name_sound : (text w rest : List ℕ) → text ≡ w ++ rest → IsWord w → entry keywords w ≡ None → IsSound text (name_token w rest)
 name_sound text w [] e i n =
-    record { front = w; parts = e; spelled_so = spelling.name w i n; free = refl }
+    record { front = w; parts = e; spelled_so = spelling.name w (named w i n); free = refl }
 name_sound text w (c ∷ cs) e i n =
-    either text (c == 40) (lexing.token (token.Head w) cs) (lexing.token (token.Name w) (c ∷ cs)) (
+    either text (c == 40) (scanner.token (token.Head w) cs) (scanner.token (token.Name w) (c ∷ cs)) (
     λ h.
     let p : c ≡ 40 = number_here c 40 h in
     record {
       front = w ++ 40 ∷ [];
       parts =
           e ∙ ap (λ (z : ℕ). w ++ z ∷ cs) p ∙ sym (append_assoc w (40 ∷ []) cs);
-      spelled_so = spelling.head w (w ++ 40 ∷ []) i n refl;
+      spelled_so = spelling.head w (w ++ 40 ∷ []) (named w i n) refl;
       free = refl;
     }
-    ) (λ h. record { front = w; parts = e; spelled_so = spelling.name w i n; free = refl })
+    ) (λ h. record { front = w; parts = e; spelled_so = spelling.name w (named w i n); free = refl })
 
 keyword_sound : (text w rest : List ℕ) (r : Option Token) → text ≡ w ++ rest → IsWord w → entry keywords w ≡ r →
     IsSound text (keyword_or_name r w rest)
@@ -69,7 +71,7 @@ word_sound c cs h =
 -- numbers
 number_sound : (text w rest : List ℕ) → text ≡ w ++ rest → IsNumeral w → IsSound text (number_token w rest)
 number_sound text w rest e i =
-    either text (begins is_xid_continue rest) broken (lexing.token (token.Number (spelled 0 w)) rest) (λ h. tt)
+    either text (begins is_xid_continue rest) broken (scanner.token (token.Number (spelled 0 w)) rest) (λ h. tt)
     (λ h. record { front = w; parts = e; spelled_so = spelling.number w i; free = rw h refl })
 
 other_number : (c k : ℕ) → (c == k) ≡ false → c ≡ k → ⊥
@@ -96,7 +98,7 @@ closed_parts front stop cs inside rest e =
     sym (append_assoc front (inside ++ stop ∷ []) rest)
 
 literal_inside : (text cs inside rest : List ℕ) (r : Option (List ℕ)) → text ≡ 34 ∷ cs → cs ≡ inside ++ 34 ∷ rest →
-    text_of false inside ≡ r → IsSound text (unwrap_or (option_map (λ x. lexing.token (token.Literal x) rest) (not_empty r)) broken)
+    text_of false inside ≡ r → IsSound text (unwrap_or (option_map (λ x. scanner.token (token.Literal x) rest) (not_empty r)) broken)
 literal_inside text cs inside rest None e f h = tt
 literal_inside text cs inside rest (Some []) e f h = tt
 literal_inside text cs inside rest (Some (c ∷ t)) e f h =
@@ -119,7 +121,7 @@ literal_sound c cs h =
 
 class_inside : (text cs inside rest : List ℕ) (r : Option (List (ℕ × ℕ))) → text ≡ 91 ∷ cs → cs ≡ inside ++ 93 ∷ rest →
     ranges_of false between inside ≡ r →
-    IsSound text (unwrap_or (option_map (λ x. lexing.token (token.OneOf x) rest) (class_with false r)) broken)
+    IsSound text (unwrap_or (option_map (λ x. scanner.token (token.OneOf x) rest) (class_with false r)) broken)
 class_inside text cs inside rest None e f h = tt
 class_inside text cs inside rest (Some []) e f h = tt
 class_inside text cs inside rest (Some (p ∷ ps)) e f h =
@@ -132,7 +134,7 @@ class_inside text cs inside rest (Some (p ∷ ps)) e f h =
 
 negated_inside : (text cs inside rest : List ℕ) (r : Option (List (ℕ × ℕ))) → text ≡ 91 ∷ 94 ∷ cs → cs ≡ inside ++ 93 ∷ rest →
     ranges_of false between inside ≡ r →
-    IsSound text (unwrap_or (option_map (λ x. lexing.token (token.OneOf x) rest) (class_with true r)) broken)
+    IsSound text (unwrap_or (option_map (λ x. scanner.token (token.OneOf x) rest) (class_with true r)) broken)
 negated_inside text cs inside rest None e f h = tt
 negated_inside text cs inside rest (Some []) e f h = tt
 negated_inside text cs inside rest (Some (p ∷ ps)) e f h =
@@ -145,12 +147,12 @@ negated_inside text cs inside rest (Some (p ∷ ps)) e f h =
     }
 
 class_either : (text cs inside rest : List ℕ) → text ≡ 91 ∷ cs → cs ≡ inside ++ 93 ∷ rest →
-    IsSound text (unwrap_or (option_map (λ x. lexing.token (token.OneOf x) rest) (class_of inside)) broken)
+    IsSound text (unwrap_or (option_map (λ x. scanner.token (token.OneOf x) rest) (class_of inside)) broken)
 class_either text cs [] rest e f = tt
 class_either text cs (c ∷ inside) rest e f = go (c == 94) refl
   where
     go : (b : Bool) → (c == 94) ≡ b →
-        IsSound text (unwrap_or (option_map (λ x. lexing.token (token.OneOf x) rest)
+        IsSound text (unwrap_or (option_map (λ x. scanner.token (token.OneOf x) rest)
         (cond b (class_with true (ranges_of false between inside)) (class_with false (ranges_of false between (c ∷ inside))))) broken)
     go true h =
         let p : c ≡ 94 = number_here c 94 h in
@@ -188,7 +190,7 @@ named_sound c cs h =
 
 -- signs
 cut_sound : (n : ℕ) (text : List ℕ) (r : Option Token) (other : Next) → entry signs (take n text) ≡ r → IsSound text other →
-    IsSound text (unwrap_or (option_map (λ t. lexing.token t (drop n text)) r) other)
+    IsSound text (unwrap_or (option_map (λ t. scanner.token t (drop n text)) r) other)
 cut_sound n text None other h o = o
 cut_sound n text (Some t) other h o =
     record {

@@ -1,10 +1,10 @@
 -- What the characters of literals and classes stand for, by the table and as they are read.
 use Rattle.std.proofs.Common.{◌≡◌, ◌∙◌, ℕ, List, [], ◌∷◌, ◌++◌, Bool, true, false, cond, not, ◌&&◌, ◌||◌, ◌==◌, Option, Some, None, option_map, refl, sym, ap, subst, arith}
 use Rattle.std.proofs.lemmas.Bool.Decides.{nat_tests}
-use Rattle.ig_grammar.specs.Spelling.{is_one_of, literal_signs, class_signs, escape, IsLetter, bare, escaped, SpellsText, no_letter, SpellsRanges, no_range, one_character, two_characters}
-use Rattle.ig_grammar.specs.Spelling as spelling
-use Rattle.ig_grammar.specs.Lexing as lexing
-use Rattle.ig_grammar.specs.Lexing.{letter, text_of, text_behind, backslash, stands_for, body, with_first, ranges_of, ranges_behind, class_step, dash, character, placed, with_range, between, behind_character, behind_dash}
+use Rattle.ig_syntax.specs.Spelling.{is_one_of, literal_signs, class_signs, escape, IsLetter, bare, escaped, SpellsText, no_letter, SpellsRanges, no_range, one_character, two_characters}
+use Rattle.ig_syntax.specs.Spelling as spelling
+use Rattle.ig_tokens.specs.Scanner as scanner
+use Rattle.ig_tokens.specs.Scanner.{letter, text_of, text_behind, backslash, stands_for, body, with_first, ranges_of, ranges_behind, class_step, dash, character, placed, with_range, between, behind_character, behind_dash}
 
 pub some_same : {A : Type 0} (x y : A) → Some x ≡ Some y → x ≡ y
 some_same x y e = cc
@@ -58,7 +58,7 @@ half_is special true c h = absurd (half_escaped (escape special c) h)
 half_is special false c h = (refl, half_bare c (c == 92) (is_one_of (10 ∷ special) c) refl h)
 
 -- a text that is read is spelled so
-spelled_behind : (e : Bool) (c : ℕ) (cs text : List ℕ) (l : Option lexing.Letter) → letter literal_signs e c ≡ l →
+spelled_behind : (e : Bool) (c : ℕ) (cs text : List ℕ) (l : Option scanner.Letter) → letter literal_signs e c ≡ l →
     ((t : List ℕ) → text_of true cs ≡ Some t → SpellsText (whole true cs) t) →
     ((t : List ℕ) → text_of false cs ≡ Some t → SpellsText (whole false cs) t) →
     text_behind l (λ e. text_of e cs) ≡ Some text → SpellsText (whole e (c ∷ cs)) text
@@ -158,7 +158,7 @@ body_parts stop (c ∷ cs) e inside rest h =
     (λ a d q. body_parts stop cs (not e && (c == 92)) a d q) h
 
 -- whether a letter is the first half of an escape
-abbrev pub half : lexing.Letter → Bool
+abbrev pub half : scanner.Letter → Bool
 half backslash = true
 half (stands_for d) = false
 
@@ -175,11 +175,11 @@ no_member special stop c h k = go (c == stop) refl
         let p : c ≡ stop = same_number c stop e in
         let q : is_one_of special stop ≡ false = subst (λ (z : ℕ). is_one_of special z ≡ false) p k in cc
 
-facts_escaped : (r : Option ℕ) (l : lexing.Letter) → option_map stands_for r ≡ Some l → false ≡ half l
+facts_escaped : (r : Option ℕ) (l : scanner.Letter) → option_map stands_for r ≡ Some l → false ≡ half l
 facts_escaped None l h = absurd (cc)
 facts_escaped (Some x) l h = ap half (some_same (stands_for x) l h)
 
-facts_bare : (special : List ℕ) (stop c : ℕ) (b r : Bool) (l : lexing.Letter) → is_one_of special stop ≡ true → (92 == stop) ≡ false →
+facts_bare : (special : List ℕ) (stop c : ℕ) (b r : Bool) (l : scanner.Letter) → is_one_of special stop ≡ true → (92 == stop) ≡ false →
     (c == 92) ≡ b → is_one_of (10 ∷ special) c ≡ r →
     cond b (Some backslash) (cond r None (Some (stands_for c))) ≡ Some l → ((c == stop) ≡ false) × ((c == 92) ≡ half l)
 facts_bare special stop c true r l h n e f g =
@@ -190,12 +190,12 @@ facts_bare special stop c false false l h n e f g =
     (no_member special stop c h (or_false (10 == c) (is_one_of special c) f), e ∙ ap half (some_same (stands_for c) l g))
 
 -- a letter doesn't close its token, and says whether the next one is escaped
-pub letter_facts : (special : List ℕ) (stop : ℕ) (e : Bool) (c : ℕ) (l : lexing.Letter) → is_one_of special stop ≡ true →
+pub letter_facts : (special : List ℕ) (stop : ℕ) (e : Bool) (c : ℕ) (l : scanner.Letter) → is_one_of special stop ≡ true →
     (92 == stop) ≡ false → letter special e c ≡ Some l → ((not e && (c == stop)) ≡ false) × ((not e && (c == 92)) ≡ half l)
 letter_facts special stop true c l h n k = (refl, facts_escaped (escape special c) l k)
 letter_facts special stop false c l h n k = facts_bare special stop c (c == 92) (is_one_of (10 ∷ special) c) l h n refl refl k
 
-text_body_behind : (e : Bool) (c : ℕ) (cs rest text : List ℕ) (l : Option lexing.Letter) → letter literal_signs e c ≡ l →
+text_body_behind : (e : Bool) (c : ℕ) (cs rest text : List ℕ) (l : Option scanner.Letter) → letter literal_signs e c ≡ l →
     ((f : Bool) (t : List ℕ) → text_of f cs ≡ Some t → rest_body 34 f cs rest) → text_behind l (λ e. text_of e cs) ≡ Some text →
     rest_body 34 e (c ∷ cs) rest
 text_body_behind e c cs rest text None k ih h = absurd (cc)

@@ -1,44 +1,19 @@
 -- Tables of words.
 use Rattle.std.proofs.Common.{◌≡◌, ◌∙◌, ℕ, zero, suc, List, [], ◌∷◌, Bool, true, false, cond, ◌&&◌, ◌==◌, nat_lt, Option, Some, None, option_map, map, length, chars, IsUtf8, IsAscii, encode_utf8_all, refl, sym, ap, subst, arith, lit<}
+use Rattle.std.proofs.lemmas.Bool.{and_parts}
 use Rattle.std.proofs.lemmas.Slice.Eq.{bytes_eq-Decides}
 use Rattle.std.proofs.lemmas.Str.{encodes-chars, IsUtf8-from_ascii, chars-IsAscii}
 use Rattle.std.proofs.lemmas.Bool.Decides.{nat_tests, same_from_decides}
-use Rattle.ig_expr.specs.Names.{is_word}
-use Rattle.ig_grammar.specs.Token as token
+use Rattle.ig_text.specs.Words.{is_word}
+use Rattle.ig_text.proofs.Characters.{ascii, word_of_chars}
+use Rattle.ig_syntax.specs.Token as token
 use Rattle.std.specs.Map.{lookup}
 use Rattle.unicode_ident.specs.Ident.{is_xid_continue}
 use Rattle.ig_text.specs.declared.class.Class.{Class}
-use Rattle.ig_grammar.specs.Spelling.{entry, keywords, named_classes, signs}
-use Rattle.ig_grammar.specs.Lexing as lexing
-use Rattle.ig_grammar.specs.Lexing.{run, past, named_class, named_token, sign_token}
+use Rattle.ig_syntax.specs.Spelling.{entry, keywords, named_classes, signs}
+use Rattle.ig_tokens.specs.Scanner as scanner
+use Rattle.ig_tokens.specs.Scanner.{run, past, named_class, named_token, sign_token}
 use Rattle.ig_tokens.specs.Steps.{single_sign, single_signs, exclamation}
-
--- only ASCII characters
-abbrev pub ascii : List ℕ → Bool
-ascii [] = true
-ascii (b ∷ bs) = nat_lt b 128 && ascii bs
-
-pub both : (a b : Bool) → (a && b) ≡ true → (a ≡ true) × (b ≡ true)
-both true b e = (refl, e)
-both false b e = cc
-
-ascii_at : (bs : List ℕ) → ascii bs ≡ true → IsAscii bs
-ascii_at [] e i = lit< tt
-ascii_at (b ∷ bs) e zero = let t = (both (nat_lt b 128) (ascii bs) e).0 in grind (arith, nat_tests)
-ascii_at (b ∷ bs) e (suc i) = ascii_at bs (both (nat_lt b 128) (ascii bs) e).1 i
-
-chars_one : (text other : List ℕ) → IsUtf8 text → IsUtf8 other → chars text ≡ chars other → text ≡ other
-chars_one text other u v e = sym (encodes-chars text u) ∙ ap encode_utf8_all e ∙ encodes-chars other v
-
--- a word of ASCII characters is compared with bytes or with characters alike
-word_of_chars : (w text : List ℕ) → ascii w ≡ true → IsUtf8 text → is_word w text ≡ is_word w (chars text)
-word_of_chars w text a u =
-    let b = ascii_at w a in
-    let same : chars w ≡ w = chars-IsAscii w b in
-    same_from_decides {P = w ≡ text} (is_word w text) (is_word w (chars text)) (bytes_eq-Decides w text) (
-      λ e. chars_one w text (IsUtf8-from_ascii w b) u (same ∙ (bytes_eq-Decides w (chars text)).0 e),
-      λ e. (bytes_eq-Decides w (chars text)).1 (sym same ∙ ap chars e),
-    )
 
 abbrev pub all_ascii : {A : Type 0} → List (List ℕ × A) → Bool
 all_ascii [] = true
@@ -48,7 +23,7 @@ pub entry_of_chars : {A : Type 0} (table : List (List ℕ × A)) (text : List �
     entry table text ≡ entry table (chars text)
 entry_of_chars [] text a u = refl
 entry_of_chars (row ∷ rows) text a u =
-    let p = both (ascii row.0) (all_ascii rows) a in
+    let p = and_parts (ascii row.0) (all_ascii rows) a in
     rw (word_of_chars row.0 text p.0 u, entry_of_chars rows text p.1 u) refl
 
 -- the rows whose words have n characters
@@ -124,12 +99,12 @@ class_named_is table text r e u h =
     ap (option_map token.OneOf) (entry_of_chars named_classes text refl u)
 
 pub named_is : (r : Option Class) (t : token.Token) (rest : List ℕ) → Some t ≡ option_map token.OneOf r →
-    named_token r rest ≡ lexing.token t rest
+    named_token r rest ≡ scanner.token t rest
 named_is None t rest e = cc
 named_is (Some class) t rest e = let p : t ≡ token.OneOf class = cc in rw p refl
 
 pub named_class_is : (cs front rest : List ℕ) (t : token.Token) → front ≡ run is_xid_continue cs → rest ≡ past is_xid_continue cs →
-    Some t ≡ option_map token.OneOf (entry named_classes front) → named_class cs ≡ lexing.token t rest
+    Some t ≡ option_map token.OneOf (entry named_classes front) → named_class cs ≡ scanner.token t rest
 named_class_is cs front rest t e f h =
     rw (← e, ← f) (named_is (entry named_classes front) t rest h)
 
@@ -154,7 +129,7 @@ found P (row ∷ rows) c t a e = go (row.0 == c) refl (found P rows c t a.1)
         rest (sym q ∙ e)
 
 abbrev Reads : ℕ → token.Token → Type 0
-Reads c t = (cs : List ℕ) → sign_token (c ∷ cs) ≡ lexing.token t cs
+Reads c t = (cs : List ℕ) → sign_token (c ∷ cs) ≡ scanner.token t cs
 
 alone : (c : ℕ) (t : token.Token) → entry signs (c ∷ []) ≡ Some t → ((x : ℕ) → entry signs (c ∷ x ∷ []) ≡ None) →
     ((x y : ℕ) → entry signs (c ∷ x ∷ y ∷ []) ≡ None) → Reads c t
@@ -166,7 +141,7 @@ all_read : Each Reads single_signs
 unfolding single_signs signs
 all_read = (alone 59 token.Semicolon refl (λ x. refl) (λ x y. refl), (alone 124 token.Bar refl (λ x. refl) (λ x y. refl), (alone 58 token.Colon refl (λ x. refl) (λ x y. refl), (alone 44 token.Comma refl (λ x. refl) (λ x y. refl), (alone 40 token.Open refl (λ x. refl) (λ x y. refl), (alone 41 token.Close refl (λ x. refl) (λ x y. refl), (alone 123 token.OpenBrace refl (λ x. refl) (λ x y. refl), (alone 125 token.CloseBrace refl (λ x. refl) (λ x y. refl), (alone 63 token.Question refl (λ x. refl) (λ x y. refl), (alone 42 token.Star refl (λ x. refl) (λ x y. refl), (alone 43 token.Plus refl (λ x. refl) (λ x y. refl), (alone 45 token.Minus refl (λ x. refl) (λ x y. refl), (alone 92 token.Backslash refl (λ x. refl) (λ x y. refl), tt)))))))))))))
 
-pub single_reads : (c : ℕ) (t : token.Token) (cs : List ℕ) → Some t ≡ single_sign c → sign_token (c ∷ cs) ≡ lexing.token t cs
+pub single_reads : (c : ℕ) (t : token.Token) (cs : List ℕ) → Some t ≡ single_sign c → sign_token (c ∷ cs) ≡ scanner.token t cs
 single_reads c t cs e = found Reads single_signs c t all_read (sym e) cs
 
 -- signs that begin with `!`

@@ -1,6 +1,6 @@
 -- Why a text has no tokens.
 use Rattle.std.specs.Prelude.{ℕ, List}
-use Rattle.ig_grammar.specs.Lexing.{Breaks}
+use Rattle.ig_syntax.specs.Lexing.{Breaks}
 use Rattle.ig_tokens.specs.declared.token.TokenFault.{TokenFault}
 use Rattle.ig_tokens.specs.declared.token.TokenFault.TheVariants.{Broken, Memory}
 

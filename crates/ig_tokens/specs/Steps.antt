@@ -3,10 +3,10 @@ use Rattle.std.specs.Prelude.{◌≡◌, ℕ, Bool, not, List, [], ◌∷◌, �
 use Rattle.std.specs.Borrow.{Bor}
 use Rattle.std.specs.Map.{lookup}
 use Rattle.unicode_ident.specs.Ident.{is_xid_continue}
-use Rattle.ig_expr.specs.Reading.{is_digit}
-use Rattle.ig_grammar.specs.Token as token
-use Rattle.ig_grammar.specs.Spelling.{literal_signs, class_signs}
-use Rattle.ig_grammar.specs.Lexing as lexing
+use Rattle.ig_text.specs.Words.{is_digit}
+use Rattle.ig_syntax.specs.Token as token
+use Rattle.ig_syntax.specs.Spelling.{literal_signs, class_signs}
+use Rattle.ig_tokens.specs.Scanner as scanner
 use Rattle.ig_tokens.specs.declared.token.Token.{Token}
 use Rattle.ig_tokens.specs.View.{token_of}
 use Rattle.ig_tokens.specs.declared.step.Step.{Step}
@@ -37,8 +37,8 @@ belongs OfLine = λ d. not (d == 10)
 pub record IsSplit (run : Run) (text front rest : List ℕ) : Type 0 where
   pub whole_front : IsUtf8 front
   pub whole_rest : IsUtf8 rest
-  pub front_is : chars front ≡ lexing.run (belongs run) (chars text)
-  pub rest_is : chars rest ≡ lexing.past (belongs run) (chars text)
+  pub front_is : chars front ≡ scanner.run (belongs run) (chars text)
+  pub rest_is : chars rest ≡ scanner.past (belongs run) (chars text)
 
 -- the rest stands behind some front of the text
 pub record IsBehind (text rest : List ℕ) : Type 0 where
@@ -50,28 +50,28 @@ pub record IsBehind (text rest : List ℕ) : Type 0 where
 pub record IsCut (stop : ℕ) (text inside rest : List ℕ) : Type 0 where
   pub whole_inside : IsUtf8 inside
   pub whole_rest : IsUtf8 rest
-  pub cut : lexing.body stop false (chars text) ≡ Some (chars inside, chars rest)
+  pub cut : scanner.body stop false (chars text) ≡ Some (chars inside, chars rest)
 
 -- the step is what stands first
-abbrev pub Gives : lexing.Next → Step → Type 0
-Gives next (steps.Separator rest) = IsUtf8 rest.now × (next ≡ lexing.separator (chars rest.now))
-Gives next (steps.Takes t rest) = IsUtf8 rest.now × (next ≡ lexing.token (token_of t) (chars rest.now))
-Gives next steps.Broken = next ≡ lexing.broken
+abbrev pub Gives : scanner.Next → Step → Type 0
+Gives next (steps.Separator rest) = IsUtf8 rest.now × (next ≡ scanner.separator (chars rest.now))
+Gives next (steps.Takes t rest) = IsUtf8 rest.now × (next ≡ scanner.token (token_of t) (chars rest.now))
+Gives next steps.Broken = next ≡ scanner.broken
 
 abbrev pub special : Quoting → List ℕ
 special OfLiteral = literal_signs
 special OfClass = class_signs
 
-abbrev pub letter_of : Letter → lexing.Letter
-letter_of letters.Backslash = lexing.backslash
-letter_of (letters.StandsFor c) = lexing.stands_for c
+abbrev pub letter_of : Letter → scanner.Letter
+letter_of letters.Backslash = scanner.backslash
+letter_of (letters.StandsFor c) = scanner.stands_for c
 
-abbrev pub place_of : Place → lexing.Place
-place_of places.Between = lexing.between
-place_of (places.BehindCharacter a) = lexing.behind_character a
-place_of (places.BehindDash a) = lexing.behind_dash a
+abbrev pub place_of : Place → scanner.Place
+place_of places.Between = scanner.between
+place_of (places.BehindCharacter a) = scanner.behind_character a
+place_of (places.BehindDash a) = scanner.behind_dash a
 
-abbrev pub step_of : ClassStep → lexing.ClassStep
+abbrev pub step_of : ClassStep → scanner.ClassStep
 step_of s = record { is_escaped = s.is_escaped; place = place_of s.place; range = s.range }
 
 -- the signs of one character with which no longer one begins
@@ -85,22 +85,22 @@ abbrev pub single_sign : ℕ → Option token.Token
 single_sign c = lookup (λ d. d == c) single_signs
 
 -- a sign that is longer where `=` stands directly behind it
-abbrev pub with_equals : token.Token → token.Token → List ℕ → lexing.Next
-with_equals alone longer [] = lexing.token alone []
-with_equals alone longer (c ∷ cs) = if c == 61 then lexing.token longer cs else lexing.token alone (c ∷ cs)
+abbrev pub with_equals : token.Token → token.Token → List ℕ → scanner.Next
+with_equals alone longer [] = scanner.token alone []
+with_equals alone longer (c ∷ cs) = if c == 61 then scanner.token longer cs else scanner.token alone (c ∷ cs)
 
 -- the sign, where its last character stands first
-abbrev pub again : ℕ → token.Token → List ℕ → lexing.Next
-again last sign [] = lexing.broken
-again last sign (c ∷ cs) = if c == last then lexing.token sign cs else lexing.broken
+abbrev pub again : ℕ → token.Token → List ℕ → scanner.Next
+again last sign [] = scanner.broken
+again last sign (c ∷ cs) = if c == last then scanner.token sign cs else scanner.broken
 
 -- a sign that begins with `!`, behind that
-abbrev pub exclamation : List ℕ → lexing.Next
-exclamation [] = lexing.broken
+abbrev pub exclamation : List ℕ → scanner.Next
+exclamation [] = scanner.broken
 exclamation (c ∷ cs) =
-    if c == 61 then lexing.token token.NotEqualTo cs
+    if c == 61 then scanner.token token.NotEqualTo cs
     else (if c == 62 then again 62 token.NotFollowedBy cs
-    else (if c == 60 then again 60 token.NotPrecededBy cs else lexing.broken))
+    else (if c == 60 then again 60 token.NotPrecededBy cs else scanner.broken))
 
 abbrev pub is_backslash : Letter → Bool
 is_backslash letters.Backslash = true
@@ -114,7 +114,7 @@ stood_for (letters.StandsFor c) = c ∷ []
 -- the inside of a class begins with `^` or not, and the rest stands behind that
 pub record IsNegation (inside : List ℕ) (negated : Bool) (rest : List ℕ) : Type 0 where
   pub whole : IsUtf8 rest
-  pub class_is : lexing.class_of (chars inside) ≡ lexing.class_with negated (lexing.ranges_of false lexing.between (chars rest))
+  pub class_is : scanner.class_of (chars inside) ≡ scanner.class_with negated (scanner.ranges_of false scanner.between (chars rest))
 
 -- where there are ranges, they were added
 abbrev pub AddsRanges : Option (List (ℕ × ℕ)) → List (ℕ × ℕ) → List (ℕ × ℕ) → Bool → Type 0

@@ -3,8 +3,8 @@ use Rattle.std.specs.Prelude.{ℕ, List, [], false, chars, unwrap_or, map}
 use Rattle.ig_text.specs.declared.class.Class.{Class}
 use Rattle.ig_text.specs.declared.class.Class.TheVariants as class
 use Rattle.ig_expr.specs.Reading.{spelled}
-use Rattle.ig_grammar.specs.Token as spec
-use Rattle.ig_grammar.specs.Lexing.{literal_of, class_of}
+use Rattle.ig_syntax.specs.Token as spec
+use Rattle.ig_tokens.specs.Scanner.{literal_of, class_of}
 use Rattle.ig_tokens.specs.declared.token.Token.{Token}
 use Rattle.ig_tokens.specs.declared.token.Token.TheVariants as stored
 use Rattle.ig_tokens.specs.declared.token.Placed.{Placed}

@@ -1,8 +1,10 @@
 //! Classes with ranges.
 
-ghost use Rattle.std.specs.Prelude.{◌≡◌, [], ◌++◌, chars, is_some, IfOk, OnOk, false, option_map, option_to_list, MatchOption, ◌&&◌, ◌==◌, not};
+ghost use Rattle.std.specs.Prelude.{◌≡◌, [], ◌++◌, chars, is_some, IfOk, OnOk, false, option_map};
+ghost use Rattle.std.specs.Prelude.{option_to_list, MatchOption, ◌&&◌, ◌==◌, not};
 ghost use Rattle.ig_text.specs.Ranges.{NoneFalls};
-ghost use Rattle.ig_grammar.specs.Lexing.{class_token, class_of, class_step, ranges_of, dash, character, between};
+ghost use Rattle.ig_tokens.specs.Scanner.{class_token, class_of, class_step, ranges_of, dash};
+ghost use Rattle.ig_tokens.specs.Scanner.{character, between};
 ghost use Rattle.ig_tokens.specs.View.{class_within};
 ghost use Rattle.ig_tokens.specs.Steps.{Gives, place_of, step_of, IsNegation, AddsRanges};
 
@@ -179,7 +181,8 @@ pub fn class_of(alloc: Global, inside: &str) -> Result<Class, AllocError>
 
 /// Adds the ranges for which the characters stand; whether they are the characters of ranges.
 fn add_ranges(ranges: &mut Vec<(char, char)>, inside: &str) -> Result<bool, AllocError>
-    ensures { IfOk result (AddsRanges (ranges_of false between (chars inside.now)) ranges.old.items ranges.new.items) }
+    ensures { IfOk result (AddsRanges (ranges_of false between (chars inside.now)) ranges.old.items
+        ranges.new.items) }
 {
     let mut rest = inside;
     let mut is_escaped = false;

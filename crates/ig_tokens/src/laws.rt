@@ -1,10 +1,18 @@
-ghost use Rattle.ig_grammar.specs.Lexing.{LongestTokenIsNext, TokensAreSingle, BreakIsSingle, LexesOrBreaks, NeverBoth};
+ghost use Rattle.ig_tokens.specs.Laws.{BreakIsSingle, LexesOrBreaks, NeverBoth, TokensAreSingle};
+ghost use Rattle.ig_tokens.specs.Laws.{EndedTokensAreLongest, KeywordsAreOne, LongestTokenIsNext};
+ghost use Rattle.ig_tokens.specs.Laws.{TokensAreFew};
 
-/// What stands first in a text is a separator of the table, or the longest token of the table, or
-/// the text is empty, or neither a separator nor a token of the table begins there. This law, proved
-/// of every text, computes nothing.
+/// What the scanner of `specs/Scanner.antt` finds first in a text is a separator, or the longest
+/// token that stands there, or the end of the text; it finds none of these where the text is
+/// broken. This law, proved of every text, computes nothing.
 pub fn longest_token_is_next()
     ensures { LongestTokenIsNext }
+{}
+
+/// The keywords, which are no names, are the words that have tokens of their own. This law computes
+/// nothing.
+pub fn keywords_are_one()
+    ensures { KeywordsAreOne }
 {}
 
 /// A text has one list of tokens at most. This law, proved of every text, computes nothing.
@@ -27,4 +35,15 @@ pub fn texts_lex_or_break()
 /// nothing.
 pub fn texts_never_do_both()
     ensures { NeverBoth }
+{}
+
+/// A text has no more tokens than characters. This law, proved of every text, computes nothing.
+pub fn tokens_are_few()
+    ensures { TokensAreFew }
+{}
+
+/// A token that stands first is the longest where what follows it makes none longer. This law,
+/// proved of every text, computes nothing.
+pub fn ended_tokens_are_longest()
+    ensures { EndedTokensAreLongest }
 {}

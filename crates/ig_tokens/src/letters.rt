@@ -1,8 +1,9 @@
 //! The characters of literals and classes, and their escapes.
 
-ghost use Rattle.std.specs.Prelude.{◌≡◌, ◌&&◌, ◌==◌, not, false, chars, MatchOption, option_map, None};
-ghost use Rattle.ig_grammar.specs.Spelling.{is_one_of, escape, class_signs};
-ghost use Rattle.ig_grammar.specs.Lexing.{body, letter};
+ghost use Rattle.std.specs.Prelude.{◌≡◌, ◌&&◌, ◌==◌, not, false, chars, MatchOption, option_map};
+ghost use Rattle.std.specs.Prelude.{None};
+ghost use Rattle.ig_syntax.specs.Spelling.{is_one_of, escape, class_signs};
+ghost use Rattle.ig_tokens.specs.Scanner.{body, letter};
 ghost use Rattle.ig_tokens.specs.Steps.{IsCut, special, letter_of};
 
 use crate::characters;
@@ -25,7 +26,8 @@ pub(crate) enum Letter {
 /// What stands before the first `stop` that isn't escaped, and what stands behind that; `None`
 /// exactly where there is none.
 pub(crate) fn cut(text: &str, stop: char) -> Option<(&str, &str)>
-    ensures { MatchOption result (body stop false (chars text.now) ≡ None) (λ p. IsCut stop text.now p.0.now p.1.now) }
+    ensures { MatchOption result (body stop false (chars text.now) ≡ None)
+        (λ p. IsCut stop text.now p.0.now p.1.now) }
 {
     let mut rest = text;
     let mut is_escaped = false;

@@ -1,7 +1,8 @@
 //! Literals.
 
-ghost use Rattle.std.specs.Prelude.{◌≡◌, ◌++◌, chars, is_some, IfOk, option_map, string_bytes, false};
-ghost use Rattle.ig_grammar.specs.Lexing.{literal_token, literal_of, text_of};
+ghost use Rattle.std.specs.Prelude.{◌≡◌, ◌++◌, chars, is_some, IfOk, option_map, string_bytes};
+ghost use Rattle.std.specs.Prelude.{false};
+ghost use Rattle.ig_tokens.specs.Scanner.{literal_token, literal_of, text_of};
 ghost use Rattle.ig_tokens.specs.View.{literal_text};
 ghost use Rattle.ig_tokens.specs.Steps.{Gives, is_backslash, stood_for};
 
@@ -64,7 +65,8 @@ pub fn literal_text(alloc: Global, inside: &str) -> Result<Word, AllocError>
 
 /// The text for which the characters stand; `None` exactly where they stand for none.
 fn unescaped(alloc: Global, inside: &str) -> Result<Option<String>, AllocError>
-    ensures { IfOk result (λ r. option_map (λ s. chars (string_bytes s)) r ≡ text_of false (chars inside.now)) }
+    ensures { IfOk result (λ r. option_map (λ s. chars (string_bytes s)) r ≡ text_of false
+        (chars inside.now)) }
 {
     let mut text = String::new(alloc);
     let mut rest = inside;
@@ -84,7 +86,8 @@ fn unescaped(alloc: Global, inside: &str) -> Result<Option<String>, AllocError>
 
 /// Adds the character for which a letter stands, where it does; whether an escape begins.
 fn add_letter(text: &mut String, letter: Letter) -> Result<bool, AllocError>
-    ensures { IfOk result (λ r. (r ≡ is_backslash letter) × (chars (string_bytes text.new) ≡ chars (string_bytes text.old) ++ stood_for letter)) }
+    ensures { IfOk result (λ r. (r ≡ is_backslash letter) × (chars (string_bytes text.new) ≡ chars
+        (string_bytes text.old) ++ stood_for letter)) }
 {
     match letter {
         Letter::Backslash => Ok(true),

@@ -1,8 +1,10 @@
 //! Numbers.
 
-ghost use Rattle.std.specs.Prelude.{◌≡◌, ◌<◌, ◌^◌, ℕ, ◌≤◌, ◌+◌, ◌-◌, ◌*◌, true, chars, pos, MatchOption, SomeIff};
-ghost use Rattle.ig_expr.specs.Reading.{spelled, is_digit};
-ghost use Rattle.ig_grammar.specs.Lexing.{numeral, number_token};
+ghost use Rattle.std.specs.Prelude.{◌≡◌, ◌<◌, ◌^◌, ℕ, ◌≤◌, ◌+◌, ◌-◌, ◌*◌, true, chars, pos};
+ghost use Rattle.std.specs.Prelude.{MatchOption, SomeIff};
+ghost use Rattle.ig_text.specs.Words.{is_digit};
+ghost use Rattle.ig_expr.specs.Reading.{spelled};
+ghost use Rattle.ig_tokens.specs.Scanner.{numeral, number_token};
 ghost use Rattle.ig_tokens.specs.Steps.{Begins, Gives};
 
 use crate::characters::{self, Run};
@@ -36,7 +38,8 @@ fn number<'a>(digits: &'a str, rest: &'a str) -> Step<'a>
 /// The number that the digits spell; `None` exactly where it is greater than
 /// 9,223,372,036,854,775,807. Takes no memory.
 pub fn number_of(digits: &str) -> Option<i64>
-    ensures { MatchOption result (2 ^ 63 ≤ spelled 0 (chars digits.now)) (λ n. n ≡ pos (spelled 0 (chars digits.now))) }
+    ensures { MatchOption result (2 ^ 63 ≤ spelled 0 (chars digits.now))
+        (λ n. n ≡ pos (spelled 0 (chars digits.now))) }
 {
     let mut number: u64 = 0;
     let mut rest = digits;

@@ -1,7 +1,7 @@
 //! Signs.
 
 ghost use Rattle.std.specs.Prelude.{◌≡◌, ◌∷◌, chars, option_map};
-ghost use Rattle.ig_grammar.specs.Lexing.{sign_token, token};
+ghost use Rattle.ig_tokens.specs.Scanner.{sign_token, token};
 ghost use Rattle.ig_tokens.specs.View.{token_of};
 ghost use Rattle.ig_tokens.specs.Steps.{Gives, single_sign, with_equals, exclamation, again};
 
@@ -10,7 +10,7 @@ use crate::step::Step;
 use crate::token::Token;
 
 /// What a sign is that begins with `c`, where `after` stands behind that.
-#[tactic(auto, unfolding(ig_grammar::specs::Spelling::signs, crate::specs::Steps::single_signs))]
+#[tactic(auto, unfolding(ig_syntax::specs::Spelling::signs, crate::specs::Steps::single_signs))]
 pub(crate) fn sign<'a>(c: char, after: &'a str) -> Step<'a>
     ensures { Gives (sign_token (c ∷ chars after.now)) result }
 {
@@ -51,7 +51,8 @@ fn single<'a>(c: char) -> Option<Token<'a>>
 
 /// The sign `alone`, or `longer` where `=` stands directly behind it.
 fn with_equals<'a>(alone: Token<'a>, longer: Token<'a>, after: &'a str) -> Step<'a>
-    ensures { Gives (with_equals (token_of alone.entry) (token_of longer.entry) (chars after.now)) result }
+    ensures { Gives (with_equals (token_of alone.entry) (token_of longer.entry) (chars after.now))
+        result }
 {
     match characters::first(after) {
         Some((c, rest)) => {

@@ -1,8 +1,8 @@
 //! What stands first in a text.
 
 ghost use Rattle.std.specs.Prelude.{◌≡◌, ◌∷◌, chars};
-ghost use Rattle.ig_grammar.specs.Spelling.{is_one_of, blanks};
-ghost use Rattle.ig_grammar.specs.Lexing.{next, comment};
+ghost use Rattle.ig_syntax.specs.Spelling.{is_one_of, blanks};
+ghost use Rattle.ig_tokens.specs.Scanner.{next, comment};
 ghost use Rattle.ig_tokens.specs.Steps.{Begins, Gives};
 
 use crate::characters::{self, Run};

@@ -1,5 +1,9 @@
 //! The tokens of the notation.
 
+ghost use Rattle.std.specs.Prelude.{◌≡◌};
+
+use std::alloc::AllocError;
+
 /// A token of the notation. Its text is a slice of the source.
 #[derive(Clone, Copy, Debug)]
 pub enum Token<'a> {
@@ -129,4 +133,14 @@ pub enum TokenFault {
     Broken { at: u32 },
     /// Memory ran out.
     Memory,
+}
+
+impl From<AllocError> for TokenFault {
+    ghost use Rattle.ig_tokens.specs.declared.token.TokenFault.TheVariants.{Memory};
+
+    ghost from_gives = { λ _ fault. fault ≡ Memory };
+
+    fn from(_error: AllocError) -> TokenFault {
+        TokenFault::Memory
+    }
 }

@@ -1,19 +1,23 @@
 //! The tokens of a text.
 
 ghost use Rattle.std.specs.Prelude.{◌≡◌, ◌≤◌, [], ◌∷◌, ◌++◌, length, chars, IfOk, IfErr, OnOk};
-ghost use Rattle.ig_grammar.specs.Lexing.{Lexes, Breaks};
+ghost use Rattle.ig_syntax.specs.Lexing.{Lexes};
+ghost use Rattle.ig_syntax.specs.Notation.{most_bytes};
 ghost use Rattle.ig_tokens.specs.View.{tokens_of};
 ghost use Rattle.ig_tokens.specs.Faults.{IsFault};
 
 use crate::characters;
 use crate::step::{self, Step};
 use crate::token::{Placed, TokenFault};
-use std::alloc::Global;
+use std::alloc::{AllocError, Global};
 
-/// The tokens of a text of at most 262,144 bytes, in order, each with the byte at which it begins.
+/// The most bytes that a grammar text may have.
+pub const MOST_BYTES: usize = 262_144;
+
+/// The tokens of a text of at most [`MOST_BYTES`] bytes, in order, each with the byte at which it begins.
 /// Refuses a text as `Broken` exactly where it isn't a sequence of tokens and separators.
 pub fn tokenize<'a>(alloc: Global, source: &'a str) -> Result<Vec<Placed<'a>>, TokenFault>
-    requires { length source.now ≤ 262144 }
+    requires { length source.now ≤ most_bytes }
     ensures tokens { IfOk result (λ v. Lexes 0 (chars source.now) (tokens_of v.items)) }
     ensures fault { IfErr result (IsFault (chars source.now)) }
 {
@@ -34,12 +38,9 @@ pub fn tokenize<'a>(alloc: Global, source: &'a str) -> Result<Vec<Placed<'a>>, T
 }
 
 /// Adds a token at the end.
-fn add<'a>(tokens: &mut Vec<Placed<'a>>, token: Placed<'a>) -> Result<(), TokenFault>
+fn add<'a>(tokens: &mut Vec<Placed<'a>>, token: Placed<'a>) -> Result<(), AllocError>
     ensures ok { OnOk result (tokens.new.items ≡ tokens.old.items ++ token.entry ∷ []) }
-    ensures err { IfErr result (λ e. e ≡ TokenFault.Memory) }
 {
-    match tokens.push(token) {
-        Ok(()) => Ok(()),
-        Err(_) => Err(TokenFault::Memory),
-    }
+    tokens.push(token)?;
+    Ok(())
 }

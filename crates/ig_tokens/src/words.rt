@@ -1,9 +1,9 @@
 //! Names, heads, keywords and the classes that have a name.
 
 ghost use Rattle.std.specs.Prelude.{◌≡◌, chars, option_map, length};
-ghost use Rattle.ig_grammar.specs.Token.{OneOf};
-ghost use Rattle.ig_grammar.specs.Spelling.{entry, keywords, named_classes};
-ghost use Rattle.ig_grammar.specs.Lexing.{word_token, name_token, named_class};
+ghost use Rattle.ig_syntax.specs.Token.{OneOf};
+ghost use Rattle.ig_syntax.specs.Spelling.{entry, keywords, named_classes};
+ghost use Rattle.ig_tokens.specs.Scanner.{word_token, name_token, named_class};
 ghost use Rattle.ig_tokens.specs.View.{token_of};
 ghost use Rattle.ig_tokens.specs.Steps.{Gives, rows_of};
 

@@ -12,10 +12,10 @@ use Rattle.ig_grammar.specs.declared.symbol.Alt.{Alt}
 use Rattle.ig_grammar.specs.Symbol.{Symbol, Literal, Call}
 use Rattle.ig_grammar.specs.Names.{names, AreDistinct}
 use Rattle.ig_grammar.specs.Numbering.{Levelled, IsDeclaration, IsAlternative}
-use Rattle.ig_grammar.specs.Built.{IsBuilt, IsBuiltGrammar}
-use Rattle.ig_grammar.specs.ContextFree as plain
-use Rattle.ig_grammar.specs.ContextFree.{HaveTrees, IsRootTree}
-use Rattle.ig_grammar.proofs.ContextFree.{context_free}
+use Rattle.ig_tool.specs.Built.{IsBuilt, IsBuiltGrammar}
+use Rattle.ig_tool.specs.ContextFree as plain
+use Rattle.ig_tool.specs.ContextFree.{HaveTrees, IsRootTree}
+use Rattle.ig_tool.proofs.ContextFree.{context_free}
 use Rattle.ig_tool.specs.declared.core_grammar.Nonterminal.{Nonterminal}
 use Rattle.ig_tool.specs.declared.core_grammar.CoreAlt.{CoreAlt}
 use Rattle.ig_tool.specs.declared.core_grammar.Step.{Step}

@@ -1,3 +1,5 @@
+pub mod Building
+pub mod ContextFree
 pub mod CoreFits
 pub mod CoreLaw
 pub mod Deciding

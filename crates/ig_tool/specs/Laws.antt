@@ -3,9 +3,9 @@ use Rattle.std.specs.Prelude.{◌≡◌, ◌↔◌, ℕ, ◌≤◌, List, Some}
 use Rattle.ig_text.specs.Tree.{Tree, height}
 use Rattle.ig_grammar.specs.declared.grammar.Grammar.{Grammar}
 use Rattle.ig_grammar.specs.Names.{names, AreDistinct}
-use Rattle.ig_grammar.specs.Built.{IsBuiltGrammar}
+use Rattle.ig_tool.specs.Built.{IsBuiltGrammar}
 use Rattle.ig_grammar.specs.Numbering.{as_written}
-use Rattle.ig_grammar.specs.Permitted.{Permitted}
+use Rattle.ig_meaning.specs.Permitted.{Permitted}
 use Rattle.ig_tool.specs.declared.core_grammar.Core.{Core}
 use Rattle.ig_tool.specs.declared.core_grammar.CoreAlt.{CoreAlt}
 use Rattle.ig_tool.specs.declared.forest.Forest.{Forest}

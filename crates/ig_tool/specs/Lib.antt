@@ -1,3 +1,5 @@
+pub mod Built
+pub mod ContextFree
 pub mod Core
 pub mod CoreOf
 pub mod Items
@@ -12,6 +14,7 @@ pub mod ForestText
 pub mod Accepted
 pub mod Refusals
 pub mod Commands
+pub mod Change
 pub mod Outcome
 pub mod Stops
 pub mod Headline

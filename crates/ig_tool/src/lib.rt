@@ -12,6 +12,7 @@
 //! (`forest_builder`, over `nodes` and `entries`) and printed (`forest_text`).
 #![tactic(auto)]
 
+mod built;
 mod command;
 mod core_builder;
 pub mod core_grammar;

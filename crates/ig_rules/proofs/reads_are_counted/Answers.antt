@@ -2,4 +2,4 @@ use Rattle.ig_rules.proofs.Counting.{grammar_counted}
 use Rattle.ig_rules.proofs.reads_are_counted.Goals as goal
 
 pub returns : goal.returns
-returns c = λ tokens g most f less. grammar_counted most f less
+returns c = λ tokens g most f less. grammar_counted c.counts_by_form.ensures most f less

@@ -1,4 +1,4 @@
-use Rattle.ig_rules.proofs.Standing.{grammar_written}
+use Rattle.ig_rules.proofs.Forms.{grammar_written}
 use Rattle.ig_rules.proofs.reads_are_written.Goals as goal
 
 pub returns : goal.returns

@@ -1,4 +1,4 @@
-use Rattle.ig_rules.proofs.Standing.{grammar_stands}
+use Rattle.ig_rules.proofs.Placing.{grammar_stands}
 use Rattle.ig_rules.proofs.reads_stand_well.Goals as goal
 
 pub returns : goal.returns

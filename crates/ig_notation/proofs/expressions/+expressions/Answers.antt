@@ -3,7 +3,7 @@ use Rattle.std.proofs.lemmas.Result.{IfOk-weaker, IfErr-weaker}
 use Rattle.ig_expr.specs.Expression.{Truth}
 use Rattle.ig_expr.specs.Expression as tree
 use Rattle.std.specs.Prelude.{true, false}
-use Rattle.ig_grammar.specs.Rules as rule
+use Rattle.ig_syntax.specs.Rules as rule
 use Rattle.ig_notation.proofs.Steps.{stands_as, stop_later, exits, by_itself}
 use Rattle.ig_notation.proofs.ExpressionParts.{opposite, negative, unsigned, plain_expression, alone, operation, second_stops, applies, same, spells, numeral, no_larger, variable, in_brackets, called, called_stops}
 use Rattle.ig_notation.proofs.expressions.+expressions.Goals as goal
@@ -49,7 +49,7 @@ read_spells-returns-clause-ok t c =
 
 pub read_term-unreachable-requires : goal.read_term-unreachable-requires
 read_term-unreachable-requires t c =
-    no_larger _ _ _ c.requires (stands_as _ _ _ _ c.in_ok-digits.ensures.ok c.in-Number.is) c.in-None.ensures
+    no_larger _ _ _ c.fit.ensures (stands_as _ _ _ _ c.in_ok-digits.ensures.ok c.in-Number.is) c.in-None.ensures
 
 pub read_term-returns-in-Some-clause-ok : goal.read_term-returns-in-Some-clause-ok
 read_term-returns-in-Some-clause-ok t c = numeral _ _ _ _ (stands_as _ _ _ _ c.in_ok-digits.ensures.ok c.in-Number.is) (search rules)

@@ -1,8 +1,8 @@
 use Rattle.std.proofs.Common.{sym, subst, ap, ◌∙◌}
 use Rattle.std.specs.Prelude.{chars}
 use Rattle.ig_expr.specs.declared.operator.Function.TheVariants as functions
-use Rattle.ig_grammar.specs.Rules as rule
-use Rattle.ig_grammar.specs.Rules.{IsFunction}
+use Rattle.ig_syntax.specs.Rules as rule
+use Rattle.ig_syntax.specs.Rules.{IsFunction}
 use Rattle.ig_notation.proofs.Names.{no_function, chars_of_begin, chars_of_end, chars_of_size, chars_of_column, chars_of_line, chars_of_number, chars_of_same, chars_of_spells}
 use Rattle.ig_notation.proofs.expressions.function_named.Goals as goal
 

@@ -1,5 +1,5 @@
 use Rattle.std.proofs.Common.{rules}
-use Rattle.ig_grammar.specs.Rules as rule
+use Rattle.ig_syntax.specs.Rules as rule
 use Rattle.ig_notation.specs.Readers.{at_token}
 use Rattle.ig_notation.proofs.Steps.{found_at}
 use Rattle.ig_notation.proofs.expressions.operator_at.Goals as goal

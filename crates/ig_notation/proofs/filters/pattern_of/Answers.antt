@@ -1,6 +1,6 @@
 use Rattle.std.proofs.Common.{ap, refl}
 use Rattle.ig_text.specs.declared.pattern.Pattern.TheVariants.{Literal, OneOf}
-use Rattle.ig_grammar.specs.Rules as rule
+use Rattle.ig_syntax.specs.Rules as rule
 use Rattle.ig_notation.proofs.FilterParts.{pattern_is}
 use Rattle.ig_notation.proofs.filters.pattern_of.Goals as goal
 

@@ -1,5 +1,6 @@
-use Rattle.ig_notation.proofs.Regularity.{read_regular, read_counted}
+use Rattle.ig_notation.proofs.Regularity.{read_regular}
 use Rattle.ig_notation.proofs.laws.read_grammars_are_regular.Goals as goal
 
 pub returns : goal.returns
-returns c = λ source g utf8 read. (read_regular source g utf8 read, read_counted source g utf8 read)
+returns c =
+    read_regular c.tokens_are_few.ensures c.reads_are_regular.ensures c.reads_are_counted.ensures

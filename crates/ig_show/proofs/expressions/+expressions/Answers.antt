@@ -1,8 +1,8 @@
 use Rattle.std.proofs.Common.{◌∷◌, refl}
 use Rattle.std.specs.Prelude.{codes}
 use Rattle.std.specs.Str.{chars}
-use Rattle.ig_grammar.specs.Token as sign
-use Rattle.ig_grammar.specs.Token.{Name, Head, Comma, Open, Close}
+use Rattle.ig_syntax.specs.Token as sign
+use Rattle.ig_syntax.specs.Token.{Name, Head, Comma, Open, Close}
 use Rattle.ig_show.specs.Pieces.{token, blank}
 use Rattle.ig_show.specs.CanonicalText.{expression_pieces}
 use Rattle.ig_show.proofs.Steps.{if_ok, adds, says, shown_as}

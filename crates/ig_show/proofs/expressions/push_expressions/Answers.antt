@@ -3,7 +3,7 @@ use Rattle.ig_show.specs.CanonicalText.{expression_pieces, separated, joined, co
 use Rattle.std.proofs.Common.{◌∷◌, refl, map, sym, subst}
 use Rattle.std.specs.Prelude.{string_bytes}
 use Rattle.std.specs.Str.{chars}
-use Rattle.ig_grammar.specs.Token.{Comma}
+use Rattle.ig_syntax.specs.Token.{Comma}
 use Rattle.ig_show.specs.Pieces.{token, blank}
 use Rattle.ig_show.proofs.Steps.{adds, says, Ahead, first_written, less_ahead, none_ahead}
 use Rattle.ig_show.proofs.expressions.push_expressions.Goals as goal

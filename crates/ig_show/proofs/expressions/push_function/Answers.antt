@@ -1,7 +1,7 @@
 use Rattle.std.specs.Prelude.{codes}
 use Rattle.std.proofs.Common.{◌∷◌, refl}
 use Rattle.std.specs.Str.{chars}
-use Rattle.ig_grammar.specs.Token.{Head}
+use Rattle.ig_syntax.specs.Token.{Head}
 use Rattle.ig_show.specs.Pieces.{token}
 use Rattle.ig_show.proofs.Steps.{if_ok, says}
 use Rattle.ig_show.proofs.expressions.push_function.Goals as goal

@@ -1,6 +1,6 @@
 use Rattle.std.proofs.Common.{◌∷◌, refl}
 use Rattle.std.specs.Str.{chars}
-use Rattle.ig_grammar.specs.Token.{Comma, Close}
+use Rattle.ig_syntax.specs.Token.{Comma, Close}
 use Rattle.ig_show.specs.Pieces.{token, blank}
 use Rattle.ig_show.proofs.Steps.{if_ok, adds, says}
 use Rattle.ig_show.proofs.expressions.push_word_behind.Goals as goal

@@ -1,8 +1,8 @@
 use Rattle.ig_show.specs.CanonicalText.{head_pieces, levels_pieces}
 use Rattle.std.proofs.Common.{◌∷◌, refl}
 use Rattle.std.specs.Str.{chars}
-use Rattle.ig_grammar.specs.Token as sign
-use Rattle.ig_grammar.specs.Token.{Name, Head, Comma, Open, Close}
+use Rattle.ig_syntax.specs.Token as sign
+use Rattle.ig_syntax.specs.Token.{Name, Head, Comma, Open, Close}
 use Rattle.ig_show.specs.Pieces.{token, blank, line_end}
 use Rattle.ig_show.proofs.Steps.{if_ok, adds, says, shown_as}
 use Rattle.ig_show.proofs.grammar.push_declaration.Goals as goal

@@ -1,4 +1,4 @@
-use Rattle.ig_grammar.specs.Token as sign
+use Rattle.ig_syntax.specs.Token as sign
 use Rattle.ig_show.specs.Pieces.{token, blank}
 use Rattle.ig_show.specs.CanonicalText.{level_pieces, levels_pieces, separated}
 use Rattle.std.proofs.Common.{drop, [], ◌∷◌}

@@ -1,6 +1,6 @@
 use Rattle.std.proofs.Common.{◌∷◌, refl}
 use Rattle.std.specs.Str.{chars}
-use Rattle.ig_grammar.specs.Token.{OneOf}
+use Rattle.ig_syntax.specs.Token.{OneOf}
 use Rattle.ig_show.specs.Pieces.{token}
 use Rattle.ig_show.proofs.Steps.{if_ok, says}
 use Rattle.ig_show.proofs.spelling.push_class.Goals as goal

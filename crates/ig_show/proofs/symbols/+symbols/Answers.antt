@@ -1,8 +1,8 @@
 use Rattle.std.proofs.Common.{◌∷◌, [], refl, map, arith, sym, subst}
 use Rattle.std.specs.Prelude.{string_bytes}
 use Rattle.std.specs.Str.{chars}
-use Rattle.ig_grammar.specs.Token as sign
-use Rattle.ig_grammar.specs.Token.{Name, Head, Comma, Open, Close}
+use Rattle.ig_syntax.specs.Token as sign
+use Rattle.ig_syntax.specs.Token.{Name, Head, Comma, Open, Close}
 use Rattle.ig_grammar.specs.Symbol.{gathered}
 use Rattle.ig_grammar.specs.Alternative.{gathered_alternatives}
 use Rattle.ig_grammar.specs.Falls.{symbol_falls, alternative_falls}

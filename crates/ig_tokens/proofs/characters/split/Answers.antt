@@ -1,5 +1,5 @@
 use Rattle.std.proofs.Common.{◌≡◌, ◌∙◌, sym, refl, chars}
-use Rattle.ig_grammar.specs.Lexing.{past}
+use Rattle.ig_tokens.specs.Scanner.{past}
 use Rattle.ig_tokens.specs.Steps.{belongs}
 use Rattle.ig_tokens.proofs.Reading.{shorter, past_more, past_stops, past_ends, run_behind, split_is}
 use Rattle.ig_tokens.proofs.characters.split.Goals as goal

@@ -1,7 +1,7 @@
 use Rattle.std.proofs.Common.{◌≡◌, length, chars}
 use denote.Text.{Utf8}
 use denote.Shadow.{shadow}
-use Rattle.ig_grammar.specs.Lexing.{past}
+use Rattle.ig_tokens.specs.Scanner.{past}
 use Rattle.ig_tokens.specs.Steps.{belongs}
 use Rattle.ig_tokens.proofs.characters.split.Given as goal
 

@@ -1,7 +1,7 @@
 use Rattle.std.proofs.Common.{◌≡◌, is_some, false, length, chars}
 use denote.Text.{Utf8}
 use denote.Shadow.{shadow}
-use Rattle.ig_grammar.specs.Lexing.{ranges_of, between}
+use Rattle.ig_tokens.specs.Scanner.{ranges_of, between}
 use Rattle.ig_tokens.specs.Steps.{place_of}
 use Rattle.ig_tokens.proofs.classes.are_ranges.Given as goal
 

@@ -1,7 +1,7 @@
 use Rattle.std.proofs.Common.{◌≡◌, is_some, false, length, chars}
 use denote.Text.{Utf8}
 use denote.Shadow.{shadow}
-use Rattle.ig_grammar.specs.Lexing.{text_of}
+use Rattle.ig_tokens.specs.Scanner.{text_of}
 use Rattle.ig_tokens.proofs.literals.is_literal.Given as goal
 
 abbrev pub invariant-loop-c : goal.invariant-loop-c

@@ -1,7 +1,7 @@
 use Rattle.std.proofs.Common.{◌≡◌, ◌++◌, option_map, string_bytes, false, length, chars}
 use denote.Text.{Utf8}
 use denote.Shadow.{shadow}
-use Rattle.ig_grammar.specs.Lexing.{text_of}
+use Rattle.ig_tokens.specs.Scanner.{text_of}
 use Rattle.ig_tokens.proofs.literals.unescaped.Given as goal
 
 abbrev pub invariant-loop-c : goal.invariant-loop-c

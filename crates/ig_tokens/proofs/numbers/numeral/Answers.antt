@@ -1,5 +1,5 @@
 use Rattle.std.proofs.Common.{◌≡◌, ◌∙◌, sym, ap, subst, chars, List, ℕ}
-use Rattle.ig_grammar.specs.Lexing.{Next, numeral, number_token}
+use Rattle.ig_tokens.specs.Scanner.{Next, numeral, number_token}
 use Rattle.ig_tokens.specs.Steps.{Gives}
 use Rattle.ig_tokens.proofs.LetterSteps.{first_digit, nought_numeral}
 use Rattle.ig_tokens.proofs.numbers.numeral.Goals as goal

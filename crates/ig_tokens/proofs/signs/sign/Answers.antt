@@ -1,5 +1,5 @@
 use Rattle.std.proofs.Common.{sym, subst, chars}
-use Rattle.ig_grammar.specs.Lexing.{Next}
+use Rattle.ig_tokens.specs.Scanner.{Next}
 use Rattle.ig_tokens.specs.View.{token_of}
 use Rattle.ig_tokens.specs.Steps.{Gives}
 use Rattle.ig_tokens.proofs.Tables.{single_reads, exclamation_reads}

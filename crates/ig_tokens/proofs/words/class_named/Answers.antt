@@ -1,5 +1,5 @@
 use Rattle.std.proofs.Common.{refl}
-use Rattle.ig_grammar.specs.Spelling.{named_classes}
+use Rattle.ig_syntax.specs.Spelling.{named_classes}
 use Rattle.ig_tokens.proofs.Tables.{class_named_is}
 use Rattle.ig_tokens.proofs.words.class_named.Goals as goal
 

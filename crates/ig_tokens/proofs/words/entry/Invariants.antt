@@ -1,5 +1,5 @@
 use Rattle.std.proofs.Common.{◌≡◌, drop}
-use Rattle.ig_grammar.specs.Spelling.{entry}
+use Rattle.ig_syntax.specs.Spelling.{entry}
 use Rattle.ig_tokens.specs.Steps.{rows_of}
 use Rattle.ig_tokens.proofs.words.entry.Given as goal
 

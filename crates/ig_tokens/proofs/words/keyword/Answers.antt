@@ -1,5 +1,5 @@
 use Rattle.std.proofs.Common.{refl, arith}
-use Rattle.ig_grammar.specs.Spelling.{keywords}
+use Rattle.ig_syntax.specs.Spelling.{keywords}
 use Rattle.ig_tokens.proofs.Tables.{keyword_of_length, keyword_none}
 use Rattle.ig_tokens.proofs.words.keyword.Goals as goal
 

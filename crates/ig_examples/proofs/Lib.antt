@@ -1,0 +1,10 @@
+pub mod Choosing
+pub mod Members
+pub mod Deciding
+pub mod Enumeration
+pub mod EnumerationSound
+pub mod EnumerationComplete
+pub mod CleanDeciding
+pub mod Roots
+pub mod Exactness
+pub mod Rows

@@ -1,0 +1,5 @@
+use Rattle.ig_examples.proofs.Rows.{brackets_are_clean}
+use Rattle.ig_examples.proofs.brackets_are_clean.Goals as goal
+
+pub returns : goal.returns
+returns k = brackets_are_clean

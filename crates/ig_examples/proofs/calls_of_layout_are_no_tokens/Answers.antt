@@ -1,0 +1,5 @@
+use Rattle.ig_examples.proofs.Rows.{calls_of_layout_are_no_tokens}
+use Rattle.ig_examples.proofs.calls_of_layout_are_no_tokens.Goals as goal
+
+pub returns : goal.returns
+returns k = calls_of_layout_are_no_tokens

@@ -1,0 +1,5 @@
+use Rattle.ig_examples.proofs.Rows.{groups_keep_their_bindings}
+use Rattle.ig_examples.proofs.groups_keep_their_bindings.Goals as goal
+
+pub returns : goal.returns
+returns k = groups_keep_their_bindings

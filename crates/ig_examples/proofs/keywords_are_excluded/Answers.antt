@@ -1,0 +1,5 @@
+use Rattle.ig_examples.proofs.Rows.{keywords_are_excluded}
+use Rattle.ig_examples.proofs.keywords_are_excluded.Goals as goal
+
+pub returns : goal.returns
+returns k = keywords_are_excluded

@@ -1,0 +1,5 @@
+use Rattle.ig_examples.proofs.Rows.{lets_stand_behind_layout}
+use Rattle.ig_examples.proofs.lets_stand_behind_layout.Goals as goal
+
+pub returns : goal.returns
+returns k = lets_stand_behind_layout

@@ -1,0 +1,5 @@
+use Rattle.ig_examples.proofs.Rows.{letters_are_counted}
+use Rattle.ig_examples.proofs.letters_are_counted.Goals as goal
+
+pub returns : goal.returns
+returns k = letters_are_counted

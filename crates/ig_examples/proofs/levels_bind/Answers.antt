@@ -1,0 +1,5 @@
+use Rattle.ig_examples.proofs.Rows.{levels_bind}
+use Rattle.ig_examples.proofs.levels_bind.Goals as goal
+
+pub returns : goal.returns
+returns k = levels_bind

@@ -1,0 +1,5 @@
+use Rattle.ig_examples.proofs.Rows.{single_calls_are_no_operands}
+use Rattle.ig_examples.proofs.single_calls_are_no_operands.Goals as goal
+
+pub returns : goal.returns
+returns k = single_calls_are_no_operands

@@ -1,0 +1,13 @@
+pub mod Exactly
+pub mod Notation
+pub mod Nullable
+pub mod Operators
+pub mod Data
+pub mod Blocks
+pub mod Keyword
+pub mod Layout
+pub mod Filters
+pub mod Columns
+pub mod Bindings
+pub mod Levels
+pub mod Passes

@@ -1,0 +1,143 @@
+-- Facts and sums over the symbols in a symbol, by its form.
+use Rattle.std.proofs.Common.{◌≡◌, ℕ, ◌+◌, List, [], ◌∷◌, ◌++◌, refl, arith}
+use Rattle.std.specs.Prelude.{All, sum_by}
+use Rattle.std.proofs.lemmas.List.Elements.{All-nil, All-cons, All-head, All-tail, All-append}
+use Rattle.std.proofs.lemmas.List.Sums.{sum_by-cons, sum_by-append}
+use Rattle.ig_grammar.specs.Symbol.{Symbol, Literal, OneOf, Call, Label, Guard, Let, Opt, Star, Plus, SepStar, SepPlus, Group, Offside, Ignore, Align, Filtered, Seq, Entry}
+use Rattle.ig_grammar.specs.Symbol.{Symbols, no_symbols, next_symbol, Alternatives, no_alternatives, next_alternative}
+use Rattle.ig_grammar.specs.Subterms.{subterms, subterms_of_symbols, subterms_of_alternatives}
+use Rattle.ig_grammar.specs.Regular.{own_parts, own_alternatives, alternatives_among}
+use Rattle.ig_grammar.specs.Laws.{OfInner, OfSymbols, OfAlternatives, inner_sum, symbols_sum, alternatives_sum, CountsByForm}
+
+module _ (P : Symbol → Type 0) where
+  -- both parts of a list
+  halves : (xs ys : List Symbol) → All P (xs ++ ys) → All P xs × All P ys
+  halves [] ys all = (All-nil P, all)
+  halves (x ∷ xs) ys all =
+      let rest = halves xs ys (All-tail P x (xs ++ ys) all) in
+      (All-cons P x xs (All-head P x (xs ++ ys) all) rest.0, rest.1)
+
+  pub symbols_hold : (xs : Symbols) → All P (subterms_of_symbols xs) → OfSymbols P xs
+  symbols_hold no_symbols all = tt
+  symbols_hold (next_symbol x xs) all = halves (subterms x) (subterms_of_symbols xs) all
+
+  pub symbols_hold_from : (xs : Symbols) → OfSymbols P xs → All P (subterms_of_symbols xs)
+  symbols_hold_from no_symbols all = All-nil P
+  symbols_hold_from (next_symbol x xs) all = All-append P (subterms x) (subterms_of_symbols xs) all.0 all.1
+
+  pub alternatives_hold : (ys : Alternatives) → All P (subterms_of_alternatives ys) → OfAlternatives P ys
+  alternatives_hold no_alternatives all = tt
+  alternatives_hold (next_alternative xs ys) all = halves (subterms_of_symbols xs) (subterms_of_alternatives ys) all
+
+  pub alternatives_hold_from : (ys : Alternatives) → OfAlternatives P ys → All P (subterms_of_alternatives ys)
+  alternatives_hold_from no_alternatives all = All-nil P
+  alternatives_hold_from (next_alternative xs ys) all =
+      All-append P (subterms_of_symbols xs) (subterms_of_alternatives ys) all.0 all.1
+
+  split : (x : Symbol) (xs : List Symbol) → All P (x ∷ xs) → P x × All P xs
+  split x xs all = (All-head P x xs all, All-tail P x xs all)
+
+  parted : (z x s : Symbol) → All P (z ∷ subterms x ++ subterms s) → P z × All P (subterms x) × All P (subterms s)
+  parted z x s all =
+      let both = halves (subterms x) (subterms s) (All-tail P z (subterms x ++ subterms s) all) in
+      (All-head P z (subterms x ++ subterms s) all, both.0, both.1)
+
+  alone : (x : Symbol) → All P (x ∷ []) → P x × Unit {0}
+  alone x all = (All-head P x [] all, tt)
+
+  pub holds : (x : Symbol) → All P (subterms x) → P x × OfInner P x
+  holds (Literal w) all = alone (Literal w) all
+  holds (OneOf c) all = alone (OneOf c) all
+  holds (Call n es) all = alone (Call n es) all
+  holds (Label n x) all = split (Label n x) (subterms x) all
+  holds (Guard e) all = alone (Guard e) all
+  holds (Let n e) all = alone (Let n e) all
+  holds (Opt x) all = split (Opt x) (subterms x) all
+  holds (Star x) all = split (Star x) (subterms x) all
+  holds (Plus x) all = split (Plus x) (subterms x) all
+  holds (SepStar x s) all = let p = parted (SepStar x s) x s all in (p.0, (p.1, p.2))
+  holds (SepPlus x s) all = let p = parted (SepPlus x s) x s all in (p.0, (p.1, p.2))
+  holds (Group ys) all = split (Group ys) (subterms_of_alternatives ys) all
+  holds (Offside x) all = split (Offside x) (subterms x) all
+  holds (Ignore x) all = split (Ignore x) (subterms x) all
+  holds (Align x) all = split (Align x) (subterms x) all
+  holds (Filtered x fs) all = split (Filtered x fs) (subterms x) all
+  holds (Seq xs) all = split (Seq xs) (subterms_of_symbols xs) all
+  holds (Entry bs x) all = split (Entry bs x) (subterms x) all
+
+  pub holds_from : (x : Symbol) → P x → OfInner P x → All P (subterms x)
+  holds_from (Literal w) p all = All-cons P (Literal w) [] p (All-nil P)
+  holds_from (OneOf c) p all = All-cons P (OneOf c) [] p (All-nil P)
+  holds_from (Call n es) p all = All-cons P (Call n es) [] p (All-nil P)
+  holds_from (Label n x) p all = All-cons P (Label n x) (subterms x) p all
+  holds_from (Guard e) p all = All-cons P (Guard e) [] p (All-nil P)
+  holds_from (Let n e) p all = All-cons P (Let n e) [] p (All-nil P)
+  holds_from (Opt x) p all = All-cons P (Opt x) (subterms x) p all
+  holds_from (Star x) p all = All-cons P (Star x) (subterms x) p all
+  holds_from (Plus x) p all = All-cons P (Plus x) (subterms x) p all
+  holds_from (SepStar x s) p all =
+      All-cons P (SepStar x s) (subterms x ++ subterms s) p (All-append P (subterms x) (subterms s) all.0 all.1)
+  holds_from (SepPlus x s) p all =
+      All-cons P (SepPlus x s) (subterms x ++ subterms s) p (All-append P (subterms x) (subterms s) all.0 all.1)
+  holds_from (Group ys) p all = All-cons P (Group ys) (subterms_of_alternatives ys) p all
+  holds_from (Offside x) p all = All-cons P (Offside x) (subterms x) p all
+  holds_from (Ignore x) p all = All-cons P (Ignore x) (subterms x) p all
+  holds_from (Align x) p all = All-cons P (Align x) (subterms x) p all
+  holds_from (Filtered x fs) p all = All-cons P (Filtered x fs) (subterms x) p all
+  holds_from (Seq xs) p all = All-cons P (Seq xs) (subterms_of_symbols xs) p all
+  holds_from (Entry bs x) p all = All-cons P (Entry bs x) (subterms x) p all
+
+module _ (f : Symbol → ℕ) where
+  counted_alone : (x : Symbol) → sum_by f (x ∷ []) ≡ f x + 0
+  counted_alone x = sum_by-cons f x []
+
+  counted_parted : (z x s : Symbol) → sum_by f (z ∷ subterms x ++ subterms s) ≡ f z + (sum_by f (subterms x) + sum_by f (subterms s))
+  counted_parted z x s =
+      let c = sum_by-cons f z (subterms x ++ subterms s) in
+      let a = sum_by-append f (subterms x) (subterms s) in omega (arith, c, a)
+
+  pub counted : (x : Symbol) → sum_by f (subterms x) ≡ f x + inner_sum f x
+  counted (Literal w) = counted_alone (Literal w)
+  counted (OneOf c) = counted_alone (OneOf c)
+  counted (Call n es) = counted_alone (Call n es)
+  counted (Label n x) = sum_by-cons f (Label n x) (subterms x)
+  counted (Guard e) = counted_alone (Guard e)
+  counted (Let n e) = counted_alone (Let n e)
+  counted (Opt x) = sum_by-cons f (Opt x) (subterms x)
+  counted (Star x) = sum_by-cons f (Star x) (subterms x)
+  counted (Plus x) = sum_by-cons f (Plus x) (subterms x)
+  counted (SepStar x s) = counted_parted (SepStar x s) x s
+  counted (SepPlus x s) = counted_parted (SepPlus x s) x s
+  counted (Group ys) = sum_by-cons f (Group ys) (subterms_of_alternatives ys)
+  counted (Offside x) = sum_by-cons f (Offside x) (subterms x)
+  counted (Ignore x) = sum_by-cons f (Ignore x) (subterms x)
+  counted (Align x) = sum_by-cons f (Align x) (subterms x)
+  counted (Filtered x fs) = sum_by-cons f (Filtered x fs) (subterms x)
+  counted (Seq xs) = sum_by-cons f (Seq xs) (subterms_of_symbols xs)
+  counted (Entry bs x) = sum_by-cons f (Entry bs x) (subterms x)
+
+  pub symbols_counted : (xs : Symbols) → sum_by f (subterms_of_symbols xs) ≡ symbols_sum f xs
+  symbols_counted no_symbols = refl
+  symbols_counted (next_symbol x xs) = sum_by-append f (subterms x) (subterms_of_symbols xs)
+
+  pub alternatives_counted : (ys : Alternatives) → sum_by f (subterms_of_alternatives ys) ≡ alternatives_sum f ys
+  alternatives_counted no_alternatives = refl
+  alternatives_counted (next_alternative xs ys) = sum_by-append f (subterms_of_symbols xs) (subterms_of_alternatives ys)
+
+further : (xs : Symbols) (ys : Alternatives) →
+    alternatives_among (next_alternative xs ys) ≡ sum_by own_alternatives (subterms_of_symbols xs) + alternatives_among ys + 1
+further xs ys =
+    let a = sum_by-append own_alternatives (subterms_of_symbols xs) (subterms_of_alternatives ys) in omega (arith, a)
+
+pub counts : CountsByForm
+counts =
+    record {
+      parts_of = counted own_parts;
+      parts_among_symbols = symbols_counted own_parts;
+      parts_among_alternatives = alternatives_counted own_parts;
+      alternatives_of = counted own_alternatives;
+      alternatives_of_group = λ ys. counted own_alternatives (Group ys);
+      alternatives_of_symbols = symbols_counted own_alternatives;
+      no_alternative = refl;
+      further_alternative = further;
+    }

@@ -1,5 +1,0 @@
-use Rattle.ig_grammar.proofs.Clean.{clean_tree}
-use Rattle.ig_grammar.proofs.laws.trees_without_operators_are_clean.Goals as goal
-
-pub returns : goal.returns
-returns k = clean_tree

@@ -1,5 +1,0 @@
-use Rattle.ig_meaning.proofs.Rows.{declarations_are_blocks}
-use Rattle.ig_meaning.proofs.declarations_are_blocks.Goals as goal
-
-pub returns : goal.returns
-returns k = declarations_are_blocks

@@ -1,5 +1,0 @@
-use Rattle.ig_meaning.proofs.Rows.{empty_pairs}
-use Rattle.ig_meaning.proofs.empty_pairs_are_permitted.Goals as goal
-
-pub returns : goal.returns
-returns k = empty_pairs

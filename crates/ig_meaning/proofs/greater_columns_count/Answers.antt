@@ -1,5 +1,0 @@
-use Rattle.ig_meaning.proofs.Rows.{greater_columns_count}
-use Rattle.ig_meaning.proofs.greater_columns_count.Goals as goal
-
-pub returns : goal.returns
-returns k = greater_columns_count

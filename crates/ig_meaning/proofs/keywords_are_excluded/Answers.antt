@@ -1,5 +1,0 @@
-use Rattle.ig_meaning.proofs.Rows.{keywords_are_excluded}
-use Rattle.ig_meaning.proofs.keywords_are_excluded.Goals as goal
-
-pub returns : goal.returns
-returns k = keywords_are_excluded

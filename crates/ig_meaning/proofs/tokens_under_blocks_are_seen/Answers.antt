@@ -1,5 +1,0 @@
-use Rattle.ig_meaning.proofs.Rows.{tokens_under_blocks_are_seen}
-use Rattle.ig_meaning.proofs.tokens_under_blocks_are_seen.Goals as goal
-
-pub returns : goal.returns
-returns k = tokens_under_blocks_are_seen

@@ -1,0 +1,73 @@
+ghost use Rattle.ig_meaning.specs.Inversion.{DerivationsInvert};
+ghost use Rattle.ig_meaning.specs.Laws.{EnvironmentsGrow, LabelsBindOwnSpans, PermittedTreesAreWhole};
+ghost use Rattle.ig_meaning.specs.Laws.{SpansAreInOrder, TreesWithoutOperatorsAreClean};
+ghost use Rattle.ig_meaning.specs.Order.{AnnotationsAreUnique, IsAnOrder, LastChildStartsDecide};
+ghost use Rattle.ig_meaning.specs.Order.{PermittedTreesAreAnnotated, UndifferingTreesAreEqual};
+
+/// A derivation of each form of symbol consists of what the rules of derivations say of this form.
+/// This law, proved of every derivation, computes nothing.
+pub fn derivations_invert()
+    ensures { DerivationsInvert }
+{}
+
+/// What a symbol covers ends where it begins or behind, its own end lies between, and all of it is
+/// within the text. This law, proved of every derivation, computes nothing.
+pub fn spans_are_in_order()
+    ensures { SpansAreInOrder }
+{}
+
+/// What symbols leave is the environment in which they stand, with the names that they bind at its
+/// end. This law, proved of every derivation, computes nothing.
+pub fn environments_grow()
+    ensures { EnvironmentsGrow }
+{}
+
+/// A label binds the span of the first of its symbol's trees. This law, proved of every derivation,
+/// computes nothing.
+pub fn labels_bind_own_spans()
+    ensures { LabelsBindOwnSpans }
+{}
+
+/// A permitted tree is a root over the whole text. This law, proved of every grammar and text,
+/// computes nothing.
+pub fn permitted_trees_are_whole()
+    ensures { PermittedTreesAreWhole }
+{}
+
+/// Where no declaration has a second level, or a level that is `left`, `right` or `nonassoc`, every
+/// tree is clean, at each of its nodes. This law, proved of every such grammar, computes nothing.
+pub fn trees_without_operators_are_clean()
+    ensures { TreesWithoutOperatorsAreClean }
+{}
+
+/// Each permitted tree has values that its alternatives bind: there is a tree with values that is
+/// this tree without them. This law, proved of every derivation, computes nothing.
+pub fn permitted_trees_are_annotated()
+    ensures { PermittedTreesAreAnnotated }
+{}
+
+/// These values are the same for each derivation of the tree, where no name is declared twice and
+/// each declaration is of its shape, as in every checked grammar. This law, proved of every tree,
+/// computes nothing.
+pub fn annotations_are_unique()
+    ensures { AnnotationsAreUnique }
+{}
+
+/// Of the children of two trees the start of the last one decides first, then, by the same rule,
+/// the children before it, and then the last one. This law, proved of all trees, computes nothing.
+pub fn last_child_starts_decide()
+    ensures { LastChildStartsDecide }
+{}
+
+/// A tree doesn't differ from itself, of two trees that differ one stands before the other, and the
+/// order is transitive. This law, proved of all trees, computes nothing.
+pub fn trees_are_ordered()
+    ensures { IsAnOrder }
+{}
+
+/// Permitted trees that don't differ are equal, where no name is declared twice and each
+/// declaration is of its shape, as in every checked grammar. This law, proved of every derivation,
+/// computes nothing.
+pub fn undiffering_trees_are_equal()
+    ensures { UndifferingTreesAreEqual }
+{}

@@ -1,0 +1,226 @@
+-- Tables that grow at their end name what they named, and more items are found.
+use Rattle.std.proofs.Common.{◌≡◌, ◌⊎◌, ⊎_elim, inl, inr, ℕ, zero, suc, ◌+◌, ◌<◌, ◌≤◌, List, [], ◌∷◌, ◌++◌, Some, length, map, take, Contains, refl, sym, ap, ◌∙◌, subst, arith, slice_get, length-append, append_assoc}
+use Rattle.std.specs.Prelude.{slice_index_or, Option, None}
+use Rattle.std.specs.Option.{option_to_list}
+use Rattle.std.proofs.lemmas.List.{append-nil, map-append}
+use Rattle.std.proofs.lemmas.Option.{slice_get-get_or, slice_get_within, get_or_from_slice_get, same_Some}
+use Rattle.ig_expr.specs.declared.value.Value.{Value}
+use Rattle.ig_item.specs.Items.{Item, past}
+use Rattle.ig_item.specs.Tables.{instance_by, HaveValues}
+use Rattle.ig_item.specs.WellKinded.{NoneTwice}
+use Rattle.ig_item.specs.declared.items.Instance.{Instance}
+use Rattle.ig_item.specs.declared.items.InstanceKey.{InstanceKey}
+use Rattle.ig_item.specs.declared.items.Item as stored
+use Rattle.ig_plain.specs.declared.found.Found.{Found}
+use Rattle.ig_plain.specs.Tables.{Extends, IsNamed, IsPast, item_by, no_key}
+use Rattle.ig_plain.specs.Found.{means, found_in, later_in, count, Named, AllNamed, AreNamed, Grows, Has}
+use Rattle.ig_plain.proofs.Lists.{at_from_contains, contains_from_at, left_at, left_contains, right_contains, contains_sides, none_in, one_in, it_is_in, some_at, mapped_in, unmapped_in, same_map}
+use Rattle.ig_plain.proofs.Sets.{extends_itself}
+
+module _ {X : Type 0} where
+  pub longer : (xs ys : List X) → Extends xs ys → length xs ≤ length ys
+  longer xs ys e = let n = ap length e.is ∙ length-append xs e.more in omega (arith, n)
+
+  pub extends_at : (xs ys : List X) (k : ℕ) (x : X) → Extends xs ys → slice_get xs k ≡ Some x → slice_get ys k ≡ Some x
+  extends_at xs ys k x e at = subst (λ (z : List X). slice_get z k ≡ Some x) (sym e.is) (left_at xs e.more k x at)
+
+  pub extends_or : (xs ys : List X) (k : ℕ) (d : X) → Extends xs ys → k < length xs → slice_index_or ys k d ≡ slice_index_or xs k d
+  extends_or xs ys k d e lt =
+      get_or_from_slice_get ys k (slice_index_or xs k d) d (extends_at xs ys k (slice_index_or xs k d) e (slice_get-get_or xs k d lt))
+
+  pub extends_in : (xs ys : List X) (x : X) → Extends xs ys → Contains xs x → Contains ys x
+  extends_in xs ys x e c = subst (λ (z : List X). Contains z x) (sym e.is) (left_contains xs e.more x c)
+
+  abbrev pub extends_then : (xs ys zs : List X) → Extends xs ys → Extends ys zs → Extends xs zs
+  extends_then xs ys zs a b =
+      record { more = a.more ++ b.more; is = b.is ∙ ap (λ (z : List X). z ++ b.more) a.is ∙ append_assoc xs a.more b.more }
+
+  pub extends_cases : (xs ys : List X) (x : X) → (e : Extends xs ys) → Contains ys x → Contains xs x ⊎ Contains e.more x
+  extends_cases xs ys x e c = contains_sides xs e.more x (subst (λ (z : List X). Contains z x) e.is c)
+
+pub values_more : (e f : List (List Value)) (keys : List InstanceKey) → Extends e f → HaveValues e keys → HaveValues f keys
+values_more e f keys x have key c = let l = longer e f x in omega (arith, l, have key c)
+
+pub named_more : (e f : List (List Value)) (keys : List InstanceKey) (x : stored.Item) → Extends e f → IsNamed e keys x → IsNamed f keys x
+named_more e f keys x ex n = record { instance = n.instance; env = let l = longer e f ex in omega (arith, l, n.env) }
+
+pub instance_kept : (e f : List (List Value)) (key : InstanceKey) → Extends e f → key.env < length e → instance_by f key ≡ instance_by e key
+instance_kept e f key x lt =
+    let p = extends_or e f key.env [] x lt in
+    ap (λ (z : List Value). record { nonterminal = key.nonterminal; values = z; start = key.start }) p
+
+key_there : (keys : List InstanceKey) (k : ℕ) → k < length keys → Contains keys (slice_index_or keys k no_key)
+key_there keys k lt = contains_from_at keys k (slice_index_or keys k no_key) (slice_get-get_or keys k no_key lt)
+
+-- what a stored item means stays as tables grow
+pub means_kept : (e f : List (List Value)) (keys more : List InstanceKey) (x : stored.Item) → Extends e f → Extends keys more →
+    HaveValues e keys → IsNamed e keys x → item_by f more x ≡ item_by e keys x
+means_kept e f keys more x ex kx have n =
+    let key = extends_or keys more x.instance no_key kx n.instance in
+    let there = have (slice_index_or keys x.instance no_key) (key_there keys x.instance n.instance) in
+    let instance = ap (instance_by f) key ∙ instance_kept e f (slice_index_or keys x.instance no_key) ex there in
+    let env = extends_or e f x.env [] ex n.env in
+    ap (λ (z : Instance). record { instance = z; alternative = x.alternative; dot = x.dot; env = slice_index_or f x.env []; position = x.position }) instance ∙
+    ap (λ (z : List Value). record { instance = instance_by e (slice_index_or keys x.instance no_key); alternative = x.alternative; dot = x.dot; env = z; position = x.position }) env
+
+-- what the item after a step means
+pub past_means : (e f : List (List Value)) (keys : List InstanceKey) (it : stored.Item) (bound : Option Value) (end : ℕ) (x : stored.Item) →
+    Extends e f → HaveValues e keys → IsNamed e keys it → IsPast e f it bound end x →
+    item_by f keys x ≡ past (item_by e keys it) (option_to_list bound) end
+past_means e f keys it bound end x ex have n p =
+    let there = have (slice_index_or keys it.instance no_key) (key_there keys it.instance n.instance) in
+    let instance = ap (λ (k : ℕ). instance_by f (slice_index_or keys k no_key)) p.instance ∙ instance_kept e f (slice_index_or keys it.instance no_key) ex there in
+    let env = get_or_from_slice_get f x.env (slice_index_or e it.env [] ++ option_to_list bound) [] p.env in
+    λ i. record { instance = instance i; alternative = p.alternative i; dot = p.dot i; env = env i; position = p.position i }
+
+pub past_none : (e : List (List Value)) (it : stored.Item) (bound : Option Value) (end dot : ℕ) → it.env < length e → bound ≡ None → dot ≡ suc it.dot →
+    IsPast e e it bound end (record { instance = it.instance; alternative = it.alternative; dot = dot; env = it.env; position = end })
+past_none e it bound end dot lt none dot_is =
+    record {
+      instance = refl; alternative = refl; dot = dot_is; position = refl;
+      env = slice_get-get_or e it.env [] lt ∙ ap Some (sym (append-nil (slice_index_or e it.env []))) ∙
+          ap (λ (z : Option Value). Some (slice_index_or e it.env [] ++ option_to_list z)) (sym none);
+    }
+
+pub past_named : (e f : List (List Value)) (keys : List InstanceKey) (it : stored.Item) (bound : Option Value) (end : ℕ) (x : stored.Item) →
+    IsNamed e keys it → IsPast e f it bound end x → IsNamed f keys x
+past_named e f keys it bound end x n p =
+    record {
+      instance = let q = p.instance in omega (arith, q, n.instance);
+      env = slice_get_within f x.env (slice_index_or e it.env [] ++ option_to_list bound) p.env;
+    }
+
+module _ (p : ℕ) where
+  -- nothing was added
+  pub grows_not : (may : Item → Type 0) (a b : Found) → Extends a.envs.keys b.envs.keys →
+      (NoneTwice a.envs.keys → NoneTwice b.envs.keys) → b.keys.keys ≡ a.keys.keys → b.done.items ≡ a.done.items →
+      b.here.keys ≡ a.here.keys → b.later.items ≡ a.later.items → Grows p may a b
+  grows_not may a b envs once keys done here later =
+      record {
+        envs = envs; envs_once = once; keys = keys; done = done; later = later;
+        here = record { more = []; is = here ∙ sym (append-nil a.here.keys) };
+        here_once = λ n. subst NoneTwice (sym here) n;
+        named = λ x c. absurd (none_in x c);
+        at = λ x c. absurd (none_in x c);
+        each = λ x c. absurd (none_in x c);
+      }
+
+  pub grows_weaker : (may other : Item → Type 0) (a b : Found) → ((x : Item) → may x → other x) → Grows p may a b → Grows p other a b
+  grows_weaker may other a b w g =
+      record {
+        envs = g.envs; envs_once = g.envs_once; keys = g.keys; done = g.done; here = g.here; later = g.later; here_once = g.here_once;
+        named = g.named; at = g.at; each = λ x c. w (means b x) (g.each x c);
+      }
+
+  -- an item was added at the position, if it wasn't there
+  pub grows_here : (a b : Found) (x : stored.Item) → Named a x → x.position ≡ p → b.envs.keys ≡ a.envs.keys → b.keys.keys ≡ a.keys.keys →
+      b.done.items ≡ a.done.items → b.later.items ≡ a.later.items → (here : Extends a.here.keys b.here.keys) →
+      ((y : stored.Item) → Contains here.more y → y ≡ x) →
+      (NoneTwice a.here.keys → NoneTwice b.here.keys) → Grows p (λ y. y ≡ means a x) a b
+  grows_here a b x named at envs keys done later here only once =
+      let same : (y : stored.Item) → item_by b.envs.keys b.keys.keys y ≡ item_by a.envs.keys a.keys.keys y =
+      λ y. ap (λ (z : List (List Value)). item_by z b.keys.keys y) envs ∙ ap (λ (z : List InstanceKey). item_by a.envs.keys z y) keys in
+      record {
+        envs = record { more = []; is = envs ∙ sym (append-nil a.envs.keys) };
+        envs_once = λ n. subst NoneTwice (sym envs) n;
+        keys = keys; done = done; here = here; later = later;
+        here_once = once;
+        named = λ y h.
+          subst (λ (z : stored.Item). Named b z) (sym (only y h))
+          (subst (λ (z : List (List Value)). IsNamed z b.keys.keys x) (sym envs)
+          (subst (λ (z : List InstanceKey). IsNamed a.envs.keys z x) (sym keys) named));
+        at = λ y c. ap (λ (z : stored.Item). z.position) (only y c) ∙ at;
+        each = λ y h. ap (means b) (only y h) ∙ same x;
+      }
+
+  pub means_grown : (may : Item → Type 0) (a b : Found) (x : stored.Item) → Grows p may a b → HaveValues a.envs.keys a.keys.keys →
+      Named a x → means b x ≡ means a x
+  means_grown may a b x g have named =
+      means_kept a.envs.keys b.envs.keys a.keys.keys b.keys.keys x g.envs
+      (record { more = []; is = g.keys ∙ sym (append-nil a.keys.keys) }) have named
+
+  pub values_grown : (may : Item → Type 0) (a b : Found) → Grows p may a b → HaveValues a.envs.keys a.keys.keys → HaveValues b.envs.keys b.keys.keys
+  values_grown may a b g have =
+      subst (HaveValues b.envs.keys) (sym g.keys) (values_more a.envs.keys b.envs.keys a.keys.keys g.envs have)
+
+  pub named_grown : (may : Item → Type 0) (a b : Found) (x : stored.Item) → Grows p may a b → Named a x → Named b x
+  named_grown may a b x g n =
+      subst (λ (z : List InstanceKey). IsNamed b.envs.keys z x) (sym g.keys) (named_more a.envs.keys b.envs.keys a.keys.keys x g.envs n)
+
+  -- one after the other
+  pub grows_then : (may : Item → Type 0) (a b c : Found) → HaveValues a.envs.keys a.keys.keys → Grows p may a b → Grows p may b c →
+      Grows p may a c
+  grows_then may a b c have g h =
+      let have_b = values_grown may a b g have in
+      record {
+        envs = extends_then a.envs.keys b.envs.keys c.envs.keys g.envs h.envs;
+        envs_once = λ n. h.envs_once (g.envs_once n);
+        keys = h.keys ∙ g.keys; done = h.done ∙ g.done; later = h.later ∙ g.later;
+        here = extends_then a.here.keys b.here.keys c.here.keys g.here h.here;
+        here_once = λ n. h.here_once (g.here_once n);
+        named = λ x i.
+          ⊎_elim (λ (k : Contains g.here.more x). named_grown may b c x h (g.named x k)) (λ (k : Contains h.here.more x). h.named x k)
+          (contains_sides g.here.more h.here.more x i);
+        at = λ x i. ⊎_elim (λ (k : Contains g.here.more x). g.at x k) (λ (k : Contains h.here.more x). h.at x k) (contains_sides g.here.more h.here.more x i);
+        each = λ x i.
+          ⊎_elim (λ (k : Contains g.here.more x). subst may (sym (means_grown may b c x h have_b (g.named x k))) (g.each x k))
+          (λ (k : Contains h.here.more x). h.each x k) (contains_sides g.here.more h.here.more x i);
+      }
+
+-- all of what is found stays
+pub named_all : (p : ℕ) (may : Item → Type 0) (a b : Found) → AreNamed a → Grows p may a b → AreNamed b
+named_all p may a b n g =
+    record {
+      values = values_grown p may a b g n.values;
+      done = λ x c. named_grown p may a b x g (n.done x (subst (λ (z : List stored.Item). Contains z x) g.done c));
+      here = λ x c.
+        ⊎_elim (λ (h : Contains a.here.keys x). named_grown p may a b x g (n.here x h)) (λ (h : Contains g.here.more x). g.named x h)
+        (extends_cases a.here.keys b.here.keys x g.here c);
+      later = λ x c. named_grown p may a b x g (n.later x (subst (λ (z : List stored.Item). Contains z x) g.later c));
+    }
+
+pub found_named : (a : Found) → AreNamed a → (x : stored.Item) → Contains (a.done.items ++ a.here.keys) x → Named a x
+found_named a n x c = ⊎_elim (n.done x) (n.here x) (contains_sides a.done.items a.here.keys x c)
+
+pub means_list : (p : ℕ) (may : Item → Type 0) (a b : Found) → AreNamed a → Grows p may a b → (xs : List stored.Item) →
+    ((x : stored.Item) → Contains xs x → Named a x) → map (means b) xs ≡ map (means a) xs
+means_list p may a b n g xs named = same_map (means b) (means a) xs (λ x c. means_grown p may a b x g n.values (named x c))
+
+pub later_same : (p : ℕ) (may : Item → Type 0) (a b : Found) → AreNamed a → Grows p may a b → later_in b ≡ later_in a
+later_same p may a b n g = ap (map (means b)) g.later ∙ means_list p may a b n g a.later.items n.later
+
+-- what was found, and then what was added
+pub found_grown : (p : ℕ) (may : Item → Type 0) (a b : Found) → AreNamed a → (g : Grows p may a b) →
+    found_in b ≡ found_in a ++ map (means b) g.here.more
+found_grown p may a b n g =
+    let lists : b.done.items ++ b.here.keys ≡ (a.done.items ++ a.here.keys) ++ g.here.more =
+    ap (λ (z : List stored.Item). z ++ b.here.keys) g.done ∙ ap (λ (z : List stored.Item). a.done.items ++ z) g.here.is ∙
+    sym (append_assoc a.done.items a.here.keys g.here.more) in
+    ap (map (means b)) lists ∙ map-append (means b) (a.done.items ++ a.here.keys) g.here.more ∙
+    ap (λ (z : List Item). z ++ map (means b) g.here.more)
+    (means_list p may a b n g (a.done.items ++ a.here.keys) (found_named a n))
+
+pub found_kept : (p : ℕ) (may : Item → Type 0) (a b : Found) → AreNamed a → Grows p may a b → (x : Item) → Contains (found_in a) x →
+    Contains (found_in b) x
+found_kept p may a b n g x c =
+    subst (λ (z : List Item). Contains z x) (sym (found_grown p may a b n g)) (left_contains (found_in a) (map (means b) g.here.more) x c)
+
+pub later_kept : (p : ℕ) (may : Item → Type 0) (a b : Found) → AreNamed a → Grows p may a b → (x : Item) → Contains (later_in a) x →
+    Contains (later_in b) x
+later_kept p may a b n g x c = subst (λ (z : List Item). Contains z x) (sym (later_same p may a b n g)) c
+
+pub all_kept : (p : ℕ) (may : Item → Type 0) (a b : Found) → AreNamed a → Grows p may a b → (x : Item) →
+    Contains (found_in a ++ later_in a) x → Contains (found_in b ++ later_in b) x
+all_kept p may a b n g x c =
+    ⊎_elim (λ (h : Contains (found_in a) x). left_contains (found_in b) (later_in b) x (found_kept p may a b n g x h))
+    (λ (h : Contains (later_in a) x). right_contains (found_in b) (later_in b) x (later_kept p may a b n g x h))
+    (contains_sides (found_in a) (later_in a) x c)
+
+-- what is found now was found before, or is allowed
+pub found_from : (p : ℕ) (may : Item → Type 0) (a b : Found) → AreNamed a → Grows p may a b → (x : Item) → Contains (found_in b) x →
+    Contains (found_in a) x ⊎ may x
+found_from p may a b n g x c =
+    ⊎_elim (λ (h : Contains (found_in a) x). inl h)
+    (λ (h : Contains (map (means b) g.here.more) x).
+    let u = unmapped_in (means b) g.here.more x h in inr (subst may u.2 (g.each u.0 u.1)))
+    (contains_sides (found_in a) (map (means b) g.here.more) x (subst (λ (z : List Item). Contains z x) (found_grown p may a b n g) c))

@@ -1,0 +1,12 @@
+pub mod Lists
+pub mod Equality
+pub mod Sets
+pub mod Growth
+pub mod Additions
+pub mod Following
+pub mod Distinct
+pub mod Terminals
+pub mod Running
+pub mod Firsts
+pub mod Waiters
+pub mod Returns

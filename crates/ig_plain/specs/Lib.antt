@@ -1,0 +1,7 @@
+pub mod Names
+pub mod Tables
+
+pub mod Rules
+pub mod Found
+pub mod Waiting
+pub mod Run

@@ -1,0 +1,83 @@
+//! What a step asks of the text, and what it binds.
+ghost use Rattle.std.specs.Prelude.{◌≡◌, ◌↔◌, List, map, IfOk, IsTrue, None, Some, true};
+ghost use Rattle.ig_text.specs.Pattern.{Matches};
+ghost use Rattle.std.specs.Option.{option_to_list};
+ghost use Rattle.ig_expr.specs.Evaluation.{value_of};
+ghost use Rattle.ig_expr.specs.View.{expression_of};
+ghost use Rattle.ig_expr.specs.declared.value.Value.{Value};
+ghost use Rattle.ig_expr.specs.declared.value.Value.TheVariants.{Bool as truth};
+ghost use Rattle.ig_item.specs.Items.{MatchesNone, span_of};
+
+use ig_expr::{Expr, Value, Values, evaluate};
+use ig_text::{Pattern, Span, Text, Word};
+use std::alloc::{AllocError, Global};
+
+/// Whether the text from i to j is a match of none of the patterns.
+pub(crate) fn matches_none(patterns: &[Pattern], text: &Text, i: u32, j: u32) -> bool
+    ensures { IsTrue result ↔ MatchesNone text.now patterns.now i j }
+{
+    for pattern in patterns {
+        if is_match(pattern, text, i, j) {
+            return false;
+        }
+    }
+    true
+}
+
+/// Whether the text from i to j is a match of the pattern.
+fn is_match(pattern: &Pattern, text: &Text, i: u32, j: u32) -> bool
+    ensures { IsTrue result ↔ Matches text.now pattern.now i j }
+{
+    match pattern.ends_at(text, i) {
+        Some(end) => end == j,
+        None => false,
+    }
+}
+
+/// What the label binds: the span from i to j.
+pub(crate) fn span_bound(label: &Option<Word>, i: u32, j: u32) -> Option<Value>
+    ensures { option_to_list result ≡ span_of label.now i j }
+{
+    match label {
+        Some(_) => Some(Value::Span(Span { begin: i, end: j })),
+        None => None,
+    }
+}
+
+/// Whether the condition is true.
+pub(crate) fn is_true(
+    condition: &Expr,
+    names: &[Word],
+    values: &[Value],
+    here: u32,
+    text: &Text,
+) -> bool
+    ensures { IsTrue result ↔ (value_of text.now names.now values.now here (expression_of condition.now) ≡ Some (truth true)) }
+{
+    match evaluate(condition, names, values, here, text) {
+        Some(Value::Bool(b)) => b,
+        _ => false,
+    }
+}
+
+/// The values of the arguments; `None` exactly where one of them has no value.
+pub(crate) fn argument_values(
+    alloc: Global,
+    arguments: &[Expr],
+    names: &[Word],
+    values: &[Value],
+    here: u32,
+    text: &Text,
+) -> Result<Option<Values>, AllocError>
+    ensures none { IfOk result (λ r. r ≡ None → (vs : List Value) → map (value_of text.now names.now values.now here) (map expression_of arguments.now) ≡ map Some vs → ⊥) }
+    ensures some { IfOk result (λ r. (vs : List Value) → r ≡ Some vs → map (value_of text.now names.now values.now here) (map expression_of arguments.now) ≡ map Some vs) }
+{
+    let mut list = Values::new(alloc);
+    for argument in arguments {
+        match evaluate(argument, names, values, here, text) {
+            Some(value) => list.push(value).map_err(|refused| refused.1)?,
+            None => return Ok(None),
+        }
+    }
+    Ok(Some(list))
+}
