@@ -2,11 +2,11 @@
 use Rattle.std.proofs.Common.{◌≡◌, ◌∙◌, ℕ, zero, suc, ◌<◌, List, [], ◌∷◌, Bool, true, Some, None, Contains, slice_get, if◌then◌else◌, refl, sym, ap, subst, arith}
 use Rattle.std.proofs.lemmas.Option.{same_Some}
 use Rattle.std.specs.Cmp.Lexicographic.{bytes_decides}
-use Rattle.ig_expr.specs.Names.{is_word}
+use Rattle.ig_text.specs.Words.{is_word}
 use Rattle.ig_grammar.specs.Numbering.{alternatives}
 use Rattle.ig_grammar.specs.Condition as meets
 use Rattle.ig_grammar.specs.Condition.{Condition, StartMeets, HeadMeets, declaration_of}
-use Rattle.ig_grammar.specs.Laws.{HasNoOperators}
+use Rattle.ig_meaning.specs.Laws.{HasNoOperators}
 use Rattle.ig_grammar.specs.WellScoped.{GrammarHas, IsWellScoped}
 use Rattle.ig_grammar.specs.declared.declaration.Decl.{Decl}
 use Rattle.ig_core.specs.Examples.{barren, barren_grammar}
