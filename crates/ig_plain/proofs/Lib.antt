@@ -10,3 +10,4 @@ pub mod Running
 pub mod Firsts
 pub mod Waiters
 pub mod Returns
+pub mod Completes

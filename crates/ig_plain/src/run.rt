@@ -153,6 +153,63 @@ fn take_complete(
     return_to_all(alloc, core, text, found, callers, head, item.position, budget)
 }
 
+/// Takes an item before a call: it waits for the callee, whose first items are added unless another
+/// caller came before, and it returns where the callee ended here already.
+fn take_call(
+    alloc: Global,
+    core: &Core,
+    text: &Text,
+    names: &[Word],
+    nonterminal: u32,
+    args: &[Expr],
+    label: &Option<Word>,
+    not: &[Pattern],
+    found: &mut Found,
+    waiting: &mut Waiting,
+    item: Item,
+    budget: u32,
+) -> Result<(), RunFault>
+    requires taking { Taking core.now text.now budget item found.old waiting.old }
+    requires before { StandsBefore core.now (means found.old item) names.now (Call nonterminal (map expression_of args.now) label.now not.now) }
+    ensures { Takes core.now text.now budget item found.old found.new waiting.new result }
+{
+    reachable_is_closed();
+    let values = values_at(&found.envs, item.env);
+    let Some(values) = argument_values(alloc, args, names, values, item.position, text)? else {
+        return Ok(());
+    };
+    let env = enter_values(&mut found.envs, values)?;
+    let start = item.position;
+    let key = InstanceKey {
+        nonterminal,
+        env,
+        start,
+    };
+    let callee = call_instance(core, found, waiting, key, budget)?;
+    add_caller(waiting, callee, item)?;
+    if !has_end(waiting, callee, start) {
+        return Ok(());
+    }
+    go_behind(alloc, text, label, not, found, item, start, budget)
+}
+
+/// The number of the instance. Where it is new, its first items are added.
+fn call_instance(
+    core: &Core,
+    found: &mut Found,
+    waiting: &mut Waiting,
+    key: InstanceKey,
+    budget: u32,
+) -> Result<u32, RunFault>
+{
+    let (callee, is_new) = enter_key(&mut found.keys, key)?;
+    if is_new {
+        add_called(waiting)?;
+        add_firsts(core, found, callee, key, budget)?;
+    }
+    Ok(callee)
+}
+
 pub fn saturate() -> Result<(), RunFault> {
     Ok(())
 }
