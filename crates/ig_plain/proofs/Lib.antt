@@ -11,3 +11,6 @@ pub mod Firsts
 pub mod Waiters
 pub mod Returns
 pub mod Completes
+pub mod Moving
+pub mod Instances
+pub mod Calls

@@ -1,14 +1,16 @@
 //! Saturation in rising positions.
-ghost use Rattle.std.specs.Prelude.{◌≡◌, ◌<◌, ◌↔◌, ◌≤◌, ◌+◌, Contains, IfErr, IfOk, MatchResult, Some, length, option_map, slice_get};
+ghost use Rattle.std.specs.Prelude.{◌≡◌, ◌<◌, ◌↔◌, ◌≤◌, ◌+◌, Contains, IfErr, IfOk, MatchResult, Some, length, map, option_map, slice_get};
 ghost use Rattle.ig_item.specs.Items.{IsComplete, MoreThan, Reachable};
 ghost use Rattle.ig_item.specs.WellKinded.{NoneTwice};
 ghost use Rattle.ig_item.specs.Tables.{items_of};
 ghost use Rattle.ig_item.specs.Tables.{instance_by};
 ghost use Rattle.ig_item.specs.Items.{StandsBefore};
+ghost use Rattle.ig_expr.specs.View.{expression_of};
+ghost use Rattle.ig_item.specs.Step.{Call};
 ghost use Rattle.ig_item.specs.View.{step_of};
 ghost use Rattle.ig_plain.specs.Found.{Adds, AreNamed, Named, means};
 ghost use Rattle.ig_plain.specs.Rules.{IsFirstOf, IsReturn, StandsAtCall, step_at};
-ghost use Rattle.ig_plain.specs.Run.{IsChainOf, IsReturnToOne, IsRun, Refuses, Taking, Takes};
+ghost use Rattle.ig_plain.specs.Run.{EntersInstance, IsChainOf, IsReturnToOne, IsRun, Refuses, Taking, Takes};
 
 use crate::found::{Found, add, go_on};
 use crate::interning::{enter_key, enter_values};
@@ -19,7 +21,7 @@ use crate::waiting::{Caller, Waiting, add_called, add_caller, add_end, has_end, 
 use ig_expr::{Expr, Values};
 use ig_item::{
     Core, EnvironmentTable, InstanceKey, Item, Items, RunFault, Step, environments_fit,
-    reachable_is_closed,
+    items_are_in_text, reachable_is_closed,
 };
 use ig_text::{Pattern, Text, Word, Words};
 use indexmap::IndexSet;
@@ -174,6 +176,7 @@ fn take_call(
     ensures { Takes core.now text.now budget item found.old found.new waiting.new result }
 {
     reachable_is_closed();
+    items_are_in_text();
     let values = values_at(&found.envs, item.env);
     let Some(values) = argument_values(alloc, args, names, values, item.position, text)? else {
         return Ok(());
@@ -201,6 +204,10 @@ fn call_instance(
     key: InstanceKey,
     budget: u32,
 ) -> Result<u32, RunFault>
+    requires all_named { AreNamed found.old }
+    requires env { key.env < length found.old.envs.keys }
+    requires once { NoneTwice found.old.keys.keys }
+    ensures { EntersInstance core.now budget key found.old found.new waiting.old waiting.new result }
 {
     let (callee, is_new) = enter_key(&mut found.keys, key)?;
     if is_new {
