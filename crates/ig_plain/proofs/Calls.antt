@@ -48,6 +48,14 @@ somes (v ∷ vs) (w ∷ ws) e =
     tail : {A : Type 0} {a b : A} {us zs : List A} → a ∷ us ≡ b ∷ zs → us ≡ zs
     tail e = cc
 
+-- one list of names is visible at a dot
+pub visible_one : (core : List Nonterminal) (text : List ℕ) (it : Item) (names others : List (List ℕ)) (s t : Step) →
+    StandsBefore core it names s → StandsBefore core it others t → names ≡ others
+visible_one core text it names others s t p q =
+    let n : p.nonterminal ≡ q.nonterminal = same_Some p.nonterminal q.nonterminal (sym p.has.there ∙ q.has.there) in
+    let a = same_alternative core text it.instance.nonterminal it.alternative p.nonterminal q.nonterminal p.alternative q.alternative p.has q.has in
+    p.visible ∙ ap (λ z. names_at z p.alternative it.dot) n ∙ ap (λ z. names_at q.nonterminal z it.dot) a ∙ sym q.visible
+
 -- an item calls one instance
 pub calls_one : (core : List Nonterminal) (text : List ℕ) (it : Item) (a b : Instance) (l m : Option (List ℕ)) (e f : List Pattern) →
     Calls core text it a l e → Calls core text it b m f → (a ≡ b) × (l ≡ m) × (e ≡ f)
@@ -55,20 +63,12 @@ calls_one core text it a b l m e f p q =
     let steps = one_step core text it p.names q.names (Call a.nonterminal p.arguments l e) (Call b.nonterminal q.arguments m f) p.before q.before in
     let n : a.nonterminal ≡ b.nonterminal = cc steps in
     let args : p.arguments ≡ q.arguments = cc steps in
-    let names : p.names ≡ q.names = same_names core text it p.names q.names (Call a.nonterminal p.arguments l e) (Call b.nonterminal q.arguments m f) p.before q.before in
+    let names : p.names ≡ q.names = visible_one core text it p.names q.names (Call a.nonterminal p.arguments l e) (Call b.nonterminal q.arguments m f) p.before q.before in
     let vals : map (value_of text p.names it.env it.position) p.arguments ≡ map (value_of text q.names it.env it.position) q.arguments =
     ap (λ (z : List (List ℕ)). map (value_of text z it.env it.position) p.arguments) names ∙ ap (map (value_of text q.names it.env it.position)) args in
     let v : a.values ≡ b.values = somes a.values b.values (sym p.values ∙ vals ∙ q.values) in
     let s : a.start ≡ b.start = p.here ∙ sym q.here in
     ((λ i. record { nonterminal = n i; values = v i; start = s i }), cc steps, cc steps)
-  where
-    same_names : (core : List Nonterminal) (text : List ℕ) (it : Item) (names others : List (List ℕ)) (s t : Step) →
-        StandsBefore core it names s → StandsBefore core it others t → names ≡ others
-    same_names core text it names others s t p q =
-        let n : p.nonterminal ≡ q.nonterminal = same_Some p.nonterminal q.nonterminal (sym p.has.there ∙ q.has.there) in
-        let a = same_alternative core text it.instance.nonterminal it.alternative p.nonterminal q.nonterminal p.alternative q.alternative p.has q.has in
-        p.visible ∙ ap (λ z. names_at z p.alternative it.dot) n ∙ ap (λ z. names_at q.nonterminal z it.dot) a ∙ sym q.visible
-
 chain_within : (cells : List Caller) (head : ℕ) (xs : List stored.Item) → Chains cells head xs → head ≤ length cells
 chain_within cells head xs run.none = omega arith
 chain_within cells head xs (run.more k cell ys at less c) = let l = slice_get_within cells k cell at in omega (arith, l)

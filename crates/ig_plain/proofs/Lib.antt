@@ -14,3 +14,5 @@ pub mod Completes
 pub mod Moving
 pub mod Instances
 pub mod Calls
+pub mod Calling
+pub mod Alone
