@@ -10,3 +10,9 @@ pub mod Running
 pub mod Firsts
 pub mod Waiters
 pub mod Returns
+pub mod Completes
+pub mod Moving
+pub mod Instances
+pub mod Calls
+pub mod Calling
+pub mod Alone

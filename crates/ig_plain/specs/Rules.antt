@@ -89,3 +89,8 @@ pub record IsReturn (core : List Nonterminal) (text : List ℕ) (it : Item) (end
   pub call : StandsAtCall core it
   pub free : MatchesNone text call.excluded it.position end
   pub is : x ≡ past it (span_of call.label it.position end) end
+
+-- the item stands before that step
+pub record Stands (core : List Nonterminal) (it : Item) (step : Step) : Type 0 where
+  pub names : List (List ℕ)
+  pub before : StandsBefore core it names step

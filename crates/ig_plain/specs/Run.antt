@@ -5,6 +5,9 @@ use Rattle.ig_item.specs.Items.{Item, Follows, Reachable, MoreThan, IsComplete, 
 use Rattle.ig_item.specs.declared.core_grammar.Nonterminal.{Nonterminal}
 use Rattle.ig_item.specs.declared.core_grammar.CoreAlt.{CoreAlt}
 use Rattle.ig_item.specs.declared.items.Instance.{Instance}
+use Rattle.ig_item.specs.declared.items.InstanceKey.{InstanceKey}
+use Rattle.ig_item.specs.Tables.{instance_by}
+use Rattle.ig_plain.specs.Tables.{Extends}
 use Rattle.ig_item.specs.declared.items.Item as stored
 use Rattle.ig_item.specs.declared.run_fault.RunFault.{RunFault}
 use Rattle.ig_item.specs.declared.run_fault.RunFault.TheVariants as fault
@@ -13,7 +16,7 @@ use Rattle.ig_plain.specs.declared.waiting.Waiting.{Waiting}
 use Rattle.ig_plain.specs.declared.waiting.Called.{Called}
 use Rattle.ig_plain.specs.declared.waiting.Caller.{Caller}
 use Rattle.ig_plain.specs.Found.{means, Named, instances_in, found_in, later_in, taken_in, count, IsStored}
-use Rattle.ig_plain.specs.Rules.{IsCaller, IsPastTerminal, StandsAtCall, IsReturn}
+use Rattle.ig_plain.specs.Rules.{IsCaller, IsFirstOf, IsPastTerminal, StandsAtCall, IsReturn}
 
 -- the callers in a chain that begins at a place + 1
 pub data Chains (cells : List Caller) : ℕ → List stored.Item → Type 0 where
@@ -103,3 +106,20 @@ IsTaken core text budget p k t w result =
 abbrev pub Takes : List Nonterminal → List ℕ → ℕ → stored.Item → Found → Found → Waiting → Result (Unit {0}) RunFault → Type 0
 Takes core text budget item s t w result =
     (k : ℕ) → slice_get s.here.keys k ≡ Some item → IsTaken core text budget item.position k t w result
+
+-- the instance of that key has number i now, with its first items; k items are taken as before
+pub record IsEntered (core : List Nonterminal) (text : List ℕ) (budget k : ℕ) (key : InstanceKey) (s t : Found) (v : Waiting) (i : ℕ) :
+    Type 0 where
+  pub run : IsRun core text budget key.start k t v
+  pub there : slice_get t.keys.keys i ≡ Some key
+  pub named : (x : stored.Item) → Named s x → Named t x
+  pub same : (x : stored.Item) → Named s x → means t x ≡ means s x
+  pub envs : Extends s.envs.keys t.envs.keys
+  pub here : Extends s.here.keys t.here.keys
+  pub taken : taken_in t k ≡ taken_in s k
+
+abbrev pub EntersInstance : List Nonterminal → ℕ → InstanceKey → Found → Found → Waiting → Waiting → Result ℕ RunFault → Type 0
+EntersInstance core budget key s t w v result =
+    (text : List ℕ) (k : ℕ) → IsRun core text budget key.start k s w →
+    ((x : Item) → IsFirstOf core (instance_by s.envs.keys key) x → Reachable core text x) →
+    MatchResult result (IsEntered core text budget k key s t v) (Refuses core text budget)
