@@ -81,6 +81,13 @@ impl Core {
         Core { nonterminals }
     }
 
+    /// The nonterminals, in the order of their numbers. Takes no memory.
+    pub fn as_slice(&self) -> &[Nonterminal]
+        ensures { result.now ≡ self.now }
+    {
+        self.nonterminals.as_slice()
+    }
+
     /// The number of nonterminals. Takes no memory.
     pub fn nonterminals(&self) -> u32
         ensures number { result ≡ length self.now }

@@ -7,3 +7,5 @@ pub mod CanonicalTokens
 pub mod Written
 pub mod Retokenized
 pub mod ReadBack
+pub mod Bytes
+pub mod Listing

@@ -2,4 +2,9 @@ pub mod Spelling
 pub mod Pieces
 pub mod CanonicalText
 pub mod Writing
+pub mod Listed
+pub mod ValueText
+pub mod TagText
+pub mod CoreText
+pub mod ForestText
 pub mod Laws
