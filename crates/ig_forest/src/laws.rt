@@ -1,0 +1,1 @@
+//! What the reduced forest keeps to. The functions do nothing: their contracts are the laws.
