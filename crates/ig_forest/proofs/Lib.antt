@@ -1,1 +1,10 @@
-
+pub mod Lists
+pub mod TotalOrders
+pub mod Wanted
+pub mod Given
+pub mod Liveness
+pub mod Steps
+pub mod Trim
+pub mod Unfolding
+pub mod Usage
+pub mod Uniqueness

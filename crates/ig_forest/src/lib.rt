@@ -12,3 +12,7 @@ mod entry;
 mod laws;
 
 pub use entry::{Child, Choice, Entry};
+pub use laws::{
+    live_items_are_least, live_items_are_reachable, no_key_stands_twice, reduced_forest_has_root,
+    reduced_forest_is_unique,
+};
