@@ -4,3 +4,8 @@ pub mod Live
 pub mod Orders
 pub mod Reduced
 pub mod Laws
+pub mod CodeTables
+pub mod CodeSteps
+pub mod CodeLinks
+pub mod CodeDone
+pub mod CodeReach

@@ -9,7 +9,16 @@
 #![tactic(auto)]
 
 mod entry;
+mod done;
+mod dots;
+mod environments;
+mod filed;
+mod item_rows;
 mod laws;
+mod links;
+mod names;
+mod reach;
+mod rows;
 
 pub use entry::{Child, Choice, Entry};
 pub use laws::{
