@@ -4,7 +4,7 @@ use Rattle.std.proofs.lemmas.Bool.{cases_eq}
 use Rattle.std.proofs.lemmas.List.Elements.{Contains-append_left, Contains-push, Contains-push_cases}
 use Rattle.std.proofs.lemmas.Option.{same_Some, slice_get-get_or, slice_get_within, get_or_from_slice_get}
 use Rattle.ig_forest.specs.CodeSteps.{Adds}
-use Rattle.ig_forest.specs.CodeReach.{marks_in, AreMarks, MarksMore, Graph, Edge, Path, here, step, AreMarked}
+use Rattle.ig_forest.specs.CodeReach.{marks_in, AreMarks, MarksMore, Edge, Path, here, step, AreMarked}
 use Rattle.ig_forest.specs.declared.reach.Graph.{Graph}
 use Rattle.ig_forest.specs.declared.reach.Marks.{Marks}
 use Rattle.ig_forest.proofs.Lists.{contains_from_at, at_from_contains, at_within}

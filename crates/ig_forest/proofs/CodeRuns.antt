@@ -171,19 +171,22 @@ rows_rising rows up k d low lt =
 
 -- a range of a strictly sorted list is so
 all_taken : {X : Type 0} (P : X → Type 0) (xs : List X) (n : ℕ) → AllByRecursion P xs → AllByRecursion P (take n xs)
-all_taken P [] n h = h
+all_taken P [] zero h = h
+all_taken P [] (suc n) h = h
 all_taken P (x ∷ xs) zero h = tt
 all_taken P (x ∷ xs) (suc n) h = (h.0, all_taken P xs n h.1)
 
 strict_take : {X : Type 0} (c : X → X → Ordering) (xs : List X) (n : ℕ) → IsStrictlySortedBy c xs → IsStrictlySortedBy c (take n xs)
 unfolding IsStrictlySortedBy
-strict_take c [] n h = h
+strict_take c [] zero h = h
+strict_take c [] (suc n) h = h
 strict_take c (x ∷ xs) zero h = tt
 strict_take c (x ∷ xs) (suc n) h = (all_taken (λ y. c x y ≡ Less) xs n h.0, strict_take c xs n h.1)
 
 strict_drop : {X : Type 0} (c : X → X → Ordering) (xs : List X) (n : ℕ) → IsStrictlySortedBy c xs → IsStrictlySortedBy c (drop n xs)
 unfolding IsStrictlySortedBy
-strict_drop c [] n h = h
+strict_drop c [] zero h = h
+strict_drop c [] (suc n) h = h
 strict_drop c (x ∷ xs) zero h = h
 strict_drop c (x ∷ xs) (suc n) h = strict_drop c xs n h.1
 

@@ -22,4 +22,9 @@ pub mod CodeTargets
 pub mod CodeValues
 pub mod CodeRules
 pub mod CodeNodes
+pub mod CodeLinkOrder
 pub mod CodeMarks
+pub mod CodeVisits
+pub mod CodeKeeping
+pub mod CodeLive
+pub mod CodeMembers

@@ -60,3 +60,10 @@ pub record FitsGraph (g : Graph) : Type 0 where
 pub record AreMarked (g : Graph) (start : ℕ) (m : Marks) : Type 0 where
   pub long : length m.marked.items ≡ length g.rows.now + length g.nodes.now
   pub exact : (k : ℕ) → (slice_get m.marked.items k ≡ Some true) ↔ Path g start k
+
+-- the complete item of that number
+pub record DoneAt (g : Graph) (place w : ℕ) : Type 0 where
+  pub row : ItemRow
+  pub at : slice_get g.rows.now place ≡ Some row
+  pub last : StandsLast g.core.now row
+  pub is : w ≡ place

@@ -9,3 +9,4 @@ pub mod CodeSteps
 pub mod CodeLinks
 pub mod CodeDone
 pub mod CodeReach
+pub mod CodeKept

@@ -16,6 +16,7 @@ mod filed;
 mod item_rows;
 mod laws;
 mod links;
+mod live;
 mod names;
 mod reach;
 mod rows;

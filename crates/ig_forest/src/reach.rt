@@ -1,6 +1,6 @@
 //! What a forest uses: the items and the nodes to which links lead from the root, by a work list.
-ghost use Rattle.std.specs.Prelude.{◌≡◌, ◌<◌, ◌+◌, [], IfOk, OnOk, length};
-ghost use Rattle.ig_forest.specs.CodeReach.{AreMarked, AreMarks, Edge, FitsGraph, FitsLink, LeadsTo, MarksMore};
+ghost use Rattle.std.specs.Prelude.{◌≡◌, ◌<◌, ◌+◌, [], IfOk, OnOk, length, slice_get};
+ghost use Rattle.ig_forest.specs.CodeReach.{AreMarked, AreMarks, DoneAt, Edge, FitsGraph, FitsLink, LeadsTo, MarksMore};
 
 use crate::done::run_of_node;
 use crate::dots::is_complete;
@@ -35,7 +35,7 @@ pub(crate) fn reached(alloc: Global, graph: &Graph, start: usize) -> Result<Mark
     let mut marks = no_marks(alloc, count)?;
     marks.mark(start)?;
     for turn in 0..count {
-        let Some(number) = marks.found.get(turn).copied() else {
+        let Some(number) = marks.at(turn) else {
             return Ok(marks);
         };
         graph.visit(&mut marks, number)?;
@@ -55,6 +55,13 @@ fn no_marks(alloc: Global, count: usize) -> Result<Marks, AllocError>
 }
 
 impl Marks {
+    /// The number that was found at that turn.
+    fn at(&self, turn: usize) -> Option<usize>
+        ensures { result ≡ slice_get self.now.found.items turn }
+    {
+        self.found.get(turn).copied()
+    }
+
     /// Marks a number.
     fn mark(&mut self, number: usize) -> Result<(), AllocError>
         requires marks { AreMarks self.old (length self.old.marked.items) }
@@ -122,9 +129,19 @@ impl<'a> Graph<'a> {
     {
         let (first, end) = run_of_node(self.rows, self.nodes[number]);
         for place in first..end {
-            if is_complete(self.core, &self.rows[place]) {
-                marks.mark(place)?;
-            }
+            self.visit_place(marks, place)?;
+        }
+        Ok(())
+    }
+
+    /// Marks an item, where it is complete.
+    fn visit_place(&self, marks: &mut Marks, place: usize) -> Result<(), AllocError>
+        requires marks { AreMarks marks.old (length self.now.rows.now + length self.now.nodes.now) }
+        requires place { place < length self.now.rows.now }
+        ensures { OnOk result (MarksMore marks.old marks.new (DoneAt self.now place)) }
+    {
+        if is_complete(self.core, &self.rows[place]) {
+            return marks.mark(place);
         }
         Ok(())
     }

@@ -1,0 +1,5 @@
+use Rattle.ig_forest.specs.CodeKept.{AreKept}
+use Rattle.ig_forest.proofs.live.kept_of.Given as goal
+
+abbrev pub invariant-loop-number : goal.invariant-loop-number
+invariant-loop-number l = AreKept l.marked l.number l.kept.items
