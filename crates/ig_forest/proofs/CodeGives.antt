@@ -52,10 +52,10 @@ pub stands_at : (core : List Nonterminal) (lists : List (List Value)) (row : Ite
     StandsBefore core (item_by lists row) names step → StandsAt core row step
 stands_at core lists row names step s = record { nonterminal = s.nonterminal; alternative = s.alternative; has = s.has; next = s.next }
 
-pub complete_from_last : (core : List Nonterminal) (lists : List (List Value)) (row : ItemRow) → StandsLast core row → IsComplete core (item_by lists row)
+abbrev pub complete_from_last : (core : List Nonterminal) (lists : List (List Value)) (row : ItemRow) → StandsLast core row → IsComplete core (item_by lists row)
 complete_from_last core lists row s = record { nonterminal = s.nonterminal; alternative = s.alternative; has = s.has; last = s.last }
 
-pub last_from_complete : (core : List Nonterminal) (lists : List (List Value)) (row : ItemRow) → IsComplete core (item_by lists row) → StandsLast core row
+abbrev pub last_from_complete : (core : List Nonterminal) (lists : List (List Value)) (row : ItemRow) → IsComplete core (item_by lists row) → StandsLast core row
 last_from_complete core lists row s = record { nonterminal = s.nonterminal; alternative = s.alternative; has = s.has; last = s.last }
 
 module _ (core : List Nonterminal) (text : List ℕ) where

@@ -25,7 +25,7 @@ use Rattle.ig_forest.proofs.CodeSorted.{map_member, member_of_map, map_at, at_of
 use Rattle.ig_forest.proofs.CodeGives.{complete_from_last, last_from_complete}
 use Rattle.ig_forest.proofs.CodeKeeping.{less_number}
 
-less_is : {a b : ℕ} → nat_cmp a b ≡ Less → a < b
+pub less_is : {a b : ℕ} → nat_cmp a b ≡ Less → a < b
 less_is {a} {b} e = grind (arith, nat_tests)
 
 -- a list is strictly sorted where each element is below those after it

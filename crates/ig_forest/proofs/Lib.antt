@@ -28,3 +28,9 @@ pub mod CodeVisits
 pub mod CodeKeeping
 pub mod CodeLive
 pub mod CodeMembers
+pub mod CodeAlternatives
+pub mod CodeEntering
+pub mod CodeRooted
+pub mod CodeReduced
+pub mod CodeBuilding
+pub mod CodeReading

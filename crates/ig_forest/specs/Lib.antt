@@ -10,3 +10,9 @@ pub mod CodeLinks
 pub mod CodeDone
 pub mod CodeReach
 pub mod CodeKept
+pub mod CodeForest
+pub mod CodeChoices
+pub mod CodeEntries
+pub mod CodeRoot
+pub mod CodeViews
+pub mod CodeBuilder

@@ -413,7 +413,7 @@ impl<'a, 'v> Sources<'a, 'v> {
 }
 
 /// The number of a row.
-fn number_of(rows: &[ItemRow], row: &ItemRow) -> u32
+pub(crate) fn number_of(rows: &[ItemRow], row: &ItemRow) -> u32
     requires order { IsStrictlySortedBy row_cmp rows.now }
     requires few { length rows.now < 4294967296 }
     requires there { Contains rows.now row.now }

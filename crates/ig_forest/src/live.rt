@@ -13,7 +13,8 @@ pub(crate) fn kept_of(
 ) -> Result<Vec<u32>, AllocError>
     requires long { count ≤ length marked.now }
     requires few { count < 4294967296 }
-    ensures { IfOk result (λ kept. AreKept marked.now count kept.items) }
+    ensures kept { IfOk result (λ kept. AreKept marked.now count kept.items) }
+    ensures few { IfOk result (λ kept. length kept.items ≤ count) }
 {
     let mut kept = Vec::new(alloc);
     for number in 0..count {
@@ -27,7 +28,8 @@ fn keep(marked: &[bool], kept: &mut Vec<u32>, number: usize) -> Result<(), Alloc
     requires kept { AreKept marked.now number kept.old.items }
     requires number { number < length marked.now }
     requires few { number < 4294967296 }
-    ensures { OnOk result (AreKept marked.now (number + 1) kept.new.items) }
+    ensures kept { OnOk result (AreKept marked.now (number + 1) kept.new.items) }
+    ensures few { OnOk result (length kept.new.items ≤ length kept.old.items + 1) }
 {
     if marked[number] {
         kept.push(number as u32)?;
