@@ -8,12 +8,30 @@
 //! most, that it unfolds to exactly their trees, each with one cursor, and that no part of it is dead.
 #![tactic(auto)]
 
+mod entries;
 mod entry;
+mod builder;
+mod done;
+mod alternatives;
+mod dots;
+mod environments;
+mod filed;
+mod forest;
+mod item_rows;
 mod laws;
+mod links;
+mod live;
+mod names;
+mod reach;
+mod root;
+mod rows;
+mod stored;
 
 pub use entry::{Child, Choice, Entry};
+pub use forest::{Forest, ItemNode, Node};
 pub use laws::{
     live_items_are_least, live_items_are_reachable, no_key_stands_twice, reduced_forest_has_root,
     reduced_forest_is_trim, reduced_forest_is_unique, reduced_forest_unfolds_to_core_trees,
     tree_has_one_cursor, trim_forest_has_trees,
 };
+pub use stored::{Choices, Entries};
