@@ -16,3 +16,4 @@ pub mod Instances
 pub mod Calls
 pub mod Calling
 pub mod Alone
+pub mod Arrivals

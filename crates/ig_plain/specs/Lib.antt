@@ -5,3 +5,4 @@ pub mod Rules
 pub mod Found
 pub mod Waiting
 pub mod Run
+pub mod Arrival

@@ -10,7 +10,8 @@ mod interning;
 mod moves;
 mod names;
 mod run;
+mod saturate;
 mod steps;
 mod waiting;
 
-pub use run::saturate;
+

@@ -1,5 +1,5 @@
-//! Saturation in rising positions.
-ghost use Rattle.std.specs.Prelude.{◌≡◌, ◌<◌, ◌↔◌, ◌≤◌, ◌+◌, Contains, IfErr, IfOk, MatchResult, Some, length, map, option_map, slice_get};
+//! An item is taken: all that follows from it and those before it is added.
+ghost use Rattle.std.specs.Prelude.{◌≡◌, ◌<◌, ◌↔◌, ◌≤◌, ◌+◌, Contains, IfErr, IfOk, MatchResult, Some, length, map, option_map, slice_get, take, IfSome};
 ghost use Rattle.ig_item.specs.Items.{IsComplete, MoreThan, Reachable};
 ghost use Rattle.ig_item.specs.WellKinded.{NoneTwice};
 ghost use Rattle.ig_item.specs.Tables.{items_of};
@@ -33,7 +33,7 @@ use indexmap::IndexSet;
 use std::alloc::{AllocError, Global};
 
 /// Adds the first item of each alternative of an instance that starts at the position.
-fn add_firsts(
+pub(crate) fn add_firsts(
     core: &Core,
     found: &mut Found,
     instance: u32,
@@ -238,10 +238,18 @@ fn names_at(
     let Some(steps) = core.steps(nonterminal, item.alternative) else {
         return Err(AllocError);
     };
-    let Some(before) = steps.as_slice().get(..item.dot as usize) else {
+    let Some(before) = front(steps.as_slice(), item.dot) else {
         return Err(AllocError);
     };
-    names_behind(alloc, params, before)
+    let names = names_behind(alloc, params, before)?;
+    Ok(names)
+}
+
+/// The first steps, of that number.
+fn front(steps: &[Step], count: u32) -> Option<&[Step]>
+    ensures { IfSome result (λ r. r.now ≡ take count steps.now) }
+{
+    steps.get(..count as usize)
 }
 
 /// Takes an item before a step.
@@ -297,7 +305,7 @@ fn keep_well_kinded(core: &Core)
 }
 
 /// Takes the item of that number at the position.
-fn take(
+pub(crate) fn take(
     alloc: Global,
     core: &Core,
     text: &Text,
@@ -321,8 +329,4 @@ fn take(
         }
         None => take_complete(alloc, core, text, found, waiting, item, budget),
     }
-}
-
-pub fn saturate() -> Result<(), RunFault> {
-    Ok(())
 }
