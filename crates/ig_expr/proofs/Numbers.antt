@@ -8,7 +8,8 @@ use Rattle.std.proofs.lemmas.List.{drop_more}
 use Rattle.std.proofs.lemmas.Bool.Decides.{nat_tests}
 use Rattle.ig_text.specs.declared.text.Span.{Span}
 use Rattle.ig_expr.specs.Operations.{whole}
-use Rattle.ig_expr.specs.Reading.{is_digit, spelled, number_of, letters_of}
+use Rattle.ig_text.specs.Words.{is_digit}
+use Rattle.ig_expr.specs.Reading.{spelled, number_of, letters_of}
 use Rattle.ig_expr.specs.Digits.{with_digit, appended}
 
 -- the number that the digits spell behind those of n, each number on the way within 64 bits

@@ -1,6 +1,6 @@
 -- Environments: a list of names, and beside it a list with a member for each name.
 use Rattle.std.specs.Prelude.{ℕ, List, Option, option_and_then, position, slice_get}
-pub use Rattle.ig_text.specs.Words.{is_word}
+use Rattle.ig_text.specs.Words.{is_word}
 
 -- the first place of the name
 abbrev pub place_of : List (List ℕ) → List ℕ → Option ℕ

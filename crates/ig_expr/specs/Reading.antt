@@ -3,7 +3,7 @@ use Rattle.std.specs.Prelude.{ℕ, ◌+◌, ◌-◌, ◌*◌, nat_le, Bool, fals
 use Rattle.std.specs.List.{list_all}
 use Rattle.ig_text.specs.Lines.{line_at, column_at}
 use Rattle.ig_text.specs.declared.text.Span.{Span}
-pub use Rattle.ig_text.specs.Words.{is_word, is_digit}
+use Rattle.ig_text.specs.Words.{is_word, is_digit}
 use Rattle.ig_expr.specs.Operations.{whole, integer, truth}
 use Rattle.ig_expr.specs.declared.value.Value.{Value}
 use Rattle.ig_expr.specs.declared.value.Value.TheVariants as value

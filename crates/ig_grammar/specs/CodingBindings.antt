@@ -9,4 +9,4 @@ use Rattle.ig_grammar.specs.Binding.{Binding}
 abbrev pub binding_code : Coded Binding
 binding_code =
     code_by (List ℕ × Expression) (coded× (coded_list coded_ℕ) expression_code)
-      (λ b. (b.name, b.value)) (λ p. record { name = p.0; value = p.1 }) (λ _. refl)
+    (λ b. (b.name, b.value)) (λ p. record { name = p.0; value = p.1 }) (λ _. refl)

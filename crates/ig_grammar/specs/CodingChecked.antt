@@ -11,4 +11,4 @@ use Rattle.ig_grammar.specs.declared.place.Shape.{Shape}
 abbrev pub checked_code : Coded CheckedGrammar
 checked_code =
     code_by (Grammar × List Shape) (coded× grammar.the_row.coded (coded_list shape.the_row.coded))
-      (λ c. (c.grammar, c.shapes)) (λ p. record { grammar = p.0; shapes = p.1 }) (λ _. refl)
+    (λ c. (c.grammar, c.shapes)) (λ p. record { grammar = p.0; shapes = p.1 }) (λ _. refl)

@@ -1,5 +1,6 @@
-ghost use Rattle.std.specs.Prelude.{◌≡◌, MatchOption, slice_get};
+ghost use Rattle.std.specs.Prelude.{◌≡◌, ◌<◌, MatchOption, length, slice_get, slice_index_or};
 ghost use Rattle.ig_grammar.specs.declared.place.Shape.{Shape};
+ghost use Rattle.ig_grammar.specs.declared.place.Shape.TheVariants.{Rule};
 ghost use Rattle.ig_grammar.specs.Numbering.{HasShape};
 ghost use Rattle.ig_grammar.specs.WellScoped.{IsWellScoped};
 ghost use Rattle.ig_grammar.specs.Checked.{rules, FitShapes};
@@ -97,6 +98,17 @@ impl Checked {
                     None
                 }
             }
+        }
+    }
+
+    /// The shape of the declaration that has so many before it. Takes no memory.
+    pub fn shape_behind(&self, before: usize) -> Shape
+        requires { before < length self.now.shapes }
+        ensures { result ≡ slice_index_or self.now.shapes before Rule }
+    {
+        match &self.shapes {
+            Some(shapes) => shapes.as_slice()[before],
+            None => Shape::Rule,
         }
     }
 }

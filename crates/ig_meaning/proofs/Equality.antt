@@ -1,4 +1,4 @@
--- Permitted trees that don't differ are equal.
+-- Permitted trees that don't differ are equal, and have one annotation.
 use Rattle.std.proofs.Common.{◌≡◌, ℕ, List, [], ◌∷◌, length, refl, sym, ◌∙◌, ap, subst, arith, Some}
 use Rattle.std.proofs.lemmas.Bool.Decides.{nat_tests}
 use Rattle.std.specs.declared.cmp.Ordering.{Ordering}
@@ -7,15 +7,18 @@ use Rattle.std.specs.Ordering.{ordering_then, nat_cmp}
 use Rattle.std.specs.Cmp.Lexicographic.{slice_cmp}
 use Rattle.ig_text.specs.declared.tag.Tag.TheVariants.{Root}
 use Rattle.ig_text.specs.Tree as plain
+use Rattle.ig_expr.specs.declared.value.Value.{Value}
 use Rattle.ig_grammar.specs.Symbol.{Symbol, Call}
 use Rattle.ig_grammar.specs.Names.{names, AreDistinct}
 use Rattle.ig_grammar.specs.Numbering.{Levelled, Declares, layout_among}
-use Rattle.ig_meaning.specs.Derivation.{Covers}
-use Rattle.ig_meaning.specs.Annotated.{Tree, Trees, Leaf, Node, none, more, bare_tree, bare_trees, bound_between, of_permitted}
+use Rattle.ig_meaning.specs.Derivation.{Covers, Derives, Instance}
+use Rattle.ig_meaning.specs.Annotated.{Tree, Trees, Leaf, Node, none, more, bare_tree, bare_trees, bound_between, Bind, Binds, Annotates}
+use Rattle.ig_meaning.specs.AnnotatedLaws.{AnnotationsAreUnique}
+use Rattle.ig_meaning.specs.Environment.{Environment}
 use Rattle.ig_meaning.specs.Laws as laws
 use Rattle.ig_text.specs.TagNumber.{number_of}
 use Rattle.ig_expr.specs.ValueOrder.{value_cmp}
-use Rattle.ig_meaning.specs.Order.{begin_of, starts_cmp, tree_cmp, trees_cmp, UndifferingTreesAreEqual}
+use Rattle.ig_meaning.specs.Order.{begin_of, starts_cmp, tree_cmp, trees_cmp, children_cmp, UndifferingTreesAreEqual}
 use Rattle.ig_meaning.proofs.Tags.{TagsTellAlternatives, fitting_shapes_tell}
 use Rattle.ig_meaning.specs.Permitted.{Permitted, IsRootAlternative, written, declared, behind_layout}
 use Rattle.ig_grammar.specs.declared.declaration.DeclKind.{DeclKind}
@@ -23,10 +26,9 @@ use Rattle.ig_grammar.specs.declared.declaration.Decl.{Decl}
 use Rattle.ig_grammar.specs.declared.grammar.Grammar.{Grammar}
 use Rattle.ig_grammar.specs.declared.place.Shape.{Shape}
 use Rattle.ig_grammar.specs.declared.place.Shape.TheVariants as shape
-use Rattle.ig_meaning.proofs.Annotation.{same_permitted}
-use Rattle.ig_meaning.proofs.Tiling.{AreClose, AllClose, AllSameTags, same_trees, covers_tiles}
-use Rattle.ig_meaning.proofs.Telling.{declared_once, alternative_once, covers_told, told_whole}
-use Rattle.ig_meaning.proofs.Determined.{moved_covers, covers_one}
+use Rattle.ig_meaning.proofs.Tiling.{AreClose, AllClose, AllSameTags, same_tree, same_trees, covers_tiles, derives_tiles, instance_tiles}
+use Rattle.ig_meaning.proofs.Telling.{declared_once, alternative_once, covers_told, derives_told, instance_told, told_whole}
+use Rattle.ig_meaning.proofs.Determined.{bind_once, binds_once, within_once}
 
 then_parts : (a b : Ordering) → ordering_then a b ≡ Equal → (a ≡ Equal) × (b ≡ Equal)
 then_parts Less b e = absurd (cc)
@@ -60,6 +62,10 @@ mutual
       let b = then_parts (tree_cmp t u) (trees_cmp ts us) e in
       (same_begin t ∙ same_number (begin_of t) (begin_of u) a.1 ∙ sym (same_begin u), close_tree t u b.0, close_trees ts us a.0 b.1)
 
+close_children : (ts us : Trees) → children_cmp ts us ≡ Equal → AllClose (bare_trees ts) (bare_trees us)
+close_children ts us e =
+    let parts = then_parts (starts_cmp ts us) (trees_cmp ts us) e in close_trees ts us parts.0 parts.1
+
 same_some : {A : Type 0} (x y : A) → Some x ≡ Some y → x ≡ y
 same_some x y e = cc
 
@@ -84,11 +90,50 @@ module _ (g : Grammar) (shapes : List Shape) (text : List ℕ) (distinct : AreDi
       let alike : a ≡ b = alternative_once g shapes text distinct tells decl other 1 1 a b once.declaration refl numbered numbered' in
       (read ∙ ap (λ (q : Decl). q.kind) once.declaration ∙ sym read', same ∙ ap (λ (q : Levelled). q.alternative.symbols) alike ∙ sym same')
 
-  equal : (t u : plain.Tree) (p : Permitted g shapes text t) (q : Permitted g shapes text u) →
-      tree_cmp (of_permitted g shapes text p) (of_permitted g shapes text q) ≡ Equal → t ≡ u
-  equal t u p q same =
+  bind_determined : {c : DeclKind} {xs : List Symbol} {env after later : Environment} {i j k : ℕ} {ts us : Trees} →
+      Bind g shapes text c xs env i j ts after → Bind g shapes text c xs env i k us later →
+      bare_trees ts ≡ bare_trees us → (j ≡ k) × (after ≡ later) × (ts ≡ us)
+  bind_determined {later = later} {k = k} {us = us} first second same =
+      let r = bind_once g shapes text distinct tells first k us later plain.none plain.none second (ap (λ z. plain.join z plain.none) same) in
+      (r.0, r.1, r.2)
+
+  binds_determined : {c : DeclKind} {x : Symbol} {env after later : Environment} {i e f j k : ℕ} {ts us : Trees} →
+      Binds g shapes text c x env i e j ts after → Binds g shapes text c x env i f k us later →
+      bare_trees ts ≡ bare_trees us → (e ≡ f) × (j ≡ k) × (after ≡ later) × (ts ≡ us)
+  binds_determined {later = later} {f = f} {k = k} {us = us} first second same =
+      let r = binds_once g shapes text distinct tells first f k us later plain.none plain.none second (ap (λ z. plain.join z plain.none) same) in
+      (r.0, r.1, r.2, r.3)
+
+  covers_equal : {c : DeclKind} {xs : List Symbol} {env other after later : Environment} {i j : ℕ} {ks ls : List ℕ} (ts us : Trees) →
+      Covers g shapes text c xs env i j (bare_trees ts) after ks → Covers g shapes text c xs other i j (bare_trees us) later ls →
+      AllClose (bare_trees ts) (bare_trees us) → bare_trees ts ≡ bare_trees us
+  covers_equal {other = other} {later = later} {i = i} {j = j} {ls = ls} ts us first second close =
+      let told = covers_told g shapes text distinct tells first other later i j (bare_trees us) ls second in
+      let tags : AllSameTags (bare_trees ts) (bare_trees us) = told_whole (bare_trees ts) (bare_trees us) told close in
+      same_trees (bare_trees ts) (bare_trees us) i j (covers_tiles g shapes text first) (covers_tiles g shapes text second) close tags
+
+  derives_equal : {c : DeclKind} {x : Symbol} {env other after later : Environment} {i e f j : ℕ} {ks ls : List ℕ} (ts us : Trees) →
+      Derives g shapes text c x env i e j (bare_trees ts) after ks → Derives g shapes text c x other i f j (bare_trees us) later ls →
+      AllClose (bare_trees ts) (bare_trees us) → bare_trees ts ≡ bare_trees us
+  derives_equal {other = other} {later = later} {i = i} {f = f} {j = j} {ls = ls} ts us first second close =
+      let told = derives_told g shapes text distinct tells first other later i f j (bare_trees us) ls second in
+      let tags : AllSameTags (bare_trees ts) (bare_trees us) = told_whole (bare_trees ts) (bare_trees us) told close in
+      same_trees (bare_trees ts) (bare_trees us) i j (derives_tiles g shapes text first) (derives_tiles g shapes text second) close tags
+
+  instance_equal : {name : List ℕ} {vs ws : List Value} {kind form : DeclKind} {i e : ℕ} {ks ls : List ℕ} (t u : Tree) →
+      Instance g shapes text name vs kind i e (bare_tree t) ks → Instance g shapes text name ws form i e (bare_tree u) ls →
+      tree_cmp t u ≡ Equal → bare_tree t ≡ bare_tree u
+  instance_equal {ws = ws} {form = form} {i = i} {e = e} {ls = ls} t u first second same =
+      let close = close_tree t u same in
+      let tags = instance_told g shapes text distinct tells first ws form i e (bare_tree u) ls second close in
+      let p = instance_tiles g shapes text first in
+      let q = instance_tiles g shapes text second in
+      same_tree (bare_tree t) (bare_tree u) (p.0 ∙ sym q.0) (p.1 ∙ sym q.1) p.2 q.2 close tags
+
+  permitted_equal : (t u : plain.Tree) → Permitted g shapes text t → Permitted g shapes text u → AreClose t u → t ≡ u
+  permitted_equal t u p q same =
       let close : AreClose (plain.Node Root 0 (length text) p.children) (plain.Node Root 0 (length text) q.children) =
-      subst (AreClose (plain.Node Root 0 (length text) p.children)) (same_permitted g shapes text u q ∙ q.whole) (subst (λ z. AreClose z (bare_tree (of_permitted g shapes text q))) (same_permitted g shapes text t p ∙ p.whole) (close_tree (of_permitted g shapes text p) (of_permitted g shapes text q) same)) in
+      subst (AreClose (plain.Node Root 0 (length text) p.children)) q.whole (subst (λ z. AreClose z u) p.whole same) in
       let root = one_root p.root q.root in
       let second = subst (λ xs. Covers g shapes text p.kind xs [] 0 (length text) q.children q.after q.starts) (sym root.1) (subst (λ c. Covers g shapes text c q.symbols [] 0 (length text) q.children q.after q.starts) (sym root.0) q.covered) in
       let told = covers_told g shapes text distinct tells p.covered [] q.after 0 (length text) q.children q.starts second in
@@ -97,20 +142,33 @@ module _ (g : Grammar) (shapes : List Shape) (text : List ℕ) (distinct : AreDi
       same_trees p.children q.children 0 (length text) (covers_tiles g shapes text p.covered) (covers_tiles g shapes text q.covered) close.1 tags in
       p.whole ∙ ap (plain.Node Root 0 (length text)) children ∙ sym q.whole
 
-  determined : (t : plain.Tree) (p q : Permitted g shapes text t) → of_permitted g shapes text p ≡ of_permitted g shapes text q
-  determined t p q =
-      let both : plain.Node Root 0 (length text) p.children ≡ plain.Node Root 0 (length text) q.children = sym p.whole ∙ q.whole in
-      let children : p.children ≡ q.children = cc in
+  determined : {t : plain.Tree} {u v : Tree} → Annotates g shapes text t u → Annotates g shapes text t v → u ≡ v
+  determined p q =
+      let both : plain.Node Root 0 (length text) (bare_trees p.children) ≡ plain.Node Root 0 (length text) (bare_trees q.children) =
+      sym (ap bare_tree p.whole) ∙ p.same ∙ sym q.same ∙ ap bare_tree q.whole in
+      let children : bare_trees p.children ≡ bare_trees q.children = cc in
       let root = one_root p.root q.root in
-      let moved = moved_covers g shapes text distinct tells p.kind q.kind p.symbols q.symbols [] [] 0 0 (length text) q.children q.after q.starts root.0 root.1 refl refl q.covered in
-      let r = covers_one g shapes text distinct tells p.covered (length text) q.children q.after q.starts moved.0 children in
-      λ z. Node Root (bound_between [] (r.1 z)) 0 (length text) ((r.2 ∙ moved.1) z)
+      let second = subst (λ xs. Bind g shapes text p.kind xs [] 0 (length text) q.children q.after) (sym root.1) (subst (λ c. Bind g shapes text c q.symbols [] 0 (length text) q.children q.after) (sym root.0) q.binds) in
+      let r = bind_determined p.binds second children in
+      p.whole ∙ (λ z. Node Root (bound_between [] (r.1 z)) 0 (length text) (r.2 z)) ∙ sym q.whole
 
 pub undiffering : UndifferingTreesAreEqual
-undiffering =
+undiffering g shapes text distinct fit =
+    let tells = fitting_shapes_tell g shapes fit in
     record {
-      equal = λ g shapes text t u first second distinct fit same.
-          equal g shapes text distinct (fitting_shapes_tell g shapes fit) t u first second same;
-      determined = λ g shapes text t first second distinct fit.
-          determined g shapes text distinct (fitting_shapes_tell g shapes fit) t first second;
+      covers = λ ts us first second same. covers_equal g shapes text distinct tells ts us first second (close_children ts us same);
+      derives = λ ts us first second same. derives_equal g shapes text distinct tells ts us first second (close_children ts us same);
+      instance = instance_equal g shapes text distinct tells;
+      permitted = λ t u first second same.
+          permitted_equal g shapes text distinct tells (bare_tree t) (bare_tree u) first second (close_tree t u same);
+    }
+
+pub unique : AnnotationsAreUnique
+unique g shapes text distinct fit =
+    let tells = fitting_shapes_tell g shapes fit in
+    record {
+      bind = bind_determined g shapes text distinct tells;
+      binds = binds_determined g shapes text distinct tells;
+      within = λ first second same. within_once g shapes text distinct tells first _ _ _ second same;
+      annotates = determined g shapes text distinct tells;
     }

@@ -15,13 +15,13 @@ use Rattle.ig_grammar.specs.declared.declaration.DeclKind.{DeclKind}
 use Rattle.ig_grammar.specs.declared.grammar.Grammar.{Grammar}
 use Rattle.ig_grammar.specs.declared.place.Shape.{Shape}
 
-still : (env : Environment) → GrowsBy [] env env
+pub still : (env : Environment) → GrowsBy [] env env
 still env = record { more = []; grown = sym (append-nil env); named = refl }
 
-by_one : (name : List ℕ) (v : Value) (env after : Environment) → after ≡ env ++ (name, v) ∷ [] → GrowsBy (name ∷ []) env after
+pub by_one : (name : List ℕ) (v : Value) (env after : Environment) → after ≡ env ++ (name, v) ∷ [] → GrowsBy (name ∷ []) env after
 by_one name v env after e = record { more = (name, v) ∷ []; grown = e; named = refl }
 
-onward : (some others : List (List ℕ)) (env between after : Environment) → GrowsBy some env between → GrowsBy others between after →
+pub onward : (some others : List (List ℕ)) (env between after : Environment) → GrowsBy some env between → GrowsBy others between after →
     GrowsBy (some ++ others) env after
 onward some others env between after p q =
     record {
@@ -30,7 +30,7 @@ onward some others env between after p q =
       named = map-append (λ pair. pair.0) p.more q.more ∙ (λ k. p.named k ++ q.named k);
     }
 
-same_names : (xs : Symbols) → flat_map bound_names (listed xs) ≡ names_bound_by xs
+pub same_names : (xs : Symbols) → flat_map bound_names (listed xs) ≡ names_bound_by xs
 same_names no_symbols = refl
 same_names (next_symbol x xs) = ap (λ z. bound_names x ++ z) (same_names xs)
 

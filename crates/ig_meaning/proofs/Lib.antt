@@ -11,5 +11,6 @@ mod Tiling
 mod Telling
 mod Equality
 mod Transitivity
-mod AnnotatedInversion
+mod BindingInversion
 mod Determined
+mod Completeness

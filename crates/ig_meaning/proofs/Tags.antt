@@ -62,7 +62,7 @@ within decl k a at =
 pub fitting_shapes_tell : (g : Grammar) (shapes : List Shape) → FitShapes g shapes → TagsTellAlternatives g shapes
 fitting_shapes_tell g shapes fit name d k l decl form a b declares first second same =
     let places : declares.numbered.0 ≡ declares.shaped.0 =
-        (let p : d ≡ suc declares.numbered.0 = declares.numbered.1 in let q : d ≡ suc declares.shaped.0 = declares.shaped.1 in omega (arith, p, q)) in
+    (let p : d ≡ suc declares.numbered.0 = declares.numbered.1 in let q : d ≡ suc declares.shaped.0 = declares.shaped.1 in omega (arith, p, q)) in
     let shaped = subst (λ z. slice_get shapes z ≡ Some form) (sym places) declares.shaped.2 in
     let fits = fit.each declares.numbered.0 decl form declares.numbered.2 shaped in
     let numbers = (λ z. number_of (tag_of form d (sym first.1 z))) ∙ same ∙ (λ z. number_of (tag_of form d (second.1 z))) in

@@ -47,7 +47,7 @@ ToldBefore ts us rest others = AllClose (join ts rest) (join us others) → AllS
 abbrev IsTold : Trees → Trees → Type 0
 IsTold ts us = (rest others : Trees) → ToldBefore ts us rest others
 
-abbrev IsToldTree : Tree → Tree → Type 0
+abbrev pub IsToldTree : Tree → Tree → Type 0
 IsToldTree t u = AreClose t u → HaveSameTags t u
 
 told_as : (ts us vs ws : Trees) → vs ≡ ts → ws ≡ us → IsTold ts us → IsTold vs ws
@@ -95,6 +95,11 @@ two_or_one e = omega (arith, e)
 
 same_some : {A : Type 0} (x y : A) → Some x ≡ Some y → x ≡ y
 same_some x y e = cc
+
+pub choice_once : (choices : Alternatives) (k : ℕ) (xs ys : Symbols) → IsChoice choices k xs → IsChoice choices k ys → xs ≡ ys
+choice_once choices k xs ys p q =
+    let places : p.0 ≡ q.0 = let both : suc p.0 ≡ suc q.0 = sym p.1 ∙ q.1 in omega (arith, both) in
+    same_some xs ys (sym p.2 ∙ ap (choice choices) places ∙ q.2)
 
 module _ (g : Grammar) (shapes : List Shape) (text : List ℕ) (distinct : AreDistinct (names g.decls)) (tells : TagsTellAlternatives g shapes) where
   pub record AreOne (d e : ℕ) (decl other : Decl) (shape form : Shape) : Type 0 where
@@ -152,7 +157,7 @@ module _ (g : Grammar) (shapes : List Shape) (text : List ℕ) (distinct : AreDi
   ItemsTold c x ts =
       (env after : Environment) (i e j : ℕ) (us : Trees) (starts items : List ℕ) → Items g shapes text c x env i e j us after starts items → IsTold ts us
 
-  abbrev InstanceTold : List ℕ → Tree → Type 0
+  abbrev pub InstanceTold : List ℕ → Tree → Type 0
   InstanceTold name t =
       (vs : List Value) (kind : DeclKind) (i e : ℕ) (u : Tree) (starts : List ℕ) → Instance g shapes text name vs kind i e u starts → IsToldTree t u
 
@@ -289,11 +294,6 @@ module _ (g : Grammar) (shapes : List Shape) (text : List ℕ) (distinct : AreDi
   listed_told c x t env after k f l us starts told (u, items, list, ends, same, kept) =
       told_single t u us same (told env k l u starts items list)
 
-  pub choice_once : (choices : Alternatives) (k : ℕ) (xs ys : Symbols) → IsChoice choices k xs → IsChoice choices k ys → xs ≡ ys
-  choice_once choices k xs ys p q =
-      let places : p.0 ≡ q.0 = let both : suc p.0 ≡ suc q.0 = sym p.1 ∙ q.1 in omega (arith, both) in
-      same_some xs ys (sym p.2 ∙ ap (choice choices) places ∙ q.2)
-
   group_told : (c : DeclKind) (choices : Alternatives) (k : ℕ) (xs : Symbols) (i j : ℕ) (ts : Trees) → IsChoice choices k xs →
       CoversTold c (listed xs) ts → (l : ℕ) (ys : Symbols) (env between : Environment) (m n : ℕ) (vs us : Trees) (starts : List ℕ) →
       IsChoice choices l ys → Covers g shapes text c (listed ys) env m n vs between starts → us ≡ one (Node (tag.GroupAlt l) m n vs) →
@@ -408,7 +408,7 @@ module _ (g : Grammar) (shapes : List Shape) (text : List ℕ) (distinct : AreDi
     items_told (with_filters c x filters env after i e j ts starts items inner passes) env' after' i' e' j' us starts' items' other =
         items_told inner env' after' i' e' j' us starts' items' (items_by g shapes text other).0
 
-    instance_told : {name : List ℕ} {vs : List Value} {kind : DeclKind} {i e : ℕ} {t : Tree} {starts : List ℕ} →
+    pub instance_told : {name : List ℕ} {vs : List Value} {kind : DeclKind} {i e : ℕ} {t : Tree} {starts : List ℕ} →
         Instance g shapes text name vs kind i e t starts → InstanceTold name t
     instance_told (alternative name vs kind d k decl shape a env after i e ts t starts declares numbered bound same covers tree) =
         alternative_told name vs kind d k decl shape a i e ts t declares numbered same tree (covers_told covers)

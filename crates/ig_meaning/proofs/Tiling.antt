@@ -59,7 +59,7 @@ next_begin (more t ts) none i k j a b close = absurd close
 next_begin (more t ts) (more u us) i k j a b close = sym a.0 ∙ close.0 ∙ b.0
 
 mutual
-  same_tree : (t u : Tree) → begin_of t ≡ begin_of u → end_of t ≡ end_of u → IsTiled t → IsTiled u → AreClose t u →
+  pub same_tree : (t u : Tree) → begin_of t ≡ begin_of u → end_of t ≡ end_of u → IsTiled t → IsTiled u → AreClose t u →
       HaveSameTags t u → t ≡ u
   same_tree (Leaf i j) (Leaf k l) begins ends a b close tags = λ z. Leaf (begins z) (ends z)
   same_tree (Leaf i j) (Node tag k l us) begins ends a b close tags = absurd close

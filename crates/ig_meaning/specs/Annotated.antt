@@ -1,17 +1,22 @@
--- Derivation trees with the values that each alternative binds by labels and lets, read off derivations.
-use Rattle.std.specs.Prelude.{ℕ, List, [], ◌++◌, length, drop}
+-- Trees whose nodes have the values that their alternatives bind by labels and lets, and which such tree a tree is.
+use Rattle.std.specs.Prelude.{◌≡◌, ℕ, List, [], ◌∷◌, ◌++◌, map, length, drop, Some, None}
+use Rattle.ig_text.specs.declared.class.Class.{Class}
 use Rattle.ig_text.specs.declared.tag.Tag.{Tag}
 use Rattle.ig_text.specs.declared.tag.Tag.TheVariants as tag
 use Rattle.ig_text.specs.Tree as plain
+use Rattle.ig_expr.specs.Expression.{Expression}
 use Rattle.ig_expr.specs.declared.value.Value.{Value}
-use Rattle.ig_grammar.specs.Symbol.{Symbol}
-use Rattle.ig_meaning.specs.Environment.{Environment, values}
-use Rattle.ig_grammar.specs.Numbering.{tag_of}
-use Rattle.ig_meaning.specs.Derivation.{Covers, Derives, Lists, Items, Instance, Trails}
-use Rattle.ig_meaning.specs.Derivation.{empty, symbol, literal, one_of, token, call, label, guard, let_be, absent, present, star, plus, sep_star, sep_plus, group, offside, ignore, align, filtered, sequence, entry}
-use Rattle.ig_meaning.specs.Derivation.{nil, snoc, one_item, more_items, first_item, further_item, no_item, some_items, bare, with_filters, alternative, layout, no_layout, outside}
-use Rattle.ig_meaning.specs.Permitted.{Permitted}
+use Rattle.ig_grammar.specs.Binding.{Binding}
+use Rattle.ig_grammar.specs.Symbol.{Symbol, Literal, OneOf, Call, Label, Guard, Let, Opt, Star, Plus, SepStar, SepPlus, Group, Offside, Ignore, Align, Filtered, Seq, Entry}
+use Rattle.ig_grammar.specs.Symbol.{Symbols, Alternatives, listed}
+use Rattle.ig_grammar.specs.Numbering.{Levelled, Declares, IsAlternative, IsChoice, tag_of, layout_among}
+use Rattle.ig_meaning.specs.Environment.{Environment, values, HasValue, HaveValues, AreBound, replaced}
+use Rattle.ig_meaning.specs.Derivation.{span_value}
+use Rattle.ig_meaning.specs.Permitted.{IsRootAlternative}
+use Rattle.ig_grammar.specs.declared.filter.Filter.{Filter}
 use Rattle.ig_grammar.specs.declared.declaration.DeclKind.{DeclKind}
+use Rattle.ig_grammar.specs.declared.declaration.DeclKind.TheVariants.{Syntax, Lexical}
+use Rattle.ig_grammar.specs.declared.declaration.Decl.{Decl}
 use Rattle.ig_grammar.specs.declared.grammar.Grammar.{Grammar}
 use Rattle.ig_grammar.specs.declared.place.Shape.{Shape}
 
@@ -46,70 +51,103 @@ abbrev mutual
 abbrev pub bound_between : Environment → Environment → List Value
 bound_between before after = drop (length before) (values after)
 
+-- a mark, or filters, round a symbol
+pub data IsRound (x : Symbol) : Symbol → Type 0 where
+  offside : IsRound x (Offside x)
+  ignore : IsRound x (Ignore x)
+  align : IsRound x (Align x)
+  filtered : (filters : List Filter) → IsRound x (Filtered x filters)
+
+-- an option, a list or a group has a node with this tag, whose children are the trees of these parts
+pub data HasParts : Symbol → Tag → List Symbol → Type 0 where
+  absent : (x : Symbol) → HasParts (Opt x) tag.Absent []
+  present : (x : Symbol) → HasParts (Opt x) tag.Present (x ∷ [])
+  nil : (x : Symbol) → HasParts (Star x) tag.Nil []
+  snoc : (x : Symbol) → HasParts (Star x) tag.Snoc (Star x ∷ x ∷ [])
+  one_item : (x : Symbol) → HasParts (Plus x) tag.One (x ∷ [])
+  more_items : (x : Symbol) → HasParts (Plus x) tag.More (Plus x ∷ x ∷ [])
+  first_item : (x separator : Symbol) → HasParts (SepPlus x separator) tag.One (x ∷ [])
+  further_item : (x separator : Symbol) →
+      HasParts (SepPlus x separator) tag.More (SepPlus x separator ∷ separator ∷ x ∷ [])
+  no_item : (x separator : Symbol) → HasParts (SepStar x separator) tag.Absent []
+  some_items : (x separator : Symbol) → HasParts (SepStar x separator) tag.Present (SepPlus x separator ∷ [])
+  chosen : (choices : Alternatives) (k : ℕ) (xs : Symbols) → IsChoice choices k xs →
+      HasParts (Group choices) (tag.GroupAlt k) (Seq xs ∷ [])
+
+-- a grammar, with the shape of each of its declarations, and a text
 module _ (g : Grammar) (shapes : List Shape) (text : List ℕ) where
-  abbrev mutual
-    pub of_covered : {c : DeclKind} {xs : List Symbol} {env after : Environment} {i j : ℕ} {vs : plain.Trees} {starts : List ℕ} →
-        Covers g shapes text c xs env i j vs after starts → Trees
-    of_covered (empty c env i) = none
-    of_covered (symbol c x others env between after i e h j ts us vs ks ls starts first rest trees exposes) =
-        join (of_derived first) (of_covered rest)
+  mutual
+    -- in a declaration of kind c these symbols, from an environment, have these trees from i to j, whose nodes have the
+    -- values that are bound there, and leave an environment: each symbol starts from the one that those before it left
+    pub data Bind : DeclKind → List Symbol → Environment → ℕ → ℕ → Trees → Environment → Type 0 where
+      nothing : (c : DeclKind) (env : Environment) (i : ℕ) → Bind c [] env i i none env
+      next : (c : DeclKind) (x : Symbol) (others : List Symbol) (env between after : Environment) (i e h j : ℕ)
+          (ts us vs : Trees) → Binds c x env i e h ts between → Bind c others between h j us after → vs ≡ join ts us →
+          Bind c (x ∷ others) env i j vs after
 
-    pub of_derived : {c : DeclKind} {x : Symbol} {env after : Environment} {i e j : ℕ} {ts : plain.Trees} {starts : List ℕ} →
-        Derives g shapes text c x env i e j ts after starts → Trees
-    of_derived (literal c word env i e j us ts starts spells trails trees exposes) = more (Leaf i e) (of_trail trails)
-    of_derived (one_of c class env i e j us ts starts among trails trees exposes) = more (Leaf i e) (of_trail trails)
-    of_derived (token c name arguments vs env i e j t us ts ks starts have instance trails trees exposes) =
-        more (of_instance instance) (of_trail trails)
-    of_derived (call c kind name arguments vs env i j t starts have instance other) = one (of_instance instance)
-    of_derived (label c name x env between after i e j ts starts inner bound) = of_derived inner
-    of_derived (guard c condition env i holds) = none
-    of_derived (let_be c name expression v env after i has bound) = none
-    of_derived (absent c x env i) = one (Node tag.Absent [] i i none)
-    of_derived (present c x env between i e j ts starts inner) =
-        one (Node tag.Present (bound_between env between) i j (of_derived inner))
-    of_derived (star c x env i j t starts items list) = one (of_list list)
-    of_derived (plus c x env i j t starts items list) = one (of_list list)
-    of_derived (sep_star c x separator env i j t starts items list) = one (of_list list)
-    of_derived (sep_plus c x separator env i j t starts items list) = one (of_list list)
-    of_derived (group c choices k xs env between i j ts starts chosen inner) =
-        one (Node (tag.GroupAlt k) (bound_between env between) i j (of_covered inner))
-    of_derived (offside c x env after i e j ts starts inner right) = of_derived inner
-    of_derived (ignore c x env after i e j ts starts inner) = of_derived inner
-    of_derived (align c x env after i e j ts starts items inner column) = of_items inner
-    of_derived (filtered c x filters env after i e j ts starts inner passes) = of_derived inner
-    of_derived (sequence c xs env after i j ts starts inner) = of_covered inner
-    of_derived (entry c bindings x vs env inside after i e j ts starts have renewed inner) = of_derived inner
+    -- the same of one symbol, whose own end is e
+    pub data Binds : DeclKind → Symbol → Environment → ℕ → ℕ → ℕ → Trees → Environment → Type 0 where
+      literal : (c : DeclKind) (word : List ℕ) (env : Environment) (i e j : ℕ) (us : Trees) → Behind c Lexical e j us →
+          Binds c (Literal word) env i e j (more (Leaf i e) us) env
+      one_of : (c : DeclKind) (class : Class) (env : Environment) (i e j : ℕ) (us : Trees) → Behind c Lexical e j us →
+          Binds c (OneOf class) env i e j (more (Leaf i e) us) env
+      -- the alternative inside a call binds in an environment of its own
+      call : (c kind : DeclKind) (name : List ℕ) (arguments : List Expression) (vs : List Value) (env : Environment)
+          (i e j : ℕ) (t : Tree) (us : Trees) → HaveValues text env i arguments vs → Within name vs kind i e t →
+          Behind c kind e j us → Binds c (Call name arguments) env i e j (more t us) env
+      -- a label binds the span of its symbol up to the own end, after what the symbol binds
+      label : (c : DeclKind) (name : List ℕ) (x : Symbol) (env between after : Environment) (i e j : ℕ) (ts : Trees) →
+          Binds c x env i e j ts between → after ≡ between ++ (name, span_value i e) ∷ [] →
+          Binds c (Label name x) env i e j ts after
+      guard : (c : DeclKind) (condition : Expression) (env : Environment) (i : ℕ) →
+          Binds c (Guard condition) env i i i none env
+      -- a let binds the value of its expression
+      let_be : (c : DeclKind) (name : List ℕ) (expression : Expression) (v : Value) (env after : Environment) (i : ℕ) →
+          HasValue text env i expression v → after ≡ env ++ (name, v) ∷ [] →
+          Binds c (Let name expression) env i i i none after
+      -- what the parts of an option, a list or a group bind, its node has, and nobody behind it sees
+      node : (c : DeclKind) (x : Symbol) (form : Tag) (parts : List Symbol) (env : Environment) (i j : ℕ) (ts : Trees)
+          (bound : List Value) → HasParts x form parts → BindApart c parts env i j ts bound →
+          Binds c x env i j j (one (Node form bound i j ts)) env
+      round : (c : DeclKind) (x y : Symbol) (env after : Environment) (i e j : ℕ) (ts : Trees) → IsRound x y →
+          Binds c x env i e j ts after → Binds c y env i e j ts after
+      sequence : (c : DeclKind) (xs : Symbols) (env after : Environment) (i j : ℕ) (ts : Trees) →
+          Bind c (listed xs) env i j ts after → Binds c (Seq xs) env i j j ts after
+      entry : (c : DeclKind) (bindings : List Binding) (x : Symbol) (vs : List Value) (env inside after : Environment)
+          (i e j : ℕ) (ts : Trees) → HaveValues text env i (map (λ b. b.value) bindings) vs →
+          inside ≡ replaced env bindings vs → Binds c x inside i e j ts after → Binds c (Entry bindings x) env i j j ts env
 
-    pub of_list : {c : DeclKind} {x : Symbol} {env : Environment} {i j : ℕ} {t : plain.Tree} {starts items : List ℕ} →
-        Lists g shapes text c x env i j t starts items → Tree
-    of_list (nil c x env i) = Node tag.Nil [] i i none
-    of_list (snoc c x env after i h e j t ts ks ls starts ps items list item exposes begins) =
-        Node tag.Snoc (bound_between env after) i j (more (of_list list) (of_derived item))
-    of_list (one_item c x env after i e j ts starts item) = Node tag.One (bound_between env after) i j (of_derived item)
-    of_list (more_items c x env after i h e j t ts ks ls starts ps items list item exposes begins) =
-        Node tag.More (bound_between env after) i j (more (of_list list) (of_derived item))
-    of_list (first_item c x separator env after i e j ts starts item) =
-        Node tag.One (bound_between env after) i j (of_derived item)
-    of_list (further_item c x separator env between after i h f m e j t us ts vs ks ms ls starts ps items list part item trees exposes begins) =
-        Node tag.More (bound_between env between ++ bound_between env after) i j (more (of_list list) (join (of_derived part) (of_derived item)))
-    of_list (no_item c x separator env i) = Node tag.Absent [] i i none
-    of_list (some_items c x separator env i j t starts items list) = Node tag.Present [] i j (one (of_list list))
+    -- the same of parts that all start from the environment in which the whole stands, and bind these values in order
+    pub data BindApart : DeclKind → List Symbol → Environment → ℕ → ℕ → Trees → List Value → Type 0 where
+      no_part : (c : DeclKind) (env : Environment) (i : ℕ) → BindApart c [] env i i none []
+      next_part : (c : DeclKind) (x : Symbol) (others : List Symbol) (env after : Environment) (i e h j : ℕ)
+          (ts us vs : Trees) (some bound : List Value) → Binds c x env i e h ts after →
+          BindApart c others env h j us some → vs ≡ join ts us → bound ≡ bound_between env after ++ some →
+          BindApart c (x ∷ others) env i j vs bound
 
-    pub of_items : {c : DeclKind} {x : Symbol} {env after : Environment} {i e j : ℕ} {ts : plain.Trees} {starts items : List ℕ} →
-        Items g shapes text c x env i e j ts after starts items → Trees
-    of_items (bare c x env i j t starts items list) = one (of_list list)
-    of_items (with_filters c x filters env after i e j ts starts items inner passes) = of_items inner
+    -- the node of the nonterminal of this name, whose declaration has this kind, given its arguments' values: it has what
+    -- the symbols of its alternative bind behind the parameters
+    pub data Within : List ℕ → List Value → DeclKind → ℕ → ℕ → Tree → Type 0 where
+      alternative : (name : List ℕ) (vs : List Value) (kind : DeclKind) (d k : ℕ) (decl : Decl) (shape : Shape)
+          (a : Levelled) (env after : Environment) (i e : ℕ) (ts : Trees) (t : Tree) →
+          Declares g shapes name d decl shape → IsAlternative decl k a → AreBound decl.params vs env →
+          kind ≡ decl.kind → Bind kind a.alternative.symbols env i e ts after →
+          t ≡ Node (tag_of shape d k) (bound_between env after) i e ts → Within name vs kind i e t
 
-    pub of_instance : {name : List ℕ} {vs : List Value} {kind : DeclKind} {i e : ℕ} {t : plain.Tree} {starts : List ℕ} →
-        Instance g shapes text name vs kind i e t starts → Tree
-    of_instance (alternative name vs kind d k decl shape a env after i e ts t starts declares numbered bound same covers tree) =
-        Node (tag_of shape d k) (bound_between env after) i e (of_covered covers)
+    -- behind a token, which is as good as lexical, stands the layout where a syntax declaration has it, else nothing
+    pub data Behind : DeclKind → DeclKind → ℕ → ℕ → Trees → Type 0 where
+      layout : (name : List ℕ) (kind : DeclKind) (e j : ℕ) (t : Tree) → layout_among g.decls ≡ Some name →
+          Within name [] kind e j t → Behind Syntax Lexical e j (one t)
+      no_layout : (c kind : DeclKind) (e : ℕ) → (c ≡ Syntax → kind ≡ Lexical → layout_among g.decls ≡ None) →
+          Behind c kind e e none
 
-    pub of_trail : {c : DeclKind} {e j : ℕ} {ts : plain.Trees} → Trails g shapes text c e j ts → Trees
-    of_trail (layout name kind e j t starts declared instance) = one (of_instance instance)
-    of_trail (no_layout e undeclared) = none
-    of_trail (outside c e other) = none
-
-  -- a permitted tree, by its derivation
-  abbrev pub of_permitted : {t : plain.Tree} → Permitted g shapes text t → Tree
-  of_permitted p = Node tag.Root (bound_between [] p.after) 0 (length text) (of_covered p.covered)
+  -- the tree u is the tree t, with the values that each of its alternatives binds
+  pub record Annotates (t : plain.Tree) (u : Tree) : Type 0 where
+    pub kind : DeclKind
+    pub symbols : List Symbol
+    pub children : Trees
+    pub after : Environment
+    pub root : IsRootAlternative g shapes kind symbols
+    pub binds : Bind kind symbols [] 0 (length text) children after
+    pub whole : u ≡ Node tag.Root (bound_between [] after) 0 (length text) children
+    pub same : bare_tree u ≡ t

@@ -8,4 +8,5 @@ pub mod Permitted
 pub mod Laws
 pub mod Inversion
 pub mod Annotated
+pub mod AnnotatedLaws
 pub mod Order

@@ -1,8 +1,11 @@
+ghost use Rattle.ig_meaning.specs.AnnotatedLaws.{AnnotationsAreComplete, AnnotationsAreUnique};
+ghost use Rattle.ig_meaning.specs.AnnotatedLaws.{DerivationsAreAnnotated};
 ghost use Rattle.ig_meaning.specs.Inversion.{DerivationsInvert};
-ghost use Rattle.ig_meaning.specs.Laws.{EnvironmentsGrow, LabelsBindOwnSpans, PermittedTreesAreWhole};
-ghost use Rattle.ig_meaning.specs.Laws.{SpansAreInOrder, TreesWithoutOperatorsAreClean};
-ghost use Rattle.ig_meaning.specs.Order.{ComparedTreesArePermitted, IsAnOrder};
-ghost use Rattle.ig_meaning.specs.Order.{LastChildStartsDecide, UndifferingTreesAreEqual};
+ghost use Rattle.ig_meaning.specs.Laws.{EnvironmentsGrow, LabelsBindOwnSpans};
+ghost use Rattle.ig_meaning.specs.Laws.{PermittedTreesAreWhole, SpansAreInOrder};
+ghost use Rattle.ig_meaning.specs.Laws.{TreesWithoutOperatorsAreClean};
+ghost use Rattle.ig_meaning.specs.Order.{IsAnOrder, LastChildStartsDecide};
+ghost use Rattle.ig_meaning.specs.Order.{UndifferingTreesAreEqual};
 
 /// A derivation of each form of symbol consists of what the rules of derivations say of this form.
 /// This law, proved of every derivation, computes nothing.
@@ -40,10 +43,25 @@ pub fn trees_without_operators_are_clean()
     ensures { TreesWithoutOperatorsAreClean }
 {}
 
-/// What is compared of permitted trees, the trees with the values that their derivations bind, are
-/// these trees without the values. This law, proved of every derivation, computes nothing.
-pub fn compared_trees_are_permitted()
-    ensures { ComparedTreesArePermitted }
+/// For what is derived, and for each permitted tree, there are trees with the values that the
+/// alternatives bind, which are the derived ones without them. This law, proved of every
+/// derivation, computes nothing.
+pub fn derivations_are_annotated()
+    ensures { DerivationsAreAnnotated }
+{}
+
+/// The values in a tree are the same for each of its derivations, where no name is declared twice
+/// and each declaration is of its shape, as in every checked grammar. This law, proved of all trees
+/// with values, computes nothing.
+pub fn annotations_are_unique()
+    ensures { AnnotationsAreUnique }
+{}
+
+/// A node has one value for each label and each let of its alternative, in order, and so has the
+/// node of an option, a list or a group for those of its parts. This law, proved of all trees with
+/// values, computes nothing.
+pub fn annotations_are_complete()
+    ensures { AnnotationsAreComplete }
 {}
 
 /// Of the children of two trees the start of the last one decides first, then, by the same rule,
@@ -58,9 +76,9 @@ pub fn trees_are_ordered()
     ensures { IsAnOrder }
 {}
 
-/// Permitted trees that don't differ are equal, and what is compared of a tree is the same for each
-/// of its derivations, where no name is declared twice and each declaration is of its shape, as in
-/// every checked grammar. This law, proved of every derivation, computes nothing.
+/// Trees of one symbol over one span, and permitted trees, are equal where they don't differ, if no
+/// name is declared twice and each declaration is of its shape, as in every checked grammar. This
+/// law, proved of every derivation, computes nothing.
 pub fn undiffering_trees_are_equal()
     ensures { UndifferingTreesAreEqual }
 {}

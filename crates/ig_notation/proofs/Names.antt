@@ -6,7 +6,8 @@ use Rattle.std.specs.Prelude.{Some, None, codes, IsUtf8, encode_utf8_all, nat_lt
 use Rattle.std.specs.Cmp.Lexicographic.{bytes_decides}
 use Rattle.std.proofs.lemmas.Str.{encodes-chars, IsUtf8-from_ascii}
 use Rattle.std.proofs.lemmas.Bool.Decides.{nat_tests}
-use Rattle.ig_expr.specs.Names.{is_word}
+use Rattle.ig_text.proofs.Characters.{ascii, ascii_at}
+use Rattle.ig_text.specs.Words.{is_word}
 use Rattle.ig_expr.specs.declared.operator.Function.{Function}
 use Rattle.ig_syntax.specs.Rules as rule
 use Rattle.ig_syntax.specs.Rules.{IsFunction}
@@ -15,15 +16,6 @@ use Rattle.ig_rules.specs.Machine.{Want, after_function}
 use Rattle.ig_notation.specs.declared.expressions.Named.{Named}
 use Rattle.ig_notation.specs.declared.expressions.Named.TheVariants as named
 use Rattle.ig_notation.specs.Readers.{IsNamed, named_wants}
-
-abbrev ascii : List ℕ → Bool
-ascii [] = true
-ascii (b ∷ bs) = nat_lt b 128 && ascii bs
-
-ascii_at : (bs : List ℕ) → ascii bs ≡ true → IsAscii bs
-ascii_at [] e i = lit< tt
-ascii_at (b ∷ bs) e zero = let t = (and_parts (nat_lt b 128) (ascii bs) e).0 in grind (arith, nat_tests)
-ascii_at (b ∷ bs) e (suc i) = ascii_at bs (and_parts (nat_lt b 128) (ascii bs) e).1 i
 
 decided : (b : Bool) → (b ≡ true → ⊥) → b ≡ false
 decided true f = absurd (f refl)

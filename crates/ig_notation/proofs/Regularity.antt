@@ -5,7 +5,7 @@ use Rattle.std.proofs.lemmas.List.{length-map}
 use Rattle.std.proofs.lemmas.List.Elements.{All-nil, All-cons}
 use Rattle.std.proofs.lemmas.Str.{encodes-chars, length-le-encodes}
 use Rattle.ig_text.proofs.Tables.{found_row}
-use Rattle.ig_expr.specs.Names.{is_word}
+use Rattle.ig_text.specs.Words.{is_word}
 use Rattle.ig_syntax.specs.Token as token
 use Rattle.ig_syntax.specs.Token.{Token}
 use Rattle.ig_syntax.specs.Spelling.{entry, signs, keywords, IsToken, name, head, number, literal, ranges, other_ranges, named_class, sign, keyword}

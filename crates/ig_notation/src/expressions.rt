@@ -249,8 +249,8 @@ fn operator_at(tokens: &[Placed], at: usize) -> Option<Op>
 
 /// What a head of that name says of an expression; `None` exactly where it is no function.
 fn function_named(name: &str) -> Option<Named>
-    ensures { MatchOption result (after_function (chars name.now) ≡ None) (IsNamed (chars name.now))
-        }
+    ensures { MatchOption result (after_function (chars name.now) ≡ None)
+        (IsNamed (chars name.now)) }
 {
     match name {
         "begin" => Some(Named::One(Function::Begin)),

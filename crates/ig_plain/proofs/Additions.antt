@@ -1,5 +1,6 @@
 -- Functions that add items, one after the other.
-use Rattle.std.proofs.Common.{◌≡◌, ◌⊎◌, ⊎_elim, inl, inr, ℕ, ◌<◌, ◌≤◌, List, ◌++◌, Contains, refl, sym, ap, ◌∙◌, subst, arith}
+use Rattle.std.proofs.lemmas.Option.{same_Some}
+use Rattle.std.proofs.Common.{◌≡◌, ◌⊎◌, ⊎_elim, inl, inr, ℕ, zero, suc, ◌<◌, ◌≤◌, List, [], ◌∷◌, ◌++◌, map, slice_get, Contains, refl, sym, ap, ◌∙◌, subst, arith}
 use Rattle.std.specs.Prelude.{Result, Ok, Err, OnOk, IfErr}
 use Rattle.std.specs.Result.{IsErrAnd}
 use Rattle.std.proofs.lemmas.Result.{err_from_is_err_and}
@@ -7,13 +8,17 @@ use Rattle.std.specs.Option.{option_to_list}
 use Rattle.std.specs.Prelude.{Option, slice_index_or}
 use Rattle.ig_expr.specs.declared.value.Value.{Value}
 use Rattle.ig_item.specs.declared.items.Item as stored
+use Rattle.std.specs.Prelude.{IsTrue, Some, None, true, false, Bool, ◌↔◌}
+use Rattle.ig_expr.specs.Expression.{Expression}
+use Rattle.ig_expr.specs.Evaluation.{value_of}
+use Rattle.ig_expr.specs.declared.value.Value.TheVariants.{Bool as truth}
 use Rattle.ig_item.specs.Items.{Item, past}
 use Rattle.ig_item.specs.declared.run_fault.RunFault.{RunFault}
 use Rattle.ig_item.specs.declared.run_fault.RunFault.TheVariants.{Budget, Memory}
 use Rattle.ig_item.specs.declared.items.InstanceKey.{InstanceKey}
 use Rattle.ig_plain.specs.Tables.{item_by}
 use Rattle.ig_plain.specs.declared.found.Found.{Found}
-use Rattle.ig_plain.specs.Found.{means, found_in, later_in, count, Named, AreNamed, Grows, Has, Adds}
+use Rattle.ig_plain.specs.Found.{means, found_in, later_in, count, Named, AreNamed, Grows, GrowsLater, Has, Adds, AddsLater}
 use Rattle.ig_plain.proofs.Lists.{left_contains, right_contains, mapped_in}
 use Rattle.ig_plain.proofs.Growth.{grows_not, grows_weaker, grows_then, all_kept, named_all}
 use Rattle.ig_plain.proofs.Sets.{extends_itself}
@@ -106,16 +111,71 @@ module _ (p : ℕ) where
       }
   adds_here budget a b x (Err f) g envs keys c within fault = record { grows = g; has = tt; within = tt; fault = fault }
 
-  pub adds_later : (budget : ℕ) (a b : Found) (x : stored.Item) (r : Result (Unit {0}) RunFault) → Grows p (λ y. y ≡ means a x) a b →
-      b.envs.keys ≡ a.envs.keys → b.keys.keys ≡ a.keys.keys → Contains b.later.items x →
-      OnOk r (count b ≤ budget) → IfErr r (λ f. f ≡ Budget → budget < count b) → Adds p (λ y. y ≡ means a x) budget a b r
-  adds_later budget a b x (Ok u) g envs keys c within fault =
-      record {
-        grows = g;
-        has = λ y e.
-          right_contains (found_in b) (later_in b) y
-          (subst (Contains (later_in b)) (same_means a b x envs keys ∙ sym e) (mapped_in (means b) b.later.items x c));
-        within = λ h. within;
-        fault = tt;
-      }
-  adds_later budget a b x (Err f) g envs keys c within fault = record { grows = g; has = tt; within = tt; fault = fault }
+
+  -- where a condition holds, and where it doesn't
+  pub adds_where : (C : Type 0) (may : Item → Type 0) (budget : ℕ) (a b : Found) (r : Result (Unit {0}) RunFault) → C → Adds p may budget a b r →
+      Adds p (λ x. C × may x) budget a b r
+  adds_where C may budget a b r holds d = adds_alike may (λ x. C × may x) budget a b r (λ x m. (holds, m)) (λ x m. m.1) d
+
+  pub adds_nowhere : (C : Type 0) (may : Item → Type 0) (budget : ℕ) (a : Found) → (C → ⊥) → Adds p (λ x. C × may x) budget a a (Ok tt)
+  adds_nowhere C may budget a never = adds_nothing (λ x. C × may x) budget a (λ x m. absurd (never m.0))
+
+  -- with the one value that there is
+  pub adds_with : {V : Type 0} (C : V → Type 0) (may : V → Item → Type 0) (v : V) (budget : ℕ) (a b : Found) (r : Result (Unit {0}) RunFault) →
+      C v → ((w : V) → C w → w ≡ v) → Adds p (may v) budget a b r → Adds p (λ x. (w : V) × C w × may w x) budget a b r
+  adds_with {V} C may v budget a b r holds only d =
+      adds_alike (may v) (λ x. (w : V) × C w × may w x) budget a b r (λ x m. (v, holds, m))
+      (λ x m. subst (λ (w : V). may w x) (only m.0 m.1) m.2) d
+
+  pub adds_without : {V : Type 0} (C : V → Type 0) (may : V → Item → Type 0) (budget : ℕ) (a : Found) → ((w : V) → C w → ⊥) →
+      Adds p (λ x. (w : V) × C w × may w x) budget a a (Ok tt)
+  adds_without {V} C may budget a never = adds_nothing (λ x. (w : V) × C w × may w x) budget a (λ x m. absurd (never m.0 m.1))
+
+-- an item was added at a later position
+pub later_added : (p budget : ℕ) (x : Item) (a b : Found) (y : stored.Item) (r : Result (Unit {0}) RunFault) → GrowsLater p x a b →
+    OnOk r (count b ≤ budget) → IfErr r (λ f. f ≡ Budget → budget < count b) → AddsLater p x budget a b r
+later_added p budget x a b y (Ok u) g within fault = (g, within)
+later_added p budget x a b y (Err f) g within fault = λ e. (g, fault e)
+
+-- what a test says
+pub true_at : (b : Bool) (P : Type 0) → IsTrue b ↔ P → b ≡ true → P
+true_at b P e t = e.0 t
+
+pub false_at : (b : Bool) (P : Type 0) → IsTrue b ↔ P → b ≡ false → P → ⊥
+false_at b P e f q = let never : false ≡ true = sym f ∙ e.1 q in cc
+
+pub holds_at : (text : List ℕ) (names : List (List ℕ)) (here : ℕ) (env values : List Value) (e : Expression) (b : Bool) → values ≡ env →
+    IsTrue b ↔ (value_of text names values here e ≡ Some (truth true)) → b ≡ true → value_of text names env here e ≡ Some (truth true)
+holds_at text names here env values e b same told t =
+    subst (λ (z : List Value). value_of text names z here e ≡ Some (truth true)) same (true_at b _ told t)
+
+pub fails_at : (text : List ℕ) (names : List (List ℕ)) (here : ℕ) (env values : List Value) (e : Expression) (b : Bool) → values ≡ env →
+    IsTrue b ↔ (value_of text names values here e ≡ Some (truth true)) → b ≡ false → value_of text names env here e ≡ Some (truth true) → ⊥
+fails_at text names here env values e b same told f q =
+    false_at b _ told f (subst (λ (z : List Value). value_of text names z here e ≡ Some (truth true)) (sym same) q)
+
+pub value_at : (text : List ℕ) (names : List (List ℕ)) (here : ℕ) (env values : List Value) (e : Expression) (r o : Option Value) → values ≡ env →
+    r ≡ value_of text names values here e → r ≡ o → value_of text names env here e ≡ o
+value_at text names here env values e r o same told is =
+    ap (λ (z : List Value). value_of text names z here e) (sym same) ∙ sym told ∙ is
+
+pub value_only : (o : Option Value) (v w : Value) → o ≡ Some v → o ≡ Some w → w ≡ v
+value_only o v w a b = let e : Some w ≡ Some v = sym b ∙ a in cc
+
+pub value_none : (o : Option Value) (w : Value) → o ≡ None → o ≡ Some w → ⊥
+value_none o w a b = let e : None ≡ Some w = sym a ∙ b in cc
+
+-- where one of the expressions has no value, they have no values
+pub no_values : {A B : Type 0} (g : A → B) (f : B → Option Value) (xs : List A) (vs : List Value) (i : ℕ) (x : A) → slice_get xs i ≡ Some x →
+    f (g x) ≡ None → map f (map g xs) ≡ map Some vs → ⊥
+no_values g f [] vs i x at none e = cc
+no_values g f (y ∷ xs) [] i x at none e = cc
+no_values g f (y ∷ xs) (v ∷ vs) zero x at none e =
+    let same = same_Some y x at in let a : f (g y) ≡ Some v = head e in let b : Some v ≡ None = sym a ∙ ap (λ z. f (g z)) same ∙ none in cc
+  where
+    head : {a b : Option Value} {us ws : List (Option Value)} → a ∷ us ≡ b ∷ ws → a ≡ b
+    head h = cc
+no_values g f (y ∷ xs) (v ∷ vs) (suc i) x at none e = no_values g f xs vs i x at none (tail e)
+  where
+    tail : {a b : Option Value} {us ws : List (Option Value)} → a ∷ us ≡ b ∷ ws → us ≡ ws
+    tail h = cc

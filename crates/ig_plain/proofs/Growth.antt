@@ -97,21 +97,19 @@ module _ (p : ℕ) where
       b.here.keys ≡ a.here.keys → b.later.items ≡ a.later.items → Grows p may a b
   grows_not may a b envs once keys done here later =
       record {
-        envs = envs; envs_once = once; keys = keys; done = done;
+        envs = envs; envs_once = once; keys = keys; done = done; later = later;
         here = record { more = []; is = here ∙ sym (append-nil a.here.keys) };
-        later = record { more = []; is = later ∙ sym (append-nil a.later.items) };
         here_once = λ n. subst NoneTwice (sym here) n;
-        named = λ x c. ⊎_elim (λ (h : Contains [] x). absurd (none_in x h)) (λ (h : Contains [] x). absurd (none_in x h)) c;
+        named = λ x c. absurd (none_in x c);
         at = λ x c. absurd (none_in x c);
-        behind = λ x c. absurd (none_in x c);
-        each = λ x c. ⊎_elim (λ (h : Contains [] x). absurd (none_in x h)) (λ (h : Contains [] x). absurd (none_in x h)) c;
+        each = λ x c. absurd (none_in x c);
       }
 
   pub grows_weaker : (may other : Item → Type 0) (a b : Found) → ((x : Item) → may x → other x) → Grows p may a b → Grows p other a b
   grows_weaker may other a b w g =
       record {
         envs = g.envs; envs_once = g.envs_once; keys = g.keys; done = g.done; here = g.here; later = g.later; here_once = g.here_once;
-        named = g.named; at = g.at; behind = g.behind; each = λ x c. w (means b x) (g.each x c);
+        named = g.named; at = g.at; each = λ x c. w (means b x) (g.each x c);
       }
 
   -- an item was added at the position, if it wasn't there
@@ -125,46 +123,14 @@ module _ (p : ℕ) where
       record {
         envs = record { more = []; is = envs ∙ sym (append-nil a.envs.keys) };
         envs_once = λ n. subst NoneTwice (sym envs) n;
-        keys = keys; done = done; here = here;
-        later = record { more = []; is = later ∙ sym (append-nil a.later.items) };
+        keys = keys; done = done; here = here; later = later;
         here_once = once;
-        named = λ y c.
-          ⊎_elim
-          (λ (h : Contains here.more y).
+        named = λ y h.
           subst (λ (z : stored.Item). Named b z) (sym (only y h))
           (subst (λ (z : List (List Value)). IsNamed z b.keys.keys x) (sym envs)
-          (subst (λ (z : List InstanceKey). IsNamed a.envs.keys z x) (sym keys) named)))
-          (λ (h : Contains [] y). absurd (none_in y h)) c;
+          (subst (λ (z : List InstanceKey). IsNamed a.envs.keys z x) (sym keys) named));
         at = λ y c. ap (λ (z : stored.Item). z.position) (only y c) ∙ at;
-        behind = λ y c. absurd (none_in y c);
-        each = λ y c.
-          ⊎_elim (λ (h : Contains here.more y). ap (means b) (only y h) ∙ same x) (λ (h : Contains [] y). absurd (none_in y h)) c;
-      }
-
-  -- an item was added at a later position
-  pub grows_later : (a b : Found) (x : stored.Item) → Named a x → p < x.position → b.envs.keys ≡ a.envs.keys →
-      b.keys.keys ≡ a.keys.keys → b.done.items ≡ a.done.items → b.here.keys ≡ a.here.keys → b.later.items ≡ a.later.items ++ x ∷ [] →
-      Grows p (λ y. y ≡ means a x) a b
-  grows_later a b x named ahead envs keys done here later =
-      let same : (y : stored.Item) → item_by b.envs.keys b.keys.keys y ≡ item_by a.envs.keys a.keys.keys y =
-      λ y. ap (λ (z : List (List Value)). item_by z b.keys.keys y) envs ∙ ap (λ (z : List InstanceKey). item_by a.envs.keys z y) keys in
-      record {
-        envs = record { more = []; is = envs ∙ sym (append-nil a.envs.keys) };
-        envs_once = λ n. subst NoneTwice (sym envs) n;
-        keys = keys; done = done;
-        here = record { more = []; is = here ∙ sym (append-nil a.here.keys) };
-        later = record { more = x ∷ []; is = later };
-        here_once = λ n. subst NoneTwice (sym here) n;
-        named = λ y c.
-          ⊎_elim (λ (h : Contains [] y). absurd (none_in y h))
-          (λ (h : Contains (x ∷ []) y).
-          subst (λ (z : stored.Item). Named b z) (sym (one_in x y h))
-          (subst (λ (z : List (List Value)). IsNamed z b.keys.keys x) (sym envs)
-          (subst (λ (z : List InstanceKey). IsNamed a.envs.keys z x) (sym keys) named))) c;
-        at = λ y c. absurd (none_in y c);
-        behind = λ y c. subst (λ (z : stored.Item). p < z.position) (sym (one_in x y c)) ahead;
-        each = λ y c.
-          ⊎_elim (λ (h : Contains [] y). absurd (none_in y h)) (λ (h : Contains (x ∷ []) y). ap (means b) (one_in x y h) ∙ same x) c;
+        each = λ y h. ap (means b) (only y h) ∙ same x;
       }
 
   pub means_grown : (may : Item → Type 0) (a b : Found) (x : stored.Item) → Grows p may a b → HaveValues a.envs.keys a.keys.keys →
@@ -186,31 +152,19 @@ module _ (p : ℕ) where
       Grows p may a c
   grows_then may a b c have g h =
       let have_b = values_grown may a b g have in
-      let each : (x : stored.Item) → Contains g.here.more x ⊎ Contains g.later.more x → may (means c x) =
-      λ x i. subst may (sym (means_grown may b c x h have_b (g.named x i))) (g.each x i) in
-      let sort : (x : stored.Item) → Contains (g.here.more ++ h.here.more) x ⊎ Contains (g.later.more ++ h.later.more) x →
-      (Contains g.here.more x ⊎ Contains g.later.more x) ⊎ (Contains h.here.more x ⊎ Contains h.later.more x) =
-      λ x i.
-      ⊎_elim
-      (λ (k : Contains (g.here.more ++ h.here.more) x).
-      ⊎_elim (λ (m : Contains g.here.more x). inl (inl m)) (λ (m : Contains h.here.more x). inr (inl m)) (contains_sides g.here.more h.here.more x k))
-      (λ (k : Contains (g.later.more ++ h.later.more) x).
-      ⊎_elim (λ (m : Contains g.later.more x). inl (inr m)) (λ (m : Contains h.later.more x). inr (inr m)) (contains_sides g.later.more h.later.more x k)) i in
       record {
         envs = extends_then a.envs.keys b.envs.keys c.envs.keys g.envs h.envs;
         envs_once = λ n. h.envs_once (g.envs_once n);
-        keys = h.keys ∙ g.keys; done = h.done ∙ g.done;
+        keys = h.keys ∙ g.keys; done = h.done ∙ g.done; later = h.later ∙ g.later;
         here = extends_then a.here.keys b.here.keys c.here.keys g.here h.here;
-        later = extends_then a.later.items b.later.items c.later.items g.later h.later;
         here_once = λ n. h.here_once (g.here_once n);
         named = λ x i.
-          ⊎_elim (λ (k : Contains g.here.more x ⊎ Contains g.later.more x). named_grown may b c x h (g.named x k))
-          (λ (k : Contains h.here.more x ⊎ Contains h.later.more x). h.named x k) (sort x i);
+          ⊎_elim (λ (k : Contains g.here.more x). named_grown may b c x h (g.named x k)) (λ (k : Contains h.here.more x). h.named x k)
+          (contains_sides g.here.more h.here.more x i);
         at = λ x i. ⊎_elim (λ (k : Contains g.here.more x). g.at x k) (λ (k : Contains h.here.more x). h.at x k) (contains_sides g.here.more h.here.more x i);
-        behind = λ x i. ⊎_elim (λ (k : Contains g.later.more x). g.behind x k) (λ (k : Contains h.later.more x). h.behind x k) (contains_sides g.later.more h.later.more x i);
         each = λ x i.
-          ⊎_elim (λ (k : Contains g.here.more x ⊎ Contains g.later.more x). each x k)
-          (λ (k : Contains h.here.more x ⊎ Contains h.later.more x). h.each x k) (sort x i);
+          ⊎_elim (λ (k : Contains g.here.more x). subst may (sym (means_grown may b c x h have_b (g.named x k))) (g.each x k))
+          (λ (k : Contains h.here.more x). h.each x k) (contains_sides g.here.more h.here.more x i);
       }
 
 -- all of what is found stays
@@ -220,38 +174,40 @@ named_all p may a b n g =
       values = values_grown p may a b g n.values;
       done = λ x c. named_grown p may a b x g (n.done x (subst (λ (z : List stored.Item). Contains z x) g.done c));
       here = λ x c.
-        ⊎_elim (λ (h : Contains a.here.keys x). named_grown p may a b x g (n.here x h)) (λ (h : Contains g.here.more x). g.named x (inl h))
+        ⊎_elim (λ (h : Contains a.here.keys x). named_grown p may a b x g (n.here x h)) (λ (h : Contains g.here.more x). g.named x h)
         (extends_cases a.here.keys b.here.keys x g.here c);
-      later = λ x c.
-        ⊎_elim (λ (h : Contains a.later.items x). named_grown p may a b x g (n.later x h)) (λ (h : Contains g.later.more x). g.named x (inr h))
-        (extends_cases a.later.items b.later.items x g.later c);
+      later = λ x c. named_grown p may a b x g (n.later x (subst (λ (z : List stored.Item). Contains z x) g.later c));
     }
-
--- a stored item that stays means what it meant
-pub means_there : (p : ℕ) (may : Item → Type 0) (a b : Found) → AreNamed a → Grows p may a b → (xs ys : List stored.Item) →
-    ((x : stored.Item) → Contains xs x → Named a x) → ((x : stored.Item) → Contains xs x → Contains ys x) → (x : Item) →
-    Contains (map (means a) xs) x → Contains (map (means b) ys) x
-means_there p may a b n g xs ys named into x c =
-    let u = unmapped_in (means a) xs x c in
-    subst (Contains (map (means b) ys)) (means_grown p may a b u.0 g n.values (named u.0 u.1) ∙ u.2)
-    (mapped_in (means b) ys u.0 (into u.0 u.1))
 
 pub found_named : (a : Found) → AreNamed a → (x : stored.Item) → Contains (a.done.items ++ a.here.keys) x → Named a x
 found_named a n x c = ⊎_elim (n.done x) (n.here x) (contains_sides a.done.items a.here.keys x c)
 
+pub means_list : (p : ℕ) (may : Item → Type 0) (a b : Found) → AreNamed a → Grows p may a b → (xs : List stored.Item) →
+    ((x : stored.Item) → Contains xs x → Named a x) → map (means b) xs ≡ map (means a) xs
+means_list p may a b n g xs named = same_map (means b) (means a) xs (λ x c. means_grown p may a b x g n.values (named x c))
+
+pub later_same : (p : ℕ) (may : Item → Type 0) (a b : Found) → AreNamed a → Grows p may a b → later_in b ≡ later_in a
+later_same p may a b n g = ap (map (means b)) g.later ∙ means_list p may a b n g a.later.items n.later
+
+-- what was found, and then what was added
+pub found_grown : (p : ℕ) (may : Item → Type 0) (a b : Found) → AreNamed a → (g : Grows p may a b) →
+    found_in b ≡ found_in a ++ map (means b) g.here.more
+found_grown p may a b n g =
+    let lists : b.done.items ++ b.here.keys ≡ (a.done.items ++ a.here.keys) ++ g.here.more =
+    ap (λ (z : List stored.Item). z ++ b.here.keys) g.done ∙ ap (λ (z : List stored.Item). a.done.items ++ z) g.here.is ∙
+    sym (append_assoc a.done.items a.here.keys g.here.more) in
+    ap (map (means b)) lists ∙ map-append (means b) (a.done.items ++ a.here.keys) g.here.more ∙
+    ap (λ (z : List Item). z ++ map (means b) g.here.more)
+    (means_list p may a b n g (a.done.items ++ a.here.keys) (found_named a n))
+
 pub found_kept : (p : ℕ) (may : Item → Type 0) (a b : Found) → AreNamed a → Grows p may a b → (x : Item) → Contains (found_in a) x →
     Contains (found_in b) x
 found_kept p may a b n g x c =
-    means_there p may a b n g (a.done.items ++ a.here.keys) (b.done.items ++ b.here.keys) (found_named a n)
-    (λ y h.
-    ⊎_elim (λ (k : Contains a.done.items y). left_contains b.done.items b.here.keys y (subst (λ (z : List stored.Item). Contains z y) (sym g.done) k))
-    (λ (k : Contains a.here.keys y). right_contains b.done.items b.here.keys y (extends_in a.here.keys b.here.keys y g.here k))
-    (contains_sides a.done.items a.here.keys y h)) x c
+    subst (λ (z : List Item). Contains z x) (sym (found_grown p may a b n g)) (left_contains (found_in a) (map (means b) g.here.more) x c)
 
 pub later_kept : (p : ℕ) (may : Item → Type 0) (a b : Found) → AreNamed a → Grows p may a b → (x : Item) → Contains (later_in a) x →
     Contains (later_in b) x
-later_kept p may a b n g x c =
-    means_there p may a b n g a.later.items b.later.items n.later (λ y h. extends_in a.later.items b.later.items y g.later h) x c
+later_kept p may a b n g x c = subst (λ (z : List Item). Contains z x) (sym (later_same p may a b n g)) c
 
 pub all_kept : (p : ℕ) (may : Item → Type 0) (a b : Found) → AreNamed a → Grows p may a b → (x : Item) →
     Contains (found_in a ++ later_in a) x → Contains (found_in b ++ later_in b) x
@@ -264,21 +220,7 @@ all_kept p may a b n g x c =
 pub found_from : (p : ℕ) (may : Item → Type 0) (a b : Found) → AreNamed a → Grows p may a b → (x : Item) → Contains (found_in b) x →
     Contains (found_in a) x ⊎ may x
 found_from p may a b n g x c =
-    let u = unmapped_in (means b) (b.done.items ++ b.here.keys) x c in
-    let old : Contains (a.done.items ++ a.here.keys) u.0 → Contains (found_in a) x =
-    λ h. subst (Contains (found_in a)) (sym (means_grown p may a b u.0 g n.values (found_named a n u.0 h)) ∙ u.2) (mapped_in (means a) (a.done.items ++ a.here.keys) u.0 h) in
-    ⊎_elim
-    (λ (h : Contains b.done.items u.0). inl (old (left_contains a.done.items a.here.keys u.0 (subst (λ (z : List stored.Item). Contains z u.0) g.done h))))
-    (λ (h : Contains b.here.keys u.0).
-    ⊎_elim (λ (k : Contains a.here.keys u.0). inl (old (right_contains a.done.items a.here.keys u.0 k)))
-    (λ (k : Contains g.here.more u.0). inr (subst may u.2 (g.each u.0 (inl k)))) (extends_cases a.here.keys b.here.keys u.0 g.here h))
-    (contains_sides b.done.items b.here.keys u.0 u.1)
-
-pub later_from : (p : ℕ) (may : Item → Type 0) (a b : Found) → AreNamed a → Grows p may a b → (x : Item) → Contains (later_in b) x →
-    Contains (later_in a) x ⊎ may x
-later_from p may a b n g x c =
-    let u = unmapped_in (means b) b.later.items x c in
-    ⊎_elim
-    (λ (k : Contains a.later.items u.0).
-    inl (subst (Contains (later_in a)) (sym (means_grown p may a b u.0 g n.values (n.later u.0 k)) ∙ u.2) (mapped_in (means a) a.later.items u.0 k)))
-    (λ (k : Contains g.later.more u.0). inr (subst may u.2 (g.each u.0 (inr k)))) (extends_cases a.later.items b.later.items u.0 g.later u.1)
+    ⊎_elim (λ (h : Contains (found_in a) x). inl h)
+    (λ (h : Contains (map (means b) g.here.more) x).
+    let u = unmapped_in (means b) g.here.more x h in inr (subst may u.2 (g.each u.0 u.1)))
+    (contains_sides (found_in a) (map (means b) g.here.more) x (subst (λ (z : List Item). Contains z x) (found_grown p may a b n g) c))

@@ -3,3 +3,16 @@ pub mod Equality
 pub mod Sets
 pub mod Growth
 pub mod Additions
+pub mod Following
+pub mod Distinct
+pub mod Terminals
+pub mod Running
+pub mod Firsts
+pub mod Waiters
+pub mod Returns
+pub mod Completes
+pub mod Moving
+pub mod Instances
+pub mod Calls
+pub mod Calling
+pub mod Alone

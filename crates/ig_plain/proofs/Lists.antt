@@ -97,6 +97,11 @@ module _ {X : Type 0} where
       let at = at_from_contains (take n xs) x c in
       let w = within_take xs n at.0 x at.1 in contains_from_at xs at.0 x w.1
 
+  pub take_step : (xs : List X) (n : ℕ) (x : X) → slice_get xs n ≡ Some x → take (suc n) xs ≡ take n xs ++ x ∷ []
+  take_step [] n x e = cc
+  take_step (y ∷ xs) zero x e = ap (λ (z : X). z ∷ []) (same_Some y x e)
+  take_step (y ∷ xs) (suc n) x e = ap (λ (zs : List X). y ∷ zs) (take_step xs n x e)
+
   pub some_at : (xs : List X) (k : ℕ) → k < length xs → (x : X) × (slice_get xs k ≡ Some x)
   some_at [] k lt = absurd (omega arith)
   some_at (x ∷ xs) zero lt = (x, refl)

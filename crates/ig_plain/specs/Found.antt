@@ -1,5 +1,5 @@
 -- The items that a run has found.
-use Rattle.std.specs.Prelude.{◌≡◌, ◌⊎◌, ℕ, ◌+◌, ◌<◌, ◌≤◌, List, ◌++◌, map, length, take, Contains, Result, OnOk, IfErr}
+use Rattle.std.specs.Prelude.{◌≡◌, ℕ, ◌+◌, ◌<◌, ◌≤◌, List, ◌++◌, map, length, take, Contains, Result, Option, OnOk, IfErr, [], ◌∷◌, MatchResult}
 use Rattle.ig_item.specs.Items.{Item}
 use Rattle.ig_item.specs.Tables.{instance_by, HaveValues}
 use Rattle.ig_item.specs.WellKinded.{NoneTwice}
@@ -7,6 +7,8 @@ use Rattle.ig_item.specs.declared.items.Instance.{Instance}
 use Rattle.ig_item.specs.declared.items.Item as stored
 use Rattle.ig_item.specs.declared.run_fault.RunFault.{RunFault}
 use Rattle.ig_item.specs.declared.run_fault.RunFault.TheVariants.{Budget}
+use Rattle.ig_text.specs.declared.pattern.Pattern.{Pattern}
+use Rattle.ig_plain.specs.Rules.{IsBehind}
 use Rattle.ig_plain.specs.declared.found.Found.{Found}
 use Rattle.ig_plain.specs.Tables.{Extends, IsNamed, item_by}
 
@@ -62,19 +64,31 @@ pub record IsStored (p : ℕ) (s : Found) : Type 0 where
   pub here_once : NoneTwice s.here.keys
   pub later_once : NoneTwice s.later.items
 
--- b is a with more items at the position and later, of those that `may` allows; environments were added
+-- b is a with more items at the position, of those that `may` allows; environments were added
 pub record Grows (p : ℕ) (may : Item → Type 0) (a b : Found) : Type 0 where
   pub envs : Extends a.envs.keys b.envs.keys
   pub envs_once : NoneTwice a.envs.keys → NoneTwice b.envs.keys
   pub keys : b.keys.keys ≡ a.keys.keys
   pub done : b.done.items ≡ a.done.items
+  pub later : b.later.items ≡ a.later.items
   pub here : Extends a.here.keys b.here.keys
-  pub later : Extends a.later.items b.later.items
   pub here_once : NoneTwice a.here.keys → NoneTwice b.here.keys
-  pub named : (x : stored.Item) → Contains here.more x ⊎ Contains later.more x → Named b x
+  pub named : (x : stored.Item) → Contains here.more x → Named b x
   pub at : (x : stored.Item) → Contains here.more x → x.position ≡ p
-  pub behind : (x : stored.Item) → Contains later.more x → p < x.position
-  pub each : (x : stored.Item) → Contains here.more x ⊎ Contains later.more x → may (means b x)
+  pub each : (x : stored.Item) → Contains here.more x → may (means b x)
+
+-- b is a with one item at a later position, which stands for x; environments were added
+pub record GrowsLater (p : ℕ) (x : Item) (a b : Found) : Type 0 where
+  pub envs : Extends a.envs.keys b.envs.keys
+  pub envs_once : NoneTwice a.envs.keys → NoneTwice b.envs.keys
+  pub keys : b.keys.keys ≡ a.keys.keys
+  pub done : b.done.items ≡ a.done.items
+  pub here : b.here.keys ≡ a.here.keys
+  pub item : stored.Item
+  pub later : b.later.items ≡ a.later.items ++ item ∷ []
+  pub named : Named b item
+  pub behind : p < item.position
+  pub is : means b item ≡ x
 
 -- all items that `may` allows are found
 abbrev pub Has : (Item → Type 0) → Found → Type 0
@@ -87,3 +101,16 @@ pub record Adds (p : ℕ) (may : Item → Type 0) (budget : ℕ) (a b : Found) (
   pub has : OnOk result (Has may b)
   pub within : OnOk result (count a ≤ budget → count b ≤ budget)
   pub fault : IfErr result (λ f. f ≡ Budget → budget < count b)
+
+-- the same of a function that adds the item x at a later position
+abbrev pub AddsLater : ℕ → Item → ℕ → Found → Found → Result (Unit {0}) RunFault → Type 0
+AddsLater p x budget a b result =
+    MatchResult result (λ u. GrowsLater p x a b × (count b ≤ budget))
+    (λ f. f ≡ Budget → GrowsLater p x a b × (budget < count b))
+
+-- the item behind a terminal was added, at the position or at a later one, if there is one
+pub data AddsTerminal (text : List ℕ) (what : Pattern) (label : Option (List ℕ)) (excluded : List Pattern) (budget p : ℕ) (it : Item) (a b : Found)
+    (result : Result (Unit {0}) RunFault) : Type 0 where
+  here : Adds p (IsBehind text what label excluded it) budget a b result → AddsTerminal text what label excluded budget p it a b result
+  later : (x : Item) → IsBehind text what label excluded it x → ((y : Item) → IsBehind text what label excluded it y → y ≡ x) →
+      AddsLater p x budget a b result → AddsTerminal text what label excluded budget p it a b result

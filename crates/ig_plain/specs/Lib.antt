@@ -1,6 +1,7 @@
 pub mod Names
 pub mod Tables
-pub mod Found
+
 pub mod Rules
+pub mod Found
 pub mod Waiting
 pub mod Run

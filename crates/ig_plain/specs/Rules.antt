@@ -1,12 +1,12 @@
 -- What follows from an item and the items that were taken before it.
-use Rattle.std.specs.Prelude.{◌≡◌, ℕ, List, [], ◌∷◌, Option, Contains, true}
+use Rattle.std.specs.Prelude.{◌≡◌, ℕ, ◌≤◌, List, [], ◌∷◌, Option, Contains, true, option_and_then, slice_get}
 use Rattle.ig_text.specs.Pattern.{Matches}
 use Rattle.ig_text.specs.declared.pattern.Pattern.{Pattern}
 use Rattle.ig_expr.specs.Expression.{Expression}
 use Rattle.ig_expr.specs.declared.value.Value.{Value}
 use Rattle.ig_expr.specs.declared.value.Value.TheVariants.{Bool}
 use Rattle.ig_item.specs.Step.{Step, Test, Bind, Term, Call}
-use Rattle.ig_item.specs.Core.{IsAlternative}
+use Rattle.ig_item.specs.Core.{IsAlternative, alternative_at}
 use Rattle.ig_item.specs.Items.{Item, Calls, IsComplete, StandsBefore, HasValue, MatchesNone, first, past, span_of}
 use Rattle.ig_item.specs.declared.core_grammar.Nonterminal.{Nonterminal}
 use Rattle.ig_item.specs.declared.core_grammar.CoreAlt.{CoreAlt}
@@ -49,3 +49,48 @@ pub record IsPastTerminal (core : List Nonterminal) (text : List ℕ) (it x : It
   pub before : StandsBefore core it names (Term what label excluded)
   pub matches : Matches text what it.position end
   pub is : x ≡ past it (span_of label it.position end) end
+
+-- x is the item after a terminal of that form, before which `it` stands
+abbrev pub IsBehind : List ℕ → Pattern → Option (List ℕ) → List Pattern → Item → Item → Type 0
+IsBehind text what label excluded it x =
+    (j : ℕ) × Matches text what it.position j × MatchesNone text excluded it.position j ×
+    (x ≡ past it (span_of label it.position j) j)
+
+-- x is the first item of an alternative of the instance, which is one of the first n
+pub record IsFirst (core : List Nonterminal) (callee : Instance) (n : ℕ) (x : Item) : Type 0 where
+  pub number : ℕ
+  pub nonterminal : Nonterminal
+  pub alternative : CoreAlt
+  pub has : IsAlternative core callee.nonterminal number nonterminal alternative
+  pub few : number ≤ n
+  pub is : x ≡ first callee number
+
+-- x is the first item of an alternative of the instance
+abbrev pub IsFirstOf : List Nonterminal → Instance → Item → Type 0
+IsFirstOf core callee x =
+    (a : ℕ) × (nonterminal : Nonterminal) × (alternative : CoreAlt) ×
+    IsAlternative core callee.nonterminal a nonterminal alternative × (x ≡ first callee a)
+
+-- the step behind the dot
+abbrev pub step_at : List Nonterminal → ℕ → ℕ → ℕ → Option Step
+step_at core n a dot = option_and_then (λ alternative. slice_get alternative.steps dot) (alternative_at core n a)
+
+-- the item stands before a call
+pub record StandsAtCall (core : List Nonterminal) (it : Item) : Type 0 where
+  pub names : List (List ℕ)
+  pub callee : ℕ
+  pub arguments : List Expression
+  pub label : Option (List ℕ)
+  pub excluded : List Pattern
+  pub before : StandsBefore core it names (Call callee arguments label excluded)
+
+-- x is the item after the call before which `it` stands, where the callee ended at `end`
+pub record IsReturn (core : List Nonterminal) (text : List ℕ) (it : Item) (end : ℕ) (x : Item) : Type 0 where
+  pub call : StandsAtCall core it
+  pub free : MatchesNone text call.excluded it.position end
+  pub is : x ≡ past it (span_of call.label it.position end) end
+
+-- the item stands before that step
+pub record Stands (core : List Nonterminal) (it : Item) (step : Step) : Type 0 where
+  pub names : List (List ℕ)
+  pub before : StandsBefore core it names step

@@ -4,7 +4,7 @@ ghost use Rattle.std.specs.Option.{option_to_list};
 ghost use Rattle.ig_item.specs.Items.{past};
 ghost use Rattle.ig_item.specs.WellKinded.{NoneTwice};
 ghost use Rattle.ig_item.specs.declared.run_fault.RunFault.TheVariants.{Budget};
-ghost use Rattle.ig_plain.specs.Found.{Adds, AreNamed, Named, count, means};
+ghost use Rattle.ig_plain.specs.Found.{Adds, AddsLater, AreNamed, Named, count, means};
 ghost use Rattle.ig_plain.specs.Tables.{Extends, IsPast};
 
 use crate::interning::{enter_item, enter_values};
@@ -42,7 +42,7 @@ pub(crate) fn keep_within(found: &Found, budget: u32) -> Result<(), RunFault>
 }
 
 /// Adds an item at the position, if it isn't there.
-fn add(found: &mut Found, item: Item, budget: u32) -> Result<(), RunFault>
+pub(crate) fn add(found: &mut Found, item: Item, budget: u32) -> Result<(), RunFault>
     requires named { Named found.old item }
     ensures { Adds item.position (λ x. x ≡ means found.old item) budget found.old found.new result }
 {
@@ -50,53 +50,42 @@ fn add(found: &mut Found, item: Item, budget: u32) -> Result<(), RunFault>
     keep_within(found, budget)
 }
 
-/// Adds an item at a later position.
-fn add_later(found: &mut Found, item: Item, position: u32, budget: u32) -> Result<(), RunFault>
-    requires named { Named found.old item }
-    requires later { position < item.position }
-    ensures { Adds position (λ x. x ≡ means found.old item) budget found.old found.new result }
-{
-    let Ok(()) = found.later.push(item) else {
-        return Err(RunFault::Memory);
-    };
-    keep_within(found, budget)
-}
-
-/// Adds an item at the position, or at a later one.
-pub(crate) fn add_at(
-    found: &mut Found,
-    item: Item,
-    position: u32,
-    budget: u32,
-) -> Result<(), RunFault>
-    requires named { Named found.old item }
-    requires onward { position ≤ item.position }
-    ensures { Adds position (λ x. x ≡ means found.old item) budget found.old found.new result }
-{
-    if item.position == position {
-        add(found, item, budget)
-    } else {
-        add_later(found, item, position, budget)
-    }
-}
-
-/// Adds the item after its next step, which bound this value and came to `end`.
+/// Adds the item after its next step, which bound this value and came to `end`, the position.
 pub(crate) fn go_on(
     alloc: Global,
     found: &mut Found,
     item: Item,
     bound: Option<Value>,
     end: u32,
-    position: u32,
     budget: u32,
 ) -> Result<(), RunFault>
     requires named { Named found.old item }
     requires all_named { AreNamed found.old }
-    requires onward { position ≤ end }
-    ensures { Adds position (λ x. x ≡ past (means found.old item) (option_to_list bound) end) budget found.old found.new result }
+    ensures { Adds end (λ x. x ≡ past (means found.old item) (option_to_list bound) end) budget found.old found.new result }
 {
     let behind = past(alloc, &mut found.envs, item, bound, end)?;
-    add_at(found, behind, position, budget)
+    add(found, behind, budget)
+}
+
+/// Adds the item after its next step, which bound this value and came to `end`, a later position.
+pub(crate) fn go_later(
+    alloc: Global,
+    found: &mut Found,
+    item: Item,
+    bound: Option<Value>,
+    end: u32,
+    budget: u32,
+) -> Result<(), RunFault>
+    requires named { Named found.old item }
+    requires all_named { AreNamed found.old }
+    requires later { item.position < end }
+    ensures { AddsLater item.position (past (means found.old item) (option_to_list bound) end) budget found.old found.new result }
+{
+    let behind = past(alloc, &mut found.envs, item, bound, end)?;
+    let Ok(()) = found.later.push(behind) else {
+        return Err(RunFault::Memory);
+    };
+    keep_within(found, budget)
 }
 
 /// The item after its next step, which bound this value and came to `end`. Its environment is added

@@ -7,6 +7,7 @@
 
 mod found;
 mod interning;
+mod moves;
 mod names;
 mod run;
 mod steps;

@@ -3,7 +3,7 @@ use Rattle.std.proofs.Common.{◌≡◌, ℕ, List, [], ◌∷◌, refl, sym, su
 use Rattle.std.specs.Prelude.{Option, Some, None, ◌||◌, ◌⊎◌, codes}
 use Rattle.std.specs.Cmp.Lexicographic.{bytes_decides}
 use Rattle.std.proofs.lemmas.Bool.{cond_both}
-use Rattle.ig_expr.specs.Names.{is_word}
+use Rattle.ig_text.specs.Words.{is_word}
 use Rattle.ig_expr.specs.Expression.{Expression}
 use Rattle.ig_expr.specs.declared.operator.Op.{Op}
 use Rattle.ig_expr.specs.declared.operator.Op.TheVariants as op

@@ -10,8 +10,6 @@ use Rattle.ig_grammar.specs.Laws.{CountsByForm}
 use Rattle.ig_grammar.specs.Alternative.{gathered_alternatives}
 use Rattle.ig_grammar.specs.Regular.{alternatives_inside, alternatives_inside_symbols, alternatives_among, parts, parts_of_symbols, parts_of_alternatives, HasFewerThan}
 use Rattle.ig_grammar.specs.declared.filter.Filter.{Filter}
-use Rattle.ig_grammar.specs.declared.declaration.Param.{Param}
-use Rattle.ig_grammar.specs.declared.declaration.Assoc.{Assoc}
 use Rattle.ig_grammar.specs.declared.declaration.Level.{Level}
 use Rattle.ig_grammar.specs.declared.declaration.Decl.{Decl}
 use Rattle.ig_grammar.specs.declared.grammar.Grammar.{Grammar}
@@ -143,11 +141,11 @@ module _ (by_form : CountsByForm) where
     symbol_fits (rule.unlabelled s r x d) = marked_fits d
 
     marked_fits : {s r : List Token} {x : Symbol} → ReadsMarked s r x → Within 0 (parts x) (alternatives_inside x) s r
-    marked_fits (rule.offside s r x d) = 
+    marked_fits (rule.offside s r x d) =
         one_more x (tree.Offside x) token.Offside s r (by_form.parts_of (tree.Offside x)) (by_form.alternatives_of (tree.Offside x)) (post_fits d)
-    marked_fits (rule.ignore s r x d) = 
+    marked_fits (rule.ignore s r x d) =
         one_more x (tree.Ignore x) token.Ignore s r (by_form.parts_of (tree.Ignore x)) (by_form.alternatives_of (tree.Ignore x)) (post_fits d)
-    marked_fits (rule.align s r x d) = 
+    marked_fits (rule.align s r x d) =
         one_more x (tree.Align x) token.Align s r (by_form.parts_of (tree.Align x)) (by_form.alternatives_of (tree.Align x)) (post_fits d)
     marked_fits (rule.unmarked s r x d) = post_fits d
 

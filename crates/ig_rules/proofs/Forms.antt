@@ -1,25 +1,21 @@
 -- Grammars that are read have only forms that can be written.
-use Rattle.std.proofs.Common.{◌≡◌, List, [], ◌∷◌, sym, subst}
+use Rattle.std.proofs.Common.{List, [], ◌∷◌, sym, subst}
 use Rattle.std.specs.Prelude.{◌≢◌, All, Contains}
-use Rattle.std.proofs.lemmas.List.Elements.{All-head, All-tail, All-nil, All-cons, All-contains}
-use Rattle.ig_text.specs.declared.pattern.Pattern.{Pattern}
-use Rattle.ig_syntax.specs.Token as token
+use Rattle.std.proofs.lemmas.List.Elements.{All-nil, All-cons, All-contains}
 use Rattle.ig_syntax.specs.Token.{Token}
-use Rattle.ig_grammar.specs.Symbol.{Symbol, Offside, Ignore, Align, Filtered, Symbols, Alternatives}
+use Rattle.ig_grammar.specs.Symbol.{Symbol, Symbols, Alternatives}
 use Rattle.ig_grammar.specs.Alternative.{gathered_alternatives}
-use Rattle.ig_grammar.specs.Regular.{MayHaveLabel, MayHaveMark, MayHaveFilters, HasNoEmptyLiteral, pattern_of, StandsWell, SymbolsStandWell, AlternativesStandWell, OfEachLevel}
+use Rattle.ig_grammar.specs.Regular.{OfEachLevel}
 use Rattle.ig_grammar.specs.declared.filter.Filter.{Filter}
 use Rattle.ig_grammar.specs.declared.declaration.DeclKind.{DeclKind}
 use Rattle.ig_grammar.specs.declared.declaration.DeclKind.TheVariants.{Plain}
-use Rattle.ig_grammar.specs.declared.declaration.Param.{Param}
-use Rattle.ig_grammar.specs.declared.declaration.Assoc.{Assoc}
 use Rattle.ig_grammar.specs.declared.declaration.Level.{Level}
 use Rattle.ig_grammar.specs.declared.declaration.Decl.{Decl}
 use Rattle.ig_grammar.specs.declared.grammar.Grammar.{Grammar}
 use Rattle.ig_syntax.specs.Rules as rule
 use Rattle.ig_syntax.specs.Rules.{IsPattern, IsSeparated, IsFilter, IsDeclKind, ReadsFilters, ReadsSign, filtered, ReadsSymbol, ReadsMarked, ReadsPost, ReadsAtom, ReadsAlternatives, ReadsAlternative}
 use Rattle.ig_syntax.specs.Rules.{ReadsAssociativity, ReadsLevel, ReadsLevels, ReadsParameters, ReadsDeclaration, ReadsDeclarations, FollowsRules}
-use Rattle.ig_rules.specs.Written.{IsWritten, SymbolsAreWritten, AlternativesAreWritten, HasText}
+use Rattle.ig_rules.specs.Written.{IsWritten, SymbolsAreWritten, AlternativesAreWritten}
 use Rattle.ig_rules.proofs.Tails.{expression_written, arguments_written}
 
 -- forms that can be written

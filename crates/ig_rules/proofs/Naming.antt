@@ -1,12 +1,10 @@
 -- Each name in a grammar that is read is that of a token.
-use Rattle.std.proofs.Common.{◌≡◌, ℕ, List, [], ◌∷◌, ◌++◌, Some, None, subst}
-use Rattle.std.specs.Prelude.{All, Contains}
+use Rattle.std.proofs.Common.{◌≡◌, ℕ, List, [], ◌∷◌, Some, subst}
+use Rattle.std.specs.Prelude.{All}
 use Rattle.std.specs.List.{flat_map}
 use Rattle.std.proofs.lemmas.List.Elements.{All-nil, All-cons, All-append, All-contains}
 use Rattle.ig_expr.specs.Expression.{Expression}
-use Rattle.ig_syntax.specs.Token as token
 use Rattle.ig_syntax.specs.Token.{Token}
-use Rattle.ig_grammar.specs.Symbol as tree
 use Rattle.ig_grammar.specs.Symbol.{Symbol}
 use Rattle.ig_grammar.specs.Condition.{variables}
 use Rattle.ig_grammar.specs.declared.declaration.Param.{Param}
@@ -16,7 +14,7 @@ use Rattle.ig_syntax.specs.Rules as rule
 use Rattle.ig_syntax.specs.Rules.{IsSeparated, ReadsTerm, ReadsExpression, ReadsArguments, ReadsSign, ReadsParameters, ReadsDeclaration, ReadsDeclarations, FollowsRules}
 use Rattle.ig_rules.specs.Names.{IsName, own_names, HasName, HasNames}
 use Rattle.ig_rules.proofs.Tails.{Facts, tail, head, behind, term_tail, expression_tail, declaration_tail}
-use Rattle.ig_rules.proofs.Standing.{Gives, Fits, grammar_holds}
+use Rattle.ig_rules.proofs.Standing.{Gives, grammar_holds}
 
 abbrev AreNames : List (List ℕ) → Type 0
 AreNames names = All IsName names

@@ -1,7 +1,7 @@
 -- Tokens read as one term, expression or list of arguments at most.
 use Rattle.std.proofs.Common.{◌≡◌, ℕ, List, [], ◌∷◌, refl, sym, ap, subst, true, false}
 use Rattle.std.specs.Prelude.{Option, Some, None, codes, if◌then◌else◌}
-use Rattle.ig_expr.specs.Names.{is_word}
+use Rattle.ig_text.specs.Words.{is_word}
 use Rattle.ig_expr.specs.Expression.{Expression, Integer, Truth, Variable, Binary, Of, Same as SameAs, Spells}
 use Rattle.ig_expr.specs.Expression as tree
 use Rattle.ig_expr.specs.declared.operator.Op.{Op}

@@ -1,5 +1,5 @@
 -- Labels, marks, signs and filters of a grammar that is read stand where they may, and no literal is empty.
-use Rattle.std.proofs.Common.{◌≡◌, ℕ, List, [], ◌∷◌, ◌++◌}
+use Rattle.std.proofs.Common.{List, [], ◌∷◌}
 use Rattle.std.specs.Prelude.{All, map}
 use Rattle.std.specs.List.{flat_map}
 use Rattle.std.proofs.lemmas.List.Elements.{All-nil, All-cons, All-append}
@@ -8,7 +8,6 @@ use Rattle.ig_text.specs.declared.pattern.Pattern.TheVariants.{Literal as Spelle
 use Rattle.ig_expr.specs.Expression.{Expression}
 use Rattle.ig_syntax.specs.Token as token
 use Rattle.ig_syntax.specs.Token.{Token}
-use Rattle.ig_grammar.specs.Symbol as tree
 use Rattle.ig_grammar.specs.Symbol.{Symbol, Seq}
 use Rattle.ig_grammar.specs.Regular.{MayHaveFilters, MayHaveSign, MayHaveLabel, MayBeSeparated, HasNoEmptyLiteral, patterns_in, pattern_of, IsPlaced, AlternativesStandWell, OfEachLevel}
 use Rattle.ig_grammar.specs.declared.filter.Filter.{Filter}

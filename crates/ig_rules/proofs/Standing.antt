@@ -1,7 +1,7 @@
 -- What the tokens give for each symbol holds of all symbols in a grammar that is read.
-use Rattle.std.proofs.Common.{◌≡◌, ◌∙◌, ℕ, List, [], ◌∷◌, ◌++◌, sym, subst, refl}
-use Rattle.std.specs.Prelude.{All, Contains}
-use Rattle.std.proofs.lemmas.List.Elements.{All-head, All-tail, All-nil, All-cons, All-append, All-contains}
+use Rattle.std.proofs.Common.{ℕ, List, [], ◌∷◌, ◌++◌, sym, subst, refl}
+use Rattle.std.specs.Prelude.{All}
+use Rattle.std.proofs.lemmas.List.Elements.{All-head, All-nil, All-cons, All-append, All-contains}
 use Rattle.ig_text.specs.declared.class.Class.{Class}
 use Rattle.ig_expr.specs.Expression.{Expression}
 use Rattle.ig_syntax.specs.Token as token

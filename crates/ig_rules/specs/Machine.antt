@@ -2,7 +2,7 @@
 -- begin, and those above that one may lack. The machine stops at the first token that can't follow.
 use Rattle.std.specs.Prelude.{ℕ, suc, List, [], ◌∷◌, ◌++◌, Bool, true, false, ◌&&◌, ◌||◌, if◌then◌else◌, codes}
 use Rattle.std.specs.Prelude.{Option, Some, None}
-use Rattle.ig_expr.specs.Names.{is_word}
+use Rattle.ig_text.specs.Words.{is_word}
 use Rattle.ig_syntax.specs.Token.{Token, Name, Head, Number, Literal, OneOf, Semicolon, Equals, Bar, Greater, Colon, Comma, Open, Close, OpenBrace, CloseBrace, Question, Star, Plus, Minus, Backslash, NotFollowedBy, NotPrecededBy, EqualTo, NotEqualTo, Less, AtMost, AtLeast}
 use Rattle.ig_syntax.specs.Token.{Start, Syntax, Lexical, Layout, Left, Right, Nonassoc, Offside, Ignore, Align, When, Let, Here, True, False, And, Or, Not, Div, Mod, Int, Bool as BoolWord, Span}
 

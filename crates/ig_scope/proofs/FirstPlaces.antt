@@ -9,7 +9,8 @@ use Rattle.std.proofs.lemmas.Bool.Decides.{nat_tests, same_from_decides}
 use Rattle.std.proofs.lemmas.List.{map_more, length-take-le, length-map}
 use denote.Ref.{Bor}
 use Rattle.indexmap.specs.IndexMap.{IndexMap, get_by}
-use Rattle.ig_expr.specs.Names.{is_word, place_of}
+use Rattle.ig_text.specs.Words.{is_word}
+use Rattle.ig_expr.specs.Names.{place_of}
 use Rattle.ig_grammar.specs.Names.{names}
 use Rattle.ig_grammar.specs.declared.declaration.Decl.{Decl}
 use Rattle.ig_scope.specs.Tables.{HasPlaces}

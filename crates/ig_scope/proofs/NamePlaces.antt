@@ -3,7 +3,8 @@ use Rattle.std.proofs.Common.{◌≡◌, ℕ, zero, suc, ◌<◌, ◌+◌, List,
 use Rattle.std.specs.Prelude.{Contains, is_some, option_map, IsTrue, ◌↔◌}
 use Rattle.std.specs.List.{zip}
 use Rattle.std.specs.Cmp.Lexicographic.{bytes_decides}
-use Rattle.ig_expr.specs.Names.{is_word, place_of}
+use Rattle.ig_text.specs.Words.{is_word}
+use Rattle.ig_expr.specs.Names.{place_of}
 use Rattle.ig_expr.specs.Expression.{Expression}
 use Rattle.ig_expr.specs.Kinds.{kind_in}
 use Rattle.ig_expr.specs.declared.kind.Kind.{Kind}

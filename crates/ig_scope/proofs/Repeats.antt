@@ -8,7 +8,8 @@ use Rattle.std.proofs.lemmas.List.{take-map, map_more}
 use Rattle.std.proofs.lemmas.Option.{slice_get-get_or}
 use denote.Ref.{Bor}
 use Rattle.indexmap.specs.IndexSet.{insert_key}
-use Rattle.ig_expr.specs.Names.{is_word, place_of}
+use Rattle.ig_text.specs.Words.{is_word}
+use Rattle.ig_expr.specs.Names.{place_of}
 use Rattle.ig_grammar.specs.Names.{names as declared_names}
 use Rattle.ig_grammar.specs.Visible.{names, parameters}
 use Rattle.ig_grammar.specs.declared.declaration.Param.{Param}

@@ -6,13 +6,13 @@ use Rattle.std.proofs.lemmas.Bool.Decides.{nat_tests}
 use Rattle.ig_text.specs.Ranges.{IsNormalFrom, NoneFalls, NormalFormIsNormal, NormalRangesStay, normal_form, is_among}
 use Rattle.ig_text.specs.declared.class.Class.{Class}
 use Rattle.ig_text.specs.declared.class.Class.TheVariants as class
-use Rattle.ig_expr.specs.Names.{is_word}
+use Rattle.ig_text.specs.Words.{is_word}
 use Rattle.ig_expr.specs.Reading.{spelled}
 use Rattle.ig_syntax.specs.Token as token
 use Rattle.ig_syntax.specs.Token.{Token}
 use Rattle.ig_syntax.specs.Spelling.{IsToken, entry, signs, keywords, named_classes, is_one_of, literal_signs, class_signs, IsLetter, SpellsText, SpellsRanges}
 use Rattle.ig_syntax.specs.Spelling as table
-use Rattle.ig_text.proofs.Tables.{found_row}
+use Rattle.ig_syntax.proofs.Tables.{found_row}
 use Rattle.ig_show.specs.Spelling.{spelling, numeral, literal_character, class_character, range_spelling, control_or, escape}
 use Rattle.ig_show.proofs.Numerals.{spells_numeral}
 

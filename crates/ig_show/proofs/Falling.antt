@@ -2,8 +2,8 @@
 use Rattle.std.proofs.Common.{◌≡◌, ◌∙◌, ap, sym, ℕ, suc, zero, ◌+◌, ◌<◌, ◌≤◌, List, [], ◌∷◌, length, map, arith}
 use Rattle.std.proofs.Math.ListN.{get_or}
 use Rattle.ig_grammar.specs.Symbol as tree
-use Rattle.ig_grammar.specs.Symbol.{nodes, list_nodes}
-use Rattle.ig_grammar.specs.Alternative.{alternatives_nodes}
+use Rattle.ig_grammar.specs.CodingSizes.{nodes, list_nodes}
+use Rattle.ig_grammar.specs.CodingAlternatives.{alternatives_nodes}
 use Rattle.ig_grammar.specs.View.{symbol_of}
 use Rattle.ig_grammar.specs.declared.symbol.Alt.{Alt}
 use Rattle.ig_grammar.specs.declared.symbol.Symbol.{Symbol}

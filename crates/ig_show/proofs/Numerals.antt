@@ -4,7 +4,8 @@ use Rattle.std.specs.List.{list_all}
 use Rattle.std.specs.Fmt.{decimal}
 use Rattle.std.proofs.lemmas.Fmt.{decimal_digit, decimal_step}
 use Rattle.std.proofs.lemmas.Bool.Decides.{nat_tests}
-use Rattle.ig_expr.specs.Reading.{is_digit, spelled}
+use Rattle.ig_text.specs.Words.{is_digit}
+use Rattle.ig_expr.specs.Reading.{spelled}
 use Rattle.std.proofs.lemmas.Bool.{and_parts}
 use Rattle.ig_syntax.specs.Spelling.{IsNumeral, nought, digits}
 use Rattle.ig_show.specs.Spelling.{digits_within, numeral}

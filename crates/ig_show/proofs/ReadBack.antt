@@ -1,11 +1,9 @@
 -- A canonical text reads as its grammar, where some text does.
-use Rattle.std.proofs.Common.{◌≡◌, sym, subst, ℕ, List, map}
+use Rattle.std.proofs.Common.{sym, subst, ℕ, List, map}
 use Rattle.ig_syntax.specs.Token.{Token}
 use Rattle.ig_syntax.specs.Rules.{FollowsRules}
 use Rattle.ig_syntax.specs.Lexing as lexing
 use Rattle.ig_syntax.specs.Lexing.{Lexes}
-use Rattle.ig_syntax.specs.Notation.{Reads}
-use Rattle.ig_grammar.specs.declared.grammar.Grammar.{Grammar}
 use Rattle.ig_text.specs.Ranges.{NormalFormIsNormal, NormalRangesStay}
 use Rattle.ig_tokens.specs.Laws.{EndedTokensAreLongest}
 use Rattle.ig_show.specs.CanonicalText.{pieces_of}

@@ -1,5 +1,5 @@
 -- Pieces that are apart, and whose tokens have spellings, have these tokens.
-use Rattle.std.proofs.Common.{◌≡◌, ap, refl, ℕ, ◌+◌, List, [], ◌∷◌, Bool, true, false, not, ◌==◌, map, lit<}
+use Rattle.std.proofs.Common.{◌≡◌, ap, refl, ℕ, ◌+◌, List, [], ◌∷◌, true, false, not, ◌==◌, map, lit<}
 use Rattle.unicode_ident.specs.Ident.{is_xid_continue}
 use Rattle.unicode_ident.proofs.IdentLemmas.{is_xid_continue-ascii}
 use Rattle.ig_text.specs.declared.class.Class.TheVariants as class

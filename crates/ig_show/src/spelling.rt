@@ -133,8 +133,8 @@ fn push_ranges(out: &mut String, ranges: &[(char, char)]) -> Result<(), AllocErr
 
 /// Adds `^` where a class is negated.
 fn push_negation(out: &mut String, negated: bool) -> Result<(), AllocError>
-    ensures { OnOk result (Appends (string_bytes out.old) (string_bytes out.new) (negation negated))
-        }
+    ensures { OnOk result (Appends (string_bytes out.old) (string_bytes out.new)
+        (negation negated)) }
 {
     if negated { push_text(out, "^") } else { Ok(()) }
 }

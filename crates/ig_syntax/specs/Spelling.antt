@@ -1,13 +1,14 @@
 -- How each token of the notation is spelled, and which token stands first in a text.
-use Rattle.std.specs.Prelude.{◌≡◌, ℕ, ◌≤◌, ◌⊎◌, ◌<◌, Bool, true, false, not, List, [], ◌∷◌, ◌++◌, length, Option, Some, None, IsTrue, ◌==◌, codes, if◌then◌else◌}
+use Rattle.std.specs.Prelude.{◌≡◌, ℕ, ◌≤◌, ◌⊎◌, ◌<◌, Bool, true, false, not, List, [], ◌∷◌, ◌++◌, length, Option, Some, IsTrue, ◌==◌, codes, if◌then◌else◌}
 use Rattle.std.specs.Map.{lookup}
 use Rattle.std.specs.List.{list_all, list_any}
 use Rattle.unicode_ident.specs.Ident.{is_xid_continue}
 use Rattle.ig_text.specs.Ranges.{normal_form}
 use Rattle.ig_text.specs.declared.class.Class.{Class}
 use Rattle.ig_text.specs.declared.class.Class.TheVariants.{Ranges, Any, XidStart, XidContinue}
-use Rattle.ig_expr.specs.Names.{is_word}
-use Rattle.ig_expr.specs.Reading.{is_digit, spelled}
+use Rattle.ig_text.specs.Words.{is_word}
+use Rattle.ig_text.specs.Words.{is_digit}
+use Rattle.ig_expr.specs.Reading.{spelled}
 use Rattle.ig_grammar.specs.Name.{is_name}
 use Rattle.ig_syntax.specs.Token as token
 use Rattle.ig_syntax.specs.Token.{Token, Name, Head, Number, Literal, OneOf}

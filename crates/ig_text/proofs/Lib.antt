@@ -11,4 +11,3 @@ pub mod Characters
 pub mod Trees
 pub mod Booleans
 pub mod Numbers
-pub mod Tables

@@ -6,10 +6,12 @@ use Rattle.std.proofs.lemmas.List.{take_at, drop_at, take_all, drop_all}
 use Rattle.std.proofs.lemmas.Bool.Decides.{nat_tests}
 use Rattle.unicode_ident.specs.Ident.{is_xid_continue}
 use Rattle.unicode_ident.proofs.IdentLemmas.{is_xid_continue-ascii}
+use Rattle.ig_text.proofs.Lists.{closed_text}
 use Rattle.ig_text.specs.Ranges.{normal_form}
 use Rattle.ig_text.specs.declared.class.Class.{Class}
 use Rattle.ig_text.specs.declared.class.Class.TheVariants as class
-use Rattle.ig_expr.specs.Reading.{is_digit, spelled}
+use Rattle.ig_text.specs.Words.{is_digit}
+use Rattle.ig_expr.specs.Reading.{spelled}
 use Rattle.ig_syntax.specs.Token as token
 use Rattle.ig_syntax.specs.Token.{Token}
 use Rattle.ig_syntax.specs.Spelling.{entry, signs, keywords, named_classes, is_one_of, blanks, class_signs, begins, may_precede, IsNumeral, nought, digits, IsLetter, bare, escaped, IsToken, StandsFirst, IsSeparator, blank, EndsLine, SpellsText, SpellsRanges, one_character, two_characters}
@@ -137,12 +139,6 @@ number_read (digits c cs d n all) rest h =
     next_digit c (cs ++ rest) d ∙ e ∙ number_here (c ∷ cs) rest h
 
 -- tokens that are closed
-closed_text : (front : List ℕ) (stop : ℕ) (inside rest : List ℕ) →
-    (front ++ (inside ++ stop ∷ [])) ++ rest ≡ front ++ (inside ++ stop ∷ rest)
-closed_text front stop inside rest =
-    append_assoc front (inside ++ stop ∷ []) rest ∙
-    ap (λ (z : List ℕ). front ++ z) (append_assoc inside (stop ∷ []) rest)
-
 pub literal_read : (inside rest : List ℕ) (c : ℕ) (t : List ℕ) → SpellsText inside (c ∷ t) →
     next (34 ∷ (inside ++ 34 ∷ rest)) ≡ scanner.token (token.Literal (c ∷ t)) rest
 literal_read inside rest c t s =

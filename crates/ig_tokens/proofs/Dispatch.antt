@@ -4,7 +4,7 @@ use Rattle.std.specs.Char.{is_ascii_alphabetic}
 use Rattle.std.proofs.lemmas.Bool.Decides.{nat_tests}
 use Rattle.unicode_ident.specs.Ident.{is_xid_start}
 use Rattle.unicode_ident.proofs.IdentLemmas.{is_xid_start-ascii}
-use Rattle.ig_expr.specs.Reading.{is_digit}
+use Rattle.ig_text.specs.Words.{is_digit}
 use Rattle.ig_syntax.specs.Spelling.{is_one_of, blanks}
 use Rattle.ig_tokens.specs.Scanner.{next, word_token, numeral, literal_token, class_token, named_class, sign_token, separator}
 use Rattle.ig_tokens.proofs.Entries.{SignStart}

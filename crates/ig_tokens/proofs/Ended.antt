@@ -1,12 +1,11 @@
 -- A token is the longest where what stands behind it makes none longer.
-use Rattle.std.proofs.Common.{◌≡◌, ◌∙◌, ap, refl, sym, subst, ℕ, List, [], ◌∷◌, ◌++◌, Bool, true, false, cond, not, ◌&&◌, ◌==◌, Option, Some, None, lit<, append_assoc, arith}
+use Rattle.std.proofs.Common.{◌≡◌, ◌∙◌, ap, refl, sym, subst, ℕ, List, [], ◌∷◌, ◌++◌, Bool, true, false, cond, not, ◌==◌, Option, Some, None, append_assoc, arith}
 use Rattle.std.proofs.lemmas.Bool.{and_parts}
 use Rattle.std.proofs.lemmas.Bool.Decides.{nat_tests}
 use Rattle.std.proofs.lemmas.Slice.Eq.{bytes_eq-Decides}
 use Rattle.unicode_ident.specs.Ident.{is_xid_continue}
-use Rattle.unicode_ident.proofs.IdentLemmas.{is_xid_continue-ascii}
-use Rattle.ig_expr.specs.Names.{is_word}
-use Rattle.ig_text.specs.declared.class.Class.{Class}
+use Rattle.ig_text.proofs.Lists.{closed_text}
+use Rattle.ig_text.specs.Words.{is_word}
 use Rattle.ig_syntax.specs.Token as token
 use Rattle.ig_syntax.specs.Token.{Token}
 use Rattle.ig_syntax.specs.Spelling.{IsToken, IsLongest, entry, signs, keywords, named_classes, begins, may_precede}
@@ -98,27 +97,67 @@ each_read : Each IsRead signs
 unfolding signs single_signs
 each_read = (
   λ s h. single_reads 59 token.Semicolon s refl,
-  (λ s h. before_another 61 token.Equals s refl no_equals no_equals_longer h,
-  (λ s h. single_reads 124 token.Bar s refl,
-  (λ s h. before_another 62 token.Greater s refl no_greater no_greater_longer h,
-  (λ s h. single_reads 58 token.Colon s refl,
-  (λ s h. single_reads 44 token.Comma s refl,
-  (λ s h. single_reads 40 token.Open s refl,
-  (λ s h. single_reads 41 token.Close s refl,
-  (λ s h. single_reads 123 token.OpenBrace s refl,
-  (λ s h. single_reads 125 token.CloseBrace s refl,
-  (λ s h. single_reads 63 token.Question s refl,
-  (λ s h. single_reads 42 token.Star s refl,
-  (λ s h. single_reads 43 token.Plus s refl,
-  (λ s h. single_reads 45 token.Minus s refl,
-  (λ s h. single_reads 92 token.Backslash s refl,
-  (λ s h. three 33 62 62 token.NotFollowedBy s refl,
-  (λ s h. three 33 60 60 token.NotPrecededBy s refl,
-  (λ s h. two 61 61 token.EqualTo s refl (λ c. refl),
-  (λ s h. two 33 61 token.NotEqualTo s refl (λ c. refl),
-  (λ s h. before_another 60 token.Less s refl no_less no_less_longer h,
-  (λ s h. two 60 61 token.AtMost s refl (λ c. refl),
-  (λ s h. two 62 61 token.AtLeast s refl (λ c. refl), tt))))))))))))))))))))),
+  (
+    λ s h. before_another 61 token.Equals s refl no_equals no_equals_longer h,
+    (
+      λ s h. single_reads 124 token.Bar s refl,
+      (
+        λ s h. before_another 62 token.Greater s refl no_greater no_greater_longer h,
+        (
+          λ s h. single_reads 58 token.Colon s refl,
+          (
+            λ s h. single_reads 44 token.Comma s refl,
+            (
+              λ s h. single_reads 40 token.Open s refl,
+              (
+                λ s h. single_reads 41 token.Close s refl,
+                (
+                  λ s h. single_reads 123 token.OpenBrace s refl,
+                  (
+                    λ s h. single_reads 125 token.CloseBrace s refl,
+                    (
+                      λ s h. single_reads 63 token.Question s refl,
+                      (
+                        λ s h. single_reads 42 token.Star s refl,
+                        (
+                          λ s h. single_reads 43 token.Plus s refl,
+                          (
+                            λ s h. single_reads 45 token.Minus s refl,
+                            (
+                              λ s h. single_reads 92 token.Backslash s refl,
+                              (
+                                λ s h. three 33 62 62 token.NotFollowedBy s refl,
+                                (
+                                  λ s h. three 33 60 60 token.NotPrecededBy s refl,
+                                  (
+                                    λ s h. two 61 61 token.EqualTo s refl (λ c. refl),
+                                    (
+                                      λ s h. two 33 61 token.NotEqualTo s refl (λ c. refl),
+                                      (
+                                        λ s h. before_another 60 token.Less s refl no_less no_less_longer h,
+                                        (
+                                          λ s h. two 60 61 token.AtMost s refl (λ c. refl),
+                                          (λ s h. two 62 61 token.AtLeast s refl (λ c. refl), tt),
+                                        ),
+                                      ),
+                                    ),
+                                  ),
+                                ),
+                              ),
+                            ),
+                          ),
+                        ),
+                      ),
+                    ),
+                  ),
+                ),
+              ),
+            ),
+          ),
+        ),
+      ),
+    ),
+  ),
 )
 
 sign_read : (cs rest : List ℕ) (t : Token) → entry signs cs ≡ Some t → ends t rest ≡ true → next (cs ++ rest) ≡ scanner.token t rest
@@ -191,11 +230,6 @@ word_ended t rest h e = not_true (begins is_xid_continue rest) e
 keyword_ends : (cs : List ℕ) (t : Token) → entry keywords cs ≡ Some t → ends_as_word t ≡ true
 unfolding keywords
 keyword_ends cs t h = entry_all (λ w u. ends_as_word u) keywords cs t refl h
-
-closed_text : (front : List ℕ) (stop : ℕ) (inside rest : List ℕ) →
-    (front ++ (inside ++ stop ∷ [])) ++ rest ≡ front ++ (inside ++ stop ∷ rest)
-closed_text front stop inside rest =
-    append_assoc front (inside ++ stop ∷ []) rest ∙ ap (λ (z : List ℕ). front ++ z) (append_assoc inside (stop ∷ []) rest)
 
 -- the scanner finds the token
 ended_read : {front : List ℕ} {t : Token} → IsToken front t → (rest : List ℕ) → ends t rest ≡ true →

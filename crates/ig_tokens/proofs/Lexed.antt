@@ -12,7 +12,7 @@ use Rattle.ig_tokens.specs.View.{token_of, placed_of, tokens_of}
 use Rattle.ig_tokens.specs.declared.token.Placed.{Placed}
 use Rattle.ig_tokens.proofs.Sound.{IsSound, next_sound}
 use Rattle.ig_tokens.proofs.Complete.{separator_read}
-use Rattle.ig_tokens.proofs.Longest.{Front, shorter_rest, separator_front, token_front, is_separator, is_longest, is_broken, longest_read, broken_read}
+use Rattle.ig_tokens.proofs.Longest.{shorter_rest, separator_front, token_front, is_separator, is_longest, is_broken, longest_read, broken_read}
 
 -- two ways to say where a rest begins
 same_place : (at n m : ℕ) (text front other rest : List ℕ) → text ≡ front ++ rest → text ≡ other ++ rest → n ≡ at + bytes front →

@@ -2,14 +2,13 @@
 use Rattle.std.proofs.Common.{◌≡◌, ◌∙◌, ℕ, List, [], ◌∷◌, Bool, true, false, cond, not, ◌&&◌, ◌||◌, Option, Some, None, refl, sym, ap, subst}
 use Rattle.std.specs.Prelude.{map}
 use Rattle.std.specs.List.{list_all, list_any}
-use Rattle.std.proofs.lemmas.Bool.{and_parts, or_parts}
+use Rattle.std.proofs.lemmas.Bool.{and_parts}
 use Rattle.std.proofs.lemmas.Bool.Decides.{same_from_decides}
 use Rattle.std.proofs.lemmas.Slice.Eq.{bytes_eq-Decides}
 use Rattle.unicode_ident.specs.Ident.{is_xid_start, is_xid_continue}
 use Rattle.ig_text.specs.declared.class.Class.TheVariants.{XidContinue}
 use Rattle.ig_text.specs.Class.{is_in_class}
-use Rattle.ig_expr.specs.Names.{is_word}
-use Rattle.ig_grammar.specs.Name as words
+use Rattle.ig_text.specs.Words.{is_word}
 use Rattle.ig_grammar.specs.Name.{is_name, is_identifier, is_keyword}
 use Rattle.ig_syntax.specs.Spelling.{entry, keywords}
 use Rattle.ig_tokens.specs.Laws.{KeywordsAreOne}

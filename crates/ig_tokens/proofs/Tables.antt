@@ -1,10 +1,10 @@
 -- Tables of words.
-use Rattle.std.proofs.Common.{◌≡◌, ◌∙◌, ℕ, zero, suc, List, [], ◌∷◌, Bool, true, false, cond, ◌&&◌, ◌==◌, nat_lt, Option, Some, None, option_map, map, length, chars, IsUtf8, IsAscii, encode_utf8_all, refl, sym, ap, subst, arith, lit<}
+use Rattle.std.proofs.Common.{◌≡◌, ◌∙◌, ℕ, List, [], ◌∷◌, Bool, true, false, cond, ◌&&◌, ◌==◌, Option, Some, None, option_map, map, length, chars, IsUtf8, refl, sym, ap, subst, arith}
 use Rattle.std.proofs.lemmas.Bool.{and_parts}
 use Rattle.std.proofs.lemmas.Slice.Eq.{bytes_eq-Decides}
-use Rattle.std.proofs.lemmas.Str.{encodes-chars, IsUtf8-from_ascii, chars-IsAscii}
-use Rattle.std.proofs.lemmas.Bool.Decides.{nat_tests, same_from_decides}
-use Rattle.ig_expr.specs.Names.{is_word}
+use Rattle.std.proofs.lemmas.Bool.Decides.{nat_tests}
+use Rattle.ig_text.specs.Words.{is_word}
+use Rattle.ig_text.proofs.Characters.{ascii, word_of_chars}
 use Rattle.ig_syntax.specs.Token as token
 use Rattle.std.specs.Map.{lookup}
 use Rattle.unicode_ident.specs.Ident.{is_xid_continue}
@@ -13,29 +13,6 @@ use Rattle.ig_syntax.specs.Spelling.{entry, keywords, named_classes, signs}
 use Rattle.ig_tokens.specs.Scanner as scanner
 use Rattle.ig_tokens.specs.Scanner.{run, past, named_class, named_token, sign_token}
 use Rattle.ig_tokens.specs.Steps.{single_sign, single_signs, exclamation}
-
--- only ASCII characters
-abbrev pub ascii : List ℕ → Bool
-ascii [] = true
-ascii (b ∷ bs) = nat_lt b 128 && ascii bs
-
-ascii_at : (bs : List ℕ) → ascii bs ≡ true → IsAscii bs
-ascii_at [] e i = lit< tt
-ascii_at (b ∷ bs) e zero = let t = (and_parts (nat_lt b 128) (ascii bs) e).0 in grind (arith, nat_tests)
-ascii_at (b ∷ bs) e (suc i) = ascii_at bs (and_parts (nat_lt b 128) (ascii bs) e).1 i
-
-chars_one : (text other : List ℕ) → IsUtf8 text → IsUtf8 other → chars text ≡ chars other → text ≡ other
-chars_one text other u v e = sym (encodes-chars text u) ∙ ap encode_utf8_all e ∙ encodes-chars other v
-
--- a word of ASCII characters is compared with bytes or with characters alike
-word_of_chars : (w text : List ℕ) → ascii w ≡ true → IsUtf8 text → is_word w text ≡ is_word w (chars text)
-word_of_chars w text a u =
-    let b = ascii_at w a in
-    let same : chars w ≡ w = chars-IsAscii w b in
-    same_from_decides {P = w ≡ text} (is_word w text) (is_word w (chars text)) (bytes_eq-Decides w text) (
-      λ e. chars_one w text (IsUtf8-from_ascii w b) u (same ∙ (bytes_eq-Decides w (chars text)).0 e),
-      λ e. (bytes_eq-Decides w (chars text)).1 (sym same ∙ ap chars e),
-    )
 
 abbrev pub all_ascii : {A : Type 0} → List (List ℕ × A) → Bool
 all_ascii [] = true

@@ -1,5 +1,5 @@
 -- Laws of the tokens of a text.
-use Rattle.std.specs.Prelude.{◌≡◌, ℕ, ◌<◌, ◌≤◌, ◌⊎◌, Bool, true, not, ◌&&◌, ◌==◌, List, [], ◌∷◌, ◌++◌, length, IsTrue, map}
+use Rattle.std.specs.Prelude.{◌≡◌, ℕ, ◌≤◌, ◌⊎◌, Bool, true, not, ◌&&◌, ◌==◌, List, [], ◌++◌, length, IsTrue, map}
 use Rattle.unicode_ident.specs.Ident.{is_xid_continue}
 use Rattle.ig_grammar.specs.Name.{keywords as words}
 use Rattle.ig_syntax.specs.Token as token

@@ -4,7 +4,8 @@ use Rattle.unicode_ident.specs.Ident.{is_xid_start, is_xid_continue}
 use Rattle.ig_text.specs.Ranges.{normal_form}
 use Rattle.ig_text.specs.declared.class.Class.{Class}
 use Rattle.ig_text.specs.declared.class.Class.TheVariants.{Ranges}
-use Rattle.ig_expr.specs.Reading.{is_digit, spelled}
+use Rattle.ig_text.specs.Words.{is_digit}
+use Rattle.ig_expr.specs.Reading.{spelled}
 use Rattle.ig_syntax.specs.Token.{Token, Name, Head, Number, Literal, OneOf}
 use Rattle.ig_syntax.specs.Spelling.{entry, signs, keywords, named_classes, is_one_of, literal_signs, class_signs, escape, begins, blanks}
 

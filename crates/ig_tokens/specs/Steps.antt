@@ -3,7 +3,7 @@ use Rattle.std.specs.Prelude.{◌≡◌, ℕ, Bool, not, List, [], ◌∷◌, �
 use Rattle.std.specs.Borrow.{Bor}
 use Rattle.std.specs.Map.{lookup}
 use Rattle.unicode_ident.specs.Ident.{is_xid_continue}
-use Rattle.ig_expr.specs.Reading.{is_digit}
+use Rattle.ig_text.specs.Words.{is_digit}
 use Rattle.ig_syntax.specs.Token as token
 use Rattle.ig_syntax.specs.Spelling.{literal_signs, class_signs}
 use Rattle.ig_tokens.specs.Scanner as scanner

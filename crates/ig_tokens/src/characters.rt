@@ -2,7 +2,7 @@
 
 ghost use Rattle.std.specs.Prelude.{◌≡◌, [], MatchOption, chars, ◌++◌, IsUtf8};
 ghost use Rattle.unicode_ident.specs.Ident.{is_xid_start, is_xid_continue};
-ghost use Rattle.ig_expr.specs.Reading.{is_digit};
+ghost use Rattle.ig_text.specs.Words.{is_digit};
 ghost use Rattle.ig_syntax.specs.Spelling.{begins};
 ghost use Rattle.ig_tokens.specs.Steps.{Begins, IsSplit, IsBehind, belongs};
 

@@ -14,8 +14,8 @@ use std::alloc::{AllocError, Global};
 /// The most bytes that a grammar text may have.
 pub const MOST_BYTES: usize = 262_144;
 
-/// The tokens of a text of at most [`MOST_BYTES`] bytes, in order, each with the byte at which it begins.
-/// Refuses a text as `Broken` exactly where it isn't a sequence of tokens and separators.
+/// The tokens of a text of at most [`MOST_BYTES`] bytes, in order, each with the byte at which it
+/// begins. Refuses a text as `Broken` exactly where it isn't a sequence of tokens and separators.
 pub fn tokenize<'a>(alloc: Global, source: &'a str) -> Result<Vec<Placed<'a>>, TokenFault>
     requires { length source.now ≤ most_bytes }
     ensures tokens { IfOk result (λ v. Lexes 0 (chars source.now) (tokens_of v.items)) }

@@ -5,5 +5,5 @@ use Rattle.ig_plain.proofs.steps.argument_values.Given as goal
 
 abbrev pub invariant-loop-argument : goal.invariant-loop-argument
 invariant-loop-argument l =
-    map Some l.list ++ map (value_of l.text l.names l.values l.here) (map expression_of (drop l.argument-index l.argument-items)) ≡
+    map Some l.list ++ map (value_of l.text l.names l.values l.here) (map expression_of (drop l.argument-index l.arguments)) ≡
     map (value_of l.text l.names l.values l.here) (map expression_of l.arguments)

@@ -5,7 +5,7 @@ use Rattle.ig_syntax.specs.Token as sign
 use Rattle.ig_syntax.specs.Token.{Name, Head, Comma, Open, Close}
 use Rattle.ig_grammar.specs.Symbol.{gathered}
 use Rattle.ig_grammar.specs.Alternative.{gathered_alternatives}
-use Rattle.ig_grammar.specs.Falls.{symbol_falls, alternative_falls}
+use Rattle.ig_grammar.specs.CodingFalls.{symbol_falls, alternative_falls}
 use Rattle.ig_grammar.specs.View.{symbol_of}
 use Rattle.ig_show.specs.Pieces.{token, blank}
 use Rattle.ig_show.specs.CanonicalText.{alternative_pieces, further_symbols, alternatives_pieces, further_alternatives, separated, filter_pieces, bindings_pieces}

@@ -1,0 +1,10 @@
+pub mod Limits
+pub mod Remaining
+pub mod Built
+pub mod Steps
+pub mod CoreOf
+pub mod Names
+pub mod Tables
+pub mod Dots
+pub mod Laws
+pub mod Examples

@@ -1,0 +1,115 @@
+-- What follows from the taken items and one more.
+use Rattle.std.proofs.Common.{◌≡◌, ◌⊎◌, ⊎_elim, inl, inr, ℕ, zero, suc, ◌<◌, List, [], ◌∷◌, ◌++◌, Some, None, length, Contains, refl, sym, ap, ◌∙◌, subst, arith, slice_get, take}
+use Rattle.std.proofs.lemmas.Option.{same_Some, slice_get_within}
+use Rattle.ig_text.specs.declared.pattern.Pattern.{Pattern}
+use Rattle.ig_expr.specs.Expression.{Expression}
+use Rattle.ig_expr.specs.declared.value.Value.{Value}
+use Rattle.ig_item.specs.Step.{Step, Test, Bind, Term, Call}
+use Rattle.ig_item.specs.Core.{IsAlternative, numbered}
+use Rattle.ig_item.specs.Items as items
+use Rattle.ig_item.specs.Items.{Item, Follows, Reachable, IsDerivation, StandsBefore, IsComplete, Calls, first, root_instance}
+use Rattle.ig_item.specs.Laws.{ReachableIsClosed}
+use Rattle.ig_item.specs.declared.core_grammar.Nonterminal.{Nonterminal}
+use Rattle.ig_item.specs.declared.core_grammar.CoreAlt.{CoreAlt}
+use Rattle.ig_plain.specs.Rules as rules
+use Rattle.ig_plain.specs.Rules.{After}
+use Rattle.ig_plain.proofs.Lists.{contains_sides, one_in, at_from_contains, contains_from_at, within_take}
+
+module _ (core : List Nonterminal) (text : List ℕ) where
+  -- the rules give no less from more
+  pub follows_more : {known wider : Item → Type 0} {x : Item} → ((y : Item) → known y → wider y) →
+      Follows core text known x → Follows core text wider x
+  follows_more more (items.root x e) = items.root x e
+  follows_more more (items.test it names c x k before holds e) = items.test it names c x (more it k) before holds e
+  follows_more more (items.bind it names name c v x k before has e) = items.bind it names name c v x (more it k) before has e
+  follows_more more (items.terminal it names what label excluded j x k before matches free e) =
+      items.terminal it names what label excluded j x (more it k) before matches free e
+  follows_more more (items.call it callee label excluded nonterminal a alternative x k calls at e) =
+      items.call it callee label excluded nonterminal a alternative x (more it k) calls at e
+  follows_more more (items.return it done label excluded x k l calls complete free e) =
+      items.return it done label excluded x (more it k) (more done l) calls complete free e
+
+  kept_below : (P : Item → Type 0) → ((x : Item) → Follows core text P x → P x) → (xs : List Item) →
+      IsDerivation core text xs → (n k : ℕ) → k < n → (x : Item) → slice_get xs k ≡ Some x → P x
+  kept_below P rule xs d zero k lt x e = absurd (omega arith)
+  kept_below P rule xs d (suc n) k lt x e =
+      rule x
+      (follows_more
+      (λ y c.
+      let at = at_from_contains (take k xs) y c in
+      let h = within_take xs k at.0 y at.1 in
+      kept_below P rule xs d n at.0 (omega (arith, h.0)) y h.1)
+      (d k x e))
+
+  -- what the rules keep holds of each reachable item
+  pub kept : (P : Item → Type 0) → ((x : Item) → Follows core text P x → P x) → (x : Item) → Reachable core text x → P x
+  kept P rule x r =
+      let at = at_from_contains r.items x r.among in kept_below P rule r.items r.derivation (suc at.0) at.0 (omega arith) x at.1
+
+  pub same_alternative : (n a : ℕ) (m k : Nonterminal) (u v : CoreAlt) → IsAlternative core n a m u → IsAlternative core n a k v → u ≡ v
+  same_alternative n a m k u v p q =
+      let e : m ≡ k = same_Some m k (sym p.there ∙ q.there) in
+      same_Some u v (sym p.has ∙ ap (λ (z : Nonterminal). numbered z.alternatives a) e ∙ q.has)
+
+  pub one_step : (it : Item) (names others : List (List ℕ)) (s t : Step) → StandsBefore core it names s → StandsBefore core it others t → s ≡ t
+  one_step it names others s t p q =
+      let e = same_alternative it.instance.nonterminal it.alternative p.nonterminal q.nonterminal p.alternative q.alternative p.has q.has in
+      same_Some s t (sym p.next ∙ ap (λ (z : CoreAlt). slice_get z.steps it.dot) e ∙ q.next)
+
+  pub not_both : (it : Item) (names : List (List ℕ)) (s : Step) → StandsBefore core it names s → IsComplete core it → ⊥
+  not_both it names s p q =
+      let e = same_alternative it.instance.nonterminal it.alternative p.nonterminal q.nonterminal p.alternative q.alternative p.has q.has in
+      let lt = slice_get_within p.alternative.steps it.dot s p.next in
+      let len = ap (λ (z : CoreAlt). length z.steps) e in let last = q.last in omega (arith, lt, len, last)
+
+  -- a taken item, or the one that is taken now
+  which : (taken : List Item) (it y : Item) → Contains (taken ++ it ∷ []) y → Contains taken y ⊎ (y ≡ it)
+  which taken it y c = ⊎_elim (λ (h : Contains taken y). inl h) (λ (h : Contains (it ∷ []) y). inr (one_in it y h)) (contains_sides taken (it ∷ []) y c)
+
+  -- what follows now followed before, or follows from the item that is taken now
+  pub splits : (taken : List Item) (it x : Item) → Follows core text (Contains (taken ++ it ∷ [])) x →
+      Follows core text (Contains taken) x ⊎ After core text taken it x
+  splits taken it x (items.root y e) = inl (items.root y e)
+  splits taken it x (items.test y names c z k before holds e) =
+      ⊎_elim (λ (h : Contains taken y). inl (items.test y names c z h before holds e))
+      (λ (h : y ≡ it). inr (subst (λ (v : Item). After core text taken v z) h (rules.test names c before holds e))) (which taken it y k)
+  splits taken it x (items.bind y names name c v z k before has e) =
+      ⊎_elim (λ (h : Contains taken y). inl (items.bind y names name c v z h before has e))
+      (λ (h : y ≡ it). inr (subst (λ (u : Item). After core text taken u z) h (rules.bind names name c v before has e))) (which taken it y k)
+  splits taken it x (items.terminal y names what label excluded j z k before matches free e) =
+      ⊎_elim (λ (h : Contains taken y). inl (items.terminal y names what label excluded j z h before matches free e))
+      (λ (h : y ≡ it). inr (subst (λ (u : Item). After core text taken u z) h (rules.terminal names what label excluded j before matches free e)))
+      (which taken it y k)
+  splits taken it x (items.call y callee label excluded nonterminal a alternative z k calls at e) =
+      ⊎_elim (λ (h : Contains taken y). inl (items.call y callee label excluded nonterminal a alternative z h calls at e))
+      (λ (h : y ≡ it). inr (subst (λ (u : Item). After core text taken u z) h (rules.call callee label excluded nonterminal a alternative calls at e)))
+      (which taken it y k)
+  splits taken it x (items.return y done label excluded z k l calls complete free e) =
+      ⊎_elim
+      (λ (h : Contains taken y).
+      ⊎_elim (λ (i : Contains taken done). inl (items.return y done label excluded z h i calls complete free e))
+      (λ (i : done ≡ it).
+      inr (subst (λ (u : Item). After core text taken u z) i (rules.returned y label excluded h calls complete free e)))
+      (which taken it done l))
+      (λ (h : y ≡ it).
+      ⊎_elim
+      (λ (i : Contains taken done).
+      inr (subst (λ (u : Item). After core text taken u z) h (rules.return done label excluded i calls complete free e)))
+      (λ (i : done ≡ it).
+      absurd (not_both y calls.names _ calls.before (subst (IsComplete core) (i ∙ sym h) complete)))
+      (which taken it done l))
+      (which taken it y k)
+
+  -- what follows from reachable items is reachable
+  pub after_reachable : ReachableIsClosed → (taken : List Item) (it x : Item) → ((y : Item) → Contains taken y → Reachable core text y) →
+      Reachable core text it → After core text taken it x → Reachable core text x
+  after_reachable law taken it x all r (rules.test names e before holds f) = law core text x (items.test it names e x r before holds f)
+  after_reachable law taken it x all r (rules.bind names name e v before has f) = law core text x (items.bind it names name e v x r before has f)
+  after_reachable law taken it x all r (rules.terminal names what label excluded j before matches free e) =
+      law core text x (items.terminal it names what label excluded j x r before matches free e)
+  after_reachable law taken it x all r (rules.call callee label excluded nonterminal a alternative calls at e) =
+      law core text x (items.call it callee label excluded nonterminal a alternative x r calls at e)
+  after_reachable law taken it x all r (rules.return done label excluded k calls complete free e) =
+      law core text x (items.return it done label excluded x r (all done k) calls complete free e)
+  after_reachable law taken it x all r (rules.returned caller label excluded k calls complete free e) =
+      law core text x (items.return caller it label excluded x (all caller k) r calls complete free e)

@@ -1,0 +1,214 @@
+-- Items behind calls, of a chain of callers.
+use Rattle.std.proofs.Common.{◌≡◌, ◌⊎◌, ⊎_elim, inl, inr, ℕ, zero, suc, ◌+◌, ◌-◌, ◌<◌, ◌≤◌, List, [], ◌∷◌, ◌++◌, Some, None, Option, length, Contains, refl, sym, ap, ◌∙◌, subst, arith, slice_get, append_assoc}
+use Rattle.std.specs.Prelude.{Result, Ok, Err, option_map, option_and_then, slice_index_or}
+use Rattle.std.proofs.lemmas.List.{append-nil}
+use Rattle.std.proofs.lemmas.Option.{same_Some, slice_get_within, get_or_from_slice_get}
+use Rattle.ig_text.specs.declared.pattern.Pattern.{Pattern}
+use Rattle.ig_expr.specs.Expression.{Expression}
+use Rattle.ig_item.specs.Step.{Step, Call}
+use Rattle.ig_item.specs.View.{step_of}
+use Rattle.ig_item.specs.declared.step.Step as step
+use Rattle.ig_item.specs.Core.{IsAlternative, alternative_at, numbered}
+use Rattle.ig_item.specs.Items.{Item, StandsBefore, MatchesNone, past, span_of}
+use Rattle.ig_item.specs.declared.core_grammar.Nonterminal.{Nonterminal}
+use Rattle.ig_item.specs.declared.core_grammar.CoreAlt.{CoreAlt}
+use Rattle.ig_item.specs.declared.items.Item as stored
+use Rattle.ig_item.specs.declared.run_fault.RunFault.{RunFault}
+use Rattle.ig_plain.specs.declared.found.Found.{Found}
+use Rattle.ig_plain.specs.declared.waiting.Caller.{Caller}
+use Rattle.ig_plain.specs.Found.{means, Named, AreNamed, Grows, Has, Adds}
+use Rattle.ig_plain.specs.Rules.{StandsAtCall, IsReturn, step_at}
+use Rattle.ig_plain.specs.Run as run
+use Rattle.ig_plain.specs.Run.{Chains, IsChainOf, IsReturnToOne}
+use Rattle.ig_plain.proofs.Lists.{contains_sides, left_contains, right_contains, it_is_in, one_in, none_in}
+use Rattle.ig_plain.proofs.Growth.{means_grown, named_grown, named_all, grows_weaker}
+use Rattle.ig_plain.proofs.Additions.{adds_nothing, adds_alike, adds_then}
+use Rattle.ig_plain.proofs.Following.{one_step}
+
+-- an alternative's steps, looked up
+pub alternative_there : (core : List Nonterminal) (n a : ℕ) (nonterminal : Nonterminal) (alternative : CoreAlt) →
+    IsAlternative core n a nonterminal alternative → alternative_at core n a ≡ Some alternative
+alternative_there core n a nonterminal alternative h =
+    ap (option_and_then (λ m. numbered m.alternatives a)) h.there ∙ h.has
+
+pub step_there : (core : List Nonterminal) (it : Item) (names : List (List ℕ)) (step : Step) → StandsBefore core it names step →
+    step_at core it.instance.nonterminal it.alternative it.dot ≡ Some step
+step_there core it names step b =
+    ap (option_and_then (λ m. slice_get m.steps it.dot)) (alternative_there core it.instance.nonterminal it.alternative b.nonterminal b.alternative b.has) ∙ b.next
+
+-- the item after the call, of that label and those excluded patterns
+pub return_alike : (core : List Nonterminal) (text : List ℕ) (it : Item) (end budget : ℕ) (a b : Found) (r : Result (Unit {0}) RunFault) (callee : ℕ)
+    (arguments : List Expression) (label : Option (List ℕ)) (excluded : List Pattern) (names : List (List ℕ)) →
+    StandsBefore core it names (Call callee arguments label excluded) →
+    Adds end (λ x. MatchesNone text excluded it.position end × (x ≡ past it (span_of label it.position end) end)) budget a b r →
+    Adds end (IsReturn core text it end) budget a b r
+return_alike core text it end budget a b r callee arguments label excluded names before d =
+    adds_alike end (λ x. MatchesNone text excluded it.position end × (x ≡ past it (span_of label it.position end) end)) (IsReturn core text it end) budget a b r
+    (λ x m. record { call = record { names = names; callee = callee; arguments = arguments; label = label; excluded = excluded; before = before }; free = m.0; is = m.1 })
+    (λ x m.
+    let steps = one_step core text it m.call.names names (Call m.call.callee m.call.arguments m.call.label m.call.excluded) (Call callee arguments label excluded) m.call.before before in
+    let l : m.call.label ≡ label = cc steps in
+    let e : m.call.excluded ≡ excluded = cc steps in
+    (subst (λ (z : List Pattern). MatchesNone text z it.position end) e m.free,
+    m.is ∙ ap (λ (z : Option (List ℕ)). past it (span_of z it.position end) end) l)) d
+
+-- the first of a chain
+pub record Heads (cells : List Caller) (k : ℕ) (xs : List stored.Item) : Type 0 where
+  pub cell : Caller
+  pub rest : List stored.Item
+  pub there : slice_get cells k ≡ Some cell
+  pub less : cell.next ≤ k
+  pub chained : Chains cells cell.next rest
+  pub is : xs ≡ cell.item ∷ rest
+
+pub heads : (cells : List Caller) (head : ℕ) (xs : List stored.Item) → Chains cells head xs → (k : ℕ) → head ≡ suc k → Heads cells k xs
+heads cells head xs run.none k e = cc
+heads cells head xs (run.more j cell ys at less c) k e =
+    let same : j ≡ k = omega (arith, e) in
+    record {
+      cell = cell; rest = ys; there = ap (slice_get cells) (sym same) ∙ at; less = subst (λ (n : ℕ). cell.next ≤ n) same less; chained = c; is = refl;
+    }
+
+pub empties : (cells : List Caller) (head : ℕ) (xs : List stored.Item) → Chains cells head xs → head ≡ 0 → xs ≡ []
+empties cells head xs run.none e = refl
+empties cells head xs (run.more j cell ys at less c) e = cc
+
+-- a chain is one
+pub one_chain : (cells : List Caller) (head : ℕ) (xs : List stored.Item) → Chains cells head xs → (ys : List stored.Item) → Chains cells head ys → xs ≡ ys
+one_chain cells head xs run.none ys d = sym (empties cells 0 ys d refl)
+one_chain cells head xs (run.more k cell us at less c) ys d =
+    let h = heads cells (suc k) ys d k refl in
+    let same : cell ≡ h.cell = same_Some cell h.cell (sym at ∙ h.there) in
+    let rest : us ≡ h.rest = one_chain cells cell.next us c h.rest (subst (λ (z : Caller). Chains cells z.next h.rest) (sym same) h.chained) in
+    ap (λ (z : Caller). z.item ∷ us) same ∙ ap (λ (z : List stored.Item). h.cell.item ∷ z) rest ∙ sym h.is
+
+-- how far a walk along a chain has come
+pub record Walks (core : List Nonterminal) (text : List ℕ) (cells : List Caller) (head end budget : ℕ) (a b : Found) (at : ℕ) : Type 0 where
+  pub visited : List stored.Item
+  pub rest : List stored.Item
+  pub whole : Chains cells head (visited ++ rest)
+  pub chained : Chains cells at rest
+  pub adds : Adds end (λ x. (y : stored.Item) × Contains visited y × IsReturn core text (means a y) end x) budget a b (Ok tt)
+
+module _ (core : List Nonterminal) (text : List ℕ) (cells : List Caller) (head end budget : ℕ) (a : Found) (named : AreNamed a) (chain : IsChainOf core cells head a) where
+  abbrev Visited : List stored.Item → Item → Type 0
+  Visited ys x = (y : stored.Item) × Contains ys y × IsReturn core text (means a y) end x
+
+  pub walk_starts : Walks core text cells head end budget a a head
+  walk_starts =
+      record {
+        visited = []; rest = chain.chain; whole = chain.chained; chained = chain.chained;
+        adds = adds_nothing end (Visited []) budget a (λ x m. absurd (none_in m.0 m.1));
+      }
+
+  module _ (b : Found) (at k : ℕ) (w : Walks core text cells head end budget a b at) (is : at ≡ suc k) where
+    pub here : Heads cells k w.rest
+    here = heads cells at w.rest w.chained k is
+
+    pub in_chain : Contains chain.chain here.cell.item
+    in_chain =
+        subst (λ (z : List stored.Item). Contains z here.cell.item) (one_chain cells head (w.visited ++ w.rest) w.whole chain.chain chain.chained)
+        (right_contains w.visited w.rest here.cell.item
+        (subst (λ (z : List stored.Item). Contains z here.cell.item) (sym here.is) (left_contains (here.cell.item ∷ []) here.rest here.cell.item (it_is_in here.cell.item))))
+
+    pub means_here : means b here.cell.item ≡ means a here.cell.item
+    means_here = means_grown end (Visited w.visited) a b here.cell.item w.adds.grows named.values (chain.named here.cell.item in_chain)
+
+    pub caller_named : Named b here.cell.item
+    caller_named = named_grown end (Visited w.visited) a b here.cell.item w.adds.grows (chain.named here.cell.item in_chain)
+
+    pub caller_calls : StandsAtCall core (means b here.cell.item)
+    caller_calls = subst (StandsAtCall core) (sym means_here) (chain.calls here.cell.item in_chain)
+
+    pub all_named : AreNamed b
+    all_named = named_all end (Visited w.visited) a b named w.adds.grows
+
+    pub walks_on : (c : Found) (r : Result (Unit {0}) RunFault) → Adds end (IsReturn core text (means b here.cell.item) end) budget b c r →
+        Adds end (Visited (w.visited ++ here.cell.item ∷ [])) budget a c r
+    walks_on c r d =
+        adds_then end (Visited (w.visited ++ here.cell.item ∷ [])) (Visited w.visited) (IsReturn core text (means b here.cell.item) end) budget a b c r named
+        (λ x m. (m.0, left_contains w.visited (here.cell.item ∷ []) m.0 m.1, m.2))
+        (λ x m. (here.cell.item, right_contains w.visited (here.cell.item ∷ []) here.cell.item (it_is_in here.cell.item),
+        subst (λ (z : Item). IsReturn core text z end x) means_here m))
+        (λ x m.
+        ⊎_elim (λ (h : Contains w.visited m.0). inl (m.0, h, m.2))
+        (λ (h : Contains (here.cell.item ∷ []) m.0).
+        inr (subst (λ (z : Item). IsReturn core text z end x) (ap (means a) (one_in here.cell.item m.0 h) ∙ sym means_here) m.2))
+        (contains_sides w.visited (here.cell.item ∷ []) m.0 m.1)) w.adds d
+
+    pub walk_goes : (c : Found) → Adds end (IsReturn core text (means b here.cell.item) end) budget b c (Ok tt) →
+        Walks core text cells head end budget a c here.cell.next
+    walk_goes c d =
+        record {
+          visited = w.visited ++ here.cell.item ∷ []; rest = here.rest;
+          whole = subst (Chains cells head) (ap (λ (z : List stored.Item). w.visited ++ z) here.is ∙ sym (append_assoc w.visited (here.cell.item ∷ []) here.rest)) w.whole;
+          chained = here.chained;
+          adds = walks_on c (Ok tt) d;
+        }
+
+    pub walk_stops : (c : Found) (f : RunFault) → Adds end (IsReturn core text (means b here.cell.item) end) budget b c (Err f) →
+        Adds end (IsReturnToOne core text cells head end a) budget a c (Err f)
+    walk_stops c f d =
+        let e = walks_on c (Err f) d in
+        record {
+          grows = grows_weaker end (Visited (w.visited ++ here.cell.item ∷ [])) (IsReturnToOne core text cells head end a) a c
+              (λ x m. record { chain = chain.chain; chained = chain.chained; caller = m.0; among = among m.0 m.1; returns = m.2 }) e.grows;
+          has = tt; within = tt; fault = e.fault;
+        }
+      where
+        among : (y : stored.Item) → Contains (w.visited ++ here.cell.item ∷ []) y → Contains chain.chain y
+        among y c =
+            ⊎_elim
+            (λ (h : Contains w.visited y).
+            subst (λ (z : List stored.Item). Contains z y) (one_chain cells head (w.visited ++ w.rest) w.whole chain.chain chain.chained)
+            (left_contains w.visited w.rest y h))
+            (λ (h : Contains (here.cell.item ∷ []) y). subst (Contains chain.chain) (sym (one_in here.cell.item y h)) in_chain)
+            (contains_sides w.visited (here.cell.item ∷ []) y c)
+
+    -- the same of the cell that is read there
+    module _ (d : Caller) where
+      abbrev read : Caller
+      read = slice_index_or cells k d
+
+      read_is : slice_index_or cells k d ≡ here.cell
+      read_is = get_or_from_slice_get cells k here.cell d here.there
+
+      pub read_within : k < length cells
+      read_within = slice_get_within cells k here.cell here.there
+
+      pub read_named : Named b read.item
+      read_named = subst (λ (z : Caller). Named b z.item) (sym read_is) caller_named
+
+      pub read_calls : StandsAtCall core (means b read.item)
+      read_calls = subst (λ (z : Caller). StandsAtCall core (means b z.item)) (sym read_is) caller_calls
+
+      pub read_less : read.next < at
+      read_less = subst (λ (z : Caller). z.next < at) (sym read_is) (let l = here.less in omega (arith, l, is))
+
+      pub read_goes : (c : Found) → Adds end (IsReturn core text (means b read.item) end) budget b c (Ok tt) →
+          Walks core text cells head end budget a c read.next
+      read_goes c e =
+          subst (λ (z : Caller). Walks core text cells head end budget a c z.next) (sym read_is)
+          (walk_goes c (subst (λ (z : Caller). Adds end (IsReturn core text (means b z.item) end) budget b c (Ok tt)) read_is e))
+
+      pub read_stops : (c : Found) (f : RunFault) → Adds end (IsReturn core text (means b read.item) end) budget b c (Err f) →
+          Adds end (IsReturnToOne core text cells head end a) budget a c (Err f)
+      read_stops c f e =
+          walk_stops c f (subst (λ (z : Caller). Adds end (IsReturn core text (means b z.item) end) budget b c (Err f)) read_is e)
+
+  pub walk_ends : (b : Found) (at : ℕ) → Walks core text cells head end budget a b at → at ≡ 0 →
+      Adds end (IsReturnToOne core text cells head end a) budget a b (Ok tt)
+  walk_ends b at w is =
+      let none : w.rest ≡ [] = empties cells at w.rest w.chained is in
+      let all : chain.chain ≡ w.visited =
+      one_chain cells head chain.chain chain.chained (w.visited ++ w.rest) w.whole ∙ ap (λ (z : List stored.Item). w.visited ++ z) none ∙ append-nil w.visited in
+      adds_alike end (Visited w.visited) (IsReturnToOne core text cells head end a) budget a b (Ok tt)
+      (λ x m. record { chain = chain.chain; chained = chain.chained; caller = m.0; among = subst (λ (z : List stored.Item). Contains z m.0) (sym all) m.1; returns = m.2 })
+      (λ x m. (m.caller, subst (λ (z : List stored.Item). Contains z m.caller) (one_chain cells head m.chain m.chained chain.chain chain.chained ∙ all) m.among, m.returns)) w.adds
+
+-- the step of the program, at the item
+pub step_is : (v : step.Step) (core : List Nonterminal) (it : Item) (names : List (List ℕ)) (tree : Step) (n : ℕ) →
+    StandsBefore core it names tree → Some (step_of v) ≡ step_at core n it.alternative it.dot → n ≡ it.instance.nonterminal → tree ≡ step_of v
+step_is v core it names tree n before told n_is =
+    same_Some tree (step_of v)
+    (sym (step_there core it names tree before) ∙ ap (λ (z : ℕ). step_at core z it.alternative it.dot) (sym n_is) ∙ sym told)

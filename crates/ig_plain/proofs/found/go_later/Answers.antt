@@ -1,0 +1,19 @@
+use Rattle.std.proofs.Common.{refl, sym, subst, ◌∙◌, ◌<◌}
+use Rattle.ig_plain.proofs.Growth.{past_named, past_means}
+use Rattle.ig_plain.proofs.Additions.{later_added}
+use Rattle.ig_plain.proofs.found.go_later.Goals as goal
+
+pub returns : goal.returns
+returns c =
+    later_added c.args.item.position c.args.budget _ c.args.found.now _ c.in_ok-behind.behind c.keep_within.result
+    (record {
+      envs = c.in_ok-behind.ensures.extends;
+      envs_once = c.in_ok-behind.ensures.once;
+      keys = refl; done = refl; here = refl;
+      item = c.in_ok-behind.behind;
+      later = c.in-Ok.ensures.items;
+      named = past_named c.args.found.now.envs.keys c.past.new.envs.keys c.args.found.now.keys.keys c.args.item c.args.bound c.args.end c.in_ok-behind.behind c.requires.named c.in_ok-behind.ensures.past;
+      behind = subst (λ z. c.args.item.position < z) (sym c.in_ok-behind.ensures.past.position) c.requires.later;
+      is = past_means c.args.found.now.envs.keys c.past.new.envs.keys c.args.found.now.keys.keys c.args.item c.args.bound c.args.end c.in_ok-behind.behind
+          c.in_ok-behind.ensures.extends c.requires.all_named.values c.requires.named c.in_ok-behind.ensures.past;
+    }) c.keep_within.ensures.within c.keep_within.ensures.fault

@@ -1,0 +1,9 @@
+use Rattle.std.specs.Prelude.{Ok}
+use Rattle.ig_item.specs.Tables.{instance_by}
+use Rattle.ig_plain.specs.Found.{Adds}
+use Rattle.ig_plain.specs.Rules.{IsFirst}
+use Rattle.ig_plain.proofs.run.add_firsts.Given as goal
+
+abbrev pub invariant-loop-alternative : goal.invariant-loop-alternative
+invariant-loop-alternative l =
+    Adds l.key.start (IsFirst l.core (instance_by l.initial.found.envs.keys l.key) l.alternative) l.budget l.initial.found l.found (Ok tt)
