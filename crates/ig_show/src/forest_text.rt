@@ -17,12 +17,7 @@ use ig_text::Word;
 use std::alloc::AllocError;
 
 /// Adds the number of a node or an item, its nonterminal's name and its values, and a space.
-fn push_head(
-    out: &mut String,
-    number: u32,
-    name: &Word,
-    values: &[Value],
-) -> Result<(), AllocError>
+fn push_head(out: &mut String, number: u32, name: &Word, values: &[Value]) -> Result<(), AllocError>
     ensures { OnOk result (string_bytes out.new ≡ string_bytes out.old ++
         (head_text number name.now values.now ++ codes " ")) }
 {
