@@ -4,6 +4,7 @@ use Rattle.ig_item.specs.WellKinded.{NoneTwice}
 use Rattle.ig_item.specs.declared.items.Item as stored
 use Rattle.ig_plain.specs.Tables.{AddsOnly}
 use Rattle.ig_plain.specs.declared.found.Found.{Found}
+use Rattle.ig_plain.specs.declared.waiting.Waiting.{Waiting}
 
 -- `later` parted into those at the position, which were added to `here`, and the rest
 pub record IsParted (position : ℕ) (later here after rest : List stored.Item) : Type 0 where
@@ -32,3 +33,12 @@ pub record ArrivesWith (position : ℕ) (a b : Found) : Type 0 where
   pub here_once : NoneTwice b.here.keys
   pub later_once : NoneTwice a.later.items → NoneTwice b.later.items
   pub count : length b.here.keys + length b.later.items ≤ length a.later.items
+
+-- nothing is found and nothing waits
+pub record IsNothing (s : Found) (w : Waiting) : Type 0 where
+  pub done : s.done.items ≡ []
+  pub here : s.here.keys ≡ []
+  pub later : s.later.items ≡ []
+  pub envs : s.envs.keys ≡ []
+  pub keys : s.keys.keys ≡ []
+  pub called : w.called.items ≡ []

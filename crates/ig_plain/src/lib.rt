@@ -10,8 +10,8 @@ mod interning;
 mod moves;
 mod names;
 mod run;
-mod saturate;
+mod saturation;
 mod steps;
 mod waiting;
 
-
+pub use saturation::saturate;

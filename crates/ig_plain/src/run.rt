@@ -298,7 +298,7 @@ fn take_step(
 }
 
 /// A core grammar is well kinded.
-fn keep_well_kinded(core: &Core)
+pub(crate) fn keep_well_kinded(core: &Core)
     ensures { IsWellKinded core.now }
 {
     let _count = core.nonterminals();

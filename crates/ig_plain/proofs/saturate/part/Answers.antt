@@ -1,9 +1,0 @@
-use Rattle.std.proofs.Common.{refl}
-use Rattle.std.proofs.lemmas.Option.{slice_get_read}
-use Rattle.ig_plain.proofs.Arrivals.{parts_none, parts_more}
-use Rattle.ig_plain.proofs.saturate.part.Goals as goal
-
-pub loop-item-preserved : goal.loop-item-preserved
-loop-item-preserved c =
-    parts_more c.args.position c.args.later.now c.args.here.now.keys c.loop-item.here.keys c.loop-item.rest.items _ _ c.loop-item.item-index c.item-item.result
-    (slice_get_read c.args.later.now _ c.loop-item.item-index c.item-item.result refl c.loop-item-test.true c.item-item.is) c.loop-item.invariant c.in_ok-sort_item.ensures
