@@ -8,3 +8,4 @@ pub mod ItemTrees
 pub mod Fitting
 pub mod Examples
 pub mod FourItems
+pub mod PartLists

@@ -1,6 +1,7 @@
 //! EnvironmentTable: lists of values, side by side in one vector.
-ghost use Rattle.std.specs.Prelude.{◌≡◌, [], ◌∷◌, ◌++◌, OnOk, OnErr, length, slice_get};
+ghost use Rattle.std.specs.Prelude.{◌≡◌, ◌<◌, [], ◌∷◌, ◌++◌, IfOk, OnOk, OnErr, length, slice_get};
 ghost use Rattle.std.specs.Option.{option_copied};
+ghost use Rattle.ig_item.specs.Parts.{IsPartOf, values_in};
 
 use ig_expr::Value;
 use std::alloc::{AllocError, Global};
@@ -56,8 +57,8 @@ impl EnvironmentTable {
     pub fn get(&self, k: u32) -> Option<&[Value]>
         ensures { option_copied result ≡ slice_get self.now k }
     {
-        let part = self.parts.get(k as usize).copied()?;
-        self.values.get(part.begin as usize..part.end as usize)
+        let part = part_at(self.parts.as_slice(), k)?;
+        Some(values_of(self.values.as_slice(), part))
     }
 
     /// Adds an environment of these values at the end. Refused for want of memory, and where all
@@ -66,14 +67,35 @@ impl EnvironmentTable {
         ensures ok { OnOk result (self.new ≡ self.old ++ values.now ∷ []) }
         ensures err { OnErr result (self.new ≡ self.old) }
     {
-        let Ok(begin) = u32::try_from(self.values.len()) else {
-            return Err(AllocError);
-        };
-        let Ok(end) = u32::try_from(self.values.len().saturating_add(values.len())) else {
-            return Err(AllocError);
-        };
+        let begin = place(self.values.as_slice().len())?;
+        let end = place(self.values.as_slice().len().saturating_add(values.len()))?;
         self.values.extend_from_slice(values)?;
         self.parts.push(Part { begin, end })?;
         Ok(())
+    }
+}
+
+/// The values of a part.
+fn values_of(values: &[Value], part: Part) -> &[Value]
+    requires { IsPartOf values.now part }
+    ensures { result.now ≡ values_in values.now part }
+{
+    &values[part.begin as usize..part.end as usize]
+}
+
+/// The part of that number, from 0.
+fn part_at(parts: &[Part], k: u32) -> Option<Part>
+    ensures { result ≡ slice_get parts.now k }
+{
+    parts.get(k as usize).copied()
+}
+
+/// A place in the vector of all values.
+fn place(k: usize) -> Result<u32, AllocError>
+    ensures { IfOk result (λ p. (p ≡ k) × (k < 4294967296)) }
+{
+    match u32::try_from(k) {
+        Ok(p) => Ok(p),
+        Err(_) => Err(AllocError),
     }
 }

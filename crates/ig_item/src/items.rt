@@ -118,7 +118,7 @@ impl Items {
     pub fn instance(&self, k: u32) -> Option<InstanceView<'_>>
         ensures { option_map instance_of result ≡ slice_get self.now.instances k }
     {
-        let key = self.keys.get(k as usize).copied()?;
+        let key = key_at(self.keys.as_slice(), k)?;
         let values = self.envs.get(key.env)?;
         Some(InstanceView {
             nonterminal: key.nonterminal,
@@ -141,4 +141,11 @@ impl Items {
     {
         self.envs.get(k)
     }
+}
+
+/// The key of that number, from 0.
+fn key_at(keys: &[InstanceKey], k: u32) -> Option<InstanceKey>
+    ensures { result ≡ slice_get keys.now k }
+{
+    keys.get(k as usize).copied()
 }
