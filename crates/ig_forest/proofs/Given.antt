@@ -1,6 +1,5 @@
 -- The laws of items on which those of the reduced forest rest.
-use Rattle.ig_item.specs.Laws.{ReachableIsClosed, ItemsAreInText}
-use Rattle.ig_forest.proofs.Wanted.{ItemsByTrees, InstanceTrees, AlternativesBegin, StandsBeforeOne, AlternativesAreOne}
+use Rattle.ig_item.specs.Laws.{ReachableIsClosed, ItemsAreInText, ItemsByTrees, InstanceTrees, AlternativesBegin, StandsBeforeOne, AlternativesAreOne}
 
 pub record Given : Type 0 where
   pub closed : ReachableIsClosed

@@ -1,11 +1,12 @@
 pub mod Lists
 pub mod TotalOrders
-pub mod Wanted
 pub mod Given
 pub mod Liveness
 pub mod Steps
 pub mod Trim
 pub mod Unfolding
+pub mod Targets
+pub mod Cursors
 pub mod Usage
 pub mod Uniqueness
 pub mod CodeSorted

@@ -99,9 +99,9 @@ module _ {X : Type 0} (cmp : X → X → Ordering) (order : IsTotalOrder cmp) wh
       elim (three_ways i j) [
         | inl lt ↦ lt
         | inr (inl e) ↦
-          absurd (never_below x
-          (subst (λ (z : X). cmp x z ≡ Less)
-          (sym (same_Some x y (sym at_x ∙ ap (slice_get xs) e ∙ at_y))) less))
+            absurd (never_below x
+            (subst (λ (z : X). cmp x z ≡ Less)
+            (sym (same_Some x y (sym at_x ∙ ap (slice_get xs) e ∙ at_y))) less))
         | inr (inr lt) ↦ absurd (never_both x y less (rises xs j i y x sorted at_y at_x lt))
       ]
 

@@ -1,9 +1,8 @@
 -- What the rules and the entries of items say, one by one.
-use Rattle.std.proofs.Common.{◌≡◌, ℕ, suc, ◌≤◌, List, [], ◌∷◌, Some, length, slice_get, Contains, refl, sym, ap, ◌∙◌, subst, arith}
+use Rattle.std.proofs.Common.{◌≡◌, ℕ, suc, ◌≤◌, List, [], ◌∷◌, Some, slice_get, refl, sym, ap, subst, arith}
 use Rattle.ig_text.specs.Tree.{Tree, Trees, Leaf, none, more, one, join, height, greatest_height}
 use Rattle.ig_text.specs.declared.text.Span.{Span}
-use Rattle.ig_expr.specs.declared.value.Value.{Value}
-use Rattle.ig_item.specs.Items.{Item, past, span_of, Reachable}
+use Rattle.ig_item.specs.Items.{Item, span_of}
 use Rattle.ig_item.specs.CoreTrees.{HasTree}
 use Rattle.ig_item.specs.declared.core_grammar.Nonterminal.{Nonterminal}
 use Rattle.ig_forest.specs.Live as live
@@ -13,8 +12,8 @@ use Rattle.ig_forest.specs.Reduced.{IsEntry}
 use Rattle.ig_forest.specs.declared.entry.Entry.{Entry}
 use Rattle.ig_forest.specs.declared.entry.Entry.TheVariants.{Begin, Pass, Take}
 use Rattle.ig_forest.specs.declared.entry.Child.TheVariants as child
-use Rattle.ig_forest.proofs.Wanted as wanted
-use Rattle.ig_forest.proofs.Wanted.{Comes}
+use Rattle.ig_item.specs.ItemTrees as reached
+use Rattle.ig_item.specs.ItemTrees.{Comes}
 
 pub join-none : (ts : Trees) → join ts none ≡ ts
 join-none none = refl
@@ -45,10 +44,10 @@ module _ (core : List Nonterminal) (text : List ℕ) where
   pub comes_by_nothing : {prev x : Item} {taken : Taken} → Gives core text prev taken x → taken ≡ nothing → (ts : Trees) →
       Comes core text prev ts → Comes core text x ts
   comes_by_nothing (live.test prev names e x reachable before holds is) t ts c =
-      wanted.further prev [] prev.position ts none ts x c (wanted.test names e prev.position before holds refl) is
+      reached.further prev [] prev.position ts none ts x c (reached.test names e prev.position before holds refl) is
       (sym (join-none ts))
   comes_by_nothing (live.bind prev names name e v x reachable before has is) t ts c =
-      wanted.further prev (v ∷ []) prev.position ts none ts x c (wanted.bind names name e v prev.position before has refl) is
+      reached.further prev (v ∷ []) prev.position ts none ts x c (reached.bind names name e v prev.position before has refl) is
       (sym (join-none ts))
   comes_by_nothing (live.terminal prev names what label excluded j taken x reachable before matches free t is) e ts c = cc
   comes_by_nothing (live.return prev done label excluded key x reachable r calls completes free is) e ts c = cc
@@ -59,9 +58,9 @@ module _ (core : List Nonterminal) (text : List ℕ) where
   comes_by_leaf (live.bind prev names name e v x reachable before has is) span t ts c = cc
   comes_by_leaf (live.terminal prev names what label excluded j taken x reachable before matches free t is) span e ts c =
       let same : span ≡ record { begin = prev.position; end = j } = cc in
-      wanted.further prev (span_of label prev.position j) j ts (one (Leaf prev.position j))
+      reached.further prev (span_of label prev.position j) j ts (one (Leaf prev.position j))
       (join ts (one (Leaf span.begin span.end))) x c
-      (wanted.terminal names what label excluded (span_of label prev.position j) j (one (Leaf prev.position j)) before
+      (reached.terminal names what label excluded (span_of label prev.position j) j (one (Leaf prev.position j)) before
       matches free refl refl) is (ap (λ (s : Span). join ts (one (Leaf s.begin s.end))) same)
   comes_by_leaf (live.return prev done label excluded key x reachable r calls completes free is) span e ts c = cc
 
@@ -77,8 +76,8 @@ module _ (core : List Nonterminal) (text : List ℕ) where
   comes_by_tree (live.return prev done label excluded own x reachable r calls completes free is) key e ts t h c =
       let same : key ≡ own = cc in
       let end = own.end in
-      wanted.further prev (span_of label prev.position end) end ts (one t) (join ts (one t)) x c
-      (wanted.call own.instance label excluded t (span_of label prev.position end) end (one t) calls
+      reached.further prev (span_of label prev.position end) end ts (one t) (join ts (one t)) x c
+      (reached.call own.instance label excluded t (span_of label prev.position end) end (one t) calls
       (subst (λ (k : NodeKey). HasKeyTree k t) same h) free refl refl) is refl
 
   module _ (items : List Item) (keys : List NodeKey) where

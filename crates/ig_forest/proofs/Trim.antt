@@ -1,5 +1,5 @@
 -- The reduced forest is a forest, and its items stand behind the previous ones.
-use Rattle.std.proofs.Common.{◌≡◌, ◌↔◌, ◌⊎◌, inl, inr, ℕ, zero, suc, ◌+◌, ◌<◌, ◌≤◌, List, [], ◌∷◌, Some, length, slice_get, Contains, refl, sym, ap, ◌∙◌, subst, arith}
+use Rattle.std.proofs.Common.{◌≡◌, ◌⊎◌, inl, inr, ℕ, zero, suc, ◌+◌, ◌<◌, ◌≤◌, List, [], ◌∷◌, Some, slice_get, sym, ap, ◌∙◌, subst, arith}
 use Rattle.std.specs.Ordering.{nat_cmp, ordering_then}
 use Rattle.std.specs.Cmp.Lexicographic.{slice_cmp}
 use Rattle.std.specs.declared.cmp.Ordering.{Ordering}
@@ -21,7 +21,7 @@ use Rattle.ig_forest.specs.Orders.{value_cmp, item_cmp, entry_cmp}
 use Rattle.ig_forest.specs.Reduced as reduced
 use Rattle.ig_forest.specs.Reduced.{IsReduced, IsEntry, IsItemNode}
 use Rattle.ig_forest.specs.declared.entry.Entry.{Entry}
-use Rattle.ig_forest.specs.declared.entry.Entry.TheVariants.{Begin, Pass, Take}
+use Rattle.ig_forest.specs.declared.entry.Entry.TheVariants.{Begin}
 use Rattle.ig_forest.proofs.Lists.{at_from_contains, contains_from_at, key_at, partner, same_length, same_members, one_sorted, stands_before}
 use Rattle.ig_forest.proofs.TotalOrders.{value_total, item_total, entry_total}
 use Rattle.ig_forest.proofs.Steps.{given_dot}

@@ -1,20 +1,19 @@
 -- The reduced forest unfolds, to a depth, to the core trees that are no higher.
-use Rattle.std.proofs.Common.{◌≡◌, ℕ, zero, suc, ◌≤◌, ◌++◌, List, [], ◌∷◌, Option, Some, length, slice_get, Contains, refl, sym, ap, ap₂, ◌∙◌, subst, subst₂, arith}
+use Rattle.std.proofs.Common.{◌≡◌, ℕ, zero, suc, ◌≤◌, ◌++◌, List, [], ◌∷◌, Option, Some, length, slice_get, refl, sym, ap, ap₂, ◌∙◌, subst, subst₂, arith}
 use Rattle.ig_text.specs.declared.pattern.Pattern.{Pattern}
 use Rattle.ig_text.specs.declared.tag.Tag.{Tag}
 use Rattle.ig_text.specs.declared.text.Span.{Span}
-use Rattle.ig_text.specs.Tree.{Tree, Trees, Leaf, Node, none, more, one, join, height, greatest_height}
+use Rattle.ig_text.specs.Tree.{Tree, Trees, Leaf, Node, none, one, join, height, greatest_height}
 use Rattle.ig_expr.specs.declared.value.Value.{Value}
 use Rattle.ig_item.specs.Core.{IsAlternative}
-use Rattle.ig_item.specs.CoreTrees.{HasTree, CoreTree}
+use Rattle.ig_item.specs.CoreTrees.{HasTree}
 use Rattle.ig_item.specs.Items as items
 use Rattle.ig_item.specs.Items.{Item, first, past, Reachable, Calls, root_instance}
 use Rattle.ig_item.specs.WellKinded.{IsWellKinded}
 use Rattle.ig_item.specs.declared.core_grammar.Nonterminal.{Nonterminal}
 use Rattle.ig_item.specs.declared.core_grammar.CoreAlt.{CoreAlt}
 use Rattle.ig_item.specs.declared.items.Instance.{Instance}
-use Rattle.ig_forest.specs.Forest as forest
-use Rattle.ig_forest.specs.Forest.{Forest, ItemNode}
+use Rattle.ig_forest.specs.Forest.{Forest}
 use Rattle.ig_forest.specs.Unfold as ways
 use Rattle.ig_forest.specs.Unfold.{OfNode, OfItem, noted}
 use Rattle.ig_forest.specs.Live as live
@@ -26,8 +25,8 @@ use Rattle.ig_forest.specs.declared.entry.Choice.{Choice}
 use Rattle.ig_forest.specs.declared.entry.Entry.TheVariants.{Begin, Pass, Take}
 use Rattle.ig_forest.specs.declared.entry.Child.TheVariants as child
 use Rattle.ig_forest.proofs.Given.{Given}
-use Rattle.ig_forest.proofs.Wanted as wanted
-use Rattle.ig_forest.proofs.Wanted.{Comes, Passes}
+use Rattle.ig_item.specs.ItemTrees as reached
+use Rattle.ig_item.specs.ItemTrees.{Comes, Passes}
 use Rattle.ig_forest.proofs.Lists.{at_from_contains, contains_from_at, both_at, partner}
 use Rattle.ig_forest.proofs.Liveness.{live_is_reachable}
 use Rattle.ig_forest.proofs.Steps.{join-none, joined_height, parted_height, comes_by_nothing, comes_by_leaf, comes_by_tree, HasKeyTree, begin_only, pass_only, leaf_only, node_only}
@@ -37,8 +36,8 @@ same_tree a b i j h k ts p q r = cc
 
 module _ (core : List Nonterminal) (text : List ℕ) where
   none_first : {x : Item} {ts : Trees} → Comes core text x ts → x.dot ≡ 0 → ts ≡ none
-  none_first (wanted.begin instance a x e) dot = refl
-  none_first (wanted.further it bound j ts us vs x comes passes is joins) dot =
+  none_first (reached.begin instance a x e) dot = refl
+  none_first (reached.further it bound j ts us vs x comes passes is joins) dot =
       let further : x.dot ≡ suc it.dot = ap (λ (y : Item). y.dot) is in absurd (omega arith)
 
 module _ (given : Given) (core : List Nonterminal) (text : List ℕ) (f : Forest) (r : IsReduced core text f) where
@@ -271,8 +270,8 @@ module _ (given : Given) (core : List Nonterminal) (text : List ℕ) (f : Forest
 
     pub item_unfolds : {x : Item} {ts : Trees} → Comes core text x ts → IsLive core text x → greatest_height ts ≤ d →
         Unfolded x d ts
-    item_unfolds (wanted.begin instance a x is) l low = by_begin x d l (ap (λ (y : Item). y.dot) is)
-    item_unfolds (wanted.further it _ j ts us vs x comes (wanted.test names e _ before holds here) is joins) l low =
+    item_unfolds (reached.begin instance a x is) l low = by_begin x d l (ap (λ (y : Item). y.dot) is)
+    item_unfolds (reached.further it _ j ts us vs x comes (reached.test names e _ before holds here) is joins) l low =
         let reachable = stands_reachable it x ts l (ap (λ (y : Item). y.instance) is) (ap (λ (y : Item). y.alternative) is) comes in
         let gives : Gives core text it nothing x =
         live.test it names e x reachable before holds (is ∙ ap (past it []) here) in
@@ -280,7 +279,7 @@ module _ (given : Given) (core : List Nonterminal) (text : List ℕ) (f : Forest
         let low_ts : greatest_height ts ≤ d = subst (λ (zs : Trees). greatest_height zs ≤ d) same low in
         let u = item_unfolds comes (live.previous x it nothing l gives) low_ts in
         subst (Unfolded x d) (sym same) (by_pass it x d ts u l gives)
-    item_unfolds (wanted.further it _ j ts us vs x comes (wanted.bind names name e v _ before has here) is joins) l low =
+    item_unfolds (reached.further it _ j ts us vs x comes (reached.bind names name e v _ before has here) is joins) l low =
         let reachable = stands_reachable it x ts l (ap (λ (y : Item). y.instance) is) (ap (λ (y : Item). y.alternative) is) comes in
         let gives : Gives core text it nothing x =
         live.bind it names name e v x reachable before has (is ∙ ap (past it (v ∷ [])) here) in
@@ -288,7 +287,7 @@ module _ (given : Given) (core : List Nonterminal) (text : List ℕ) (f : Forest
         let low_ts : greatest_height ts ≤ d = subst (λ (zs : Trees). greatest_height zs ≤ d) same low in
         let u = item_unfolds comes (live.previous x it nothing l gives) low_ts in
         subst (Unfolded x d) (sym same) (by_pass it x d ts u l gives)
-    item_unfolds (wanted.further it bound j ts us vs x comes (wanted.terminal names what label excluded _ _ _ before matches free binds leaves) is joins)
+    item_unfolds (reached.further it bound j ts us vs x comes (reached.terminal names what label excluded _ _ _ before matches free binds leaves) is joins)
         l low =
         let span : Span = record { begin = it.position; end = j } in
         let reachable = stands_reachable it x ts l (ap (λ (y : Item). y.instance) is) (ap (λ (y : Item). y.alternative) is) comes in
@@ -299,7 +298,7 @@ module _ (given : Given) (core : List Nonterminal) (text : List ℕ) (f : Forest
         let lows = parted_height ts (one (Leaf it.position j)) d (subst (λ (zs : Trees). greatest_height zs ≤ d) same low) in
         let u = item_unfolds comes (live.previous x it (leaf span) l gives) lows.0 in
         subst (Unfolded x d) (sym same) (by_leaf it x d ts span u l gives)
-    item_unfolds (wanted.further it bound j ts us vs x comes (wanted.call callee label excluded t _ _ _ calls has free binds grows) is joins)
+    item_unfolds (reached.further it bound j ts us vs x comes (reached.call callee label excluded t _ _ _ calls has free binds grows) is joins)
         l low =
         let reachable = stands_reachable it x ts l (ap (λ (y : Item). y.instance) is) (ap (λ (y : Item). y.alternative) is) comes in
         let same : vs ≡ join ts (one t) = joins ∙ ap (join ts) grows in
@@ -342,6 +341,6 @@ pub unfolds_to_core_trees : Given → UnfoldsToCoreTrees
 unfolds_to_core_trees given core text f d t w r = (
   λ u. node_trees given core text f r u.1 (root_key text) r.root,
   λ h.
-  nodes_unfold given core text f r d (root_key text) t h.0 h.1 (root_begun given core text f r w)
-  (root_ended given core text f r w) f.root r.root,
+      nodes_unfold given core text f r d (root_key text) t h.0 h.1 (root_begun given core text f r w)
+      (root_ended given core text f r w) f.root r.root,
 )

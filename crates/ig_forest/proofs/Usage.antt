@@ -1,14 +1,11 @@
 -- No part of the reduced forest is dead.
-use Rattle.std.proofs.Common.{◌≡◌, ◌⊎◌, inl, inr, ℕ, zero, suc, ◌+◌, ◌<◌, ◌≤◌, ◌++◌, List, [], Some, length, slice_get, Contains, refl, sym, ap, ◌∙◌, subst, arith}
+use Rattle.std.proofs.Common.{◌≡◌, ◌⊎◌, inl, inr, ℕ, zero, suc, ◌+◌, ◌<◌, ◌++◌, List, Some, length, slice_get, refl, sym, ap, ◌∙◌, subst, arith}
 use Rattle.std.proofs.lemmas.Option.{same_Some, slice_get_within}
-use Rattle.ig_text.specs.declared.text.Span.{Span}
 use Rattle.ig_text.specs.Tree.{Tree, Trees, Leaf, Node, none, one, join, greatest_height}
-use Rattle.ig_item.specs.Items.{Item, Reachable, IsComplete, StandsBefore}
+use Rattle.ig_item.specs.Items.{Item, IsComplete, StandsBefore}
 use Rattle.ig_item.specs.Step.{Step, Test, Bind, Term, Call}
-use Rattle.ig_item.specs.WellKinded.{IsWellKinded}
 use Rattle.ig_item.specs.declared.core_grammar.Nonterminal.{Nonterminal}
 use Rattle.ig_item.specs.declared.core_grammar.CoreAlt.{CoreAlt}
-use Rattle.ig_item.specs.declared.items.Instance.{Instance}
 use Rattle.ig_forest.specs.Forest as forest
 use Rattle.ig_forest.specs.Forest.{Forest, ItemNode}
 use Rattle.ig_forest.specs.Unfold as ways
@@ -18,16 +15,15 @@ use Rattle.ig_forest.specs.Live.{NodeKey, Taken, Gives, IsLive}
 use Rattle.ig_forest.specs.Orders.{item_cmp, node_cmp}
 use Rattle.ig_forest.specs.Reduced as reduced
 use Rattle.ig_forest.specs.Reduced.{IsReduced, IsEntry, root_key}
-use Rattle.ig_forest.specs.Laws.{ReducedIsTrim}
-use Rattle.ig_forest.specs.declared.entry.Choice.{Choice}
+use Rattle.ig_forest.specs.Laws.{ReducedIsTrim, TrimHasTrees}
 use Rattle.ig_forest.specs.declared.entry.Entry.{Entry}
 use Rattle.ig_forest.specs.declared.entry.Entry.TheVariants.{Begin, Pass, Take}
 use Rattle.ig_forest.specs.declared.entry.Child.TheVariants as child
 use Rattle.ig_forest.proofs.Given.{Given}
-use Rattle.ig_forest.proofs.Lists.{at_from_contains, contains_from_at, at_within, key_at, partner, one_place}
+use Rattle.ig_forest.proofs.Lists.{at_from_contains, contains_from_at, at_within, key_at, one_place}
 use Rattle.ig_forest.proofs.TotalOrders.{item_total, node_total}
 use Rattle.ig_forest.proofs.Liveness.{live_is_reachable}
-use Rattle.ig_forest.proofs.Unfolding.{Unfolded, by_pass, by_leaf, by_tree, chosen, item_unfolds, nodes_unfold, live_at, numbered}
+use Rattle.ig_forest.proofs.Unfolding.{Unfolded, by_pass, by_leaf, by_tree, chosen, item_unfolds, nodes_unfold, live_at}
 use Rattle.ig_forest.proofs.Trim.{is_forest, onward_items}
 
 keep : {A B C : Type 0} → (B → C) → A ⊎ B → A ⊎ C
@@ -136,6 +132,66 @@ module _ (f : Forest) where
   used : {uses : Part → Type 0} → InTree uses → (part : Part) → uses part → IsUsed f part
   used t part u =
       record { depth = t.depth; cursor = t.cursor; tree = t.tree; unfolds = t.unfolds; uses = t.keeps part u }
+
+module _ (f : Forest) where
+  -- an item node that unfolds has an entry
+  more_than : (it other : ItemNode) (i : ℕ) (e : Entry) → it ≡ other → slice_get it.entries i ≡ Some e → 0 < length other.entries
+  more_than it other i e same at =
+      let within = slice_get_within it.entries i e at in omega (arith, within, ap (λ (z : ItemNode). length z.entries) same)
+
+  same_node_at : (k : ℕ) (it other : ItemNode) → slice_get f.items k ≡ Some it → slice_get f.items k ≡ Some other → it ≡ other
+  same_node_at k it other at beside = same_Some it other (sym at ∙ beside)
+
+  some_entry : {k d : ℕ} {cs : List ℕ} {ts : Trees} → OfItem f k d cs ts → (it : ItemNode) → slice_get f.items k ≡ Some it →
+      0 < length it.entries
+  some_entry (ways.begin k d i it cs at among c) other beside =
+      more_than it other i Begin (same_node_at k it other at beside) among
+  some_entry (ways.pass k d i prev it bs cs ts at among of_prev c) other beside =
+      more_than it other i (Pass prev) (same_node_at k it other at beside) among
+  some_entry (ways.leaf k d i prev it span bs cs ts us at among of_prev c is) other beside =
+      more_than it other i (Take prev (child.Leaf span)) (same_node_at k it other at beside) among
+  some_entry (ways.node k d i prev v it ps bs cs ts us t at among of_prev of_node c is) other beside =
+      more_than it other i (Take prev (child.Node v)) (same_node_at k it other at beside) among
+
+  -- what a used part unfolds to
+  abbrev Found : Part → Type 0
+  Found (TheNode v) = (d : ℕ) × (cs : List ℕ) × (t : Tree) × OfNode f v d cs t
+  Found (TheAlternative v i) = (d : ℕ) × (cs : List ℕ) × (t : Tree) × OfNode f v d cs t
+  Found (TheEntry k i) = (d : ℕ) × (cs : List ℕ) × (ts : Trees) × OfItem f k d cs ts
+
+  mutual
+    node_found : {v d : ℕ} {cs : List ℕ} {t : Tree} (o : OfNode f v d cs t) (part : Part) → node_uses f o part → Found part
+    node_found (ways.choose v d i n choice bs cs ts t at among of_item c is) part (inl e) =
+        subst Found (sym e) (suc d, cs, t, ways.choose v d i n choice bs cs ts t at among of_item c is)
+    node_found (ways.choose v d i n choice bs cs ts t at among of_item c is) part (inr (inl e)) =
+        subst Found (sym e) (suc d, cs, t, ways.choose v d i n choice bs cs ts t at among of_item c is)
+    node_found (ways.choose v d i n choice bs cs ts t at among of_item c is) part (inr (inr u)) = item_found of_item part u
+
+    item_found : {k d : ℕ} {cs : List ℕ} {ts : Trees} (o : OfItem f k d cs ts) (part : Part) → item_uses f o part → Found part
+    item_found (ways.begin k d i it cs at among c) part e = subst Found (sym e) (d, cs, none, ways.begin k d i it cs at among c)
+    item_found (ways.pass k d i prev it bs cs ts at among of_prev c) part (inl e) =
+        subst Found (sym e) (d, cs, ts, ways.pass k d i prev it bs cs ts at among of_prev c)
+    item_found (ways.pass k d i prev it bs cs ts at among of_prev c) part (inr u) = item_found of_prev part u
+    item_found (ways.leaf k d i prev it span bs cs ts us at among of_prev c is) part (inl e) =
+        subst Found (sym e) (d, cs, us, ways.leaf k d i prev it span bs cs ts us at among of_prev c is)
+    item_found (ways.leaf k d i prev it span bs cs ts us at among of_prev c is) part (inr u) = item_found of_prev part u
+    item_found (ways.node k d i prev v it ps bs cs ts us t at among of_prev of_node c is) part (inl e) =
+        subst Found (sym e) (d, cs, us, ways.node k d i prev v it ps bs cs ts us t at among of_prev of_node c is)
+    item_found (ways.node k d i prev v it ps bs cs ts us t at among of_prev of_node c is) part (inr (inl u)) =
+        item_found of_prev part u
+    item_found (ways.node k d i prev v it ps bs cs ts us t at among of_prev of_node c is) part (inr (inr u)) =
+        node_found of_node part u
+
+pub trim_has_trees : TrimHasTrees
+trim_has_trees f alive =
+    record {
+      nodes = λ v within. let u = alive.nodes v within in node_found f u.unfolds (TheNode v) u.uses;
+      items =
+          λ k within.
+          let it = at_within f.items k within in
+          let u = alive.entries k 0 it.0 it.1 (alive.items k it.0 it.1) in
+          node_found f u.unfolds (TheEntry k 0) u.uses;
+    }
 
 module _ (core : List Nonterminal) (text : List ℕ) where
   -- a rule gives an item from one that stands before a step
@@ -311,7 +367,7 @@ module _ (given : Given) (core : List Nonterminal) (text : List ℕ) (f : Forest
       let l = (r.are_items.members x.0).0 x.1 in
       let s = live_unfolds x.0 l in
       let o = completed x.0 key.0 s.depth s.trees x.2 s.unfolded v key.1 in
-      used f {uses = node_uses f o.1} (node_context x.0 l key.0 x.2 v key.1 (suc s.depth) o.0 _ o.1) (TheNode v) (inl refl)
+      used f {uses = node_uses f {cs = o.0} o.1} (node_context x.0 l key.0 x.2 v key.1 (suc s.depth) o.0 _ o.1) (TheNode v) (inl refl)
 
   -- an item of the forest unfolds at its number
   unfolds_at : (k : ℕ) (x : Item) → slice_get r.items k ≡ Some x → (d : ℕ) × (cs : List ℕ) × (ts : Trees) × OfItem f k d cs ts
@@ -369,11 +425,15 @@ module _ (given : Given) (core : List Nonterminal) (text : List ℕ) (f : Forest
       let u : Unfolded given core text f r x d us = record { number = k; cursor = cs; at = has; unfolds = o } in
       used f {uses = item_uses f o} (item_context l d us u) (TheEntry k i) (inl refl)
 
+  has_entry : (k : ℕ) (it : ItemNode) → slice_get f.items k ≡ Some it → 0 < length it.entries
+  has_entry k it at = let x = key_at r.item_nodes k it at in some_entry f (unfolds_at k x.0 x.1).3 it at
+
   no_dead_part : HasNoDeadPart f
   no_dead_part =
       record {
         nodes = node_used;
         alternatives = alternative_used;
+        items = has_entry;
         entries =
             λ k i it at within.
             let e = at_within it.entries i within in

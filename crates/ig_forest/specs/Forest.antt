@@ -78,3 +78,10 @@ PreviousIsBefore k (Take prev child) = prev < k
 abbrev pub PreviousAreBefore : Forest → Type 0
 PreviousAreBefore f =
     (k : ℕ) (it : ItemNode) (e : Entry) → slice_get f.items k ≡ Some it → Contains it.entries e → PreviousIsBefore k e
+
+-- all lists have fewer than 2 to the power of 32 members, so numbers of 32 bits serve
+pub record IsShort (f : Forest) : Type 0 where
+  pub nodes : length f.nodes < 4294967296
+  pub items : length f.items < 4294967296
+  pub alternatives : (v : ℕ) (node : Node) → slice_get f.nodes v ≡ Some node → length node.alternatives < 4294967296
+  pub entries : (k : ℕ) (it : ItemNode) → slice_get f.items k ≡ Some it → length it.entries < 4294967296

@@ -6,7 +6,7 @@ use Rattle.ig_item.specs.Items.{Item, IsCompleteRoot, Reachable, RootIsComplete}
 use Rattle.ig_item.specs.WellKinded.{IsWellKinded}
 use Rattle.ig_item.specs.declared.core_grammar.Nonterminal.{Nonterminal}
 use Rattle.ig_forest.specs.Forest.{Forest, Node, ItemNode, item_of}
-use Rattle.ig_forest.specs.Unfold.{Unfold, Unfolds, IsTrim}
+use Rattle.ig_forest.specs.Unfold.{Unfold, Unfolds, HasNoDeadPart, HasTrees, IsTrim}
 use Rattle.ig_forest.specs.Live.{NodeKey, Taken, tree, Completes, Gives, IsLive}
 use Rattle.ig_forest.specs.Reduced.{IsReduced}
 
@@ -26,6 +26,10 @@ HasOneCursor =
 abbrev pub ReducedIsTrim : Type 0
 ReducedIsTrim =
     (core : List Nonterminal) (text : List ℕ) (f : Forest) → IsWellKinded core → IsReduced core text f → IsTrim f
+
+-- each node and each item node of a forest without dead parts has trees
+abbrev pub TrimHasTrees : Type 0
+TrimHasTrees = (f : Forest) → HasNoDeadPart f → HasTrees f
 
 -- no two nodes have one instance and one end, and no two item nodes have one item
 pub record NoKeyTwice (f : Forest) : Type 0 where

@@ -75,13 +75,19 @@ module _ (f : Forest) where
     pub unfolds : Unfold depth cursor tree
     pub uses : node_uses unfolds part
 
-  -- each node, alternative and entry is used
+  -- each node, alternative and entry is used, and each item node has an entry
   pub record HasNoDeadPart : Type 0 where
     pub nodes : (v : ℕ) → v < length f.nodes → IsUsed (TheNode v)
     pub alternatives : (v i : ℕ) (node : forest.Node) → slice_get f.nodes v ≡ Some node → i < length node.alternatives →
         IsUsed (TheAlternative v i)
+    pub items : (k : ℕ) (it : ItemNode) → slice_get f.items k ≡ Some it → 0 < length it.entries
     pub entries : (k i : ℕ) (it : ItemNode) → slice_get f.items k ≡ Some it → i < length it.entries →
         IsUsed (TheEntry k i)
+
+  -- each node and each item node has trees, to some depth
+  pub record HasTrees : Type 0 where
+    pub nodes : (v : ℕ) → v < length f.nodes → (d : ℕ) × (cs : List ℕ) × (t : Tree) × OfNode v d cs t
+    pub items : (k : ℕ) → k < length f.items → (d : ℕ) × (cs : List ℕ) × (ts : Trees) × OfItem k d cs ts
 
 -- what each forest of the program keeps to: it is a forest, no part of it is dead, and items come behind the previous ones
 pub record IsTrim (f : Forest) : Type 0 where

@@ -31,6 +31,7 @@ pub use entry::{Child, Choice, Entry};
 pub use forest::{Forest, ItemNode, Node};
 pub use laws::{
     live_items_are_least, live_items_are_reachable, no_key_stands_twice, reduced_forest_has_root,
-    reduced_forest_is_unique,
+    reduced_forest_is_trim, reduced_forest_is_unique, reduced_forest_unfolds_to_core_trees,
+    tree_has_one_cursor, trim_forest_has_trees,
 };
 pub use stored::{Choices, Entries};

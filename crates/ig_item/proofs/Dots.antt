@@ -10,14 +10,13 @@ use Rattle.ig_item.specs.Step.{Step, names_of}
 use Rattle.ig_item.specs.Core.{IsAlternative, numbered}
 use Rattle.ig_item.specs.Items.{Item, StandsBefore}
 use Rattle.ig_item.specs.Visible.{names_at, kinds_of, kinds_behind}
+use Rattle.ig_item.specs.Laws.{AlternativesAreOne, NamesGrow, StandsBeforeOne}
 use Rattle.ig_item.specs.declared.core_grammar.Nonterminal.{Nonterminal}
 use Rattle.ig_item.specs.declared.core_grammar.CoreAlt.{CoreAlt}
 use Rattle.ig_item.proofs.Lists.{take_step}
 
 -- the names that are visible behind a step
-pub names_step : (nonterminal : Nonterminal) (alternative : CoreAlt) (dot : ℕ) (step : Step) →
-    slice_get alternative.steps dot ≡ Some step →
-    names_at nonterminal alternative (suc dot) ≡ names_at nonterminal alternative dot ++ names_of step
+pub names_step : NamesGrow
 names_step nonterminal alternative dot step at =
     let before = flat_map names_of (take dot alternative.steps) in
     ap (λ (s : List Step). nonterminal.params ++ flat_map names_of s) (take_step alternative.steps dot step at) ∙
@@ -53,13 +52,7 @@ kinds_step names kinds (s ∷ steps) (suc dot) step here bound at visible binds 
     visible
 
 -- two alternatives of the same numbers are one
-pub record Same (nonterminal other : Nonterminal) (alternative second : CoreAlt) : Type 0 where
-  pub nonterminals : nonterminal ≡ other
-  pub alternatives : alternative ≡ second
-
-pub same_alternative : (core : List Nonterminal) (n a : ℕ) (nonterminal other : Nonterminal) (alternative second : CoreAlt) →
-    IsAlternative core n a nonterminal alternative → IsAlternative core n a other second →
-    Same nonterminal other alternative second
+pub same_alternative : AlternativesAreOne
 same_alternative core n a nonterminal other alternative second i j =
     let one : nonterminal ≡ other = same_Some nonterminal other (sym i.there ∙ j.there) in
     record {
@@ -70,10 +63,15 @@ same_alternative core n a nonterminal other alternative second i j =
     }
 
 -- an item stands before one step, where the same names are visible
-pub stands_once : (core : List Nonterminal) (it : Item) (names others : List (List ℕ)) (step next : Step) →
-    StandsBefore core it names step → StandsBefore core it others next → (names ≡ others) × (step ≡ next)
+pub stands_once : StandsBeforeOne
 stands_once core it names others step next s t =
     let same = same_alternative core it.instance.nonterminal it.alternative s.nonterminal t.nonterminal s.alternative t.alternative s.has t.has in (
       s.visible ∙ (λ i. names_at (same.nonterminals i) (same.alternatives i) it.dot) ∙ sym t.visible,
       same_Some step next (sym s.next ∙ ap (λ (a : CoreAlt). slice_get a.steps it.dot) same.alternatives ∙ t.next),
     )
+
+-- an alternative that stands alone has number 1
+pub alone : (alternative x : CoreAlt) (a : ℕ) → numbered (alternative ∷ []) a ≡ Some x → a ≡ 1
+alone alternative x zero e = cc
+alone alternative x (suc zero) e = refl
+alone alternative x (suc (suc k)) e = cc

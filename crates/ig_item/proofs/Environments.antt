@@ -10,7 +10,7 @@ use Rattle.ig_expr.specs.Evaluation.{value_of}
 use Rattle.ig_expr.specs.declared.kind.Kind.{Kind}
 use Rattle.ig_expr.specs.declared.kind.Kind.TheVariants.{Span}
 use Rattle.ig_expr.specs.declared.value.Value.{Value}
-use Rattle.ig_expr.proofs.KindsOfValues.{values_have_kinds}
+use Rattle.ig_expr.specs.Laws.{ValuesHaveKinds}
 use Rattle.ig_item.specs.Step.{Step, Test, Bind, Term, Call, names_of, labels}
 use Rattle.ig_item.specs.Core.{IsAlternative, numbered}
 use Rattle.ig_item.specs.Visible.{names_at, kinds_at, kinds_of, kinds_of_label}
@@ -21,9 +21,9 @@ use Rattle.ig_item.specs.Laws.{EnvironmentFits, EnvironmentsFit}
 use Rattle.ig_item.specs.declared.core_grammar.Nonterminal.{Nonterminal}
 use Rattle.ig_item.specs.declared.core_grammar.CoreAlt.{CoreAlt}
 use Rattle.ig_item.specs.declared.items.Instance.{Instance}
-use Rattle.ig_item.proofs.Dots.{names_step, kinds_step, Same, same_alternative}
+use Rattle.ig_item.proofs.Dots.{names_step, kinds_step, same_alternative}
 use Rattle.ig_item.proofs.Lists.{contains_from_at}
-use Rattle.ig_item.proofs.Reachability.{kept}
+use Rattle.ig_item.specs.Induction.{kept}
 
 -- values of these kinds, as many as the names
 pub record Bound (names : List (List ℕ)) (kinds : List Kind) (values : List Value) : Type 0 where
@@ -35,22 +35,22 @@ label_bound None i j = record { kinds_are = refl; number = refl }
 label_bound (Some name) i j = record { kinds_are = refl; number = refl }
 
 -- arguments have values of their kinds
-arguments_fit : (text : List ℕ) (names : List (List ℕ)) (kinds : List Kind) (env : List Value) (here : ℕ) →
+arguments_fit : ValuesHaveKinds → (text : List ℕ) (names : List (List ℕ)) (kinds : List Kind) (env : List Value) (here : ℕ) →
     map kind_of_value env ≡ kinds → (arguments : List Expression) (ks : List Kind) (vs : List Value) →
     map (kind_in names kinds) arguments ≡ map Some ks → map (value_of text names env here) arguments ≡ map Some vs →
     map kind_of_value vs ≡ ks
-arguments_fit text names kinds env here are [] [] [] k v = refl
-arguments_fit text names kinds env here are [] [] (w ∷ vs) k v = cc
-arguments_fit text names kinds env here are [] (q ∷ ks) vs k v = cc
-arguments_fit text names kinds env here are (e ∷ es) [] vs k v = cc
-arguments_fit text names kinds env here are (e ∷ es) (q ∷ ks) [] k v = cc
-arguments_fit text names kinds env here are (e ∷ es) (q ∷ ks) (w ∷ vs) k v =
+arguments_fit values_have_kinds text names kinds env here are [] [] [] k v = refl
+arguments_fit values_have_kinds text names kinds env here are [] [] (w ∷ vs) k v = cc
+arguments_fit values_have_kinds text names kinds env here are [] (q ∷ ks) vs k v = cc
+arguments_fit values_have_kinds text names kinds env here are (e ∷ es) [] vs k v = cc
+arguments_fit values_have_kinds text names kinds env here are (e ∷ es) (q ∷ ks) [] k v = cc
+arguments_fit values_have_kinds text names kinds env here are (e ∷ es) (q ∷ ks) (w ∷ vs) k v =
     let has : kind_in names kinds e ≡ Some q = cc in
     let gives : value_of text names env here e ≡ Some w = cc in
     let others : map (kind_in names kinds) es ≡ map Some ks = cc in
     let other_values : map (value_of text names env here) es ≡ map Some vs = cc in
     let one : kind_of_value w ≡ q = values_have_kinds text names kinds env here e q w are has gives in
-    let rest : map kind_of_value vs ≡ ks = arguments_fit text names kinds env here are es ks vs others other_values in
+    let rest : map kind_of_value vs ≡ ks = arguments_fit values_have_kinds text names kinds env here are es ks vs others other_values in
     λ i. one i ∷ rest i
 
 no_kinds : (kinds : List Kind) → length kinds ≡ 0 → [] ≡ kinds
@@ -130,7 +130,7 @@ module _ (core : List Nonterminal) where
             ap (λ (ns : List (List ℕ)). length (ns ++ names_of step)) f.names_are ∙ ap length (sym behind);
       }
 
-  module _ (text : List ℕ) (w : IsWellKinded core) where
+  module _ (values_have_kinds : ValuesHaveKinds) (text : List ℕ) (w : IsWellKinded core) where
     -- the step fits what is visible before it
     step_fits : (it : Item) (names : List (List ℕ)) (step : Step) (f : FitsBefore it names step) →
         StepFits core f.nonterminal f.alternative it.dot step
@@ -181,7 +181,7 @@ module _ (core : List Nonterminal) where
         let one : s.call.0 ≡ nonterminal = same_Some s.call.0 nonterminal (sym s.call.1 ∙ at.there) in
         subst (EnvironmentFits core) (sym e)
         (first_fits callee a nonterminal alternative at
-        (arguments_fit text calls.names f.kinds it.env it.position f.bound.kinds_are calls.arguments s.call.0.kinds
+        (arguments_fit values_have_kinds text calls.names f.kinds it.env it.position f.bound.kinds_are calls.arguments s.call.0.kinds
         callee.values given calls.values ∙ ap (λ (n : Nonterminal). n.kinds) one)
         (as_many nonterminal callee.nonterminal at.there))
     rule _ (items.return it done label excluded x k l calls complete free e) =
@@ -190,5 +190,6 @@ module _ (core : List Nonterminal) where
         (past_fits it calls.names step done.position (kinds_of_label label) (span_of label it.position done.position)
         (fits_before it calls.names step k calls.before) refl (label_bound label it.position done.position))
 
-pub environments : EnvironmentsFit
-environments core text x w reachable = kept core text (EnvironmentFits core) (rule core text w) x reachable
+pub environments : ValuesHaveKinds → EnvironmentsFit
+environments values_have_kinds core text x w reachable =
+    kept core text (EnvironmentFits core) (rule core values_have_kinds text w) x reachable

@@ -11,10 +11,12 @@ use Rattle.ig_item.specs.Step.{Step, names_of}
 use Rattle.ig_item.specs.Core.{IsAlternative, numbered, dots}
 use Rattle.ig_item.specs.Visible.{names_at, kinds_of}
 use Rattle.ig_item.specs.WellKinded.{NoneTwice, HasRoot, ExpressionsFit, CallFits, StepFits, IsWellKinded}
-use Rattle.ig_item.specs.Examples.{one_letter, countdown, root, root_alternative, start, letter, counting, counted, at_zero, letter_and_less}
+use Rattle.ig_item.specs.Examples.{one_letter, countdown, root, root_alternative, start, letter, counting, counted, at_zero, letter_and_less, lone_root, no_steps_alternative}
 use Rattle.ig_item.specs.declared.core_grammar.Nonterminal.{Nonterminal}
 use Rattle.ig_item.specs.declared.core_grammar.CoreAlt.{CoreAlt}
-use Rattle.ig_item.proofs.Fitting.{AreFit, no_steps, next_step, each_fits, differ_at, of_each, of_members}
+use Rattle.ig_item.specs.Fitting.{AreFit, no_steps, next_step}
+use Rattle.ig_item.proofs.Dots.{alone}
+use Rattle.ig_item.proofs.Fitting.{each_fits, differ_at, of_each, of_members}
 
 pub no_names : {A : Type 0} → NoneTwice {X = A} []
 no_names i j x at_i at_j = cc
@@ -32,12 +34,6 @@ two_names a b ne (suc zero) (suc zero) x at_i at_j = refl
 two_names a b ne zero (suc (suc j)) x at_i at_j = cc
 two_names a b ne (suc zero) (suc (suc j)) x at_i at_j = cc
 two_names a b ne (suc (suc i)) j x at_i at_j = cc
-
--- an alternative that stands alone has number 1
-pub alone : (alternative x : CoreAlt) (a : ℕ) → numbered (alternative ∷ []) a ≡ Some x → a ≡ 1
-alone alternative x zero e = cc
-alone alternative x (suc zero) e = refl
-alone alternative x (suc (suc k)) e = cc
 
 pub root_fits : (core : List Nonterminal) (others : List Nonterminal) → core ≡ root ∷ others → HasRoot core
 root_fits core others e =
@@ -93,6 +89,28 @@ one_letter_is_well_kinded =
             (each_fits one_letter _ _ (step_then _ _ _ [] _ _ refl tt (_, refl, refl) (no_steps _ _)), tt),
             ((each_fits one_letter _ _ (step_then _ _ _ [] _ _ refl tt tt (no_steps _ _)), tt), tt),
           );
+      few_dots = lit≤ tt;
+      few_nonterminals = lit< tt;
+    }
+
+pub lone_root_is_well_kinded : IsWellKinded (lone_root ∷ [])
+lone_root_is_well_kinded =
+    let core = lone_root ∷ [] in
+    record {
+      root =
+          record {
+            nonterminal = lone_root;
+            alternative = no_steps_alternative;
+            first = refl;
+            plain = refl;
+            single = refl;
+            unbound = refl;
+          };
+      parameters = of_members Numbers core (refl, tt);
+      names = of_each Differ core ((differ_at lone_root no_steps_alternative no_names, tt), tt);
+      tags = of_each (Tags core) core (((λ b other i e. alone _ other b i.has), tt), tt);
+      rules = of_each Rules core (((λ m k e. cc), tt), tt);
+      steps = of_each (StepsFit core) core ((each_fits core lone_root no_steps_alternative (no_steps _ _), tt), tt);
       few_dots = lit≤ tt;
       few_nonterminals = lit< tt;
     }

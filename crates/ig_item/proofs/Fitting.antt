@@ -9,17 +9,12 @@ use Rattle.ig_expr.specs.declared.kind.Kind.{Kind}
 use Rattle.ig_item.specs.Step.{Step, names_of}
 use Rattle.ig_item.specs.Core.{numbered}
 use Rattle.ig_item.specs.Visible.{names_at, kinds_at, kinds_of, kinds_behind}
+use Rattle.ig_item.specs.Fitting.{AreFit, no_steps, next_step}
+use Rattle.ig_item.specs.Laws.{StepsFit, NamesDiffer}
 use Rattle.ig_item.specs.WellKinded.{NoneTwice, OfEach, ExpressionsFit, CallFits, StepFits}
 use Rattle.ig_item.specs.declared.core_grammar.Nonterminal.{Nonterminal}
 use Rattle.ig_item.specs.declared.core_grammar.CoreAlt.{CoreAlt}
 use Rattle.ig_item.proofs.Lists.{at_from_contains, left_at}
-
--- each step fits what is visible before it, where these names with these kinds are visible before the first
-pub data AreFit (core : List Nonterminal) : List (List ℕ) → List Kind → List Step → Type 0 where
-  no_steps : (names : List (List ℕ)) (kinds : List Kind) → AreFit core names kinds []
-  next_step : (names : List (List ℕ)) (kinds more : List Kind) (step : Step) (steps : List Step) →
-      kinds_of names kinds step ≡ Some more → ExpressionsFit names kinds step → CallFits core names kinds step →
-      AreFit core (names ++ names_of step) (kinds ++ more) steps → AreFit core names kinds (step ∷ steps)
 
 -- what is visible behind some steps, and that the step there fits it
 pub record FitsBehind (core : List Nonterminal) (names : List (List ℕ)) (kinds : List Kind) (before : List Step)
@@ -60,9 +55,7 @@ fits_behind core (next_step names kinds more s steps bound expressions call othe
     }
 
 -- so the step behind each dot fits
-pub each_fits : (core : List Nonterminal) (nonterminal : Nonterminal) (alternative : CoreAlt) →
-    AreFit core nonterminal.params nonterminal.kinds alternative.steps → (dot : ℕ) (step : Step) →
-    slice_get alternative.steps dot ≡ Some step → StepFits core nonterminal alternative dot step
+pub each_fits : StepsFit
 each_fits core nonterminal alternative fit dot step at =
     let h = fits_behind core fit dot step at in
     record { kinds = h.here; visible = h.visible; expressions = h.expressions; call = h.call }
@@ -73,9 +66,7 @@ split_at (suc n) [] = refl
 split_at (suc n) (x ∷ xs) = ap (λ (ys : List _). x ∷ ys) (split_at n xs)
 
 -- where the names that are visible behind the last step differ, so do those at each dot
-pub differ_at : (nonterminal : Nonterminal) (alternative : CoreAlt) →
-    NoneTwice (nonterminal.params ++ flat_map names_of alternative.steps) → (dot : ℕ) →
-    NoneTwice (names_at nonterminal alternative dot)
+pub differ_at : NamesDiffer
 differ_at nonterminal alternative differ dot i j x at_i at_j =
     let before = names_at nonterminal alternative dot in
     let behind = flat_map names_of (drop dot alternative.steps) in

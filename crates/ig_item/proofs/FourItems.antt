@@ -18,8 +18,8 @@ use Rattle.ig_item.specs.declared.core_grammar.Nonterminal.{Nonterminal}
 use Rattle.ig_item.specs.declared.core_grammar.CoreAlt.{CoreAlt}
 use Rattle.ig_item.specs.declared.items.Instance.{Instance}
 use Rattle.ig_item.proofs.Lists.{at_from_contains, contains_from_at}
-use Rattle.ig_item.proofs.Reachability.{kept}
-use Rattle.ig_item.proofs.Examples.{alone}
+use Rattle.ig_item.specs.Induction.{kept}
+use Rattle.ig_item.proofs.Dots.{alone}
 
 -- which of the four an item is
 data Known (it : Item) : Type 0 where

@@ -1,4 +1,4 @@
--- A reachable item has trees before its dot, and where there are trees the items are reachable.
+-- The steps before an item's dot and those behind it lead from the start of its instance; so a complete item has a tree.
 use Rattle.std.proofs.Common.{◌≡◌, ℕ, zero, suc, ◌<◌, ◌≤◌, List, [], ◌∷◌, ◌++◌, map, Option, Some, length, take, drop, slice_get, refl, sym, ap, ap₂, ◌∙◌, subst, arith, take_all, le_of_eq, append_assoc}
 use Rattle.std.proofs.lemmas.List.{append-nil}
 use Rattle.std.proofs.lemmas.Option.{same_Some}
@@ -10,6 +10,8 @@ use Rattle.ig_item.specs.Step.{Step, Test, Bind, Term, Call, names_of, labels}
 use Rattle.ig_item.specs.Core.{IsAlternative, numbered}
 use Rattle.ig_item.specs.Visible.{names_at}
 use Rattle.ig_item.specs.WellKinded.{IsWellKinded, HasRoot}
+use Rattle.ig_item.specs.ItemTrees as trees
+use Rattle.ig_item.specs.ItemTrees.{Passes, Comes}
 use Rattle.ig_item.specs.CoreTrees as core_trees
 use Rattle.ig_item.specs.CoreTrees.{Leads, HasTree, CoreTree}
 use Rattle.ig_item.specs.Items as items
@@ -20,7 +22,8 @@ use Rattle.ig_item.specs.declared.core_grammar.CoreAlt.{CoreAlt}
 use Rattle.ig_item.specs.declared.items.Instance.{Instance}
 use Rattle.ig_item.proofs.Dots.{names_step, same_alternative}
 use Rattle.ig_item.proofs.Lists.{take_step, Stands, stands, at_end}
-use Rattle.ig_item.proofs.Reachability.{reach, kept}
+use Rattle.ig_item.specs.Induction.{kept}
+use Rattle.ig_item.proofs.Reachability.{reach}
 
 pub join_join : (ts us vs : Trees) → join (join ts us) vs ≡ join ts (join us vs)
 join_join none us vs = refl
@@ -31,7 +34,7 @@ join-none none = refl
 join-none (more t ts) = ap (more t) (join-none ts)
 
 -- an item of an instance
-abbrev item_at : Instance → ℕ → ℕ → List Value → ℕ → Item
+abbrev pub item_at : Instance → ℕ → ℕ → List Value → ℕ → Item
 item_at instance a dot env i = record { instance = instance; alternative = a; dot = dot; env = env; position = i }
 
 module _ (core : List Nonterminal) (text : List ℕ) where
@@ -95,7 +98,7 @@ module _ (core : List Nonterminal) (text : List ℕ) where
       }
 
   -- a complete item has a tree
-  pub complete_tree : (x : Item) (ts : Trees) → Before x ts → (c : IsComplete core x) →
+  complete_tree : (x : Item) (ts : Trees) → Before x ts → (c : IsComplete core x) →
       HasTree core text x.instance.nonterminal x.instance.values x.instance.start x.position
       (Node c.alternative.tag x.instance.start x.position ts)
   complete_tree x ts b c =
@@ -113,201 +116,53 @@ module _ (core : List Nonterminal) (text : List ℕ) where
       x.position ts (Node c.alternative.tag x.instance.start x.position ts) b.has whole
       (ap (λ (a : CoreAlt). Node a.tag x.instance.start x.position ts) (sym same.alternatives))
 
-  abbrev HasBefore : Item → Type 0
-  HasBefore x = (ts : Trees) × Before x ts
+  -- the step before which the item stands leads on
+  passes_before : (it : Item) (ts : Trees) (bound : List Value) (j : ℕ) (us : Trees) → Before it ts →
+      Passes core text it bound j us → Before (past it bound j) (join ts us)
+  passes_before it ts _ j _ b (trees.test names e _ before holds here) =
+      subst (λ (i : ℕ). Before (past it [] i) (join ts none)) (sym here)
+      (step_before it ts names (Test e) [] it.position none b before
+      (λ others j us l.
+      core_trees.test names it.env e others it.position j us holds
+      (subst (λ (ns : List (List ℕ)). Leads core text ns it.env others it.position j us) (append-nil names)
+      (subst (λ (vs : List Value). Leads core text (names ++ []) vs others it.position j us) (append-nil it.env) l))))
+  passes_before it ts _ j _ b (trees.bind names name e v _ before has here) =
+      subst (λ (i : ℕ). Before (past it (v ∷ []) i) (join ts none)) (sym here)
+      (step_before it ts names (Bind name e) (v ∷ []) it.position none b before
+      (λ others j us l. core_trees.bind names it.env name e v others it.position j us has l))
+  passes_before it ts bound j us b (trees.terminal names what label excluded _ _ _ before matches free bound_is us_is) =
+      subst (λ (vs : List Value). Before (past it vs j) (join ts us)) (sym bound_is)
+      (subst (λ (zs : Trees). Before (past it (span_of label it.position j) j) (join ts zs)) (sym us_is)
+      (step_before it ts names (Term what label excluded) (span_of label it.position j) j (one (Leaf it.position j)) b before
+      (λ others h zs l.
+      core_trees.terminal names it.env what label excluded others it.position j h zs (more (Leaf it.position j) zs) matches
+      free l refl)))
+  passes_before it ts bound j us b (trees.call callee label excluded t _ _ _ calls tree free bound_is us_is) =
+      let here = subst (λ (i : ℕ). HasTree core text callee.nonterminal callee.values i j t) calls.here tree in
+      subst (λ (vs : List Value). Before (past it vs j) (join ts us)) (sym bound_is)
+      (subst (λ (zs : Trees). Before (past it (span_of label it.position j) j) (join ts zs)) (sym us_is)
+      (step_before it ts calls.names (Call callee.nonterminal calls.arguments label excluded) (span_of label it.position j) j
+      (one t) b calls.before
+      (λ others h zs l.
+      core_trees.call calls.names it.env callee.nonterminal calls.arguments label excluded callee.values others it.position j
+      h t zs (more t zs) calls.values here free l refl)))
 
-  module _ (w : IsWellKinded core) where
-    rule_before : (x : Item) → Follows core text HasBefore x → HasBefore x
-    rule_before _ (items.root x e) =
-        subst HasBefore (sym e) (
-          none,
-          first_before root_instance 1 w.root.nonterminal w.root.alternative
-              (record { there = w.root.first; has = ap (λ (members : List CoreAlt). numbered members 1) w.root.single }),
-        )
-    rule_before _ (items.test it names c x k before holds e) =
-        subst HasBefore (sym e) (
-          join k.0 none,
-          step_before it k.0 names (Test c) [] it.position none k.1 before
-              (λ others j us l.
-              core_trees.test names it.env c others it.position j us holds
-              (subst (λ (ns : List (List ℕ)). Leads core text ns it.env others it.position j us) (append-nil names)
-              (subst (λ (vs : List Value). Leads core text (names ++ []) vs others it.position j us) (append-nil it.env) l))),
-        )
-    rule_before _ (items.bind it names name c v x k before has e) =
-        subst HasBefore (sym e) (
-          join k.0 none,
-          step_before it k.0 names (Bind name c) (v ∷ []) it.position none k.1 before
-              (λ others j us l. core_trees.bind names it.env name c v others it.position j us has l),
-        )
-    rule_before _ (items.terminal it names what label excluded h x k before matches free e) =
-        subst HasBefore (sym e) (
-          join k.0 (one (Leaf it.position h)),
-          step_before it k.0 names (Term what label excluded) (span_of label it.position h) h (one (Leaf it.position h)) k.1
-              before
-              (λ others j us l.
-              core_trees.terminal names it.env what label excluded others it.position h j us (more (Leaf it.position h) us)
-              matches free l refl),
-        )
-    rule_before _ (items.call it callee label excluded nonterminal a alternative x k calls at e) =
-        subst HasBefore (sym e) (none, first_before callee a nonterminal alternative at)
-    rule_before _ (items.return it done label excluded x k l calls complete free e) =
-        let h = done.position in
-        let t = Node complete.alternative.tag done.instance.start h l.0 in
-        let tree = complete_tree done l.0 l.1 complete in
-        let here = subst (λ (i : ℕ). HasTree core text done.instance.nonterminal done.instance.values i h t) calls.here tree in
-        subst HasBefore (sym e) (
-          join k.0 (one t),
-          step_before it k.0 calls.names (Call done.instance.nonterminal calls.arguments label excluded)
-              (span_of label it.position h) h (one t) k.1 calls.before
-              (λ others j us m.
-              core_trees.call calls.names it.env done.instance.nonterminal calls.arguments label excluded
-              done.instance.values others it.position h j t us (more t us) calls.values here free m refl),
-        )
+  comes_before : {x : Item} {ts : Trees} → Comes core text x ts → (nonterminal : Nonterminal) (alternative : CoreAlt) →
+      IsAlternative core x.instance.nonterminal x.alternative nonterminal alternative → Before x ts
+  comes_before (trees.begin instance a x e) nonterminal alternative has =
+      subst (λ (z : Item). Before z none) (sym e)
+      (first_before instance a nonterminal alternative
+      (subst (λ (z : Item). IsAlternative core z.instance.nonterminal z.alternative nonterminal alternative) e has))
+  comes_before (trees.further it bound j ts us vs x comes passes e vs_is) nonterminal alternative has =
+      subst (λ (z : Item). Before z vs) (sym e)
+      (subst (λ (zs : Trees). Before (past it bound j) zs) (sym vs_is)
+      (passes_before it ts bound j us
+      (comes_before comes nonterminal alternative
+      (subst (λ (z : Item). IsAlternative core z.instance.nonterminal z.alternative nonterminal alternative) e has))
+      passes))
 
-    pub has_before : (x : Item) → Reachable core text x → (ts : Trees) × Before x ts
-    has_before = kept core text HasBefore rule_before
-
-  -- a reachable complete item of the instance at j
-  record Completed (instance : Instance) (j : ℕ) : Type 0 where
-    a : ℕ
-    dot : ℕ
-    env : List Value
-    reachable : Reachable core text (item_at instance a dot env j)
-    complete : IsComplete core (item_at instance a dot env j)
-
-  -- a reachable item behind the last step, at j
-  record Ends (instance : Instance) (a : ℕ) (alternative : CoreAlt) (j : ℕ) : Type 0 where
-    env : List Value
-    reachable : Reachable core text (item_at instance a (length alternative.steps) env j)
-
-  mutual
-    leads_reach : {names : List (List ℕ)} {env : List Value} {steps : List Step} {i j : ℕ} {us : Trees} →
-        Leads core text names env steps i j us → (instance : Instance) (a dot : ℕ) (nonterminal : Nonterminal)
-        (alternative : CoreAlt) → IsAlternative core instance.nonterminal a nonterminal alternative →
-        names ≡ names_at nonterminal alternative dot → dot ≤ length alternative.steps →
-        drop dot alternative.steps ≡ steps → Reachable core text (item_at instance a dot env i) →
-        Ends instance a alternative j
-    leads_reach (core_trees.done names env i) instance a dot nonterminal alternative has visible within rest r =
-        record {
-          env = env;
-          reachable =
-              subst (λ (d : ℕ). Reachable core text (item_at instance a d env i)) (at_end alternative.steps dot within rest) r;
-        }
-    leads_reach (core_trees.test names env c others i j ts holds leads) instance a dot nonterminal alternative has visible
-        within rest r =
-        let it : Item = item_at instance a dot env i in
-        let s = stands alternative.steps dot (Test c) others rest in
-        let before : StandsBefore core it names (Test c) =
-        record { nonterminal = nonterminal; alternative = alternative; has = has; next = s.here; visible = visible } in
-        let next = reach core text (items.test it names c (past it [] i) r before holds refl) in
-        let same : names ≡ names_at nonterminal alternative (suc dot) =
-        sym (append-nil names) ∙ ap (λ (ns : List (List ℕ)). ns ++ []) visible ∙
-        sym (names_step nonterminal alternative dot (Test c) s.here) in
-        leads_reach leads instance a (suc dot) nonterminal alternative has same s.within s.after
-        (subst (λ (vs : List Value). Reachable core text (item_at instance a (suc dot) vs i)) (append-nil env) next)
-    leads_reach (core_trees.bind names env name c v others i j ts has_value leads) instance a dot nonterminal alternative has
-        visible within rest r =
-        let it : Item = item_at instance a dot env i in
-        let s = stands alternative.steps dot (Bind name c) others rest in
-        let before : StandsBefore core it names (Bind name c) =
-        record { nonterminal = nonterminal; alternative = alternative; has = has; next = s.here; visible = visible } in
-        let next = reach core text (items.bind it names name c v (past it (v ∷ []) i) r before has_value refl) in
-        let same : names ++ name ∷ [] ≡ names_at nonterminal alternative (suc dot) =
-        ap (λ (ns : List (List ℕ)). ns ++ name ∷ []) visible ∙
-        sym (names_step nonterminal alternative dot (Bind name c) s.here) in
-        leads_reach leads instance a (suc dot) nonterminal alternative has same s.within s.after next
-    leads_reach (core_trees.terminal names env what label excluded others i h j ts us matches free leads e) instance a dot
-        nonterminal alternative has visible within rest r =
-        let it : Item = item_at instance a dot env i in
-        let step : Step = Term what label excluded in
-        let s = stands alternative.steps dot step others rest in
-        let before : StandsBefore core it names step =
-        record { nonterminal = nonterminal; alternative = alternative; has = has; next = s.here; visible = visible } in
-        let next =
-        reach core text
-        (items.terminal it names what label excluded h (past it (span_of label i h) h) r before matches free refl) in
-        let same : names ++ labels label ≡ names_at nonterminal alternative (suc dot) =
-        ap (λ (ns : List (List ℕ)). ns ++ labels label) visible ∙ sym (names_step nonterminal alternative dot step s.here) in
-        leads_reach leads instance a (suc dot) nonterminal alternative has same s.within s.after next
-    leads_reach (core_trees.call names env callee arguments label excluded vs others i h j t ts us have tree free leads e)
-        instance a dot nonterminal alternative has visible within rest r =
-        let it : Item = item_at instance a dot env i in
-        let called : Instance = record { nonterminal = callee; values = vs; start = i } in
-        let step : Step = Call callee arguments label excluded in
-        let s = stands alternative.steps dot step others rest in
-        let calls : Calls core text it called label excluded =
-        record {
-          names = names;
-          arguments = arguments;
-          before =
-              record { nonterminal = nonterminal; alternative = alternative; has = has; next = s.here; visible = visible };
-          values = have;
-          here = refl;
-        } in
-        let c =
-        tree_reach tree
-        (λ b other chosen at.
-        reach core text (items.call it called label excluded other b chosen (first called b) r calls at refl)) in
-        let done : Item = item_at called c.a c.dot c.env h in
-        let next =
-        reach core text
-        (items.return it done label excluded (past it (span_of label i h) h) r c.reachable calls c.complete free refl) in
-        let same : names ++ labels label ≡ names_at nonterminal alternative (suc dot) =
-        ap (λ (ns : List (List ℕ)). ns ++ labels label) visible ∙ sym (names_step nonterminal alternative dot step s.here) in
-        leads_reach leads instance a (suc dot) nonterminal alternative has same s.within s.after next
-
-    tree_reach : {n : ℕ} {vs : List Value} {i j : ℕ} {t : Tree} → HasTree core text n vs i j t →
-        ((a : ℕ) (nonterminal : Nonterminal) (alternative : CoreAlt) → IsAlternative core n a nonterminal alternative →
-        Reachable core text (first (record { nonterminal = n; values = vs; start = i }) a)) →
-        Completed (record { nonterminal = n; values = vs; start = i }) j
-    tree_reach (core_trees.node n a vs nonterminal alternative i j ts t has leads e) firsts =
-        let instance : Instance = record { nonterminal = n; values = vs; start = i } in
-        let ends =
-        leads_reach leads instance a 0 nonterminal alternative has (sym (append-nil nonterminal.params)) (omega arith) refl
-        (firsts a nonterminal alternative has) in
-        record {
-          a = a;
-          dot = length alternative.steps;
-          env = ends.env;
-          reachable = ends.reachable;
-          complete = record { nonterminal = nonterminal; alternative = alternative; has = has; last = refl };
-        }
-
-  -- the root has one alternative
-  alone : (a : ℕ) (alternative x : CoreAlt) → numbered (alternative ∷ []) a ≡ Some x → a ≡ 1
-  alone zero alternative x e = cc
-  alone (suc zero) alternative x e = refl
-  alone (suc (suc k)) alternative x e = cc
-
-  root_first : HasRoot core → (a : ℕ) (nonterminal : Nonterminal) (alternative : CoreAlt) →
-      IsAlternative core 0 a nonterminal alternative → Reachable core text (first root_instance a)
-  root_first root a nonterminal alternative at =
-      let same : nonterminal ≡ root.nonterminal = same_Some nonterminal root.nonterminal (sym at.there ∙ root.first) in
-      let one : a ≡ 1 =
-      alone a root.alternative alternative
-      (ap (λ (members : List CoreAlt). numbered members a) (sym root.single) ∙
-      ap (λ (n : Nonterminal). numbered n.alternatives a) (sym same) ∙ at.has) in
-      reach core text (items.root (first root_instance a) (ap (first root_instance) one))
-
-  root_tree : IsWellKinded core → RootIsComplete core text → (t : Tree) × CoreTree core text t
-  root_tree w r =
-      let before = has_before w r.item r.reachable in
-      let t = Node r.root.complete.alternative.tag r.item.instance.start r.item.position before.0 in (
-        t,
-        subst (λ (x : Instance). HasTree core text x.nonterminal x.values x.start (length text) t) r.root.of_root
-            (subst (λ (j : ℕ). HasTree core text r.item.instance.nonterminal r.item.instance.values r.item.instance.start j t)
-            r.to_end (complete_tree r.item before.0 before.1 r.root.complete)),
-      )
-
-  root_item : HasRoot core → ((t : Tree) × CoreTree core text t) → RootIsComplete core text
-  root_item root tree =
-      let c = tree_reach tree.1 (root_first root) in
-      record {
-        item = item_at root_instance c.a c.dot c.env (length text);
-        reachable = c.reachable;
-        root = record { of_root = refl; complete = c.complete };
-        to_end = refl;
-      }
-
-pub trees_by_items : TreesByItems
-trees_by_items core text w = (root_tree core text w, root_item core text w.root)
+  -- a complete item to which steps lead has a tree
+  pub comes_tree : (x : Item) (ts : Trees) → Comes core text x ts → (c : IsComplete core x) →
+      HasTree core text x.instance.nonterminal x.instance.values x.instance.start x.position
+      (Node c.alternative.tag x.instance.start x.position ts)
+  comes_tree x ts comes c = complete_tree x ts (comes_before comes c.nonterminal c.alternative c.has) c

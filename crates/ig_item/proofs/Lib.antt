@@ -3,8 +3,13 @@ pub mod Sums
 pub mod Reachability
 pub mod Positions
 pub mod Dots
+pub mod VisibleDots
+pub mod LookedUp
+pub mod Growing
 pub mod Environments
 pub mod ItemTrees
+pub mod Coming
+pub mod Roots
 pub mod Fitting
 pub mod Examples
 pub mod FourItems

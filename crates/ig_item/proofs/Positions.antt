@@ -8,7 +8,7 @@ use Rattle.ig_item.specs.Items as items
 use Rattle.ig_item.specs.Items.{Item, Follows}
 use Rattle.ig_item.specs.Laws.{IsInText, ItemsAreInText}
 use Rattle.ig_item.specs.declared.core_grammar.Nonterminal.{Nonterminal}
-use Rattle.ig_item.proofs.Reachability.{kept}
+use Rattle.ig_item.specs.Induction.{kept}
 
 -- a match goes onward within the text
 pub record IsOnward (text : List ℕ) (i j : ℕ) : Type 0 where

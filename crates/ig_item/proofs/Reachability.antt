@@ -4,30 +4,18 @@ use Rattle.std.specs.Prelude.{IsTrue}
 use Rattle.std.proofs.lemmas.Option.{same_Some}
 use Rattle.ig_item.specs.Items as items
 use Rattle.ig_item.specs.Items.{Item, Follows, IsDerivation, Reachable}
-use Rattle.ig_item.specs.Laws.{ReachableIsClosed, ReachableIsLeast, MoreGivesNoLess}
+use Rattle.ig_item.specs.Induction.{follows_more, kept}
+use Rattle.ig_item.specs.Laws.{ReachableIsClosed, ReachableFollows, ReachableIsLeast, MoreGivesNoLess}
 use Rattle.ig_item.specs.declared.core_grammar.Nonterminal.{Nonterminal}
 use Rattle.ig_item.proofs.Lists.{at_from_contains, contains_from_at, within_take, sides, left_before, right_before, all_before, left_contains, right_contains}
 
 module _ (core : List Nonterminal) (text : List ℕ) where
-  -- the rules give no less from more
-  pub follows_more : {known wider : Item → Type 0} {x : Item} → ((y : Item) → known y → wider y) →
-      Follows core text known x → Follows core text wider x
-  follows_more more (items.root x e) = items.root x e
-  follows_more more (items.test it names c x k before holds e) = items.test it names c x (more it k) before holds e
-  follows_more more (items.bind it names name c v x k before has e) = items.bind it names name c v x (more it k) before has e
-  follows_more more (items.terminal it names what label excluded j x k before matches free e) =
-      items.terminal it names what label excluded j x (more it k) before matches free e
-  follows_more more (items.call it callee label excluded nonterminal a alternative x k calls at e) =
-      items.call it callee label excluded nonterminal a alternative x (more it k) calls at e
-  follows_more more (items.return it done label excluded x k l calls complete free e) =
-      items.return it done label excluded x (more it k) (more done l) calls complete free e
-
   pub joined : (xs ys : List Item) → IsDerivation core text xs → IsDerivation core text ys →
       IsDerivation core text (xs ++ ys)
   joined xs ys dx dy n x e =
-      ⊎_elim (λ (h : slice_get xs n ≡ Some x). follows_more (left_before xs ys n) (dx n x h))
+      ⊎_elim (λ (h : slice_get xs n ≡ Some x). follows_more core text (left_before xs ys n) (dx n x h))
       (λ (h : (m : ℕ) × (n ≡ length xs + m) × (slice_get ys m ≡ Some x)).
-      follows_more (λ y. right_before xs ys n h.0 y h.1) (dy h.0 x h.2))
+      follows_more core text (λ y. right_before xs ys n h.0 y h.1) (dy h.0 x h.2))
       (sides xs ys n x e)
 
   last_follows : (xs : List Item) (m : ℕ) (x y : Item) → slice_get (x ∷ []) m ≡ Some y →
@@ -39,9 +27,9 @@ module _ (core : List Nonterminal) (text : List ℕ) where
   pub pushed : (xs : List Item) (x : Item) → IsDerivation core text xs → Follows core text (Contains xs) x →
       IsDerivation core text (xs ++ x ∷ [])
   pushed xs x d f n y e =
-      ⊎_elim (λ (h : slice_get xs n ≡ Some y). follows_more (left_before xs (x ∷ []) n) (d n y h))
+      ⊎_elim (λ (h : slice_get xs n ≡ Some y). follows_more core text (left_before xs (x ∷ []) n) (d n y h))
       (λ (h : (m : ℕ) × (n ≡ length xs + m) × (slice_get (x ∷ []) m ≡ Some y)).
-      follows_more (λ z. all_before xs (x ∷ []) n h.0 z h.1) (last_follows xs h.0 x y h.2 f))
+      follows_more core text (λ z. all_before xs (x ∷ []) n h.0 z h.1) (last_follows xs h.0 x y h.2 f))
       (sides xs (x ∷ []) n y e)
 
   push : (xs : List Item) (x : Item) → IsDerivation core text xs → Follows core text (Contains xs) x →
@@ -69,27 +57,17 @@ module _ (core : List Nonterminal) (text : List ℕ) where
       (items.return it done label excluded x (left_contains k.items l.items it k.among)
       (right_contains k.items l.items done l.among) calls complete free e)
 
-  kept_below : (P : Item → Type 0) → ((x : Item) → Follows core text P x → P x) → (xs : List Item) →
-      IsDerivation core text xs → (n k : ℕ) → k < n → (x : Item) → slice_get xs k ≡ Some x → P x
-  kept_below P rule xs d zero k lt x e = absurd (omega arith)
-  kept_below P rule xs d (suc n) k lt x e =
-      rule x
-      (follows_more
-      (λ y c.
-      let at = at_from_contains (take k xs) y c in
-      let h = within_take xs k at.0 y at.1 in
-      kept_below P rule xs d n at.0 (omega (arith, h.0)) y h.1)
-      (d k x e))
-
-  -- what the rules keep holds of each reachable item
-  pub kept : (P : Item → Type 0) → ((x : Item) → Follows core text P x → P x) → (x : Item) →
-      Reachable core text x → P x
-  kept P rule x r =
-      let at = at_from_contains r.items x r.among in
-      kept_below P rule r.items r.derivation (suc at.0) at.0 (omega arith) x at.1
+  -- each reachable item follows from reachable ones
+  pub follows_reachable : (x : Item) → Reachable core text x → Follows core text (Reachable core text) x
+  follows_reachable x reachable =
+      kept core text (λ y. Follows core text (Reachable core text) y)
+      (λ y. follows_more core text (λ z. reach {x = z})) x reachable
 
 pub is_closed : ReachableIsClosed
 is_closed core text x follows = reach core text follows
+
+pub reachable_ones_follow : ReachableFollows
+reachable_ones_follow core text x reachable = follows_reachable core text x reachable
 
 pub is_least : ReachableIsLeast
 is_least core text has rule x reachable = kept core text (λ y. IsTrue (has y)) rule x reachable

@@ -7,6 +7,7 @@ use Rattle.ig_expr.specs.declared.kind.Kind.TheVariants.{Int}
 use Rattle.ig_expr.specs.declared.operator.Op.TheVariants.{Sub, Equal}
 use Rattle.ig_expr.specs.declared.value.Value.{Value}
 use Rattle.ig_item.specs.Step.{Step, Test, Term, Call}
+use Rattle.ig_item.specs.WellKinded.{IsWellKinded}
 use Rattle.ig_item.specs.Items.{Item, Reachable}
 use Rattle.ig_item.specs.declared.core_grammar.Nonterminal.{Nonterminal}
 use Rattle.ig_item.specs.declared.core_grammar.CoreAlt.{CoreAlt}
@@ -21,6 +22,13 @@ root_alternative = record { tag = Root; steps = plain_call 1 [] ∷ [] }
 -- the root, which calls nonterminal 1
 abbrev pub root : Nonterminal
 root = record { name = codes "$root"; params = []; kinds = []; alternatives = root_alternative ∷ [] }
+
+abbrev pub no_steps_alternative : CoreAlt
+no_steps_alternative = record { tag = Root; steps = [] }
+
+-- a root that calls nothing
+abbrev pub lone_root : Nonterminal
+lone_root = record { name = []; params = []; kinds = []; alternatives = no_steps_alternative ∷ [] }
 
 -- nonterminal 1, `S`, of one alternative
 abbrev pub start : CoreAlt → Nonterminal
@@ -85,3 +93,6 @@ counted =
 -- of `start S; syntax S = A(1); syntax A(n: int) = when (n == 0) | x: "a" A(n - 1);`
 abbrev pub countdown : List Nonterminal
 countdown = root ∷ start counting ∷ counted ∷ []
+
+abbrev pub CountdownIsWellKinded : Type 0
+CountdownIsWellKinded = IsWellKinded countdown

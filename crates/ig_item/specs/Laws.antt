@@ -1,20 +1,87 @@
--- Laws of reachable items.
-use Rattle.std.specs.Prelude.{◌≡◌, ◌↔◌, ℕ, ◌≤◌, List, map, length, Contains, Bool, IsTrue, Some}
-use Rattle.ig_text.specs.Tree.{Tree}
+-- Laws of core grammars and of reachable items.
+use Rattle.std.specs.Prelude.{◌≡◌, ◌↔◌, ℕ, suc, ◌+◌, ◌≤◌, List, ◌++◌, map, length, Contains, Bool, IsTrue, Some, slice_get}
+use Rattle.std.specs.List.{flat_map}
+use Rattle.ig_text.specs.Tree.{Tree, Trees}
+use Rattle.ig_expr.specs.declared.value.Value.{Value}
 use Rattle.ig_expr.specs.declared.kind.Kind.{Kind}
 use Rattle.ig_expr.specs.Kinds.{kind_of_value}
 use Rattle.ig_item.specs.Core.{IsAlternative}
-use Rattle.ig_item.specs.Visible.{names_at, kinds_at}
-use Rattle.ig_item.specs.WellKinded.{IsWellKinded}
-use Rattle.ig_item.specs.CoreTrees.{CoreTree}
-use Rattle.ig_item.specs.Items.{Item, Follows, Reachable, RootIsComplete}
+use Rattle.ig_item.specs.Step.{Step, names_of}
+use Rattle.ig_item.specs.Visible.{names_at, names_at_dots, kinds_at}
+use Rattle.ig_item.specs.WellKinded.{IsWellKinded, NoneTwice, StepFits}
+use Rattle.ig_item.specs.Fitting.{AreFit}
+use Rattle.ig_item.specs.Behind.{Next, End, behind_item}
+use Rattle.ig_item.specs.CoreTrees.{HasTree, CoreTree}
+use Rattle.ig_item.specs.ItemTrees.{Comes, Completes}
+use Rattle.ig_item.specs.Items.{Item, first, Follows, Reachable, StandsBefore, IsComplete, RootIsComplete}
 use Rattle.ig_item.specs.declared.core_grammar.Nonterminal.{Nonterminal}
 use Rattle.ig_item.specs.declared.core_grammar.CoreAlt.{CoreAlt}
+use Rattle.ig_item.specs.declared.items.Instance.{Instance}
+
+-- an alternative is one by its numbers
+pub record Same (nonterminal other : Nonterminal) (alternative second : CoreAlt) : Type 0 where
+  pub nonterminals : nonterminal ≡ other
+  pub alternatives : alternative ≡ second
+
+abbrev pub AlternativesAreOne : Type 0
+AlternativesAreOne =
+    (core : List Nonterminal) (n a : ℕ) (nonterminal other : Nonterminal) (alternative second : CoreAlt) →
+    IsAlternative core n a nonterminal alternative → IsAlternative core n a other second →
+    Same nonterminal other alternative second
+
+-- behind a step the names that it binds are visible, too
+abbrev pub NamesGrow : Type 0
+NamesGrow =
+    (nonterminal : Nonterminal) (alternative : CoreAlt) (dot : ℕ) (step : Step) →
+    slice_get alternative.steps dot ≡ Some step →
+    names_at nonterminal alternative (suc dot) ≡ names_at nonterminal alternative dot ++ names_of step
+
+-- the list of what is visible at each dot has what is visible at the dot, in its place
+pub record AreNamesAt (nonterminal : Nonterminal) (alternative : CoreAlt) : Type 0 where
+  pub number : length (names_at_dots nonterminal.params alternative.steps) ≡ length alternative.steps + 1
+  pub each : (dot : ℕ) → dot ≤ length alternative.steps →
+      slice_get (names_at_dots nonterminal.params alternative.steps) dot ≡ Some (names_at nonterminal alternative dot)
+
+abbrev pub NamesAreAtDots : Type 0
+NamesAreAtDots = (nonterminal : Nonterminal) (alternative : CoreAlt) → AreNamesAt nonterminal alternative
+
+-- where each step fits what is visible before it, the step behind each dot does
+abbrev pub StepsFit : Type 0
+StepsFit =
+    (core : List Nonterminal) (nonterminal : Nonterminal) (alternative : CoreAlt) →
+    AreFit core nonterminal.params nonterminal.kinds alternative.steps →
+    (dot : ℕ) (step : Step) → slice_get alternative.steps dot ≡ Some step → StepFits core nonterminal alternative dot step
+
+-- where the names that are visible behind the last step differ, those at each dot do
+abbrev pub NamesDiffer : Type 0
+NamesDiffer =
+    (nonterminal : Nonterminal) (alternative : CoreAlt) →
+    NoneTwice (nonterminal.params ++ flat_map names_of alternative.steps) →
+    (dot : ℕ) → NoneTwice (names_at nonterminal alternative dot)
+
+-- what is looked up behind the item's dot tells whether it stands before a step, and before which, or is complete
+pub record BehindTells (core : List Nonterminal) (it : Item) : Type 0 where
+  pub next : (step : Step) → ((names : List (List ℕ)) × StandsBefore core it names step) ↔ (behind_item core it ≡ Some (Next step))
+  pub end : IsComplete core it ↔ (behind_item core it ≡ Some End)
+
+abbrev pub BehindIsLookedUp : Type 0
+BehindIsLookedUp = (core : List Nonterminal) (it : Item) → BehindTells core it
+
+-- an item stands before one step, where the same names are visible
+abbrev pub StandsBeforeOne : Type 0
+StandsBeforeOne =
+    (core : List Nonterminal) (it : Item) (names others : List (List ℕ)) (step next : Step) →
+    StandsBefore core it names step → StandsBefore core it others next → (names ≡ others) × (step ≡ next)
 
 -- what follows by one rule from reachable items is reachable
 abbrev pub ReachableIsClosed : Type 0
 ReachableIsClosed =
     (core : List Nonterminal) (text : List ℕ) (x : Item) → Follows core text (Reachable core text) x → Reachable core text x
+
+-- each reachable item follows by one rule from reachable items
+abbrev pub ReachableFollows : Type 0
+ReachableFollows =
+    (core : List Nonterminal) (text : List ℕ) (x : Item) → Reachable core text x → Follows core text (Reachable core text) x
 
 -- each collection that has what follows from its items has all reachable items
 abbrev pub ReachableIsLeast : Type 0
@@ -50,6 +117,12 @@ pub record EnvironmentFits (core : List Nonterminal) (x : Item) : Type 0 where
   pub values : map kind_of_value x.env ≡ kinds
   pub names : length x.env ≡ length (names_at nonterminal alternative x.dot)
 
+-- an environment begins with the values of the instance, and what steps bind stands behind them
+abbrev pub EnvironmentsGrow : Type 0
+EnvironmentsGrow =
+    (core : List Nonterminal) (text : List ℕ) (x : Item) → Reachable core text x →
+    (bound : List Value) × (x.env ≡ x.instance.values ++ bound)
+
 -- in a well-kinded core grammar
 abbrev pub EnvironmentsFit : Type 0
 EnvironmentsFit =
@@ -60,3 +133,30 @@ abbrev pub TreesByItems : Type 0
 TreesByItems =
     (core : List Nonterminal) (text : List ℕ) → IsWellKinded core →
     RootIsComplete core text ↔ ((t : Tree) × CoreTree core text t)
+
+-- an item is reachable exactly where the first item of its alternative is, and the steps before its dot lead from there to it
+abbrev pub ItemsByTrees : Type 0
+ItemsByTrees =
+    (core : List Nonterminal) (text : List ℕ) (x : Item) →
+    Reachable core text x ↔
+    ((Reachable core text (first x.instance x.alternative)) × (ts : Trees) × (Comes core text x ts))
+
+-- a tree of an instance is one through which the steps of an alternative lead
+abbrev pub InstanceTrees : Type 0
+InstanceTrees =
+    (core : List Nonterminal) (text : List ℕ) (instance : Instance) (j : ℕ) (t : Tree) →
+    HasTree core text instance.nonterminal instance.values instance.start j t ↔ Completes core text instance j t
+
+-- in a well-kinded core grammar the first items of all alternatives of an instance are reachable together
+abbrev pub AlternativesBegin : Type 0
+AlternativesBegin =
+    (core : List Nonterminal) (text : List ℕ) (instance : Instance) (a b : ℕ) (nonterminal : Nonterminal) (alternative : CoreAlt) →
+    IsWellKinded core → Reachable core text (first instance a) →
+    IsAlternative core instance.nonterminal b nonterminal alternative → Reachable core text (first instance b)
+
+-- in a well-kinded core grammar there is at most one complete item of the root for each start and position
+abbrev pub CompleteRootsAreOne : Type 0
+CompleteRootsAreOne =
+    (core : List Nonterminal) (text : List ℕ) (x y : Item) → IsWellKinded core → Reachable core text x →
+    Reachable core text y → x.instance.nonterminal ≡ 0 → y.instance ≡ x.instance → y.position ≡ x.position →
+    IsComplete core x → IsComplete core y → x ≡ y

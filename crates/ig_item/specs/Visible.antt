@@ -1,16 +1,34 @@
 -- What is visible at a dot of an alternative: the parameters, then what the steps before the dot bind.
-use Rattle.std.specs.Prelude.{ℕ, List, [], ◌∷◌, ◌++◌, Option, Some, None, option_map, option_and_then, take}
+use Rattle.std.specs.Prelude.{◌≡◌, ℕ, ◌≤◌, length, List, [], ◌∷◌, ◌++◌, Option, Some, None, option_map, option_and_then, slice_get, take}
 use Rattle.std.specs.List.{flat_map}
 use Rattle.ig_expr.specs.declared.kind.Kind.{Kind}
 use Rattle.ig_expr.specs.declared.kind.Kind.TheVariants.{Span}
 use Rattle.ig_expr.specs.Kinds.{kind_in}
 use Rattle.ig_item.specs.Step.{Step, Test, Bind, Term, Call, names_of}
+use Rattle.ig_item.specs.Core.{numbered}
 use Rattle.ig_item.specs.declared.core_grammar.Nonterminal.{Nonterminal}
 use Rattle.ig_item.specs.declared.core_grammar.CoreAlt.{CoreAlt}
 
 -- the names that are visible at the dot
 abbrev pub names_at : Nonterminal → CoreAlt → ℕ → List (List ℕ)
 names_at nonterminal alternative dot = nonterminal.params ++ flat_map names_of (take dot alternative.steps)
+
+-- the names that are visible at each dot of the steps, where these are visible before the first
+abbrev pub names_at_dots : List (List ℕ) → List Step → List (List (List ℕ))
+names_at_dots names [] = names ∷ []
+names_at_dots names (step ∷ steps) = names ∷ names_at_dots (names ++ names_of step) steps
+
+-- the names that are visible at each dot of alternative a of nonterminal n, in order; none where it isn't there
+abbrev pub names_in : List Nonterminal → ℕ → ℕ → Option (List (List (List ℕ)))
+names_in core n a =
+    option_and_then
+    (λ nonterminal.
+    option_map (λ alternative. names_at_dots nonterminal.params alternative.steps) (numbered nonterminal.alternatives a))
+    (slice_get core n)
+
+-- each of the numbers counts names that are there
+abbrev pub AreSeen : List (List ℕ) → List ℕ → Type 0
+AreSeen names seen = (k n : ℕ) → slice_get seen k ≡ Some n → n ≤ length names
 
 -- the kinds of what a label binds
 abbrev pub kinds_of_label : Option (List ℕ) → List Kind

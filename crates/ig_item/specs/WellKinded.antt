@@ -8,6 +8,7 @@ use Rattle.ig_expr.specs.declared.kind.Kind.TheVariants.{Bool}
 use Rattle.ig_expr.specs.Kinds.{kind_in}
 use Rattle.ig_item.specs.Step.{Step, Test, Bind, Term, Call, names_of}
 use Rattle.ig_item.specs.Core.{IsAlternative, dots}
+use Rattle.ig_item.specs.Limits.{most_dots, numbers_end}
 use Rattle.ig_item.specs.Visible.{names_at, kinds_at}
 use Rattle.ig_item.specs.declared.core_grammar.Nonterminal.{Nonterminal}
 use Rattle.ig_item.specs.declared.core_grammar.CoreAlt.{CoreAlt}
@@ -71,5 +72,5 @@ pub record IsWellKinded (core : List Nonterminal) : Type 0 where
   pub steps : OfEach core
       (λ n a nonterminal alternative.
       (dot : ℕ) (step : Step) → slice_get alternative.steps dot ≡ Some step → StepFits core nonterminal alternative dot step)
-  pub few_dots : dots core ≤ 65536
-  pub few_nonterminals : length core < 4294967296
+  pub few_dots : dots core ≤ most_dots
+  pub few_nonterminals : length core < numbers_end

@@ -1,13 +1,23 @@
 //! Core grammars: what a grammar becomes before it is run.
-ghost use Rattle.std.specs.Prelude.{◌≡◌, ◌≤◌, length, slice_get, option_map, sum_by};
+ghost use Rattle.std.specs.Prelude.{◌≡◌, ◌≤◌, length, slice_get, option_map, sum_by, IfOk};
 ghost use Rattle.std.specs.Option.{option_copied};
-ghost use Rattle.ig_item.specs.Core.{alternative_at, dots, dots_of_alternative, dots_of_nonterminal, numbered};
+ghost use Rattle.ig_item.specs.Behind.{behind_of, behind_at};
+ghost use Rattle.ig_item.specs.Core.{alternative_at, numbered};
+ghost use Rattle.ig_item.specs.Core.{dots, dots_of_alternative, dots_of_nonterminal};
+ghost use Rattle.ig_item.specs.Limits.{most_dots};
+ghost use Rattle.ig_item.specs.Visible.{names_in};
 ghost use Rattle.ig_item.specs.WellKinded.{IsWellKinded};
 
+use crate::dot::{Behind, behind_dot};
 use crate::step::Steps;
+use crate::visible::VisibleNames;
 use ig_expr::Kinds;
 use ig_text::{Sequence, Tag, Word, Words};
+use std::alloc::{AllocError, Global};
 use std::marker::Model;
+
+/// The most dots that a core grammar has.
+pub const MOST_DOTS: u32 = 65_536;
 
 /// A nonterminal of a core grammar: its parameters with their kinds, and its alternatives.
 #[derive(Drop)]
@@ -62,7 +72,7 @@ impl Core {
     /// kinds as parameters; the names that are visible at one dot differ, and so do the tags of one
     /// nonterminal; a tag `Rule` has the number of its nonterminal; each call is of a nonterminal
     /// that is there, with arguments of the number and kinds of its parameters; each expression has a
-    /// kind, and a `Test` is a truth value; there are at most 65,536 dots, and fewer than
+    /// kind, and a `Test` is a truth value; there are at most `MOST_DOTS` dots, and fewer than
     /// 4,294,967,296 nonterminals. Takes no memory.
     pub fn of(nonterminals: Nonterminals) -> Core
         requires { IsWellKinded nonterminals }
@@ -82,7 +92,7 @@ impl Core {
     /// A nonterminal by its number.
     fn nonterminal(&self, nt: u32) -> Option<&Nonterminal>
         ensures there { option_copied result ≡ slice_get self.now nt }
-        ensures few { dots self.now ≤ 65536 }
+        ensures few { dots self.now ≤ most_dots }
     {
         self.nonterminals.as_slice().get(nt as usize)
     }
@@ -134,13 +144,41 @@ impl Core {
     /// The steps of an alternative; `None` exactly where the nonterminal's number, from 0, or the
     /// alternative's, from 1, isn't there. Takes no memory.
     pub fn steps(&self, nt: u32, alt: u32) -> Option<&Steps>
-        ensures { option_copied result ≡ option_map (λ a. a.steps) (alternative_at self.now nt alt) }
+        ensures {
+            option_copied result ≡ option_map (λ a. a.steps) (alternative_at self.now nt alt)
+        }
     {
         let nonterminal = self.nonterminal(nt)?;
         Some(&alternative_of(nonterminal, alt)?.steps)
     }
 
-    /// The number of dots: an alternative of k steps has k + 1. It is at most 65,536. Takes no
+    /// What stands behind a dot, numbered from 0, of an alternative; `None` exactly where the
+    /// nonterminal's number, from 0, the alternative's, from 1, or the dot isn't there. Takes no
+    /// memory.
+    pub fn behind(&self, nt: u32, alt: u32, dot: u32) -> Option<Behind<'_>>
+        ensures { option_map behind_of result ≡ behind_at self.now nt alt dot }
+    {
+        let steps = self.steps(nt, alt)?;
+        behind_dot(steps.as_slice(), dot)
+    }
+
+    /// The names that are visible at each dot of an alternative; `None` exactly where the
+    /// nonterminal's number, from 0, or the alternative's, from 1, isn't there. It is refused for
+    /// want of memory alone.
+    pub fn names(&self, alloc: Global, nt: u32, alt: u32) -> Result<Option<VisibleNames>, AllocError>
+        ensures { IfOk result (λ names. names ≡ names_in self.now nt alt) }
+    {
+        let Some(nonterminal) = self.nonterminal(nt) else {
+            return Ok(None);
+        };
+        let Some(alternative) = alternative_of(nonterminal, alt) else {
+            return Ok(None);
+        };
+        let names = VisibleNames::of(alloc, &nonterminal.params, &alternative.steps)?;
+        Ok(Some(names))
+    }
+
+    /// The number of dots: an alternative of k steps has k + 1. It is at most `MOST_DOTS`. Takes no
     /// memory.
     pub fn dots(&self) -> u32
         ensures { result ≡ dots self.now }
@@ -163,7 +201,7 @@ fn alternative_of(nonterminal: &Nonterminal, alt: u32) -> Option<&CoreAlt>
 
 /// The number of dots of a nonterminal's alternatives.
 fn dots_of_nonterminal(nonterminal: &Nonterminal) -> u32
-    requires { dots_of_nonterminal nonterminal.now ≤ 65536 }
+    requires { dots_of_nonterminal nonterminal.now ≤ most_dots }
     ensures { result ≡ dots_of_nonterminal nonterminal.now }
 {
     let mut sum = 0;
@@ -175,7 +213,7 @@ fn dots_of_nonterminal(nonterminal: &Nonterminal) -> u32
 
 /// The number of an alternative's dots: one before each step, and one behind the last.
 fn dots_of_alternative(alternative: &CoreAlt) -> u32
-    requires { dots_of_alternative alternative.now ≤ 65536 }
+    requires { dots_of_alternative alternative.now ≤ most_dots }
     ensures { result ≡ dots_of_alternative alternative.now }
 {
     alternative.steps.as_slice().len() as u32 + 1

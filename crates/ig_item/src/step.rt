@@ -1,4 +1,6 @@
 ghost use Rattle.std.specs.Prelude.{◌≡◌, [], ◌∷◌, ◌++◌, map, OnOk, OnErr, IfErr};
+ghost use Rattle.std.specs.Option.{option_copied};
+ghost use Rattle.ig_item.specs.Step.{names_of, labels};
 ghost use Rattle.ig_item.specs.View.{step_of};
 
 use ig_expr::{Expr, Exprs};
@@ -27,6 +29,21 @@ pub enum Step {
         label: Option<Word>,
         not: Patterns,
     },
+}
+
+impl Step {
+    /// The name that the step binds, by itself or by a label; `None` exactly where it binds none.
+    /// Takes no memory.
+    pub fn binds(&self) -> Option<&Word>
+        ensures { labels (option_copied result) ≡ names_of (step_of self.now) }
+    {
+        match self {
+            Step::Test(_) => None,
+            Step::Bind(name, _) => Some(name),
+            Step::Term { label, .. } => label.as_ref(),
+            Step::Call { label, .. } => label.as_ref(),
+        }
+    }
 }
 
 /// A list of steps.

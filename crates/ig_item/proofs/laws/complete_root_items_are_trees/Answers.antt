@@ -1,4 +1,4 @@
-use Rattle.ig_item.proofs.ItemTrees.{trees_by_items}
+use Rattle.ig_item.proofs.Coming.{trees_by_items}
 use Rattle.ig_item.proofs.laws.complete_root_items_are_trees.Goals as goal
 
 pub returns : goal.returns

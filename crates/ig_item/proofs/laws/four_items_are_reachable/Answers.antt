@@ -1,5 +1,4 @@
 use Rattle.ig_item.proofs.FourItems.{four_items_are_reachable}
-use Rattle.ig_item.proofs.Examples.{countdown_is_well_kinded}
 use Rattle.ig_item.proofs.laws.four_items_are_reachable.Goals as goal
 
 pub returns : goal.returns

@@ -1,20 +1,19 @@
--- What is wanted of items, until it lands there.
-use Rattle.std.specs.Prelude.{◌≡◌, ◌↔◌, ℕ, List, [], ◌∷◌, Option, true}
+-- Which trees the steps before the dot of an item give.
+use Rattle.std.specs.Prelude.{◌≡◌, ℕ, List, [], ◌∷◌, Option, true}
 use Rattle.ig_text.specs.Tree.{Tree, Trees, Leaf, Node, none, one, join}
 use Rattle.ig_text.specs.Pattern.{Matches}
 use Rattle.ig_text.specs.declared.pattern.Pattern.{Pattern}
 use Rattle.ig_expr.specs.Expression.{Expression}
 use Rattle.ig_expr.specs.declared.value.Value.{Value}
 use Rattle.ig_expr.specs.declared.value.Value.TheVariants.{Bool}
-use Rattle.ig_item.specs.Step.{Step, Test, Bind, Term}
-use Rattle.ig_item.specs.Core.{IsAlternative}
+use Rattle.ig_item.specs.Step.{Test, Bind, Term}
 use Rattle.ig_item.specs.CoreTrees.{HasTree}
-use Rattle.ig_item.specs.WellKinded.{IsWellKinded}
-use Rattle.ig_item.specs.Items.{Item, first, past, span_of, MatchesNone, StandsBefore, IsComplete, HasValue, Calls, Reachable}
+use Rattle.ig_item.specs.Items.{Item, first, past, span_of, MatchesNone, StandsBefore, IsComplete, HasValue, Calls}
 use Rattle.ig_item.specs.declared.core_grammar.Nonterminal.{Nonterminal}
-use Rattle.ig_item.specs.declared.core_grammar.CoreAlt.{CoreAlt}
 use Rattle.ig_item.specs.declared.items.Instance.{Instance}
 
+-- the step before which the item stands binds these values, leads to j, and gives these trees: none, a leaf, or a tree of the
+-- callee
 pub data Passes (core : List Nonterminal) (text : List ℕ) (it : Item) : List Value → ℕ → Trees → Type 0 where
   test : (names : List (List ℕ)) (e : Expression) (j : ℕ) → StandsBefore core it names (Test e) →
       HasValue text it names e (Bool true) → j ≡ it.position → Passes core text it [] j none
@@ -30,11 +29,13 @@ pub data Passes (core : List Nonterminal) (text : List ℕ) (it : Item) : List V
       HasTree core text callee.nonterminal callee.values callee.start j t → MatchesNone text excluded it.position j →
       bound ≡ span_of label it.position j → ts ≡ one t → Passes core text it bound j ts
 
+-- the steps before the item's dot lead to it, from the first item of its alternative, with these trees
 pub data Comes (core : List Nonterminal) (text : List ℕ) : Item → Trees → Type 0 where
   begin : (instance : Instance) (a : ℕ) (x : Item) → x ≡ first instance a → Comes core text x none
   further : (it : Item) (bound : List Value) (j : ℕ) (ts us vs : Trees) (x : Item) → Comes core text it ts →
       Passes core text it bound j us → x ≡ past it bound j → vs ≡ join ts us → Comes core text x vs
 
+-- the steps of an alternative lead through it from the instance's start to j, and the tree is that of the alternative
 pub record Completes (core : List Nonterminal) (text : List ℕ) (instance : Instance) (j : ℕ) (t : Tree) : Type 0 where
   pub item : Item
   pub trees : Trees
@@ -43,35 +44,3 @@ pub record Completes (core : List Nonterminal) (text : List ℕ) (instance : Ins
   pub complete : IsComplete core item
   pub comes : Comes core text item trees
   pub tree : t ≡ Node complete.alternative.tag instance.start j trees
-
-abbrev pub ItemsByTrees : Type 0
-ItemsByTrees =
-    (core : List Nonterminal) (text : List ℕ) (x : Item) →
-    Reachable core text x ↔
-    ((Reachable core text (first x.instance x.alternative)) × (ts : Trees) × (Comes core text x ts))
-
-abbrev pub InstanceTrees : Type 0
-InstanceTrees =
-    (core : List Nonterminal) (text : List ℕ) (instance : Instance) (j : ℕ) (t : Tree) →
-    HasTree core text instance.nonterminal instance.values instance.start j t ↔ Completes core text instance j t
-
-abbrev pub AlternativesBegin : Type 0
-AlternativesBegin =
-    (core : List Nonterminal) (text : List ℕ) (instance : Instance) (a b : ℕ) (nonterminal : Nonterminal) (alternative : CoreAlt) →
-    IsWellKinded core → Reachable core text (first instance a) →
-    IsAlternative core instance.nonterminal b nonterminal alternative → Reachable core text (first instance b)
-
-abbrev pub StandsBeforeOne : Type 0
-StandsBeforeOne =
-    (core : List Nonterminal) (it : Item) (names others : List (List ℕ)) (step next : Step) →
-    StandsBefore core it names step → StandsBefore core it others next → (names ≡ others) × (step ≡ next)
-
-pub record Same (nonterminal other : Nonterminal) (alternative second : CoreAlt) : Type 0 where
-  pub nonterminals : nonterminal ≡ other
-  pub alternatives : alternative ≡ second
-
-abbrev pub AlternativesAreOne : Type 0
-AlternativesAreOne =
-    (core : List Nonterminal) (n a : ℕ) (nonterminal other : Nonterminal) (alternative second : CoreAlt) →
-    IsAlternative core n a nonterminal alternative → IsAlternative core n a other second →
-    Same nonterminal other alternative second

@@ -1,0 +1,13 @@
+use Rattle.std.proofs.Common.{subst, sym, ap, ◌∙◌}
+use Rattle.std.specs.Option.{option_copied}
+use Rattle.ig_arena.proofs.Linking.{at_cell, at_end, ended, goes}
+use Rattle.ig_arena.proofs.chains.WalkIterator.next.Goals as goal
+
+pub returns-in_err-cell-clause-steps : goal.returns-in_err-cell-clause-steps
+returns-in_err-cell-clause-steps g c = ended _ _ c.from_residual.ensures (at_end c.self.inside.cells.now _ c.self.inside.next c.self.view_is (sym (ap option_copied c.in_err-cell.was) ∙ c.cell_at.ensures))
+
+pub returns-clause-steps : goal.returns-clause-steps
+returns-clause-steps g c = at_cell _ _ _ _ c.self.invariant c.self.view_is (sym (ap option_copied c.in_ok-cell.was) ∙ c.cell_at.ensures)
+
+pub returns-clause-goes : goal.returns-clause-goes
+returns-clause-goes g c = goes _ _ _ _ (returns-clause-steps g c)

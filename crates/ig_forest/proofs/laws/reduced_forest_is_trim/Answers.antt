@@ -1,0 +1,15 @@
+use Rattle.ig_forest.proofs.Usage.{is_trim}
+use Rattle.ig_forest.proofs.laws.reduced_forest_is_trim.Goals as goal
+
+pub returns : goal.returns
+returns c =
+    is_trim
+    (record {
+      closed = c.reachable_is_closed.ensures;
+      in_text = c.items_are_in_text.ensures;
+      items_by_trees = c.items_are_reached_by_trees.ensures;
+      instance_trees = c.complete_items_are_trees.ensures;
+      alternatives_begin = c.alternatives_begin_together.ensures;
+      before_one = c.stands_before_one.ensures;
+      alternatives_one = c.alternatives_are_one.ensures;
+    })
