@@ -156,3 +156,17 @@ are_sources_by s tables closed fit kinded exact ls rs ns fs nm el er en ef em li
     (subst (λ (z : List NodeRow). AreNodesOf s.core.now s.rows.now z) (sym en) nodes)
     (subst (λ (z : List FiledNode). AreFiled s.nodes.now z) (sym ef) filed)
     (em ∙ names) (omega (arith, a, few_lists)) (omega (arith, b, few_rows))
+
+pub if_ok : {X E : Type 0} (r : Rattle.std.proofs.Common.Result X E) (P Q : X → Type 0) → Rattle.std.specs.Prelude.IfOk r P → ((x : X) → P x → Q x) →
+    Rattle.std.specs.Prelude.IfOk r Q
+if_ok (Rattle.std.proofs.Common.Ok x) P Q h f = f x h
+if_ok (Rattle.std.proofs.Common.Err e) P Q h f = h
+
+pub are_final_by : (k : Kept) (kept kt : List ℕ) (lk : List Link) (lt : List ItemRow) (nt : List NodeRow) → kept ≡ kt → k.links.now ≡ lk → k.live.now ≡ lt → k.nodes.now ≡ nt →
+    AreSources k.sources → AreLinks k.sources lk → AreLiveNumbers k.sources kt → AreTaken k.sources.rows.now kept lt → AreNodesOf k.sources.core.now k.live.now nt →
+    length kt ≤ length k.sources.rows.now → length nt ≤ length k.live.now → AreFinal k
+are_final_by k kept kt lk lt nt ek el ev en are all numbers takes nodes few fewer =
+    let a = ap length ek in
+    let b = ap length en in
+    are_final k kept are (subst (AreLinks k.sources) (sym el) all) (subst (AreLiveNumbers k.sources) (sym ek) numbers)
+    (subst (AreTaken k.sources.rows.now kept) (sym ev) takes) (subst (AreNodesOf k.sources.core.now k.live.now) (sym en) nodes) (omega (arith, a, few)) (omega (arith, b, fewer))

@@ -1,5 +1,5 @@
 //! How the reduced forest is made from the tables of a run.
-ghost use Rattle.std.specs.Prelude.{◌≡◌, ◌<◌, ◌∷◌, [], ◌++◌, IfOk, OnOk, MatchOption, map, length};
+ghost use Rattle.std.specs.Prelude.{◌≡◌, ◌≤◌, ◌<◌, ◌∷◌, [], ◌++◌, IfOk, OnOk, MatchOption, map, length};
 ghost use Rattle.ig_item.specs.Items.{RootIsComplete};
 ghost use Rattle.ig_forest.specs.CodeBuilder.{AreLiveNumbers, RootIsLive};
 ghost use Rattle.ig_forest.specs.CodeEntries.{AreFinal};
@@ -37,17 +37,21 @@ pub(crate) fn from_sources(
     let Some(root) = root_of(sources) else {
         return Ok(None);
     };
-    let links = links_of(alloc, sources)?;
-    let kept = live_numbers(alloc, sources, links.as_slice(), root)?;
-    let live = rows_at(alloc, sources.rows, kept.as_slice())?;
-    let nodes = nodes_of(alloc, sources.core, live.as_slice())?;
+    let link_table = links_of(alloc, sources)?;
+    let links = link_table.as_slice();
+    let kept_table = live_numbers(alloc, sources, links, root)?;
+    let kept = kept_table.as_slice();
+    let live_table = rows_at(alloc, sources.rows, kept)?;
+    let live = live_table.as_slice();
+    let node_table = nodes_of(alloc, sources.core, live)?;
+    let nodes = node_table.as_slice();
     let tables = Kept {
         sources: *sources,
-        links: links.as_slice(),
-        live: live.as_slice(),
-        nodes: nodes.as_slice(),
+        links,
+        live,
+        nodes,
     };
-    let forest = finished(alloc, tables, kept.as_slice(), root, nonterminals)?;
+    let forest = finished(alloc, tables, kept, root, nonterminals)?;
     Ok(Some(forest))
 }
 
@@ -62,7 +66,8 @@ fn live_numbers(
     requires few { length sources.now.nodes.now < 4294967296 }
     requires links { AreLinks sources.now links.now }
     requires root { IsRootAt sources.now root }
-    ensures { IfOk result (λ kept. AreLiveNumbers sources.now kept.items) }
+    ensures numbers { IfOk result (λ kept. AreLiveNumbers sources.now kept.items) }
+    ensures few { IfOk result (λ kept. length kept.items ≤ length sources.now.rows.now) }
 {
     let graph = Graph {
         core: sources.core,

@@ -1,5 +1,6 @@
 //! The reduced forest: its tables, how they are made, and readers that hand out borrowing views.
 ghost use Rattle.std.specs.Prelude.{◌≡◌, ◌↔◌, IfOk, MatchOption, Contains, length, option_map, slice_get};
+ghost use Rattle.std.specs.Option.{option_copied};
 ghost use Rattle.ig_item.specs.Items.{Item, Reachable, RootIsComplete};
 ghost use Rattle.ig_item.specs.Tables.{items_of};
 ghost use Rattle.ig_forest.specs.Reduced.{IsReduced};
@@ -129,10 +130,10 @@ impl Forest {
     pub fn node(&self, k: u32) -> Option<Node<'_>>
         ensures { option_map node_view result ≡ slice_get self.now.nodes k }
     {
-        let Some(stored) = self.nodes.get(k as usize) else {
+        let Some(stored) = node_at(self.nodes.as_slice(), k) else {
             return None;
         };
-        let Some(name) = self.names.as_slice().get(stored.row.nonterminal as usize) else {
+        let Some(name) = word_at(self.names.as_slice(), stored.row.nonterminal) else {
             unreachable!()
         };
         let Some(values) = self.lists.get(stored.row.values) else {
@@ -155,10 +156,10 @@ impl Forest {
     pub fn item(&self, k: u32) -> Option<ItemNode<'_>>
         ensures { option_map item_node_view result ≡ slice_get self.now.items k }
     {
-        let Some(stored) = self.items.get(k as usize) else {
+        let Some(stored) = item_at(self.items.as_slice(), k) else {
             return None;
         };
-        let Some(name) = self.names.as_slice().get(stored.row.nonterminal as usize) else {
+        let Some(name) = word_at(self.names.as_slice(), stored.row.nonterminal) else {
             unreachable!()
         };
         let Some(values) = self.lists.get(stored.row.values) else {
@@ -179,4 +180,25 @@ impl Forest {
             entries: stored.entries.as_slice(),
         })
     }
+}
+
+/// A stored node by its number.
+fn node_at(nodes: &[StoredNode], k: u32) -> Option<&StoredNode>
+    ensures { option_copied result ≡ slice_get nodes.now k }
+{
+    nodes.get(k as usize)
+}
+
+/// A stored item node by its number.
+fn item_at(items: &[StoredItem], k: u32) -> Option<&StoredItem>
+    ensures { option_copied result ≡ slice_get items.now k }
+{
+    items.get(k as usize)
+}
+
+/// A word by its number.
+fn word_at(words: &[Word], k: u32) -> Option<&Word>
+    ensures { option_copied result ≡ slice_get words.now k }
+{
+    words.get(k as usize)
 }
