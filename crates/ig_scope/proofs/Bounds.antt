@@ -14,7 +14,7 @@ use Rattle.ig_grammar.specs.declared.symbol.Alt.{Alt}
 use Rattle.ig_grammar.specs.declared.declaration.Level.{Level}
 use Rattle.ig_grammar.specs.declared.declaration.Decl.{Decl}
 use Rattle.ig_grammar.specs.declared.grammar.Grammar.{Grammar}
-use Rattle.ig_scope.specs.Told.{FitsAll}
+use Rattle.ig_scope.specs.Places.{AreNumbered}
 
 mutual
   inside_parts : (v : Visible) (x : Symbol) → length (inside v x) + 1 ≤ parts x
@@ -85,21 +85,19 @@ parts_among (level ∷ levels) a m =
       | inr x ↦ (let h = parts_among levels a x in omega arith)
     ]
 
-pub regular_fits : (g : Grammar) → IsRegular g → FitsAll g.decls
-regular_fits g r = record {
+pub are_numbered : (g : Grammar) → IsRegular g → AreNumbered g.decls
+are_numbered g r = record {
   declarations = r.counted.declarations;
-  each = λ decl m. record {
-    count =
-        let n = member_sum (λ (d : Decl). sum_by (λ level. alternatives_among (gathered_alternatives level.alts)) d.levels) g.decls decl m in
-        let a = r.counted.alternatives in
-        let l = length-flat_map (λ (level : Level). level.alts) decl.levels in
-        let s = sum_less (λ (level : Level). length level.alts) (λ (level : Level). alternatives_among (gathered_alternatives level.alts)) decl.levels (λ level. fewer level.alts) in
-        omega arith;
-    symbols = λ a k.
-        let n = member_sum (λ (d : Decl). sum_by (λ level. parts_of_alternatives (gathered_alternatives level.alts)) d.levels) g.decls decl m in
-        let p = r.counted.symbols in
-        let q = parts_among decl.levels a k in
-        let s = sequence_parts (parameters decl.params) (gathered a.symbols) in
-        omega arith;
-  };
+  alternatives = λ decl m.
+      let n = member_sum (λ (d : Decl). sum_by (λ level. alternatives_among (gathered_alternatives level.alts)) d.levels) g.decls decl m in
+      let a = r.counted.alternatives in
+      let l = length-flat_map (λ (level : Level). level.alts) decl.levels in
+      let s = sum_less (λ (level : Level). length level.alts) (λ (level : Level). alternatives_among (gathered_alternatives level.alts)) decl.levels (λ level. fewer level.alts) in
+      omega arith;
+  symbols = λ decl m a k.
+      let n = member_sum (λ (d : Decl). sum_by (λ level. parts_of_alternatives (gathered_alternatives level.alts)) d.levels) g.decls decl m in
+      let p = r.counted.symbols in
+      let q = parts_among decl.levels a k in
+      let s = sequence_parts (parameters decl.params) (gathered a.symbols) in
+      omega arith;
 }

@@ -1,5 +1,5 @@
 -- From the parts of a grammar to the whole of it.
-use Rattle.std.proofs.Common.{◌≡◌, ℕ, zero, suc, ◌<◌, ◌≤◌, ◌+◌, ◌⊎◌, inl, inr, List, [], ◌∷◌, ◌++◌, length, get_or, take, Option, Some, Bool, true, false, cond, refl, sym, ◌∙◌, ap, subst, arith, Result, Ok, Err}
+use Rattle.std.proofs.Common.{◌≡◌, ℕ, zero, suc, ◌<◌, ◌≤◌, ◌+◌, ◌⊎◌, inl, inr, List, [], ◌∷◌, ◌++◌, length, get_or, take, Option, Some, Bool, true, false, ◌||◌, cond, refl, sym, ◌∙◌, ap, subst, arith, Result, Ok, Err}
 use Rattle.std.specs.Prelude.{Contains, IsTrue, ◌↔◌, slice_get, count_by}
 use Rattle.std.specs.Result.{IsErrAnd}
 use Rattle.std.proofs.lemmas.List.{take_more}
@@ -16,8 +16,12 @@ use Rattle.ig_grammar.specs.declared.declaration.Decl.{Decl}
 use Rattle.ig_grammar.specs.declared.grammar.Grammar.{Grammar}
 use Rattle.ig_grammar.specs.declared.place.Place.{Place}
 use Rattle.ig_scope.specs.Causes.{condition_of, NoneHolds}
-use Rattle.ig_scope.specs.Heads.{HasLayout}
-use Rattle.ig_scope.specs.Told.{FirstIn, FirstPair, AlternativeFree, AlternativeCaught, TellsAlternatives, TellsDeclaration, AreFree, TellsDeclarations, TellsGrammar}
+use Rattle.std.proofs.lemmas.List.Folds.{list_any_more}
+use Rattle.ig_scope.specs.Limits.{most_parameters}
+use Rattle.ig_scope.specs.Room.{HasFewParameters}
+use Rattle.ig_scope.specs.Heads.{count_names, is_layout, have_layout}
+use Rattle.ig_scope.specs.Told.{FirstIn, FirstPair, AlternativeFree, AlternativeCaught, IsFree, TellsAlternatives, TellsDeclaration, AreFree, TellsDeclarations, TellsGrammar}
+use Rattle.ig_scope.specs.declared.numbered.Numbered.{Numbered}
 use Rattle.ig_scope.specs.declared.fault.ScopeFault.{ScopeFault}
 use Rattle.ig_scope.specs.declared.fault.ScopeFault.TheVariants.{Broken, Memory}
 use Rattle.ig_scope.proofs.Firsts.{first_there, first_before, free_at}
@@ -35,10 +39,10 @@ module _ (decls : List Decl) (index : ℕ) (decl : Decl) where
       go b t (inr l) = let z = l.1 in omega arith
 
   -- a declaration with few parameters, where nothing holds at its head
-  pub few_parameters : NoneHolds (HeadMeets decls index decl) → is_name decl.name ≡ true → named_parameters decl ≤ 16
+  pub few_parameters : NoneHolds (HeadMeets decls index decl) → HasFewParameters decl
   few_parameters n e = go (named_parameters decl) (λ l. n TooManyParameters (too_many_parameters e l))
     where
-      go : (k : ℕ) → (16 < k → ⊥) → k ≤ 16
+      go : (k : ℕ) → (most_parameters < k → ⊥) → k ≤ most_parameters
       go k f = grind (arith, f)
 
   caught_alternative : (k s : ℕ) (c : Condition) → NoneHolds (HeadMeets decls index decl) →
@@ -64,20 +68,25 @@ module _ (decls : List Decl) (index : ℕ) (decl : Decl) where
           let a = one (slice_get (alternatives decl.levels) k) h.0 t.0 (ap (slice_get (alternatives decl.levels)) (sym same) ∙ h.1) t.1 in
           t.2.none_before u other l.1 (subst (λ a. AlternativeHas decls decl a u other) a h.2)
 
-  pub declaration_told : (r : Result (Unit {0}) ScopeFault) → NoneHolds (HeadMeets decls index decl) → TellsAlternatives decls decl (index + 1) r →
-      TellsDeclaration decls decl index r
-  declaration_told (Ok done) n h = λ a s c m. go a s c m
+module _ (numbered : Numbered) (index : ℕ) where
+  abbrev HeadFree : Type 0
+  HeadFree = NoneHolds (HeadMeets numbered.declarations.now index numbered.decl.now)
+
+  pub declaration_told : (r : Result (Unit {0}) ScopeFault) → numbered.number ≡ index + 1 → HeadFree → TellsAlternatives numbered r →
+      TellsDeclaration numbered.declarations.now numbered.decl.now index r
+  declaration_told (Ok done) e n h = λ a s c m. go a s c m
     where
-      go : (a s : ℕ) (c : Condition) → DeclarationHas decls index decl a s c → ⊥
+      go : (a s : ℕ) (c : Condition) → DeclarationHas numbered.declarations.now index numbered.decl.now a s c → ⊥
       go zero zero c m = n c m
       go zero (suc s) c m = m
-      go (suc j) s c m = free_at (AlternativeFree decls decl) (AlternativeFree decls decl) (alternatives decl.levels) h j m.0 m.1 s c m.2
-  declaration_told (Err (Broken cause place)) n h = (
-    h.1,
-    subst (λ k. FirstPair (DeclarationHas decls index decl) k place.symbol (condition_of cause)) (let e = h.2 in let z : suc h.0 ≡ place.alt = omega arith in z)
-        (caught_alternative h.0 place.symbol (condition_of cause) n h.3),
+      go (suc j) s c m = free_at (IsFree numbered) (IsFree numbered) (alternatives numbered.decl.now.levels) h j m.0 m.1 s c m.2
+  declaration_told (Err (Broken cause place)) e n h = (
+    h.1 ∙ e,
+    subst (λ k. FirstPair (DeclarationHas numbered.declarations.now index numbered.decl.now) k place.symbol (condition_of cause))
+        (let e = h.2 in let z : suc h.0 ≡ place.alt = omega arith in z)
+        (caught_alternative numbered.declarations.now index numbered.decl.now h.0 place.symbol (condition_of cause) n h.3),
   )
-  declaration_told (Err Memory) n h = tt
+  declaration_told (Err Memory) e n h = tt
 
 pub free_more : (decls : List Decl) (i : ℕ) (decl : Decl) → i < length decls → decl ≡ get_or decls i decl → AreFree decls i →
     ((a s : ℕ) → NoneHolds (DeclarationHas decls i decl a s)) → AreFree decls (i + 1)
@@ -102,28 +111,16 @@ declarations_stopped decls i decl (Broken cause place) r p l e f h =
 declarations_stopped decls i decl Memory r p l e f h = subst (TellsDeclarations decls) (sym (fault_passed r Memory p)) tt
 
 pub named_more : (decls : List Decl) (i n m : ℕ) (decl : Decl) (b : Bool) → i < length decls → decl ≡ get_or decls i decl → b ≡ is_name decl.name →
-    n ≡ count_by (λ d. is_name d.name) (take i decls) → m ≡ cond b (n + 1) n → m ≡ count_by (λ d. is_name d.name) (take (i + 1) decls)
+    n ≡ count_names (take i decls) → m ≡ cond b (n + 1) n → m ≡ count_names (take (i + 1) decls)
 named_more decls i n m decl true l e b h k =
     k ∙ ap (λ z. z + 1) h ∙ sym (count_by_more_yes (λ (d : Decl). is_name d.name) decls i decl l (ap (λ (d : Decl). is_name d.name) (sym e) ∙ sym b))
 named_more decls i n m decl false l e b h k =
     k ∙ h ∙ sym (count_by_more_no (λ (d : Decl). is_name d.name) decls i decl l (ap (λ (d : Decl). is_name d.name) (sym e) ∙ sym b))
 
-layouts : (decls : List Decl) (i : ℕ) (decl : Decl) → i < length decls → decl ≡ get_or decls i decl → take (i + 1) decls ≡ take i decls ++ decl ∷ []
-layouts decls i decl l e = take_more decls i decl l ∙ ap (λ z. take i decls ++ z ∷ []) (sym e)
-
-pub layout_found : (decls : List Decl) (i : ℕ) (decl : Decl) → i < length decls → decl ≡ get_or decls i decl → decl.kind ≡ Layout →
-    IsTrue true ↔ HasLayout (take (i + 1) decls)
-layout_found decls i decl l e k = ((λ _. (decl, subst (λ z. Contains z decl) (sym (layouts decls i decl l e)) (Contains-push (take i decls) decl), k)), (λ _. refl))
-
-pub layout_kept : (decls : List Decl) (i : ℕ) (decl : Decl) (b : Bool) → i < length decls → decl ≡ get_or decls i decl → (decl.kind ≡ Layout → ⊥) →
-    IsTrue b ↔ HasLayout (take i decls) → IsTrue b ↔ HasLayout (take (i + 1) decls)
-layout_kept decls i decl b l e k h = (
-  (λ t. let z = h.0 t in (z.0, subst (λ x. Contains x z.0) (sym (layouts decls i decl l e)) (Contains-append_left (take i decls) (decl ∷ []) z.0 z.1), z.2)),
-  (λ z. elim (Contains-push_cases (take i decls) decl z.0 (subst (λ x. Contains x z.0) (layouts decls i decl l e) z.1)) [
-    | inl m ↦ h.1 (z.0, m, z.2)
-    | inr s ↦ absurd (k (ap (λ (d : Decl). d.kind) s ∙ z.2))
-  ]),
-)
+pub layout_more : (decls : List Decl) (i : ℕ) (decl : Decl) (b c : Bool) → i < length decls → decl ≡ get_or decls i decl →
+    b ≡ have_layout (take i decls) → c ≡ is_layout decl.kind → (b || c) ≡ have_layout (take (i + 1) decls)
+layout_more decls i decl b c l e h k =
+    (λ n. h n || (k ∙ ap (λ (d : Decl). is_layout d.kind) e) n) ∙ sym (list_any_more (λ (d : Decl). is_layout d.kind) decls i decl l)
 
 module _ (g : Grammar) where
   pub start_told : (c : Condition) (place : Place) → place ≡ record { decl = 0; alt = 0; symbol = 0 } → IsLeast (StartMeets g) c → IsFirst g place c

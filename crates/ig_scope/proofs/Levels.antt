@@ -1,5 +1,5 @@
 -- The alternatives of a declaration, one after the other.
-use Rattle.std.proofs.Common.{◌≡◌, ℕ, zero, suc, ◌<◌, ◌≤◌, ◌+◌, List, [], ◌∷◌, ◌++◌, length, get_or, take, Option, Some, None, Bool, true, false, refl, sym, ◌∙◌, ap, subst, arith, length-append, Result, Ok, Err, true≢false}
+use Rattle.std.proofs.Common.{◌≡◌, ℕ, zero, suc, ◌<◌, ◌≤◌, ◌+◌, ◌-◌, cond, List, [], ◌∷◌, ◌++◌, length, get_or, take, Option, Some, None, Bool, true, false, refl, sym, ◌∙◌, ap, subst, arith, length-append, Result, Ok, Err, true≢false}
 use Rattle.std.specs.Prelude.{All, Contains, IsTrue, ◌↔◌, slice_get, is_none, is_some, not}
 use Rattle.std.specs.Result.{IsErrAnd}
 use Rattle.std.proofs.lemmas.List.{take_more, take_all, append-nil}
@@ -16,23 +16,50 @@ use Rattle.ig_grammar.specs.declared.declaration.Decl.{Decl}
 use Rattle.ig_grammar.specs.declared.place.Place.{Place}
 use Rattle.ig_scope.specs.Binders.{Leaves, binders}
 use Rattle.ig_scope.specs.Causes.{condition_of}
-use Rattle.ig_scope.specs.Told.{FirstIn, here, later, FirstNumber, SymbolFree, SymbolCaught, Walked, AlternativeFree, AlternativeCaught, TellsAlternative, TellsLevel, TellsAlternatives}
+use Rattle.ig_scope.specs.Limits.{most_variables, place_limit}
+use Rattle.ig_scope.specs.Room.{HasFewParameters, room_of}
+use Rattle.ig_scope.specs.Told.{FirstIn, here, later, FirstNumber, SymbolFree, SymbolCaught, Walked, AlternativeFree, AlternativeCaught}
+use Rattle.ig_scope.specs.Told.{IsFree, IsCaught, TellsAlternative, TellsLevel, TellsAlternatives}
+use Rattle.ig_scope.specs.declared.numbered.Numbered.{Numbered}
+use Rattle.ig_scope.specs.declared.places.Surroundings.{Surroundings}
 use Rattle.ig_scope.specs.declared.fault.ScopeFault.{ScopeFault}
 use Rattle.ig_scope.specs.declared.fault.ScopeFault.TheVariants.{Broken, Memory}
 use Rattle.ig_scope.proofs.Firsts.{first_left, first_right, first_there, first_before, free_at}
 use Rattle.ig_scope.proofs.Walks.{fault_passed}
 
 -- more labels and lets than there is room for
-pub passed_told : (decl : Decl) (a : Alt) (room : ℕ) (r : Option ℕ) → is_name decl.name ≡ true → room + named_parameters decl ≡ 32 →
+left_told : (decl : Decl) (a : Alt) (room : ℕ) (r : Option ℕ) → is_name decl.name ≡ true → room + named_parameters decl ≡ most_variables →
     Leaves room (binders (symbols_of decl a)) r → IsTrue (is_none r) ↔ AlternativeMeets decl a TooManyVariables
-passed_told decl a room None n e h = ((λ _. too_many_variables n (omega arith)), (λ _. refl))
-passed_told decl a room (Some left) n e h = (
+left_told decl a room None n e h = ((λ _. too_many_variables n (omega arith)), (λ _. refl))
+left_told decl a room (Some left) n e h = (
   (λ t. let z : false ≡ true = t in absurd (true≢false (sym z))),
   (λ m. go m),
 )
   where
     go : AlternativeMeets decl a TooManyVariables → IsTrue false
     go (too_many_variables k l) = let f : ⊥ = omega arith in absurd f
+
+room_is : (b : Bool) (n room : ℕ) → Some room ≡ cond b (Some (most_variables - n)) None → (b ≡ true) × (room ≡ most_variables - n)
+room_is true n room e = (refl, (let z : Some room ≡ Some (most_variables - n) = e in cc))
+room_is false n room e = let z : Some room ≡ None = e in cc
+
+pub passed_told : (decl : Decl) (a : Alt) (room : ℕ) (r : Option ℕ) → HasFewParameters decl → Some room ≡ room_of decl →
+    Leaves room (binders (symbols_of decl a)) r → IsTrue (is_none r) ↔ AlternativeMeets decl a TooManyVariables
+passed_told decl a room r few e h =
+    let k = room_is (is_name decl.name) (named_parameters decl) room e in
+    let l = few k.0 in let z = k.1 in
+    left_told decl a room r k.0 (omega arith) h
+
+unnamed : (b : Bool) (n : ℕ) → None ≡ cond b (Some (most_variables - n)) None → b ≡ false
+unnamed true n e = let z : None ≡ Some (most_variables - n) = e in cc
+unnamed false n e = refl
+
+-- where they aren't counted there are never too many
+pub uncounted : (decl : Decl) (a : Alt) → None ≡ room_of decl → IsTrue false ↔ AlternativeMeets decl a TooManyVariables
+uncounted decl a e = ((λ t. let z : false ≡ true = t in absurd (true≢false (sym z))), (λ m. go m))
+  where
+    go : AlternativeMeets decl a TooManyVariables → IsTrue false
+    go (too_many_variables k l) = absurd (true≢false (sym k ∙ unnamed (is_name decl.name) (named_parameters decl) e))
 
 unmet : (decl : Decl) (a : Alt) → (AlternativeMeets decl a TooManyVariables → ⊥) → (c : Condition) → AlternativeMeets decl a c → ⊥
 unmet decl a n c (too_many_variables k l) = n (too_many_variables k l)
@@ -67,19 +94,6 @@ module _ (decls : List Decl) (decl : Decl) where
       go (suc j) other l h =
           first_before (SymbolFree decls decl.kind) (SymbolCaught decls decl.kind c) (symbols_of decl a) k f j h.0 (omega arith) h.1 other h.2
 
-  pub alternative_stopped : (a : Alt) (alt nr : ℕ) (os : List Occurrence) (b old new : Visible) (fault : ScopeFault) (r : Result (Unit {0}) ScopeFault) →
-      IsErrAnd r (λ f. f ≡ fault) → (AlternativeMeets decl a TooManyVariables → ⊥) → os ≡ symbols_of decl a →
-      Walked decls decl.kind nr alt 0 os b old new (Err fault) → TellsAlternative decls decl nr alt a r
-  alternative_stopped a alt nr os b old new (Broken cause place) r p n e h =
-      subst (TellsAlternative decls decl nr alt a) (sym (fault_passed r (Broken cause place) p)) (
-        ap (λ (z : Place). z.decl) h.1,
-        ap (λ (z : Place). z.alt) h.1,
-        subst (λ k. FirstNumber (AlternativeHas decls decl a) k (condition_of cause))
-            (let z : place.symbol ≡ 0 + h.0 + 1 = ap (λ (z : Place). z.symbol) h.1 in let y : suc h.0 ≡ place.symbol = omega arith in y)
-            (caught_symbol a h.0 (condition_of cause) n (subst (λ z. FirstIn (SymbolFree decls decl.kind) (SymbolCaught decls decl.kind (condition_of cause)) z h.0) e h.2)),
-      )
-  alternative_stopped a alt nr os b old new Memory r p n e h = subst (TellsAlternative decls decl nr alt a) (sym (fault_passed r Memory p)) tt
-
   pub alternative_free : (a : Alt) (os : List Occurrence) → (AlternativeMeets decl a TooManyVariables → ⊥) → os ≡ symbols_of decl a →
       All (SymbolFree decls decl.kind) os → AlternativeFree decls decl a
   alternative_free a os n e h zero = unmet decl a n
@@ -91,33 +105,55 @@ module _ (decls : List Decl) (decl : Decl) where
   first_at Free Caught (y ∷ xs) (suc i) x l e a c =
       later y xs i (a 0 y (omega arith)) (first_at Free Caught xs i x (omega arith) e (λ k d m. a (suc k) d (omega arith)) c)
 
-  pub level_stopped : (nr before : ℕ) (alts : List Alt) (i next : ℕ) (a : Alt) (fault : ScopeFault) (r : Result ℕ ScopeFault) → IsErrAnd r (λ f. f ≡ fault) →
-      i < length alts → a ≡ get_or alts i a → next ≡ before + i + 1 → All (AlternativeFree decls decl) (take i alts) →
-      TellsAlternative decls decl nr next a {T = Unit {0}} (Err fault) → TellsLevel decls decl nr before alts r
-  level_stopped nr before alts i next a (Broken cause place) r p l e n f h =
-      subst (TellsLevel decls decl nr before alts) (sym (fault_passed r (Broken cause place) p))
-      (i, h.0, h.1 ∙ n, first_at (AlternativeFree decls decl) (AlternativeCaught decls decl place.symbol (condition_of cause)) alts i a l e f h.2)
-  level_stopped nr before alts i next a Memory r p l e n f h = subst (TellsLevel decls decl nr before alts) (sym (fault_passed r Memory p)) tt
+pub alternative_stopped : (numbered : Numbered) (around : Surroundings) (a : Alt) (os : List Occurrence) (b old new : Visible)
+    (fault : ScopeFault) (r : Result (Unit {0}) ScopeFault) → IsErrAnd r (λ f. f ≡ fault) →
+    around.declarations.now ≡ numbered.declarations.now → around.kind ≡ numbered.decl.now.kind → around.decl ≡ numbered.number →
+    (AlternativeMeets numbered.decl.now a TooManyVariables → ⊥) → os ≡ symbols_of numbered.decl.now a →
+    Walked around 0 os b old new (Err fault) → TellsAlternative numbered around.alt a r
+alternative_stopped numbered around a os b old new (Broken cause place) r p ds kind nr n e h =
+    let decls = numbered.declarations.now in
+    let decl = numbered.decl.now in
+    subst (TellsAlternative numbered around.alt a) (sym (fault_passed r (Broken cause place) p)) (
+      ap (λ (z : Place). z.decl) h.1 ∙ nr,
+      ap (λ (z : Place). z.alt) h.1,
+      subst (λ k. FirstNumber (AlternativeHas decls decl a) k (condition_of cause))
+          (let z : place.symbol ≡ 0 + h.0 + 1 = ap (λ (z : Place). z.symbol) h.1 in let y : suc h.0 ≡ place.symbol = omega arith in y)
+          (caught_symbol decls decl a h.0 (condition_of cause) n
+          (subst (λ z. FirstIn (SymbolFree decls decl.kind) (SymbolCaught decls decl.kind (condition_of cause)) z h.0) e
+          (subst (λ z. FirstIn (SymbolFree z decl.kind) (SymbolCaught z decl.kind (condition_of cause)) os h.0) ds
+          (subst (λ z. FirstIn (SymbolFree around.declarations.now z) (SymbolCaught around.declarations.now z (condition_of cause)) os h.0) kind h.2)))),
+    )
+alternative_stopped numbered around a os b old new Memory r p ds kind nr n e h =
+    subst (TellsAlternative numbered around.alt a) (sym (fault_passed r Memory p)) tt
+
+module _ (numbered : Numbered) where
+  pub level_stopped : (before : ℕ) (alts : List Alt) (i next : ℕ) (a : Alt) (fault : ScopeFault) (r : Result ℕ ScopeFault) → IsErrAnd r (λ f. f ≡ fault) →
+      i < length alts → a ≡ get_or alts i a → next ≡ before + i + 1 → All (IsFree numbered) (take i alts) →
+      TellsAlternative numbered next a {T = Unit {0}} (Err fault) → TellsLevel numbered before alts r
+  level_stopped before alts i next a (Broken cause place) r p l e n f h =
+      subst (TellsLevel numbered before alts) (sym (fault_passed r (Broken cause place) p))
+      (i, h.0, h.1 ∙ n, first_at (IsFree numbered) (IsCaught numbered place.symbol (condition_of cause)) alts i a l e f h.2)
+  level_stopped before alts i next a Memory r p l e n f h = subst (TellsLevel numbered before alts) (sym (fault_passed r Memory p)) tt
 
   -- a level behind those before it
-  pub levels_step : (nr : ℕ) (done more : List Alt) (before : ℕ) (next : ℕ) → TellsLevel decls decl nr 0 done (Ok before) → TellsLevel decls decl nr before more (Ok next) →
-      TellsLevel decls decl nr 0 (done ++ more) (Ok next)
-  levels_step nr done more before next g h =
-      ((let a = g.0 in let b = h.0 in let l = length-append done more in omega arith), All-append (AlternativeFree decls decl) done more g.1 h.1)
+  pub levels_step : (done more : List Alt) (before : ℕ) (next : ℕ) → TellsLevel numbered 0 done (Ok before) → TellsLevel numbered before more (Ok next) →
+      TellsLevel numbered 0 (done ++ more) (Ok next)
+  levels_step done more before next g h =
+      ((let a = g.0 in let b = h.0 in let l = length-append done more in omega arith), All-append (IsFree numbered) done more g.1 h.1)
 
-  pub levels_stopped : (nr : ℕ) (done more rest : List Alt) (before : ℕ) (fault : ScopeFault) (r : Result (Unit {0}) ScopeFault) → IsErrAnd r (λ f. f ≡ fault) →
-      alternatives decl.levels ≡ (done ++ more) ++ rest → TellsLevel decls decl nr 0 done (Ok before) → TellsLevel decls decl nr before more (Err fault) →
-      TellsAlternatives decls decl nr r
-  levels_stopped nr done more rest before (Broken cause place) r p e g h =
-      subst (TellsAlternatives decls decl nr) (sym (fault_passed r (Broken cause place) p)) (
+  pub levels_stopped : (done more rest : List Alt) (before : ℕ) (fault : ScopeFault) (r : Result (Unit {0}) ScopeFault) → IsErrAnd r (λ f. f ≡ fault) →
+      alternatives numbered.decl.now.levels ≡ (done ++ more) ++ rest → TellsLevel numbered 0 done (Ok before) → TellsLevel numbered before more (Err fault) →
+      TellsAlternatives numbered r
+  levels_stopped done more rest before (Broken cause place) r p e g h =
+      subst (TellsAlternatives numbered) (sym (fault_passed r (Broken cause place) p)) (
         before + h.0,
         h.1,
         h.2,
-        subst (λ z. FirstIn (AlternativeFree decls decl) (AlternativeCaught decls decl place.symbol (condition_of cause)) z (before + h.0)) (sym e)
-            (first_left (AlternativeFree decls decl) (AlternativeCaught decls decl place.symbol (condition_of cause)) (done ++ more) rest (before + h.0)
-            (first_right (AlternativeFree decls decl) (AlternativeCaught decls decl place.symbol (condition_of cause)) done more h.0 (before + h.0) g.1 h.3 (let a = g.0 in omega arith))),
+        subst (λ z. FirstIn (IsFree numbered) (IsCaught numbered place.symbol (condition_of cause)) z (before + h.0)) (sym e)
+            (first_left (IsFree numbered) (IsCaught numbered place.symbol (condition_of cause)) (done ++ more) rest (before + h.0)
+            (first_right (IsFree numbered) (IsCaught numbered place.symbol (condition_of cause)) done more h.0 (before + h.0) g.1 h.3 (let a = g.0 in omega arith))),
       )
-  levels_stopped nr done more rest before Memory r p e g h = subst (TellsAlternatives decls decl nr) (sym (fault_passed r Memory p)) tt
+  levels_stopped done more rest before Memory r p e g h = subst (TellsAlternatives numbered) (sym (fault_passed r Memory p)) tt
 
 pub record SplitsLevels (all front : List Level) (level : Level) : Type 0 where
   pub rest : List Alt
@@ -146,7 +182,7 @@ more_levels all i level l e =
     flat_map-append (λ (z : Level). z.alts) (take i all) (level ∷ []) ∙ ap (λ z. alternatives (take i all) ++ z) (append-nil level.alts)
 
 pub level_fits : (all front : List Level) (level : Level) (before : ℕ) → SplitsLevels all front level → before ≡ length (alternatives front) →
-    length (alternatives all) < 4294967296 → before + length level.alts < 4294967296
+    length (alternatives all) < place_limit → before + length level.alts < place_limit
 level_fits all front level before s e l =
     let a : length (alternatives all) ≡ length (alternatives front ++ level.alts) + length s.rest = ap length s.whole ∙ length-append (alternatives front ++ level.alts) s.rest in
     let b = length-append (alternatives front) level.alts in omega arith
@@ -161,7 +197,7 @@ none_is None false e = cc
 none_is (Some x) true e = cc
 none_is (Some x) false e = refl
 
-pub level_done : (decls : List Decl) (decl : Decl) (nr before next i : ℕ) (alts : List Alt) → next ≡ before + i → All (AlternativeFree decls decl) (take i alts) →
-    i ≤ length alts → length alts ≤ i → TellsLevel decls decl nr before alts (Ok next)
-level_done decls decl nr before next i alts e a l m =
-    ((let z : i ≡ length alts = omega arith in omega arith), subst (All (AlternativeFree decls decl)) (take_all i alts m) a)
+pub level_done : (numbered : Numbered) (before next i : ℕ) (alts : List Alt) → next ≡ before + i → All (IsFree numbered) (take i alts) →
+    i ≤ length alts → length alts ≤ i → TellsLevel numbered before alts (Ok next)
+level_done numbered before next i alts e a l m =
+    ((let z : i ≡ length alts = omega arith in omega arith), subst (All (IsFree numbered)) (take_all i alts m) a)

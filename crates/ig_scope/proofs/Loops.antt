@@ -7,9 +7,10 @@ use Rattle.ig_grammar.specs.Symbol.{gathered}
 use Rattle.ig_grammar.specs.Alternative.{gathered_alternatives}
 use Rattle.ig_grammar.specs.Visible.{Visible, inside_sequence, inside_choices, binds, all_bind}
 use Rattle.ig_grammar.specs.declared.symbol.Alt.{Alt}
-use Rattle.ig_grammar.specs.declared.declaration.DeclKind.{DeclKind}
-use Rattle.ig_grammar.specs.declared.declaration.Decl.{Decl}
+use Rattle.ig_scope.specs.Limits.{place_limit}
+use Rattle.ig_scope.specs.Places.{HaveNumbers}
 use Rattle.ig_scope.specs.Told.{Walked, from}
+use Rattle.ig_scope.specs.declared.places.Surroundings.{Surroundings}
 use Rattle.ig_scope.specs.declared.fault.ScopeFault.{ScopeFault}
 use Rattle.ig_scope.proofs.Sequences.{inside_append, inside_push, all_bind_push, choices_append, choices_push}
 use Rattle.ig_scope.proofs.Walks.{walked_then, walked_cut, fault_passed}
@@ -46,37 +47,37 @@ longer all xs ys zs n m before e p l =
     let a : length all ≡ length (xs ++ ys) + length zs = ap length e ∙ length-append (xs ++ ys) zs in
     let b = length-append xs ys in omega arith
 
-module _ (decls : List Decl) (within : DeclKind) (decl alt before : ℕ) (v : Visible) where
+module _ (around : Surroundings) (before : ℕ) (v : Visible) where
   -- of a sequence, the front and the member behind it
   pub sequence_step : (front : List tree.Symbol) (x : tree.Symbol) (mid new : Visible) (next : ℕ) (r : Result ℕ ScopeFault) →
-      Walked decls within decl alt before (inside_sequence v (gathered front)) (all_bind v (gathered front)) v mid (Ok next) →
-      Walked decls within decl alt next (from mid x) (binds mid x) mid new r →
-      Walked decls within decl alt before (inside_sequence v (gathered (front ++ x ∷ []))) (all_bind v (gathered (front ++ x ∷ []))) v new r
+      Walked around before (inside_sequence v (gathered front)) (all_bind v (gathered front)) v mid (Ok next) →
+      Walked around next (from mid x) (binds mid x) mid new r →
+      Walked around before (inside_sequence v (gathered (front ++ x ∷ []))) (all_bind v (gathered (front ++ x ∷ []))) v new r
   sequence_step front x mid new next r g h =
-      subst (λ z. Walked decls within decl alt before z (all_bind v (gathered (front ++ x ∷ []))) v new r) (sym (inside_push v front x))
-      (subst (λ z. Walked decls within decl alt before (inside_sequence v (gathered front) ++ from (v ++ all_bind v (gathered front)) x) z v new r) (sym (all_bind_push v front x))
-      (walked_then decls within decl alt before next (inside_sequence v (gathered front)) (from (v ++ all_bind v (gathered front)) x)
+      subst (λ z. Walked around before z (all_bind v (gathered (front ++ x ∷ []))) v new r) (sym (inside_push v front x))
+      (subst (λ z. Walked around before (inside_sequence v (gathered front) ++ from (v ++ all_bind v (gathered front)) x) z v new r) (sym (all_bind_push v front x))
+      (walked_then around before next (inside_sequence v (gathered front)) (from (v ++ all_bind v (gathered front)) x)
       (all_bind v (gathered front)) (binds (v ++ all_bind v (gathered front)) x) v mid new r g
-      (subst (λ z. Walked decls within decl alt next (from z x) (binds z x) mid new r) g.2 h)))
+      (subst (λ z. Walked around next (from z x) (binds z x) mid new r) g.2 h)))
 
   pub sequence_stop : (all front : List tree.Symbol) (x : tree.Symbol) (mid new : Visible) (next : ℕ) (fault : ScopeFault) (r : Result ℕ ScopeFault) →
       IsErrAnd r (λ f. f ≡ fault) → Splits all front x →
-      Walked decls within decl alt before (inside_sequence v (gathered front)) (all_bind v (gathered front)) v mid (Ok next) →
-      Walked decls within decl alt next (from mid x) (binds mid x) mid new (Err fault) →
-      Walked decls within decl alt before (inside_sequence v (gathered all)) (all_bind v (gathered all)) v new r
+      Walked around before (inside_sequence v (gathered front)) (all_bind v (gathered front)) v mid (Ok next) →
+      Walked around next (from mid x) (binds mid x) mid new (Err fault) →
+      Walked around before (inside_sequence v (gathered all)) (all_bind v (gathered all)) v new r
   sequence_stop all front x mid new next fault r p s g h =
-      subst (λ z. Walked decls within decl alt before (inside_sequence v (gathered all)) (all_bind v (gathered all)) v new z) (sym (fault_passed r fault p))
-      (subst (λ z. Walked decls within decl alt before z (all_bind v (gathered all)) v new (Err fault))
+      subst (λ z. Walked around before (inside_sequence v (gathered all)) (all_bind v (gathered all)) v new z) (sym (fault_passed r fault p))
+      (subst (λ z. Walked around before z (all_bind v (gathered all)) v new (Err fault))
       (sym (ap (λ z. inside_sequence v (gathered z)) s.whole ∙ inside_append v (front ++ x ∷ []) s.rest))
-      (walked_cut decls within decl alt before (inside_sequence v (gathered (front ++ x ∷ []))) _ (all_bind v (gathered (front ++ x ∷ []))) (all_bind v (gathered all)) v new new fault
+      (walked_cut around before (inside_sequence v (gathered (front ++ x ∷ []))) _ (all_bind v (gathered (front ++ x ∷ []))) (all_bind v (gathered all)) v new new fault
       (sequence_step front x mid new next (Err fault) g h)))
 
   pub sequence_fits : (all front : List tree.Symbol) (x : tree.Symbol) (mid : Visible) (next : ℕ) → Splits all front x →
-      Walked decls within decl alt before (inside_sequence v (gathered front)) (all_bind v (gathered front)) v mid (Ok next) →
-      before + length (inside_sequence v (gathered all)) < 4294967296 → next + length (from mid x) < 4294967296
+      Walked around before (inside_sequence v (gathered front)) (all_bind v (gathered front)) v mid (Ok next) →
+      HaveNumbers before (inside_sequence v (gathered all)) → HaveNumbers next (from mid x)
   sequence_fits all front x mid next s g l =
       longer (inside_sequence v (gathered all)) (inside_sequence v (gathered front)) (from mid x)
-      (inside_sequence (v ++ all_bind v (gathered (front ++ x ∷ []))) (gathered s.rest)) next 4294967296 before
+      (inside_sequence (v ++ all_bind v (gathered (front ++ x ∷ []))) (gathered s.rest)) next place_limit before
       (ap (λ z. inside_sequence v (gathered z)) s.whole ∙ inside_append v (front ++ x ∷ []) s.rest ∙
       ap (λ z. z ++ inside_sequence (v ++ all_bind v (gathered (front ++ x ∷ []))) (gathered s.rest))
       (inside_push v front x ∙ ap (λ z. inside_sequence v (gathered front) ++ from z x) (sym g.2)))
@@ -84,33 +85,33 @@ module _ (decls : List Decl) (within : DeclKind) (decl alt before : ℕ) (v : Vi
 
   -- of a group, the front and the member behind it
   pub choices_step : (front : List Alt) (x : Alt) (mid new : Visible) (b : Visible) (next : ℕ) (r : Result ℕ ScopeFault) →
-      Walked decls within decl alt before (inside_choices v (gathered_alternatives front)) [] v mid (Ok next) →
-      Walked decls within decl alt next (inside_sequence mid (gathered x.symbols)) b mid new r →
-      Walked decls within decl alt before (inside_choices v (gathered_alternatives (front ++ x ∷ []))) b v new r
+      Walked around before (inside_choices v (gathered_alternatives front)) [] v mid (Ok next) →
+      Walked around next (inside_sequence mid (gathered x.symbols)) b mid new r →
+      Walked around before (inside_choices v (gathered_alternatives (front ++ x ∷ []))) b v new r
   choices_step front x mid new b next r g h =
-      subst (λ z. Walked decls within decl alt before z b v new r) (sym (choices_push v front x))
-      (walked_then decls within decl alt before next (inside_choices v (gathered_alternatives front)) (inside_sequence v (gathered x.symbols))
+      subst (λ z. Walked around before z b v new r) (sym (choices_push v front x))
+      (walked_then around before next (inside_choices v (gathered_alternatives front)) (inside_sequence v (gathered x.symbols))
       [] b v mid new r g
-      (subst (λ z. Walked decls within decl alt next (inside_sequence z (gathered x.symbols)) b mid new r) (g.2 ∙ append-nil v) h))
+      (subst (λ z. Walked around next (inside_sequence z (gathered x.symbols)) b mid new r) (g.2 ∙ append-nil v) h))
 
   pub choices_stop : (all front : List Alt) (x : Alt) (mid new b : Visible) (next : ℕ) (fault : ScopeFault) (r : Result ℕ ScopeFault) →
       IsErrAnd r (λ f. f ≡ fault) → Splits all front x →
-      Walked decls within decl alt before (inside_choices v (gathered_alternatives front)) [] v mid (Ok next) →
-      Walked decls within decl alt next (inside_sequence mid (gathered x.symbols)) b mid new (Err fault) →
-      Walked decls within decl alt before (inside_choices v (gathered_alternatives all)) [] v new r
+      Walked around before (inside_choices v (gathered_alternatives front)) [] v mid (Ok next) →
+      Walked around next (inside_sequence mid (gathered x.symbols)) b mid new (Err fault) →
+      Walked around before (inside_choices v (gathered_alternatives all)) [] v new r
   choices_stop all front x mid new b next fault r p s g h =
-      subst (λ z. Walked decls within decl alt before (inside_choices v (gathered_alternatives all)) [] v new z) (sym (fault_passed r fault p))
-      (subst (λ z. Walked decls within decl alt before z [] v new (Err fault))
+      subst (λ z. Walked around before (inside_choices v (gathered_alternatives all)) [] v new z) (sym (fault_passed r fault p))
+      (subst (λ z. Walked around before z [] v new (Err fault))
       (sym (ap (λ z. inside_choices v (gathered_alternatives z)) s.whole ∙ choices_append v (front ++ x ∷ []) s.rest))
-      (walked_cut decls within decl alt before (inside_choices v (gathered_alternatives (front ++ x ∷ []))) _ b [] v new new fault
+      (walked_cut around before (inside_choices v (gathered_alternatives (front ++ x ∷ []))) _ b [] v new new fault
       (choices_step front x mid new b next (Err fault) g h)))
 
   pub choices_fits : (all front : List Alt) (x : Alt) (mid : Visible) (next : ℕ) → Splits all front x →
-      Walked decls within decl alt before (inside_choices v (gathered_alternatives front)) [] v mid (Ok next) →
-      before + length (inside_choices v (gathered_alternatives all)) < 4294967296 → next + length (inside_sequence mid (gathered x.symbols)) < 4294967296
+      Walked around before (inside_choices v (gathered_alternatives front)) [] v mid (Ok next) →
+      HaveNumbers before (inside_choices v (gathered_alternatives all)) → HaveNumbers next (inside_sequence mid (gathered x.symbols))
   choices_fits all front x mid next s g l =
       longer (inside_choices v (gathered_alternatives all)) (inside_choices v (gathered_alternatives front)) (inside_sequence mid (gathered x.symbols))
-      (inside_choices v (gathered_alternatives s.rest)) next 4294967296 before
+      (inside_choices v (gathered_alternatives s.rest)) next place_limit before
       (ap (λ z. inside_choices v (gathered_alternatives z)) s.whole ∙ choices_append v (front ++ x ∷ []) s.rest ∙
       ap (λ z. z ++ inside_choices v (gathered_alternatives s.rest))
       (choices_push v front x ∙ ap (λ z. inside_choices v (gathered_alternatives front) ++ inside_sequence z (gathered x.symbols)) (sym (g.2 ∙ append-nil v))))

@@ -1,24 +1,27 @@
 -- What stands before a declaration.
-use Rattle.std.specs.Prelude.{◌≡◌, ◌≢◌, ℕ, ◌↔◌, IsTrue, List, Contains, Some, take, count_by, slice_get}
+use Rattle.std.specs.Prelude.{◌≡◌, ◌≢◌, ℕ, Bool, true, false, List, Contains, Some, take, count_by, slice_get}
+use Rattle.std.specs.List.{list_any}
 use Rattle.ig_grammar.specs.Name.{is_name}
 use Rattle.ig_grammar.specs.Visible.{names, parameters}
 use Rattle.ig_grammar.specs.Condition.{Condition, TooManyNonterminals, TooManyParameters, HeadMeets}
 use Rattle.ig_grammar.specs.declared.declaration.Assoc.TheVariants.{Free}
+use Rattle.ig_grammar.specs.declared.declaration.DeclKind.{DeclKind}
 use Rattle.ig_grammar.specs.declared.declaration.DeclKind.TheVariants.{Layout}
 use Rattle.ig_grammar.specs.declared.declaration.Level.{Level}
 use Rattle.ig_grammar.specs.declared.declaration.Param.{Param}
 use Rattle.ig_grammar.specs.declared.declaration.Decl.{Decl}
-use Rattle.ig_scope.specs.declared.heads.Earlier.{Earlier}
+
+-- how many have names of the notation
+abbrev pub count_names : List Decl → ℕ
+count_names decls = count_by (λ d. is_name d.name) decls
+
+abbrev pub is_layout : DeclKind → Bool
+is_layout Layout = true
+is_layout other = false
 
 -- a layout declaration is among them
-abbrev pub HasLayout : List Decl → Type 0
-HasLayout decls = (decl : Decl) × Contains decls decl × (decl.kind ≡ Layout)
-
--- what is said of what stands before the declaration
-pub record IsEarlier (decls : List Decl) (earlier : Earlier) (decl : Decl) : Type 0 where
-  pub there : slice_get decls earlier.count ≡ Some decl
-  pub named : earlier.named ≡ count_by (λ d. is_name d.name) (take earlier.count decls)
-  pub layout : IsTrue earlier.has_layout ↔ HasLayout (take earlier.count decls)
+abbrev pub have_layout : List Decl → Bool
+have_layout decls = list_any (λ d. is_layout d.kind) decls
 
 -- a parameter has the name of an earlier one
 abbrev pub HasRepeated : List Param → Type 0

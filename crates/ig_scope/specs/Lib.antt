@@ -1,3 +1,5 @@
+pub mod Limits
+pub mod Places
 pub mod Tables
 pub mod Causes
 pub mod Told

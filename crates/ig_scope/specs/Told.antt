@@ -1,17 +1,21 @@
 -- What each part of the check tells: that no condition holds in what it looked at, or the first fault there.
-use Rattle.std.specs.Prelude.{◌≡◌, ◌≢◌, ℕ, zero, suc, ◌+◌, ◌<◌, ◌⊎◌, List, ◌∷◌, ◌++◌, All, Contains, length, Result, Ok, Err, Some, None, slice_get}
+use Rattle.std.specs.Prelude.{◌≡◌, ◌≢◌, ℕ, zero, suc, ◌+◌, ◌<◌, ◌⊎◌, List, ◌∷◌, ◌++◌, All, Contains, length, Result, Ok, Err, Option, Some, None, slice_get}
 use Rattle.ig_expr.specs.Expression.{Expression}
 use Rattle.ig_grammar.specs.Symbol.{Symbol}
 use Rattle.ig_grammar.specs.Numbering.{alternatives}
 use Rattle.ig_grammar.specs.Visible.{Visible, Occurrence, at, inside, kind_at}
-use Rattle.ig_grammar.specs.Condition.{Condition, SymbolMeets, NamesUnknown, symbols_of}
+use Rattle.ig_grammar.specs.Condition.{Condition, SymbolMeets, NamesUnknown, IsInLexical, symbols_of}
 use Rattle.ig_grammar.specs.WellScoped.{IsLeast, IsFirst, IsWellScoped, AlternativeHas, DeclarationHas}
 use Rattle.ig_grammar.specs.declared.symbol.Alt.{Alt}
 use Rattle.ig_grammar.specs.declared.declaration.DeclKind.{DeclKind}
 use Rattle.ig_grammar.specs.declared.declaration.Param.{Param}
 use Rattle.ig_grammar.specs.declared.declaration.Decl.{Decl}
 use Rattle.ig_grammar.specs.declared.grammar.Grammar.{Grammar}
-use Rattle.ig_scope.specs.Causes.{condition_of, NoneHolds}
+use Rattle.ig_scope.specs.Causes.{condition_of, NoneHolds, Tells}
+use Rattle.ig_scope.specs.declared.numbered.Numbered.{Numbered}
+use Rattle.ig_scope.specs.declared.places.Surroundings.{Surroundings}
+use Rattle.ig_scope.specs.declared.fault.ScopeCause.{ScopeCause}
+use Rattle.ig_scope.specs.declared.fault.ScopeCause.TheVariants.{MarkInLexical}
 use Rattle.ig_scope.specs.declared.fault.ScopeFault.{ScopeFault}
 use Rattle.ig_scope.specs.declared.fault.ScopeFault.TheVariants.{Broken, Memory}
 
@@ -58,23 +62,28 @@ module _ (decls : List Decl) (within : DeclKind) where
   abbrev pub SymbolCaught : Condition → Occurrence → Type 0
   SymbolCaught c o = IsLeast (SymbolMeets decls within o.visible o.symbol) c
 
-  -- the symbols passed, which bind something; or the fault at one of them, of which so many stand before them
-  abbrev pub Walked : (decl alt before : ℕ) → List Occurrence → Visible → Visible → Visible → Result ℕ ScopeFault → Type 0
-  Walked decl alt before os binding old new (Ok next) =
-      (next ≡ before + length os) × All SymbolFree os × (new ≡ old ++ binding)
-  Walked decl alt before os binding old new (Err (Broken cause place)) =
-      (k : ℕ) × (place ≡ record { decl = decl; alt = alt; symbol = before + k + 1 }) × FirstIn SymbolFree (SymbolCaught (condition_of cause)) os k
-  Walked decl alt before os binding old new (Err Memory) = Unit {0}
+-- of a symbol itself, in an alternative of a declaration, where these variables are visible
+abbrev pub TellsSymbol : Surroundings → Visible → Symbol → Option ScopeCause → Type 0
+TellsSymbol around v x = Tells (SymbolMeets around.declarations.now around.kind v x)
 
--- the numbers of alternatives and symbols fit in 32 bits
-pub record FitsPlaces (decl : Decl) : Type 0 where
-  pub count : length (alternatives decl.levels) < 4294967296
-  pub symbols : (a : Alt) → Contains (alternatives decl.levels) a → length (symbols_of decl a) < 4294967296
+-- of a mark in a declaration of this kind, which stands where it may
+abbrev pub TellsMark : DeclKind → Option ScopeCause → Type 0
+TellsMark kind None = IsInLexical kind → ⊥
+TellsMark kind (Some cause) = (cause ≡ MarkInLexical) × IsInLexical kind
 
--- so do the numbers of declarations, and those in each
-pub record FitsAll (decls : List Decl) : Type 0 where
-  pub declarations : length decls < 4294967296
-  pub each : (decl : Decl) → Contains decls decl → FitsPlaces decl
+-- the fault at the symbol that has so many before it
+abbrev pub fault_at : Surroundings → ScopeCause → ℕ → ScopeFault
+fault_at around cause before = Broken cause (record { decl = around.decl; alt = around.alt; symbol = before + 1 })
+
+-- the symbols passed, which bind something; or the fault at one of them, of which so many stand before them
+abbrev pub Walked : Surroundings → ℕ → List Occurrence → Visible → Visible → Visible → Result ℕ ScopeFault → Type 0
+Walked around before os binding old new (Ok next) =
+    (next ≡ before + length os) × All (SymbolFree around.declarations.now around.kind) os × (new ≡ old ++ binding)
+Walked around before os binding old new (Err (Broken cause place)) =
+    (k : ℕ) × (place ≡ record { decl = around.decl; alt = around.alt; symbol = before + k + 1 }) ×
+    FirstIn (SymbolFree around.declarations.now around.kind)
+        (SymbolCaught around.declarations.now around.kind (condition_of cause)) os k
+Walked around before os binding old new (Err Memory) = Unit {0}
 
 module _ (decls : List Decl) (decl : Decl) where
   abbrev pub AlternativeFree : Alt → Type 0
@@ -83,29 +92,37 @@ module _ (decls : List Decl) (decl : Decl) where
   abbrev pub AlternativeCaught : ℕ → Condition → Alt → Type 0
   AlternativeCaught symbol c a = FirstNumber (AlternativeHas decls decl a) symbol c
 
-  -- of an alternative
-  abbrev pub TellsAlternative : (number alt : ℕ) → Alt → {T : Type 0} → Result T ScopeFault → Type 0
-  TellsAlternative number alt a (Ok done) = AlternativeFree a
-  TellsAlternative number alt a (Err (Broken cause place)) =
-      (place.decl ≡ number) × (place.alt ≡ alt) × AlternativeCaught place.symbol (condition_of cause) a
-  TellsAlternative number alt a (Err Memory) = Unit {0}
+module _ (numbered : Numbered) where
+  abbrev pub IsFree : Alt → Type 0
+  IsFree = AlternativeFree numbered.declarations.now numbered.decl.now
+
+  abbrev pub IsCaught : ℕ → Condition → Alt → Type 0
+  IsCaught = AlternativeCaught numbered.declarations.now numbered.decl.now
+
+  -- of an alternative of the declaration
+  abbrev pub TellsAlternative : ℕ → Alt → {T : Type 0} → Result T ScopeFault → Type 0
+  TellsAlternative alt a (Ok done) = IsFree a
+  TellsAlternative alt a (Err (Broken cause place)) =
+      (place.decl ≡ numbered.number) × (place.alt ≡ alt) × IsCaught place.symbol (condition_of cause) a
+  TellsAlternative alt a (Err Memory) = Unit {0}
 
   -- of alternatives that have so many before them, and how many stand before what comes next
-  abbrev pub TellsLevel : (number before : ℕ) → List Alt → Result ℕ ScopeFault → Type 0
-  TellsLevel number before alts (Ok next) = (next ≡ before + length alts) × All AlternativeFree alts
-  TellsLevel number before alts (Err (Broken cause place)) =
-      (k : ℕ) × (place.decl ≡ number) × (place.alt ≡ before + k + 1) ×
-      FirstIn AlternativeFree (AlternativeCaught place.symbol (condition_of cause)) alts k
-  TellsLevel number before alts (Err Memory) = Unit {0}
+  abbrev pub TellsLevel : ℕ → List Alt → Result ℕ ScopeFault → Type 0
+  TellsLevel before alts (Ok next) = (next ≡ before + length alts) × All IsFree alts
+  TellsLevel before alts (Err (Broken cause place)) =
+      (k : ℕ) × (place.decl ≡ numbered.number) × (place.alt ≡ before + k + 1) ×
+      FirstIn IsFree (IsCaught place.symbol (condition_of cause)) alts k
+  TellsLevel before alts (Err Memory) = Unit {0}
 
   -- of all alternatives
-  abbrev pub TellsAlternatives : ℕ → {T : Type 0} → Result T ScopeFault → Type 0
-  TellsAlternatives number (Ok done) = All AlternativeFree (alternatives decl.levels)
-  TellsAlternatives number (Err (Broken cause place)) =
-      (k : ℕ) × (place.decl ≡ number) × (place.alt ≡ k + 1) ×
-      FirstIn AlternativeFree (AlternativeCaught place.symbol (condition_of cause)) (alternatives decl.levels) k
-  TellsAlternatives number (Err Memory) = Unit {0}
+  abbrev pub TellsAlternatives : {T : Type 0} → Result T ScopeFault → Type 0
+  TellsAlternatives (Ok done) = All IsFree (alternatives numbered.decl.now.levels)
+  TellsAlternatives (Err (Broken cause place)) =
+      (k : ℕ) × (place.decl ≡ numbered.number) × (place.alt ≡ k + 1) ×
+      FirstIn IsFree (IsCaught place.symbol (condition_of cause)) (alternatives numbered.decl.now.levels) k
+  TellsAlternatives (Err Memory) = Unit {0}
 
+module _ (decls : List Decl) (decl : Decl) where
   -- of the declaration, which has so many before it
   abbrev pub TellsDeclaration : ℕ → {T : Type 0} → Result T ScopeFault → Type 0
   TellsDeclaration index (Ok done) = (a symbol : ℕ) → NoneHolds (DeclarationHas decls index decl a symbol)

@@ -1,59 +1,33 @@
 //! The alternatives of a declaration, up to the first fault.
 
-ghost use Rattle.std.specs.Prelude.{◌≡◌, ◌+◌, ◌<◌, ◌≤◌, ◌↔◌, IsTrue, OnOk, Contains, length, true};
+ghost use Rattle.std.specs.Prelude.{◌≡◌, ◌+◌, ◌<◌, ◌↔◌, IsTrue, OnOk, Contains, length};
 ghost use Rattle.ig_grammar.specs.declared.symbol.Alt.{Alt};
-ghost use Rattle.ig_grammar.specs.Name.{is_name};
 ghost use Rattle.ig_grammar.specs.Visible.{parameters};
-ghost use Rattle.ig_grammar.specs.Condition.{named_parameters, symbols_of, AlternativeMeets, TooManyVariables};
-ghost use Rattle.ig_scope.specs.Room.{IsRoom};
-ghost use Rattle.ig_scope.specs.Told.{FitsPlaces, TellsAlternative, TellsLevel, TellsAlternatives};
+ghost use Rattle.ig_grammar.specs.Numbering.{alternatives};
+ghost use Rattle.ig_grammar.specs.Condition.{AlternativeMeets, TooManyVariables};
+ghost use Rattle.ig_scope.specs.Limits.{place_limit};
+ghost use Rattle.ig_scope.specs.Told.{TellsAlternative, TellsLevel, TellsAlternatives};
 
 use crate::binders::leave_sequence;
-use crate::declarations::Declarations;
 use crate::fault::{Many, ScopeCause, ScopeFault};
-use crate::names::{count_named, is_name};
+use crate::numbered::Numbered;
 use crate::places::Surroundings;
 use crate::variables::Variables;
 use crate::walk::walk_sequence;
-use ig_grammar::{Alt, Decl, Place};
+use ig_grammar::{Alt, Place};
 use std::alloc::Global;
 
-/// The parameters, labels and lets that an alternative may have.
-const MOST_VARIABLES: usize = 32;
-
-/// A declaration, the number of which is `number`.
-#[derive(Clone, Copy)]
-pub(crate) struct Numbered<'a> {
-    pub(crate) declarations: &'a Declarations<'a>,
-    pub(crate) decl: &'a Decl,
-    pub(crate) number: u32,
-    /// How many labels and lets each alternative may have; `None` where they aren't counted.
-    pub(crate) room: Option<usize>,
-}
-
-/// The alternatives of the declaration of this number.
-pub(crate) fn check_alternatives(
-    alloc: Global,
-    declarations: &Declarations,
-    decl: &Decl,
-    number: u32,
-) -> Result<(), ScopeFault>
-    requires few { is_name decl.now.name ≡ true → named_parameters decl.now ≤ 16 }
-    requires fit { FitsPlaces decl.now }
-    ensures { TellsAlternatives declarations.now decl.now number result }
+/// The alternatives of the declaration.
+pub(crate) fn check_alternatives(alloc: Global, numbered: &Numbered) -> Result<(), ScopeFault>
+    ensures { TellsAlternatives numbered.now result }
 {
+    let decl = numbered.decl;
     let mut variables = Variables::of(alloc, decl.params.as_slice())?;
-    let numbered = Numbered {
-        declarations,
-        decl,
-        number,
-        room: room_of(decl),
-    };
     let mut before = 0;
     for level in decl.levels.as_slice() {
         before = check_level(
             alloc,
-            &numbered,
+            numbered,
             &mut variables,
             before,
             level.alts.as_slice(),
@@ -70,11 +44,11 @@ fn check_level(
     before: u32,
     alts: &[Alt],
 ) -> Result<u32, ScopeFault>
-    requires room { IsRoom numbered.now.decl.now numbered.now.room }
     requires visible { variables.old ≡ parameters numbered.now.decl.now.params }
-    requires fit { before + length alts.now < 4294967296 }
-    requires symbols { (a : Alt) → Contains alts.now a → length (symbols_of numbered.now.decl.now a) < 4294967296 }
-    ensures told { TellsLevel numbered.now.declarations.now numbered.now.decl.now numbered.now.number before alts.now result }
+    requires numbers { before + length alts.now < place_limit }
+    requires among { (a : Alt) → Contains alts.now a
+        → Contains (alternatives numbered.now.decl.now.levels) a }
+    ensures told { TellsLevel numbered.now before alts.now result }
     ensures kept { OnOk result (variables.new ≡ variables.old) }
 {
     let mut next = before;
@@ -93,10 +67,9 @@ fn check_alternative(
     alt: u32,
     alternative: &Alt,
 ) -> Result<(), ScopeFault>
-    requires room { IsRoom numbered.now.decl.now numbered.now.room }
     requires visible { variables.old ≡ parameters numbered.now.decl.now.params }
-    requires fit { length (symbols_of numbered.now.decl.now alternative.now) < 4294967296 }
-    ensures told { TellsAlternative numbered.now.declarations.now numbered.now.decl.now numbered.now.number alt alternative.now result }
+    requires among { Contains (alternatives numbered.now.decl.now.levels) alternative.now }
+    ensures told { TellsAlternative numbered.now alt alternative.now result }
     ensures kept { OnOk result (variables.new ≡ variables.old) }
 {
     if is_passed(numbered, alternative) {
@@ -124,23 +97,11 @@ fn check_alternative(
 
 /// Whether the alternative has too many variables.
 fn is_passed(numbered: &Numbered, alternative: &Alt) -> bool
-    requires { IsRoom numbered.now.decl.now numbered.now.room }
-    ensures { IsTrue result ↔ AlternativeMeets numbered.now.decl.now alternative.now TooManyVariables }
+    ensures { IsTrue result
+        ↔ AlternativeMeets numbered.now.decl.now alternative.now TooManyVariables }
 {
     match numbered.room {
         Some(room) => leave_sequence(room, &alternative.symbols).is_none(),
         None => false,
-    }
-}
-
-/// How many labels and lets an alternative of the declaration may have.
-fn room_of(decl: &Decl) -> Option<usize>
-    requires { is_name decl.now.name ≡ true → named_parameters decl.now ≤ 16 }
-    ensures { IsRoom decl.now result }
-{
-    if is_name(&decl.name) {
-        Some(MOST_VARIABLES - count_named(decl.params.as_slice()))
-    } else {
-        None
     }
 }

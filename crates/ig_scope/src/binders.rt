@@ -51,7 +51,8 @@ fn leave(room: usize, symbol: &Symbol) -> Option<usize>
 /// Of the symbols of a sequence and those inside them.
 #[cycle(binders)]
 pub(crate) fn leave_sequence(room: usize, symbols: &Symbols) -> Option<usize>
-    ensures { (v : Visible) → Leaves room (binders (inside_sequence v (gathered symbols.now))) result }
+    ensures { (v : Visible)
+        → Leaves room (binders (inside_sequence v (gathered symbols.now))) result }
 {
     let mut left = room;
     for symbol in symbols.as_slice() {
@@ -63,7 +64,8 @@ pub(crate) fn leave_sequence(room: usize, symbols: &Symbols) -> Option<usize>
 /// Of the alternatives of a group.
 #[cycle(binders)]
 fn leave_choices(room: usize, choices: &Alts) -> Option<usize>
-    ensures { (v : Visible) → Leaves room (binders (inside_choices v (gathered_alternatives choices.now))) result }
+    ensures { (v : Visible)
+        → Leaves room (binders (inside_choices v (gathered_alternatives choices.now))) result }
 {
     let mut left = room;
     for choice in choices.as_slice() {

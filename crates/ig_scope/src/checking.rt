@@ -1,21 +1,27 @@
-ghost use Rattle.std.specs.Prelude.{◌≡◌, ◌<◌, ◌↔◌, length, IsTrue, IfOk, IfErr};
+ghost use Rattle.std.specs.Prelude.{◌≡◌, ◌+◌, ◌<◌, IfOk, IfErr};
 ghost use Rattle.ig_grammar.specs.Regular.{IsRegular};
 ghost use Rattle.ig_grammar.specs.WellScoped.{IsWellScoped};
 ghost use Rattle.ig_grammar.specs.Checked.{rules};
-ghost use Rattle.ig_scope.specs.Heads.{IsEarlier};
-ghost use Rattle.ig_scope.specs.Told.{FitsPlaces, FitsAll, TellsDeclaration, TellsDeclarations, TellsGrammar, TellsFault};
+ghost use Rattle.ig_scope.specs.Heads.{is_layout};
+ghost use Rattle.ig_scope.specs.Limits.{place_limit};
+ghost use Rattle.ig_scope.specs.Places.{AreNumbered, HaveNumberedAlternatives};
+ghost use Rattle.ig_scope.specs.Places.{HaveNumberedSymbols};
+ghost use Rattle.ig_scope.specs.Told.{TellsDeclaration, TellsDeclarations};
+ghost use Rattle.ig_scope.specs.Told.{TellsFault, TellsGrammar};
 
 use crate::alternatives::check_alternatives;
 use crate::declarations::Declarations;
 use crate::fault::ScopeFault;
-use crate::heads::{Earlier, head_cause};
+use crate::heads::{Head, head_cause};
 use crate::names::is_name;
+use crate::numbered::{Numbered, room_of};
 use crate::starts::start_cause;
-use ig_grammar::{Checked, Decl, DeclKind, Grammar, Place};
+use ig_grammar::{Checked, DeclKind, Grammar, Place};
 use std::alloc::Global;
 
 /// The grammar, where it is well scoped: that is, no condition of
-/// [`ScopeCause`](crate::ScopeCause) holds at any place. Every declaration then has the shape `Rule`.
+/// [`ScopeCause`](crate::ScopeCause) holds at any place. Every declaration then has the shape
+/// `Rule`.
 ///
 /// `Broken` comes exactly where a condition holds somewhere. Its place is the first, by
 /// declaration, then by alternative, then by symbol in preorder; its cause is the first of those
@@ -47,52 +53,43 @@ fn check_grammar(alloc: Global, grammar: &Grammar) -> Result<(), ScopeFault>
         };
         return Err(ScopeFault::Broken { cause, place });
     }
-    check_declarations(alloc, &declarations, grammar.decls.as_slice())
+    check_declarations(alloc, &declarations)
 }
 
 /// The first fault of the declarations.
-fn check_declarations(
-    alloc: Global,
-    declarations: &Declarations,
-    decls: &[Decl],
-) -> Result<(), ScopeFault>
-    requires same { declarations.now ≡ decls.now }
-    requires fit { FitsAll decls.now }
-    ensures { TellsDeclarations decls.now result }
+fn check_declarations(alloc: Global, declarations: &Declarations) -> Result<(), ScopeFault>
+    requires { AreNumbered declarations.now }
+    ensures { TellsDeclarations declarations.now result }
 {
+    let decls = declarations.as_slice();
     let mut named = 0;
     let mut has_layout = false;
-    for (count, decl) in decls.iter().enumerate() {
-        let earlier = Earlier {
-            count,
+    for (before, decl) in decls.iter().enumerate() {
+        let head = Head {
+            declarations,
+            decl,
+            before,
             named,
             has_layout,
         };
-        check_declaration(alloc, declarations, earlier, decl)?;
+        check_declaration(alloc, head)?;
         if is_name(&decl.name) {
             named += 1;
         }
-        if is_layout(decl.kind) {
-            has_layout = true;
-        }
+        has_layout |= is_layout(decl.kind);
     }
     Ok(())
 }
 
 /// The first fault of the declaration, at its head or in an alternative.
-fn check_declaration(
-    alloc: Global,
-    declarations: &Declarations,
-    earlier: Earlier,
-    decl: &Decl,
-) -> Result<(), ScopeFault>
-    requires earlier { IsEarlier declarations.now earlier decl.now }
-    requires few { length declarations.now < 4294967296 }
-    requires fit { FitsPlaces decl.now }
-    ensures { TellsDeclaration declarations.now decl.now earlier.count result }
+fn check_declaration(alloc: Global, head: Head) -> Result<(), ScopeFault>
+    requires few { head.before + 1 < place_limit }
+    requires alternatives { HaveNumberedAlternatives head.decl.now }
+    requires symbols { HaveNumberedSymbols head.decl.now }
+    ensures { TellsDeclaration head.declarations.now head.decl.now head.before result }
 {
-    let number = earlier.count as u32 + 1;
-    if let Some(cause) = head_cause(alloc, declarations, earlier, decl)? {
+    let number = head.before as u32 + 1;
+    if let Some(cause) = head_cause(alloc, head)? {
         let place = Place {
             decl: number,
             alt: 0,
@@ -100,12 +97,18 @@ fn check_declaration(
         };
         return Err(ScopeFault::Broken { cause, place });
     }
-    check_alternatives(alloc, declarations, decl, number)
+    let numbered = Numbered {
+        declarations: head.declarations,
+        decl: head.decl,
+        number,
+        room: room_of(head.decl),
+    };
+    check_alternatives(alloc, &numbered)
 }
 
 /// Whether a declaration is a layout declaration.
 fn is_layout(kind: DeclKind) -> bool
-    ensures { IsTrue result ↔ (kind ≡ DeclKind.Layout) }
+    ensures { result ≡ is_layout kind }
 {
     match kind {
         DeclKind::Layout => true,

@@ -49,6 +49,13 @@ impl<'a> Declarations<'a> {
         Ok(Declarations { decls, places })
     }
 
+    /// The declarations, in order.
+    pub(crate) fn as_slice(&self) -> &'a [Decl]
+        ensures { result.now ≡ self.now }
+    {
+        self.decls
+    }
+
     /// How many declarations stand before the first of this name.
     pub(crate) fn place_of(&self, name: &Word) -> Option<usize>
         ensures { result ≡ place_of (names self.now) name.now }

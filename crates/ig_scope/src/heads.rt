@@ -1,11 +1,11 @@
 //! What holds at the head of a declaration.
 
-ghost use Rattle.std.specs.Prelude.{◌≡◌, ◌↔◌, List, IsTrue, IfOk, Contains, take};
+ghost use Rattle.std.specs.Prelude.{◌≡◌, ◌↔◌, IsTrue, IfOk, Contains, Some, take, slice_get};
 ghost use Rattle.ig_grammar.specs.Names.{names};
-ghost use Rattle.ig_grammar.specs.declared.declaration.Decl.{Decl};
 ghost use Rattle.ig_grammar.specs.Condition.{HeadMeets, IsNotPlain};
 ghost use Rattle.ig_scope.specs.Causes.{Tells};
-ghost use Rattle.ig_scope.specs.Heads.{IsEarlier, HasRepeated, HaveAssociativity, LimitMeets};
+ghost use Rattle.ig_scope.specs.Heads.{HasRepeated, HaveAssociativity, LimitMeets, count_names};
+ghost use Rattle.ig_scope.specs.Heads.{have_layout};
 
 use crate::declarations::Declarations;
 use crate::fault::{Many, ScopeCause};
@@ -20,57 +20,57 @@ const MOST_NONTERMINALS: usize = 4096;
 /// The parameters that a declaration may have.
 const MOST_PARAMETERS: usize = 16;
 
-/// What stands before a declaration.
+/// A declaration where it stands, with what is before it.
 #[derive(Clone, Copy)]
-pub(crate) struct Earlier {
-    /// How many declarations.
-    pub(crate) count: usize,
+pub(crate) struct Head<'a> {
+    pub(crate) declarations: &'a Declarations<'a>,
+    pub(crate) decl: &'a Decl,
+    /// How many declarations stand before it.
+    pub(crate) before: usize,
     /// How many of these have names of the notation.
     pub(crate) named: usize,
     /// Whether one of them is a layout declaration.
     pub(crate) has_layout: bool,
+    ghost there: { slice_get declarations.now before ≡ Some decl.now },
+    ghost count: { named ≡ count_names (take before declarations.now) },
+    ghost layout: { has_layout ≡ have_layout (take before declarations.now) },
 }
 
 /// Of the conditions that hold at the head the one of the least number; `None` exactly where none
 /// holds there.
-pub(crate) fn head_cause(
-    alloc: Global,
-    declarations: &Declarations,
-    earlier: Earlier,
-    decl: &Decl,
-) -> Result<Option<ScopeCause>, AllocError>
-    requires { IsEarlier declarations.now earlier decl.now }
-    ensures { IfOk result (Tells (HeadMeets declarations.now earlier.count decl.now)) }
+pub(crate) fn head_cause(alloc: Global, head: Head) -> Result<Option<ScopeCause>, AllocError>
+    ensures { IfOk result (Tells (HeadMeets head.declarations.now head.before head.decl.now)) }
 {
-    if is_declared(declarations, earlier, decl) {
+    if is_declared(head) {
         return Ok(Some(ScopeCause::DuplicateName));
     }
-    let params = decl.params.as_slice();
-    if has_repeated(alloc, params)? {
+    if has_repeated(alloc, head.decl.params.as_slice())? {
         return Ok(Some(ScopeCause::DuplicateVariable));
     }
-    if is_unplain_layout(earlier, decl) {
+    if is_unplain_layout(head) {
         return Ok(Some(ScopeCause::LayoutNotPlain));
     }
-    Ok(passed_limit(earlier, decl))
+    Ok(passed_limit(head))
 }
 
 /// Whether an earlier declaration has this name.
-fn is_declared(declarations: &Declarations, earlier: Earlier, decl: &Decl) -> bool
-    ensures { IsTrue result ↔ Contains (names (take earlier.count declarations.now)) decl.now.name }
+fn is_declared(head: Head) -> bool
+    ensures { IsTrue result
+        ↔ Contains (names (take head.before head.declarations.now)) head.decl.now.name }
 {
-    match declarations.place_of(&decl.name) {
-        Some(place) => place < earlier.count,
+    match head.declarations.place_of(&head.decl.name) {
+        Some(place) => place < head.before,
         None => false,
     }
 }
 
 /// Whether the declaration is a layout declaration that isn't plain.
-fn is_unplain_layout(earlier: Earlier, decl: &Decl) -> bool
-    ensures { (decls : List Decl) → IsEarlier decls earlier decl.now → IsTrue result ↔ ((decl.now.kind ≡ DeclKind.Layout) × IsNotPlain decls earlier.count decl.now) }
+fn is_unplain_layout(head: Head) -> bool
+    ensures { IsTrue result ↔ ((head.decl.now.kind ≡ DeclKind.Layout)
+        × IsNotPlain head.declarations.now head.before head.decl.now) }
 {
-    match decl.kind {
-        DeclKind::Layout => is_not_plain(earlier, decl),
+    match head.decl.kind {
+        DeclKind::Layout => is_not_plain(head),
         DeclKind::Syntax => false,
         DeclKind::Lexical => false,
         DeclKind::Plain => false,
@@ -79,16 +79,16 @@ fn is_unplain_layout(earlier: Earlier, decl: &Decl) -> bool
 
 /// Whether a layout declaration isn't plain: it has parameters, more than one level or an
 /// associativity, or there is an earlier one.
-fn is_not_plain(earlier: Earlier, decl: &Decl) -> bool
-    ensures { (decls : List Decl) → IsEarlier decls earlier decl.now → IsTrue result ↔ IsNotPlain decls earlier.count decl.now }
+fn is_not_plain(head: Head) -> bool
+    ensures { IsTrue result ↔ IsNotPlain head.declarations.now head.before head.decl.now }
 {
-    if earlier.has_layout {
+    if head.has_layout {
         return true;
     }
-    if !decl.params.as_slice().is_empty() {
+    if !head.decl.params.as_slice().is_empty() {
         return true;
     }
-    let levels = decl.levels.as_slice();
+    let levels = head.decl.levels.as_slice();
     if levels.len() > 1 {
         return true;
     }
@@ -108,18 +108,18 @@ fn have_associativity(levels: &[Level]) -> bool
 }
 
 /// The limit that is passed at the head of a declaration.
-fn passed_limit(earlier: Earlier, decl: &Decl) -> Option<ScopeCause>
-    ensures { (decls : List Decl) → IsEarlier decls earlier decl.now → Tells (LimitMeets decls earlier.count decl.now) result }
+fn passed_limit(head: Head) -> Option<ScopeCause>
+    ensures { Tells (LimitMeets head.declarations.now head.before head.decl.now) result }
 {
-    if !is_name(&decl.name) {
+    if !is_name(&head.decl.name) {
         return None;
     }
-    if earlier.named == MOST_NONTERMINALS {
+    if head.named == MOST_NONTERMINALS {
         return Some(ScopeCause::TooMany {
             which: Many::Nonterminals,
         });
     }
-    if count_named(decl.params.as_slice()) > MOST_PARAMETERS {
+    if count_named(head.decl.params.as_slice()) > MOST_PARAMETERS {
         return Some(ScopeCause::TooMany {
             which: Many::Parameters,
         });

@@ -14,6 +14,7 @@ mod expressions;
 mod fault;
 mod heads;
 mod names;
+mod numbered;
 mod places;
 mod starts;
 mod symbols;

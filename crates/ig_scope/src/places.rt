@@ -1,5 +1,6 @@
 ghost use Rattle.std.specs.Prelude.{◌≡◌, ◌+◌, ◌<◌};
-ghost use Rattle.ig_scope.specs.declared.fault.ScopeFault.{ScopeFault};
+ghost use Rattle.ig_scope.specs.Limits.{place_limit};
+ghost use Rattle.ig_scope.specs.Told.{fault_at};
 
 use crate::declarations::Declarations;
 use crate::fault::{ScopeCause, ScopeFault};
@@ -20,8 +21,8 @@ pub(crate) struct Surroundings<'a> {
 impl Surroundings<'_> {
     /// The fault at the symbol that has so many before it in the alternative.
     pub(crate) fn fault(&self, cause: ScopeCause, before: u32) -> ScopeFault
-        requires { before + 1 < 4294967296 }
-        ensures { result ≡ ScopeFault.Broken cause (record { decl = self.now.decl; alt = self.now.alt; symbol = before + 1 }) }
+        requires { before + 1 < place_limit }
+        ensures { result ≡ fault_at self.now cause before }
     {
         let place = Place {
             decl: self.decl,

@@ -1,12 +1,12 @@
 //! What holds at a symbol itself, apart from the symbols inside it.
 
-ghost use Rattle.std.specs.Prelude.{◌≡◌, ◌↔◌, IsTrue, MatchOption, map, length};
+ghost use Rattle.std.specs.Prelude.{◌≡◌, ◌↔◌, IsTrue, map, length};
 ghost use Rattle.ig_expr.specs.View.{expression_of};
 ghost use Rattle.ig_grammar.specs.View.{symbol_of};
 ghost use Rattle.ig_grammar.specs.Symbol as tree;
-ghost use Rattle.ig_grammar.specs.Condition.{IsInLexical, IsListed, SymbolMeets};
-ghost use Rattle.ig_scope.specs.Causes.{Tells};
+ghost use Rattle.ig_grammar.specs.Condition.{IsInLexical, IsListed};
 ghost use Rattle.ig_scope.specs.Told.{HasUnknown, HasUnkinded, IsMismatched};
+ghost use Rattle.ig_scope.specs.Told.{TellsMark, TellsSymbol};
 
 use crate::expressions::names_unknown;
 use crate::fault::ScopeCause;
@@ -23,7 +23,7 @@ pub(crate) fn symbol_cause(
     variables: &Variables,
     symbol: &Symbol,
 ) -> Option<ScopeCause>
-    ensures { Tells (SymbolMeets around.now.declarations.now around.now.kind variables.now (symbol_of symbol.now)) result }
+    ensures { TellsSymbol around.now variables.now (symbol_of symbol.now) result }
 {
     match symbol {
         Symbol::Call(name, arguments) => call_cause(around, variables, name, arguments),
@@ -57,7 +57,7 @@ fn call_cause(
     name: &Word,
     arguments: &Exprs,
 ) -> Option<ScopeCause>
-    ensures { Tells (SymbolMeets around.now.declarations.now around.now.kind variables.now (tree.Call name.now arguments.now)) result }
+    ensures { TellsSymbol around.now variables.now (tree.Call name.now arguments.now) result }
 {
     let Some(callee) = around.declarations.find(name) else {
         return Some(ScopeCause::UnknownName);
@@ -81,7 +81,8 @@ fn call_cause(
 
 /// The cause at a guard.
 fn guard_cause(around: &Surroundings, variables: &Variables, condition: &Expr) -> Option<ScopeCause>
-    ensures { Tells (SymbolMeets around.now.declarations.now around.now.kind variables.now (tree.Guard (expression_of condition.now))) result }
+    ensures { TellsSymbol around.now variables.now
+        (tree.Guard (expression_of condition.now)) result }
 {
     if names_unknown(variables, condition) {
         return Some(ScopeCause::UnknownVariable);
@@ -99,7 +100,8 @@ fn let_cause(
     name: &Word,
     value: &Expr,
 ) -> Option<ScopeCause>
-    ensures { Tells (SymbolMeets around.now.declarations.now around.now.kind variables.now (tree.Let name.now (expression_of value.now))) result }
+    ensures { TellsSymbol around.now variables.now
+        (tree.Let name.now (expression_of value.now)) result }
 {
     if names_unknown(variables, value) {
         return Some(ScopeCause::UnknownVariable);
@@ -115,7 +117,8 @@ fn let_cause(
 
 /// The cause at bindings that are seen only inside a symbol.
 fn entry_cause(around: &Surroundings, variables: &Variables, bindings: &Lets) -> Option<ScopeCause>
-    ensures { (x : tree.Symbol) → Tells (SymbolMeets around.now.declarations.now around.now.kind variables.now (tree.Entry bindings.now x)) result }
+    ensures { (x : tree.Symbol)
+        → TellsSymbol around.now variables.now (tree.Entry bindings.now x) result }
 {
     let bindings = bindings.as_slice();
     if values_have_unknown(variables, bindings) {
@@ -129,7 +132,7 @@ fn entry_cause(around: &Surroundings, variables: &Variables, bindings: &Lets) ->
 
 /// The cause at a mark that stands where it may.
 fn mark_cause(kind: DeclKind) -> Option<ScopeCause>
-    ensures { MatchOption result (IsInLexical kind → ⊥) (λ cause. (cause ≡ ScopeCause.MarkInLexical) × IsInLexical kind) }
+    ensures { TellsMark kind result }
 {
     if is_in_lexical(kind) {
         Some(ScopeCause::MarkInLexical)
@@ -190,7 +193,8 @@ fn have_unknown(variables: &Variables, expressions: &[Expr]) -> bool
 
 /// Whether the expression of some binding names a variable that isn't visible.
 fn values_have_unknown(variables: &Variables, bindings: &[(Word, Expr)]) -> bool
-    ensures { IsTrue result ↔ HasUnknown variables.now (map (λ b. expression_of b.1) bindings.now) }
+    ensures { IsTrue result
+        ↔ HasUnknown variables.now (map (λ b. expression_of b.1) bindings.now) }
 {
     for binding in bindings {
         if names_unknown(variables, &binding.1) {
@@ -202,7 +206,8 @@ fn values_have_unknown(variables: &Variables, bindings: &[(Word, Expr)]) -> bool
 
 /// Whether the expression of some binding has no kind.
 fn values_have_unkinded(variables: &Variables, bindings: &[(Word, Expr)]) -> bool
-    ensures { IsTrue result ↔ HasUnkinded variables.now (map (λ b. expression_of b.1) bindings.now) }
+    ensures { IsTrue result
+        ↔ HasUnkinded variables.now (map (λ b. expression_of b.1) bindings.now) }
 {
     for binding in bindings {
         if variables.kind_of(&binding.1).is_none() {
@@ -215,7 +220,8 @@ fn values_have_unkinded(variables: &Variables, bindings: &[(Word, Expr)]) -> boo
 /// Whether some argument hasn't the kind of its parameter.
 fn are_mismatched(variables: &Variables, arguments: &[Expr], params: &[Param]) -> bool
     requires { length arguments.now ≡ length params.now }
-    ensures { IsTrue result ↔ IsMismatched variables.now (map expression_of arguments.now) params.now }
+    ensures { IsTrue result
+        ↔ IsMismatched variables.now (map expression_of arguments.now) params.now }
 {
     for (place, argument) in arguments.iter().enumerate() {
         if !variables.gives(argument, params[place].kind) {

@@ -1,4 +1,5 @@
-ghost use Rattle.std.specs.Prelude.{◌≡◌, ◌∷◌, [], ◌++◌, ◌↔◌, IsTrue, Contains, length, take, Some, IfOk, OnOk};
+ghost use Rattle.std.specs.Prelude.{◌≡◌, ◌∷◌, [], ◌++◌, ◌↔◌, length, take};
+ghost use Rattle.std.specs.Prelude.{IsTrue, Contains, Some, IfOk, OnOk};
 ghost use Rattle.ig_expr.specs.View.{expression_of};
 ghost use Rattle.ig_expr.specs.Names.{place_of, is_word};
 ghost use Rattle.ig_grammar.specs.Visible.{names, kind_at, parameters, replaced, with_kind};

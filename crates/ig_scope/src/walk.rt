@@ -3,11 +3,12 @@
 //! Each function takes how many symbols of the alternative stand before what it looks at, and
 //! gives how many stand before what comes next.
 
-ghost use Rattle.std.specs.Prelude.{◌≡◌, ◌+◌, ◌<◌, [], length};
+ghost use Rattle.std.specs.Prelude.{[]};
 ghost use Rattle.ig_grammar.specs.View.{symbol_of};
 ghost use Rattle.ig_grammar.specs.Symbol.{gathered};
 ghost use Rattle.ig_grammar.specs.Alternative.{gathered_alternatives};
 ghost use Rattle.ig_grammar.specs.Visible.{inside_sequence, inside_choices, binds, all_bind};
+ghost use Rattle.ig_scope.specs.Places.{HaveNumbers};
 ghost use Rattle.ig_scope.specs.Told.{Walked, from};
 
 use crate::fault::ScopeFault;
@@ -27,8 +28,9 @@ pub(crate) fn walk_symbol(
     before: u32,
     symbol: &Symbol,
 ) -> Result<u32, ScopeFault>
-    requires { before + length (from variables.old (symbol_of symbol.now)) < 4294967296 }
-    ensures { Walked around.now.declarations.now around.now.kind around.now.decl around.now.alt before (from variables.old (symbol_of symbol.now)) (binds variables.old (symbol_of symbol.now)) variables.old variables.new result }
+    requires { HaveNumbers before (from variables.old (symbol_of symbol.now)) }
+    ensures { Walked around.now before (from variables.old (symbol_of symbol.now))
+        (binds variables.old (symbol_of symbol.now)) variables.old variables.new result }
 {
     if let Some(cause) = symbol_cause(around, variables, symbol) {
         return Err(around.fault(cause, before));
@@ -85,8 +87,9 @@ fn walk_apart(
     before: u32,
     inner: &Inner,
 ) -> Result<u32, ScopeFault>
-    requires { before + length (from variables.old inner.now) < 4294967296 }
-    ensures { Walked around.now.declarations.now around.now.kind around.now.decl around.now.alt before (from variables.old inner.now) [] variables.old variables.new result }
+    requires { HaveNumbers before (from variables.old inner.now) }
+    ensures { Walked around.now before (from variables.old inner.now) []
+        variables.old variables.new result }
 {
     let visible = variables.len();
     let after = walk_symbol(alloc, around, variables, before, inner.as_symbol())?;
@@ -103,8 +106,9 @@ pub(crate) fn walk_sequence(
     before: u32,
     symbols: &Symbols,
 ) -> Result<u32, ScopeFault>
-    requires { before + length (inside_sequence variables.old (gathered symbols.now)) < 4294967296 }
-    ensures { Walked around.now.declarations.now around.now.kind around.now.decl around.now.alt before (inside_sequence variables.old (gathered symbols.now)) (all_bind variables.old (gathered symbols.now)) variables.old variables.new result }
+    requires { HaveNumbers before (inside_sequence variables.old (gathered symbols.now)) }
+    ensures { Walked around.now before (inside_sequence variables.old (gathered symbols.now))
+        (all_bind variables.old (gathered symbols.now)) variables.old variables.new result }
 {
     let mut next = before;
     for symbol in symbols.as_slice() {
@@ -122,8 +126,11 @@ fn walk_choices(
     before: u32,
     choices: &Alts,
 ) -> Result<u32, ScopeFault>
-    requires { before + length (inside_choices variables.old (gathered_alternatives choices.now)) < 4294967296 }
-    ensures { Walked around.now.declarations.now around.now.kind around.now.decl around.now.alt before (inside_choices variables.old (gathered_alternatives choices.now)) [] variables.old variables.new result }
+    requires { HaveNumbers before
+        (inside_choices variables.old (gathered_alternatives choices.now)) }
+    ensures { Walked around.now before
+        (inside_choices variables.old (gathered_alternatives choices.now)) []
+        variables.old variables.new result }
 {
     let visible = variables.len();
     let mut next = before;

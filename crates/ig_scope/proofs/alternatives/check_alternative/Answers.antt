@@ -11,10 +11,10 @@ returns-then-is_passed-clause-told c =
 
 pub returns-in_err-walk_sequence-clause-told : goal.returns-in_err-walk_sequence-clause-told
 returns-in_err-walk_sequence-clause-told c =
-    alternative_stopped c.args.numbered.now.declarations.now c.args.numbered.now.decl.now c.args.alternative.now c.args.alt c.args.numbered.now.number
+    alternative_stopped c.args.numbered.now _ c.args.alternative.now
     (inside_sequence c.args.variables.now (gathered c.args.alternative.now.symbols)) (all_bind c.args.variables.now (gathered c.args.alternative.now.symbols))
     c.args.variables.now c.walk_sequence.new.variables c.in_err-walk_sequence.field-0.0 c.from_residual.result c.from_residual.ensures.1
-    (refuted c.is_passed.result c.is_passed.ensures c.if-is_passed.false)
+    refl refl refl (refuted c.is_passed.result c.is_passed.ensures c.if-is_passed.false)
     (ap (λ v. inside_sequence v (gathered c.args.alternative.now.symbols)) c.requires.visible) c.in_err-walk_sequence.ensures
 
 pub returns-clause-told : goal.returns-clause-told

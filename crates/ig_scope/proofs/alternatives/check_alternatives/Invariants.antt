@@ -5,5 +5,7 @@ use Rattle.ig_scope.specs.Told.{TellsLevel}
 use Rattle.ig_scope.proofs.alternatives.check_alternatives.Given as goal
 
 abbrev pub invariant-loop-level : goal.invariant-loop-level
-invariant-loop-level l =
-    TellsLevel l.fn.declarations l.decl l.number 0 (alternatives (take l.level-index l.level-items)) (Ok l.before) × (l.variables ≡ parameters l.decl.params)
+invariant-loop-level l = record {
+  told : TellsLevel l.numbered 0 (alternatives (take l.level-index l.level-items)) (Ok l.before);
+  visible : l.variables ≡ parameters l.numbered.decl.now.params;
+}

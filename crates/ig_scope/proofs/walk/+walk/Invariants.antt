@@ -20,12 +20,12 @@ decreases-walk_choices l = 3 * nodes_of_alternatives (gathered_alternatives l.ch
 
 abbrev pub invariant-walk_sequence-loop-symbol : goal.invariant-walk_sequence-loop-symbol
 invariant-walk_sequence-loop-symbol l =
-    Walked l.around.declarations.now l.around.kind l.around.decl l.around.alt l.before
+    Walked l.around l.before
     (inside_sequence l.initial.variables (gathered (map symbol_of (take l.symbol-index l.symbol-items))))
     (all_bind l.initial.variables (gathered (map symbol_of (take l.symbol-index l.symbol-items)))) l.initial.variables l.variables (Ok l.next)
 
 abbrev pub invariant-walk_choices-loop-choice : goal.invariant-walk_choices-loop-choice
 invariant-walk_choices-loop-choice l =
-    Walked l.around.declarations.now l.around.kind l.around.decl l.around.alt l.before
+    Walked l.around l.before
     (inside_choices l.initial.variables (gathered_alternatives (take l.choice-index l.choice-items)))
     [] l.initial.variables l.variables (Ok l.next)
