@@ -1,54 +1,74 @@
 -- The numbers of places in a regular grammar fit in 32 bits.
-use Rattle.std.proofs.Common.{inl, inr, ◌≡◌, ℕ, zero, suc, ◌<◌, ◌≤◌, ◌+◌, List, [], ◌∷◌, ◌++◌, length, get_or, ap, arith, length-append}
+use Rattle.std.proofs.Common.{inl, inr, ◌≡◌, ℕ, zero, suc, ◌<◌, ◌≤◌, ◌+◌, List, [], ◌∷◌, ◌++◌, length, get_or, refl, ap, arith, length-append}
 use Rattle.std.specs.Prelude.{Contains, sum_by}
-use Rattle.std.proofs.lemmas.List.Sums.{sum_by-cons}
+use Rattle.std.proofs.lemmas.List.Sums.{sum_by-cons, sum_by-append}
 use Rattle.std.proofs.lemmas.List.Elements.{Contains-append_cases}
 use Rattle.std.proofs.lemmas.List.Concat.{length-flat_map}
 use Rattle.ig_grammar.specs.Numbering.{alternatives}
 use Rattle.ig_grammar.specs.Symbol.{Symbol, Literal, OneOf, Call, Label, Guard, Let, Opt, Star, Plus, SepStar, SepPlus, Group, Offside, Ignore, Align, Filtered, Seq, Entry}
 use Rattle.ig_grammar.specs.Symbol.{Symbols, no_symbols, next_symbol, Alternatives, no_alternatives, next_alternative, gathered}
 use Rattle.ig_grammar.specs.Alternative.{gathered_alternatives}
-use Rattle.ig_grammar.specs.Regular.{IsRegular, parts, parts_of_symbols, parts_of_alternatives, alternatives_among}
-use Rattle.ig_grammar.specs.Visible.{Visible, at, inside, inside_sequence, inside_choices, binds, replaced, parameters}
+use Rattle.ig_grammar.specs.Subterms.{subterms, subterms_of_symbols, subterms_of_alternatives}
+use Rattle.ig_grammar.specs.Regular.{IsRegular, own_parts, parts_of_symbols, parts_of_alternatives, alternatives_among, number_of_alternatives}
+use Rattle.ig_grammar.specs.Visible.{Visible, inside_sequence, inside_choices, binds, replaced, parameters}
 use Rattle.ig_grammar.specs.declared.symbol.Alt.{Alt}
 use Rattle.ig_grammar.specs.declared.declaration.Level.{Level}
 use Rattle.ig_grammar.specs.declared.declaration.Decl.{Decl}
 use Rattle.ig_grammar.specs.declared.grammar.Grammar.{Grammar}
 use Rattle.ig_scope.specs.Places.{AreNumbered}
+use Rattle.ig_scope.specs.Told.{from}
 
+-- as many occurrences as symbols
 mutual
-  inside_parts : (v : Visible) (x : Symbol) → length (inside v x) + 1 ≤ parts x
-  inside_parts v (Literal word) = omega arith
-  inside_parts v (OneOf class) = omega arith
-  inside_parts v (Call name arguments) = omega arith
-  inside_parts v (Label name x) = let h = inside_parts v x in omega arith
-  inside_parts v (Guard e) = omega arith
-  inside_parts v (Let name e) = omega arith
-  inside_parts v (Opt x) = let h = inside_parts v x in omega arith
-  inside_parts v (Star x) = let h = inside_parts v x in omega arith
-  inside_parts v (Plus x) = let h = inside_parts v x in omega arith
-  inside_parts v (SepStar x s) =
-      let h = inside_parts v x in let k = inside_parts v s in let l = length-append (at v x ∷ inside v x) (at v s ∷ inside v s) in omega arith
-  inside_parts v (SepPlus x s) =
-      let h = inside_parts v x in let k = inside_parts v s in let l = length-append (at v x ∷ inside v x) (at v s ∷ inside v s) in omega arith
-  inside_parts v (Group choices) = let h = choices_parts v choices in omega arith
-  inside_parts v (Offside x) = let h = inside_parts v x in omega arith
-  inside_parts v (Ignore x) = let h = inside_parts v x in omega arith
-  inside_parts v (Align x) = let h = inside_parts v x in omega arith
-  inside_parts v (Filtered x filters) = let h = inside_parts v x in omega arith
-  inside_parts v (Seq xs) = let h = sequence_parts v xs in omega arith
-  inside_parts v (Entry bindings x) = let h = inside_parts (replaced v v bindings) x in omega arith
+  as_many : (v : Visible) (x : Symbol) → length (from v x) ≡ length (subterms x)
+  as_many v (Literal word) = refl
+  as_many v (OneOf class) = refl
+  as_many v (Call name arguments) = refl
+  as_many v (Label name x) = ap suc (as_many v x)
+  as_many v (Guard e) = refl
+  as_many v (Let name e) = refl
+  as_many v (Opt x) = ap suc (as_many v x)
+  as_many v (Star x) = ap suc (as_many v x)
+  as_many v (Plus x) = ap suc (as_many v x)
+  as_many v (SepStar x s) =
+      let l = length-append (from v x) (from v s) in let r = length-append (subterms x) (subterms s) in
+      let h = as_many v x in let k = as_many v s in omega arith
+  as_many v (SepPlus x s) =
+      let l = length-append (from v x) (from v s) in let r = length-append (subterms x) (subterms s) in
+      let h = as_many v x in let k = as_many v s in omega arith
+  as_many v (Group choices) = ap suc (as_many_in_choices v choices)
+  as_many v (Offside x) = ap suc (as_many v x)
+  as_many v (Ignore x) = ap suc (as_many v x)
+  as_many v (Align x) = ap suc (as_many v x)
+  as_many v (Filtered x filters) = ap suc (as_many v x)
+  as_many v (Seq xs) = ap suc (as_many_in_sequence v xs)
+  as_many v (Entry bindings x) = ap suc (as_many (replaced v v bindings) x)
 
-  sequence_parts : (v : Visible) (xs : Symbols) → length (inside_sequence v xs) ≤ parts_of_symbols xs
-  sequence_parts v no_symbols = omega arith
-  sequence_parts v (next_symbol x xs) =
-      let h = inside_parts v x in let k = sequence_parts (v ++ binds v x) xs in
-      let l = length-append (at v x ∷ inside v x) (inside_sequence (v ++ binds v x) xs) in omega arith
+  as_many_in_sequence : (v : Visible) (xs : Symbols) → length (inside_sequence v xs) ≡ length (subterms_of_symbols xs)
+  as_many_in_sequence v no_symbols = refl
+  as_many_in_sequence v (next_symbol x xs) =
+      let l = length-append (from v x) (inside_sequence (v ++ binds v x) xs) in
+      let r = length-append (subterms x) (subterms_of_symbols xs) in
+      let h = as_many v x in let k = as_many_in_sequence (v ++ binds v x) xs in omega arith
 
-  choices_parts : (v : Visible) (ys : Alternatives) → length (inside_choices v ys) ≤ parts_of_alternatives ys
-  choices_parts v no_alternatives = omega arith
-  choices_parts v (next_alternative xs ys) =
-      let h = sequence_parts v xs in let k = choices_parts v ys in let l = length-append (inside_sequence v xs) (inside_choices v ys) in omega arith
+  as_many_in_choices : (v : Visible) (ys : Alternatives) → length (inside_choices v ys) ≡ length (subterms_of_alternatives ys)
+  as_many_in_choices v no_alternatives = refl
+  as_many_in_choices v (next_alternative xs ys) =
+      let l = length-append (inside_sequence v xs) (inside_choices v ys) in
+      let r = length-append (subterms_of_symbols xs) (subterms_of_alternatives ys) in
+      let h = as_many_in_sequence v xs in let k = as_many_in_choices v ys in omega arith
+
+-- each symbol is one part at least
+own_part : (x : Symbol) → 1 ≤ own_parts x
+own_part (Filtered x filters) = omega arith
+own_part x = omega arith
+
+fewer_symbols : (xs : List Symbol) → length xs ≤ sum_by own_parts xs
+fewer_symbols [] = omega arith
+fewer_symbols (x ∷ xs) = let s = sum_by-cons own_parts x xs in let h = fewer_symbols xs in let o = own_part x in omega arith
+
+sequence_parts : (v : Visible) (xs : Symbols) → length (inside_sequence v xs) ≤ parts_of_symbols xs
+sequence_parts v xs = let e = as_many_in_sequence v xs in let f = fewer_symbols (subterms_of_symbols xs) in omega arith
 
 member_sum : {X : Type 0} (f : X → ℕ) (xs : List X) (x : X) → Contains xs x → f x ≤ sum_by f xs
 member_sum f [] x m = let l = m.1 in let z : ⊥ = omega arith in absurd z
@@ -62,18 +82,27 @@ sum_less : {X : Type 0} (f g : X → ℕ) (xs : List X) → ((x : X) → f x ≤
 sum_less f g [] h = omega arith
 sum_less f g (x ∷ xs) h = let a = sum_by-cons f x xs in let b = sum_by-cons g x xs in let c = sum_less f g xs h in let d = h x in omega arith
 
+numbered : (alts : List Alt) → number_of_alternatives (gathered_alternatives alts) ≡ length alts
+numbered [] = refl
+numbered (a ∷ alts) = let h = numbered alts in omega arith
+
 fewer : (alts : List Alt) → length alts ≤ alternatives_among (gathered_alternatives alts)
-fewer [] = omega arith
-fewer (a ∷ alts) = let h = fewer alts in omega arith
+fewer alts = let e = numbered alts in omega arith
 
 parts_at : (alts : List Alt) (a : Alt) → Contains alts a → parts_of_symbols (gathered a.symbols) ≤ parts_of_alternatives (gathered_alternatives alts)
 parts_at [] a m = let l = m.1 in let z : ⊥ = omega arith in absurd z
 parts_at (b ∷ alts) a m = go m.0 m.1 m.2 (parts_at alts a)
   where
+    parts_more : parts_of_alternatives (gathered_alternatives (b ∷ alts)) ≡
+        parts_of_symbols (gathered b.symbols) + parts_of_alternatives (gathered_alternatives alts)
+    parts_more = sum_by-append own_parts (subterms_of_symbols (gathered b.symbols)) (subterms_of_alternatives (gathered_alternatives alts))
+
     go : (k : ℕ) → k < length (b ∷ alts) → get_or (b ∷ alts) k a ≡ a → (Contains alts a → parts_of_symbols (gathered a.symbols) ≤ parts_of_alternatives (gathered_alternatives alts)) →
         parts_of_symbols (gathered a.symbols) ≤ parts_of_alternatives (gathered_alternatives (b ∷ alts))
-    go zero l e h = let z : parts_of_symbols (gathered b.symbols) ≡ parts_of_symbols (gathered a.symbols) = ap (λ (y : Alt). parts_of_symbols (gathered y.symbols)) e in omega arith
-    go (suc k) l e h = let z = h (k, omega arith, e) in omega arith
+    go zero l e h =
+        let z : parts_of_symbols (gathered b.symbols) ≡ parts_of_symbols (gathered a.symbols) = ap (λ (y : Alt). parts_of_symbols (gathered y.symbols)) e in
+        let s = parts_more in omega arith
+    go (suc k) l e h = let z = h (k, omega arith, e) in let s = parts_more in omega arith
 
 parts_among : (levels : List Level) (a : Alt) → Contains (alternatives levels) a →
     parts_of_symbols (gathered a.symbols) ≤ sum_by (λ level. parts_of_alternatives (gathered_alternatives level.alts)) levels

@@ -8,7 +8,7 @@ use Rattle.std.proofs.lemmas.List.Elements.{Contains-push, Contains-push_cases, 
 use Rattle.std.proofs.lemmas.Option.{slice_get-get_or}
 use Rattle.ig_grammar.specs.Numbering.{alternatives}
 use Rattle.ig_grammar.specs.Name.{is_name}
-use Rattle.ig_grammar.specs.Condition.{Condition, HeadMeets, StartMeets, too_many_parameters, TooManyParameters, named_parameters}
+use Rattle.ig_grammar.specs.Condition.{Condition, HeadMeets, StartMeets, too_many_parameters, TooMany, Parameters, most_parameters, named_parameters}
 use Rattle.ig_grammar.specs.WellScoped.{IsLeast, IsFirst, IsBefore, GrammarHas, DeclarationHas, AlternativeHas}
 use Rattle.ig_grammar.specs.declared.symbol.Alt.{Alt}
 use Rattle.ig_grammar.specs.declared.declaration.DeclKind.TheVariants.{Layout}
@@ -17,11 +17,9 @@ use Rattle.ig_grammar.specs.declared.grammar.Grammar.{Grammar}
 use Rattle.ig_grammar.specs.declared.place.Place.{Place}
 use Rattle.ig_scope.specs.Causes.{condition_of, NoneHolds}
 use Rattle.std.proofs.lemmas.List.Folds.{list_any_more}
-use Rattle.ig_scope.specs.Limits.{most_parameters}
 use Rattle.ig_scope.specs.Room.{HasFewParameters}
 use Rattle.ig_scope.specs.Heads.{count_names, is_layout, have_layout}
-use Rattle.ig_scope.specs.Told.{FirstIn, FirstPair, AlternativeFree, AlternativeCaught, IsFree, TellsAlternatives, TellsDeclaration, AreFree, TellsDeclarations, TellsGrammar}
-use Rattle.ig_scope.specs.declared.numbered.Numbered.{Numbered}
+use Rattle.ig_scope.specs.Told.{FirstIn, FirstPair, AlternativeFree, AlternativeCaught, OfAlternatives, TellsDeclaration, AreFree, TellsDeclarations, TellsGrammar}
 use Rattle.ig_scope.specs.declared.fault.ScopeFault.{ScopeFault}
 use Rattle.ig_scope.specs.declared.fault.ScopeFault.TheVariants.{Broken, Memory}
 use Rattle.ig_scope.proofs.Firsts.{first_there, first_before, free_at}
@@ -40,7 +38,7 @@ module _ (decls : List Decl) (index : ℕ) (decl : Decl) where
 
   -- a declaration with few parameters, where nothing holds at its head
   pub few_parameters : NoneHolds (HeadMeets decls index decl) → HasFewParameters decl
-  few_parameters n e = go (named_parameters decl) (λ l. n TooManyParameters (too_many_parameters e l))
+  few_parameters n e = go (named_parameters decl) (λ l. n (TooMany Parameters) (too_many_parameters e l))
     where
       go : (k : ℕ) → (most_parameters < k → ⊥) → k ≤ most_parameters
       go k f = grind (arith, f)
@@ -53,6 +51,7 @@ module _ (decls : List Decl) (index : ℕ) (decl : Decl) where
         there = record {
           holds = (t.0, t.1, t.2.there.holds);
           least = λ other h. t.2.there.least other (subst (λ a. AlternativeHas decls decl a s other) (one (slice_get (alternatives decl.levels) k) h.0 t.0 h.1 t.1) h.2);
+          first_case = λ other h e. t.2.there.first_case other (subst (λ a. AlternativeHas decls decl a s other) (one (slice_get (alternatives decl.levels) k) h.0 t.0 h.1 t.1) h.2) e;
         };
         none_before = λ b u other l h. go b u other l h t;
       }
@@ -68,25 +67,20 @@ module _ (decls : List Decl) (index : ℕ) (decl : Decl) where
           let a = one (slice_get (alternatives decl.levels) k) h.0 t.0 (ap (slice_get (alternatives decl.levels)) (sym same) ∙ h.1) t.1 in
           t.2.none_before u other l.1 (subst (λ a. AlternativeHas decls decl a u other) a h.2)
 
-module _ (numbered : Numbered) (index : ℕ) where
-  abbrev HeadFree : Type 0
-  HeadFree = NoneHolds (HeadMeets numbered.declarations.now index numbered.decl.now)
-
-  pub declaration_told : (r : Result (Unit {0}) ScopeFault) → numbered.number ≡ index + 1 → HeadFree → TellsAlternatives numbered r →
-      TellsDeclaration numbered.declarations.now numbered.decl.now index r
-  declaration_told (Ok done) e n h = λ a s c m. go a s c m
-    where
-      go : (a s : ℕ) (c : Condition) → DeclarationHas numbered.declarations.now index numbered.decl.now a s c → ⊥
-      go zero zero c m = n c m
-      go zero (suc s) c m = m
-      go (suc j) s c m = free_at (IsFree numbered) (IsFree numbered) (alternatives numbered.decl.now.levels) h j m.0 m.1 s c m.2
-  declaration_told (Err (Broken cause place)) e n h = (
-    h.1 ∙ e,
-    subst (λ k. FirstPair (DeclarationHas numbered.declarations.now index numbered.decl.now) k place.symbol (condition_of cause))
-        (let e = h.2 in let z : suc h.0 ≡ place.alt = omega arith in z)
-        (caught_alternative numbered.declarations.now index numbered.decl.now h.0 place.symbol (condition_of cause) n h.3),
-  )
-  declaration_told (Err Memory) e n h = tt
+pub declaration_told : (decls : List Decl) (decl : Decl) (index : ℕ) (r : Result (Unit {0}) ScopeFault) →
+    NoneHolds (HeadMeets decls index decl) → OfAlternatives decls decl (index + 1) r → TellsDeclaration decls decl index r
+declaration_told decls decl index (Ok done) n h = λ a s c m. go a s c m
+  where
+    go : (a s : ℕ) (c : Condition) → DeclarationHas decls index decl a s c → ⊥
+    go zero zero c m = n c m
+    go zero (suc s) c m = m
+    go (suc j) s c m = free_at (AlternativeFree decls decl) (AlternativeFree decls decl) (alternatives decl.levels) h j m.0 m.1 s c m.2
+declaration_told decls decl index (Err (Broken cause place)) n h = (
+  h.1,
+  subst (λ k. FirstPair (DeclarationHas decls index decl) k place.symbol (condition_of cause)) (let e = h.2 in let z : suc h.0 ≡ place.alt = omega arith in z)
+      (caught_alternative decls index decl h.0 place.symbol (condition_of cause) n h.3),
+)
+declaration_told decls decl index (Err Memory) n h = tt
 
 pub free_more : (decls : List Decl) (i : ℕ) (decl : Decl) → i < length decls → decl ≡ get_or decls i decl → AreFree decls i →
     ((a s : ℕ) → NoneHolds (DeclarationHas decls i decl a s)) → AreFree decls (i + 1)
@@ -138,6 +132,7 @@ module _ (g : Grammar) where
     there = record {
       holds = (decl, at, f.there.holds);
       least = λ other h. f.there.least other (subst (λ d. DeclarationHas g.decls index d a s other) (one (slice_get g.decls index) h.0 decl h.1 at) h.2);
+      first_case = λ other h e. f.there.first_case other (subst (λ d. DeclarationHas g.decls index d a s other) (one (slice_get g.decls index) h.0 decl h.1 at) h.2) e;
     };
     none_before = λ p other l h. go p.decl p.alt p.symbol other l h;
   }

@@ -6,14 +6,13 @@ use Rattle.std.proofs.lemmas.List.Folds.{Any-from_list_any, list_any_at}
 use Rattle.ig_grammar.specs.Names.{names as declared_names}
 use Rattle.ig_grammar.specs.Name.{is_name}
 use Rattle.ig_grammar.specs.Condition as condition
-use Rattle.ig_grammar.specs.Condition.{Condition, number, HeadMeets, IsNotPlain, named_parameters}
+use Rattle.ig_grammar.specs.Condition.{Condition, number, case_number, most_nonterminals, most_parameters, HeadMeets, IsNotPlain, named_parameters}
 use Rattle.ig_grammar.specs.Condition.{parametrized, levels, associativity, second, duplicate_name, duplicate_parameter, layout_not_plain, too_many_nonterminals, too_many_parameters}
 use Rattle.ig_grammar.specs.WellScoped.{IsLeast}
 use Rattle.ig_grammar.specs.declared.declaration.DeclKind.{DeclKind}
 use Rattle.ig_grammar.specs.declared.declaration.DeclKind.TheVariants.{Syntax, Lexical, Layout, Plain}
 use Rattle.ig_grammar.specs.declared.declaration.Decl.{Decl}
 use Rattle.ig_scope.specs.Causes.{Tells, condition_of}
-use Rattle.ig_scope.specs.Limits.{most_nonterminals, most_parameters}
 use Rattle.ig_scope.specs.Heads.{HasRepeated, HaveAssociativity, LimitMeets, IsLimit, is_layout, have_layout}
 use Rattle.ig_scope.specs.declared.fault.ScopeCause.{ScopeCause}
 use Rattle.ig_scope.specs.declared.heads.Head.{Head}
@@ -58,10 +57,11 @@ module _ (head : Head) where
       go (associativity level m q) = a.1 (level, m, q)
       go (second e m q) = absurd (true≢false (sym (layout_told (take head.before decls) e m q) ∙ sym head.layout ∙ f))
 
-  pub limit_nonterminals : is_name decl.name ≡ true → head.named ≡ most_nonterminals → IsLeast (LimitMeets decls head.before decl) condition.TooManyNonterminals
+  pub limit_nonterminals : is_name decl.name ≡ true → head.named ≡ most_nonterminals → IsLeast (LimitMeets decls head.before decl) (condition.TooMany condition.Nonterminals)
   limit_nonterminals n e = record {
     holds = (tt, too_many_nonterminals n (sym head.count ∙ e));
     least = λ other m. go other m.1 m.0;
+    first_case = λ other m e. omega arith;
   }
     where
       go : (other : Condition) → HeadMeets decls head.before decl other → IsLimit other → 13 ≤ number other
@@ -71,24 +71,33 @@ module _ (head : Head) where
       go other (too_many_nonterminals p q) l = omega arith
       go other (too_many_parameters p q) l = omega arith
 
-  pub limit_parameters : is_name decl.name ≡ true → head.named ≢ most_nonterminals → most_parameters < named_parameters decl → IsLeast (LimitMeets decls head.before decl) condition.TooManyParameters
+  pub limit_parameters : is_name decl.name ≡ true → head.named ≢ most_nonterminals → most_parameters < named_parameters decl →
+      IsLeast (LimitMeets decls head.before decl) (condition.TooMany condition.Parameters)
   limit_parameters n e l = record {
     holds = (tt, too_many_parameters n l);
     least = λ other m. go other m.1 m.0;
+    first_case = λ other m s. first other m.1 m.0;
   }
     where
-      go : (other : Condition) → HeadMeets decls head.before decl other → IsLimit other → 14 ≤ number other
+      go : (other : Condition) → HeadMeets decls head.before decl other → IsLimit other → 13 ≤ number other
       go other (duplicate_name p) l = absurd l
       go other (duplicate_parameter k p q r) l = absurd l
       go other (layout_not_plain p q) l = absurd l
-      go other (too_many_nonterminals p q) l = absurd (e (head.count ∙ q))
+      go other (too_many_nonterminals p q) l = omega arith
       go other (too_many_parameters p q) l = omega arith
+
+      first : (other : Condition) → HeadMeets decls head.before decl other → IsLimit other → 1 ≤ case_number other
+      first other (duplicate_name p) l = absurd l
+      first other (duplicate_parameter k p q r) l = absurd l
+      first other (layout_not_plain p q) l = absurd l
+      first other (too_many_nonterminals p q) l = absurd (e (head.count ∙ q))
+      first other (too_many_parameters p q) l = omega arith
 
   abbrev pub Meets : Condition → Type 0
   Meets = HeadMeets decls head.before decl
 
   pub head_duplicate : Contains (declared_names (take head.before decls)) decl.name → IsLeast Meets condition.DuplicateName
-  head_duplicate m = record { holds = duplicate_name m; least = λ other p. go other p }
+  head_duplicate m = record { holds = duplicate_name m; least = λ other p. go other p; first_case = λ other p e. omega arith }
     where
       go : (other : Condition) → Meets other → 1 ≤ number other
       go other (duplicate_name p) = omega arith
@@ -99,7 +108,7 @@ module _ (head : Head) where
 
   module _ (first : Contains (declared_names (take head.before decls)) decl.name → ⊥) where
     pub head_repeated : HasRepeated decl.params → IsLeast Meets condition.DuplicateVariable
-    head_repeated r = record { holds = duplicate_parameter r.0 r.1 r.2 r.3; least = λ other p. go other p }
+    head_repeated r = record { holds = duplicate_parameter r.0 r.1 r.2 r.3; least = λ other p. go other p; first_case = λ other p e. omega arith }
       where
         go : (other : Condition) → Meets other → 5 ≤ number other
         go other (duplicate_name p) = absurd (first p)
@@ -110,7 +119,7 @@ module _ (head : Head) where
 
     module _ (apart : HasRepeated decl.params → ⊥) where
       pub head_not_plain : decl.kind ≡ Layout → IsNotPlain decls head.before decl → IsLeast Meets condition.LayoutNotPlain
-      head_not_plain k n = record { holds = layout_not_plain k n; least = λ other p. go other p }
+      head_not_plain k n = record { holds = layout_not_plain k n; least = λ other p. go other p; first_case = λ other p e. omega arith }
         where
           go : (other : Condition) → Meets other → 9 ≤ number other
           go other (duplicate_name p) = absurd (first p)
@@ -128,13 +137,27 @@ module _ (head : Head) where
           go c (duplicate_name p) = first p
           go c (duplicate_parameter k p q r) = apart (k, p, q, r)
           go c (layout_not_plain p q) = n p q
-          go c (too_many_nonterminals p q) = t condition.TooManyNonterminals (tt, too_many_nonterminals p q)
-          go c (too_many_parameters p q) = t condition.TooManyParameters (tt, too_many_parameters p q)
-      head_limit n (Some cause) t = record { holds = t.holds.1; least = λ other m. go other m }
+          go c (too_many_nonterminals p q) = t (condition.TooMany condition.Nonterminals) (tt, too_many_nonterminals p q)
+          go c (too_many_parameters p q) = t (condition.TooMany condition.Parameters) (tt, too_many_parameters p q)
+      head_limit n (Some cause) t = record {
+        holds = t.holds.1;
+        least = λ other m. go other m;
+        first_case = λ other m e. case other m e;
+      }
         where
+          case : (other : Condition) → Meets other → number other ≡ number (condition_of cause) →
+              case_number (condition_of cause) ≤ case_number other
+          case other (duplicate_name p) e = absurd (first p)
+          case other (duplicate_parameter k p q r) e = absurd (apart (k, p, q, r))
+          case other (layout_not_plain p q) e = absurd (n p q)
+          case other (too_many_nonterminals p q) e =
+              t.first_case (condition.TooMany condition.Nonterminals) (tt, too_many_nonterminals p q) e
+          case other (too_many_parameters p q) e =
+              t.first_case (condition.TooMany condition.Parameters) (tt, too_many_parameters p q) e
+
           go : (other : Condition) → Meets other → number (condition_of cause) ≤ number other
           go other (duplicate_name p) = absurd (first p)
           go other (duplicate_parameter k p q r) = absurd (apart (k, p, q, r))
           go other (layout_not_plain p q) = absurd (n p q)
-          go other (too_many_nonterminals p q) = t.least condition.TooManyNonterminals (tt, too_many_nonterminals p q)
-          go other (too_many_parameters p q) = t.least condition.TooManyParameters (tt, too_many_parameters p q)
+          go other (too_many_nonterminals p q) = t.least (condition.TooMany condition.Nonterminals) (tt, too_many_nonterminals p q)
+          go other (too_many_parameters p q) = t.least (condition.TooMany condition.Parameters) (tt, too_many_parameters p q)

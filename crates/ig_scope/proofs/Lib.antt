@@ -10,7 +10,6 @@ pub mod Loops
 pub mod SymbolCauses
 pub mod Members
 pub mod Rooms
-pub mod Keywords
 pub mod HeadCauses
 pub mod Repeats
 pub mod StartCauses

@@ -7,7 +7,7 @@ use Rattle.ig_grammar.specs.Symbol.{gathered}
 use Rattle.ig_grammar.specs.Alternative.{gathered_alternatives}
 use Rattle.ig_grammar.specs.Visible.{Visible, inside_sequence, inside_choices, binds, all_bind}
 use Rattle.ig_grammar.specs.declared.symbol.Alt.{Alt}
-use Rattle.ig_scope.specs.Limits.{place_limit}
+use Rattle.ig_grammar.specs.Regular.{counts_bound}
 use Rattle.ig_scope.specs.Places.{HaveNumbers}
 use Rattle.ig_scope.specs.Told.{Walked, from}
 use Rattle.ig_scope.specs.declared.places.Surroundings.{Surroundings}
@@ -77,7 +77,7 @@ module _ (around : Surroundings) (before : ℕ) (v : Visible) where
       HaveNumbers before (inside_sequence v (gathered all)) → HaveNumbers next (from mid x)
   sequence_fits all front x mid next s g l =
       longer (inside_sequence v (gathered all)) (inside_sequence v (gathered front)) (from mid x)
-      (inside_sequence (v ++ all_bind v (gathered (front ++ x ∷ []))) (gathered s.rest)) next place_limit before
+      (inside_sequence (v ++ all_bind v (gathered (front ++ x ∷ []))) (gathered s.rest)) next counts_bound before
       (ap (λ z. inside_sequence v (gathered z)) s.whole ∙ inside_append v (front ++ x ∷ []) s.rest ∙
       ap (λ z. z ++ inside_sequence (v ++ all_bind v (gathered (front ++ x ∷ []))) (gathered s.rest))
       (inside_push v front x ∙ ap (λ z. inside_sequence v (gathered front) ++ from z x) (sym g.2)))
@@ -111,7 +111,7 @@ module _ (around : Surroundings) (before : ℕ) (v : Visible) where
       HaveNumbers before (inside_choices v (gathered_alternatives all)) → HaveNumbers next (inside_sequence mid (gathered x.symbols))
   choices_fits all front x mid next s g l =
       longer (inside_choices v (gathered_alternatives all)) (inside_choices v (gathered_alternatives front)) (inside_sequence mid (gathered x.symbols))
-      (inside_choices v (gathered_alternatives s.rest)) next place_limit before
+      (inside_choices v (gathered_alternatives s.rest)) next counts_bound before
       (ap (λ z. inside_choices v (gathered_alternatives z)) s.whole ∙ choices_append v (front ++ x ∷ []) s.rest ∙
       ap (λ z. z ++ inside_choices v (gathered_alternatives s.rest))
       (choices_push v front x ∙ ap (λ z. inside_choices v (gathered_alternatives front) ++ inside_sequence z (gathered x.symbols)) (sym (g.2 ∙ append-nil v))))

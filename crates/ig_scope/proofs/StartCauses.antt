@@ -14,7 +14,7 @@ same r x y p q = let f : Some x ≡ Some y = sym p ∙ q in cc
 
 module _ (g : Grammar) where
   pub start_missing : g.start ≡ None → IsLeast (StartMeets g) condition.NoStart
-  start_missing n = record { holds = no_start n; least = λ other h. go other h }
+  start_missing n = record { holds = no_start n; least = λ other h. go other h; first_case = λ other p e. omega arith }
     where
       go : (other : Condition) → StartMeets g other → 7 ≤ number other
       go other (unknown_start name s d) = absurd (apart g.start name n s)
@@ -22,7 +22,7 @@ module _ (g : Grammar) where
       go other (start_has_parameters name decl s d p) = omega arith
 
   pub start_unknown : (name : List ℕ) → g.start ≡ Some name → declaration_of g.decls name ≡ None → IsLeast (StartMeets g) condition.UnknownName
-  start_unknown name s d = record { holds = unknown_start name s d; least = λ other h. go other h }
+  start_unknown name s d = record { holds = unknown_start name s d; least = λ other h. go other h; first_case = λ other p e. omega arith }
     where
       go : (other : Condition) → StartMeets g other → 2 ≤ number other
       go other (unknown_start n t e) = omega arith
@@ -31,7 +31,7 @@ module _ (g : Grammar) where
 
   pub start_parametrized : (name : List ℕ) (decl : Decl) → g.start ≡ Some name → declaration_of g.decls name ≡ Some decl → decl.params ≢ [] →
       IsLeast (StartMeets g) condition.StartHasParameters
-  start_parametrized name decl s d p = record { holds = start_has_parameters name decl s d p; least = λ other h. go other h }
+  start_parametrized name decl s d p = record { holds = start_has_parameters name decl s d p; least = λ other h. go other h; first_case = λ other p e. omega arith }
     where
       go : (other : Condition) → StartMeets g other → 8 ≤ number other
       go other (unknown_start n t e) = absurd (apart (declaration_of g.decls name) decl (ap (declaration_of g.decls) (same g.start name n s t) ∙ e) d)

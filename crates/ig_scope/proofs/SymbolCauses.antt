@@ -16,7 +16,7 @@ use Rattle.ig_grammar.specs.declared.declaration.DeclKind.TheVariants.{Syntax}
 use Rattle.ig_grammar.specs.declared.declaration.Param.{Param}
 use Rattle.ig_grammar.specs.declared.declaration.Decl.{Decl}
 use Rattle.ig_scope.specs.Causes.{Tells, NoneHolds}
-use Rattle.ig_scope.specs.Told.{HasUnknown, HasUnkinded, IsMismatched}
+use Rattle.ig_scope.specs.Told.{HasUnknown, HasUnkinded, IsMismatched, TellsMark}
 use Rattle.ig_scope.specs.declared.fault.ScopeCause.{ScopeCause}
 use Rattle.ig_scope.specs.declared.fault.ScopeCause.TheVariants.{MarkInLexical}
 
@@ -55,7 +55,7 @@ module _ (decls : List Decl) (within : DeclKind) (v : Visible) where
   IsQuiet x = ⊥
 
   pub label_twice : (name : List ℕ) (x : Symbol) → Contains (names v) name → IsLeast (SymbolMeets decls within v (Label name x)) condition.DuplicateVariable
-  label_twice name x m = record { holds = duplicate_label name x m; least = λ other h. go other h }
+  label_twice name x m = record { holds = duplicate_label name x m; least = λ other h. go other h; first_case = λ other p e. omega arith }
     where
       go : (other : Condition) → SymbolMeets decls within v (Label name x) other → 5 ≤ number other
       go other (unknown_variable y e n u) = absurd (none_in e n)
@@ -67,15 +67,12 @@ module _ (decls : List Decl) (within : DeclKind) (v : Visible) where
   label_once name x m c (duplicate_label n y p) = m p
   label_once name x m c (no_kind y e n u) = none_in e n
 
-  abbrev pub TellsMark : Option ScopeCause → Type 0
-  TellsMark r = MatchOption r (IsInLexical within → ⊥) (λ cause. (cause ≡ MarkInLexical) × IsInLexical within)
-
   -- a cause that is a mark's, by the form that the mark has
   marked : (x : Symbol) (cause : ScopeCause) → cause ≡ MarkInLexical → SymbolMeets decls within v x condition.MarkInLexical →
       ((other : Condition) → SymbolMeets decls within v x other → 11 ≤ number other) → Tells (SymbolMeets decls within v x) (Some cause)
-  marked x cause e h l = subst (λ z. Tells (SymbolMeets decls within v x) (Some z)) (sym e) (record { holds = h; least = l })
+  marked x cause e h l = subst (λ z. Tells (SymbolMeets decls within v x) (Some z)) (sym e) (record { holds = h; least = l; first_case = λ other p e. omega arith })
 
-  pub tells_offside : (x : Symbol) (r : Option ScopeCause) → TellsMark r → Tells (SymbolMeets decls within v (Offside x)) r
+  pub tells_offside : (x : Symbol) (r : Option ScopeCause) → TellsMark within r → Tells (SymbolMeets decls within v (Offside x)) r
   tells_offside x None m = λ c h. go c h
     where
       go : (c : Condition) → SymbolMeets decls within v (Offside x) c → ⊥
@@ -89,7 +86,7 @@ module _ (decls : List Decl) (within : DeclKind) (v : Visible) where
       go other (no_kind y e n u) = absurd (none_in e n)
       go other (offside_in_lexical y i) = omega arith
 
-  pub tells_ignore : (x : Symbol) (r : Option ScopeCause) → TellsMark r → Tells (SymbolMeets decls within v (Ignore x)) r
+  pub tells_ignore : (x : Symbol) (r : Option ScopeCause) → TellsMark within r → Tells (SymbolMeets decls within v (Ignore x)) r
   tells_ignore x None m = λ c h. go c h
     where
       go : (c : Condition) → SymbolMeets decls within v (Ignore x) c → ⊥
@@ -103,7 +100,7 @@ module _ (decls : List Decl) (within : DeclKind) (v : Visible) where
       go other (no_kind y e n u) = absurd (none_in e n)
       go other (ignore_in_lexical y i) = omega arith
 
-  pub tells_align : (x : Symbol) (r : Option ScopeCause) → IsListed x → TellsMark r → Tells (SymbolMeets decls within v (Align x)) r
+  pub tells_align : (x : Symbol) (r : Option ScopeCause) → IsListed x → TellsMark within r → Tells (SymbolMeets decls within v (Align x)) r
   tells_align x None l m = λ c h. go c h
     where
       go : (c : Condition) → SymbolMeets decls within v (Align x) c → ⊥
@@ -120,7 +117,7 @@ module _ (decls : List Decl) (within : DeclKind) (v : Visible) where
       go other (align_in_lexical y i) = omega arith
 
   pub align_unlisted : (x : Symbol) → (IsListed x → ⊥) → IsLeast (SymbolMeets decls within v (Align x)) condition.AlignNotList
-  align_unlisted x l = record { holds = align_not_list x l; least = λ other h. go other h }
+  align_unlisted x l = record { holds = align_not_list x l; least = λ other h. go other h; first_case = λ other p e. omega arith }
     where
       go : (other : Condition) → SymbolMeets decls within v (Align x) other → 10 ≤ number other
       go other (unknown_variable y e n u) = absurd (none_in e n)
@@ -129,7 +126,7 @@ module _ (decls : List Decl) (within : DeclKind) (v : Visible) where
       go other (align_in_lexical y i) = omega arith
 
   pub guard_unknown : (e : Expression) → NamesUnknown v e → IsLeast (SymbolMeets decls within v (Guard e)) condition.UnknownVariable
-  guard_unknown e n = record { holds = unknown_variable (Guard e) e (itself e) n; least = λ other h. go other h }
+  guard_unknown e n = record { holds = unknown_variable (Guard e) e (itself e) n; least = λ other h. go other h; first_case = λ other p e. omega arith }
     where
       go : (other : Condition) → SymbolMeets decls within v (Guard e) other → 4 ≤ number other
       go other (unknown_variable y d m u) = omega arith
@@ -137,7 +134,7 @@ module _ (decls : List Decl) (within : DeclKind) (v : Visible) where
       go other (guard_kind d k) = omega arith
 
   pub guard_mismatched : (e : Expression) → (NamesUnknown v e → ⊥) → kind_at v e ≢ Some kind.Bool → IsLeast (SymbolMeets decls within v (Guard e)) condition.KindMismatch
-  guard_mismatched e n k = record { holds = guard_kind e k; least = λ other h. go other h }
+  guard_mismatched e n k = record { holds = guard_kind e k; least = λ other h. go other h; first_case = λ other p e. omega arith }
     where
       go : (other : Condition) → SymbolMeets decls within v (Guard e) other → 6 ≤ number other
       go other (unknown_variable y d m u) = absurd (known_only v e n (d, m, u))
@@ -150,7 +147,7 @@ module _ (decls : List Decl) (within : DeclKind) (v : Visible) where
   guard_free e n k c (guard_kind d l) = l k
 
   pub let_unknown : (name : List ℕ) (e : Expression) → NamesUnknown v e → IsLeast (SymbolMeets decls within v (Let name e)) condition.UnknownVariable
-  let_unknown name e n = record { holds = unknown_variable (Let name e) e (itself e) n; least = λ other h. go other h }
+  let_unknown name e n = record { holds = unknown_variable (Let name e) e (itself e) n; least = λ other h. go other h; first_case = λ other p e. omega arith }
     where
       go : (other : Condition) → SymbolMeets decls within v (Let name e) other → 4 ≤ number other
       go other (unknown_variable y d m u) = omega arith
@@ -159,7 +156,7 @@ module _ (decls : List Decl) (within : DeclKind) (v : Visible) where
 
   pub let_twice : (name : List ℕ) (e : Expression) → (NamesUnknown v e → ⊥) → Contains (names v) name →
       IsLeast (SymbolMeets decls within v (Let name e)) condition.DuplicateVariable
-  let_twice name e n s = record { holds = duplicate_let name e s; least = λ other h. go other h }
+  let_twice name e n s = record { holds = duplicate_let name e s; least = λ other h. go other h; first_case = λ other p e. omega arith }
     where
       go : (other : Condition) → SymbolMeets decls within v (Let name e) other → 5 ≤ number other
       go other (unknown_variable y d m u) = absurd (known_only v e n (d, m, u))
@@ -168,7 +165,7 @@ module _ (decls : List Decl) (within : DeclKind) (v : Visible) where
 
   pub let_unkinded : (name : List ℕ) (e : Expression) → (NamesUnknown v e → ⊥) → (Contains (names v) name → ⊥) → kind_at v e ≡ None →
       IsLeast (SymbolMeets decls within v (Let name e)) condition.KindMismatch
-  let_unkinded name e n s k = record { holds = no_kind (Let name e) e (itself e) (n, k); least = λ other h. go other h }
+  let_unkinded name e n s k = record { holds = no_kind (Let name e) e (itself e) (n, k); least = λ other h. go other h; first_case = λ other p e. omega arith }
     where
       go : (other : Condition) → SymbolMeets decls within v (Let name e) other → 6 ≤ number other
       go other (unknown_variable y d m u) = absurd (known_only v e n (d, m, u))
@@ -182,7 +179,7 @@ module _ (decls : List Decl) (within : DeclKind) (v : Visible) where
   let_free name e n s k c (no_kind y d m u) = k (ap (kind_at v) (only e d m) ∙ u.1)
 
   pub entry_unknown : (bs : List Binding) (x : Symbol) → HasUnknown v (map (λ b. b.value) bs) → IsLeast (SymbolMeets decls within v (Entry bs x)) condition.UnknownVariable
-  entry_unknown bs x n = record { holds = unknown_variable (Entry bs x) n.0 n.1 n.2; least = λ other h. go other h }
+  entry_unknown bs x n = record { holds = unknown_variable (Entry bs x) n.0 n.1 n.2; least = λ other h. go other h; first_case = λ other p e. omega arith }
     where
       go : (other : Condition) → SymbolMeets decls within v (Entry bs x) other → 4 ≤ number other
       go other (unknown_variable y d m u) = omega arith
@@ -190,7 +187,7 @@ module _ (decls : List Decl) (within : DeclKind) (v : Visible) where
 
   pub entry_unkinded : (bs : List Binding) (x : Symbol) → (HasUnknown v (map (λ b. b.value) bs) → ⊥) → HasUnkinded v (map (λ b. b.value) bs) →
       IsLeast (SymbolMeets decls within v (Entry bs x)) condition.KindMismatch
-  entry_unkinded bs x n k = record { holds = no_kind (Entry bs x) k.0 k.1 ((λ u. n (k.0, k.1, u)), k.2); least = λ other h. go other h }
+  entry_unkinded bs x n k = record { holds = no_kind (Entry bs x) k.0 k.1 ((λ u. n (k.0, k.1, u)), k.2); least = λ other h. go other h; first_case = λ other p e. omega arith }
     where
       go : (other : Condition) → SymbolMeets decls within v (Entry bs x) other → 6 ≤ number other
       go other (unknown_variable y d m u) = absurd (n (d, m, u))
@@ -209,7 +206,7 @@ module _ (decls : List Decl) (within : DeclKind) (v : Visible) where
 
   pub call_undeclared : (name : List ℕ) (es : List Expression) → declaration_of decls name ≡ None →
       IsLeast (SymbolMeets decls within v (Call name es)) condition.UnknownName
-  call_undeclared name es d = record { holds = unknown_name name es d; least = λ other h. go other h }
+  call_undeclared name es d = record { holds = unknown_name name es d; least = λ other h. go other h; first_case = λ other p e. omega arith }
     where
       go : (other : Condition) → SymbolMeets decls within v (Call name es) other → 2 ≤ number other
       go other (unknown_name n m p) = omega arith
@@ -221,7 +218,7 @@ module _ (decls : List Decl) (within : DeclKind) (v : Visible) where
 
   module _ (name : List ℕ) (es : List Expression) (callee : Decl) (found : declaration_of decls name ≡ Some callee) where
     pub call_arity : length es ≢ length callee.params → IsLeast (SymbolMeets decls within v (Call name es)) condition.WrongArity
-    call_arity a = record { holds = wrong_arity name es callee found a; least = λ other h. go other h }
+    call_arity a = record { holds = wrong_arity name es callee found a; least = λ other h. go other h; first_case = λ other p e. omega arith }
       where
         go : (other : Condition) → SymbolMeets decls within v (Call name es) other → 3 ≤ number other
         go other (unknown_name n m p) = absurd (undeclared (declaration_of decls name) callee p found)
@@ -232,7 +229,7 @@ module _ (decls : List Decl) (within : DeclKind) (v : Visible) where
         go other (syntax_in_lexical n m d i p q) = omega arith
 
     pub call_unknown : length es ≡ length callee.params → HasUnknown v es → IsLeast (SymbolMeets decls within v (Call name es)) condition.UnknownVariable
-    call_unknown a h = record { holds = unknown_variable (Call name es) h.0 h.1 h.2; least = λ other h. go other h }
+    call_unknown a h = record { holds = unknown_variable (Call name es) h.0 h.1 h.2; least = λ other h. go other h; first_case = λ other p e. omega arith }
       where
         go : (other : Condition) → SymbolMeets decls within v (Call name es) other → 4 ≤ number other
         go other (unknown_name n m p) = absurd (undeclared (declaration_of decls name) callee p found)
@@ -247,6 +244,7 @@ module _ (decls : List Decl) (within : DeclKind) (v : Visible) where
     call_mismatched a n h = record {
       holds = argument_kind name es callee h.place h.argument h.parameter found h.argument_is h.parameter_is h.differ;
       least = λ other h. go other h;
+      first_case = λ other p e. omega arith;
     }
       where
         go : (other : Condition) → SymbolMeets decls within v (Call name es) other → 6 ≤ number other
@@ -278,7 +276,7 @@ module _ (decls : List Decl) (within : DeclKind) (v : Visible) where
 
     pub call_syntax : length es ≡ length callee.params → (HasUnknown v es → ⊥) → (IsMismatched v es callee.params → ⊥) → IsInLexical within → callee.kind ≡ Syntax →
         IsLeast (SymbolMeets decls within v (Call name es)) condition.SyntaxInLexical
-    call_syntax a n f i s = record { holds = syntax_in_lexical name es callee i found s; least = λ other h. go other h }
+    call_syntax a n f i s = record { holds = syntax_in_lexical name es callee i found s; least = λ other h. go other h; first_case = λ other p e. omega arith }
       where
         go : (other : Condition) → SymbolMeets decls within v (Call name es) other → 12 ≤ number other
         go other (unknown_name x m p) = absurd (undeclared (declaration_of decls name) callee p found)

@@ -20,9 +20,9 @@ condition_of LayoutNotPlain = condition.LayoutNotPlain
 condition_of AlignNotList = condition.AlignNotList
 condition_of MarkInLexical = condition.MarkInLexical
 condition_of SyntaxInLexical = condition.SyntaxInLexical
-condition_of (TooMany Nonterminals) = condition.TooManyNonterminals
-condition_of (TooMany Parameters) = condition.TooManyParameters
-condition_of (TooMany Variables) = condition.TooManyVariables
+condition_of (TooMany Nonterminals) = condition.TooMany condition.Nonterminals
+condition_of (TooMany Parameters) = condition.TooMany condition.Parameters
+condition_of (TooMany Variables) = condition.TooMany condition.Variables
 
 -- no condition holds
 abbrev pub NoneHolds : (Condition → Type 0) → Type 0

@@ -3,7 +3,7 @@ use Rattle.std.specs.Prelude.{◌≡◌, ◌≢◌, ℕ, Bool, true, false, List
 use Rattle.std.specs.List.{list_any}
 use Rattle.ig_grammar.specs.Name.{is_name}
 use Rattle.ig_grammar.specs.Visible.{names, parameters}
-use Rattle.ig_grammar.specs.Condition.{Condition, TooManyNonterminals, TooManyParameters, HeadMeets}
+use Rattle.ig_grammar.specs.Condition.{Condition, TooMany, HeadMeets}
 use Rattle.ig_grammar.specs.declared.declaration.Assoc.TheVariants.{Free}
 use Rattle.ig_grammar.specs.declared.declaration.DeclKind.{DeclKind}
 use Rattle.ig_grammar.specs.declared.declaration.DeclKind.TheVariants.{Layout}
@@ -34,8 +34,7 @@ HaveAssociativity levels = (level : Level) × Contains levels level × (level.as
 
 -- a limit that is passed at a head
 abbrev pub IsLimit : Condition → Type 0
-IsLimit TooManyNonterminals = Unit {0}
-IsLimit TooManyParameters = Unit {0}
+IsLimit (TooMany many) = Unit {0}
 IsLimit c = ⊥
 
 abbrev pub LimitMeets : List Decl → ℕ → Decl → Condition → Type 0

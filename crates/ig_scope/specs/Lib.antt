@@ -1,4 +1,3 @@
-pub mod Limits
 pub mod Places
 pub mod Tables
 pub mod Causes

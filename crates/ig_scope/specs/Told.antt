@@ -62,6 +62,13 @@ module _ (decls : List Decl) (within : DeclKind) where
   abbrev pub SymbolCaught : Condition → Occurrence → Type 0
   SymbolCaught c o = IsLeast (SymbolMeets decls within o.visible o.symbol) c
 
+  -- the fault at one of these symbols, of which so many stand before them
+  abbrev pub StoppedAt : (decl alt before : ℕ) → List Occurrence → ScopeFault → Type 0
+  StoppedAt decl alt before os (Broken cause place) =
+      (k : ℕ) × (place ≡ record { decl = decl; alt = alt; symbol = before + k + 1 }) ×
+      FirstIn SymbolFree (SymbolCaught (condition_of cause)) os k
+  StoppedAt decl alt before os Memory = Unit {0}
+
 -- of a symbol itself, in an alternative of a declaration, where these variables are visible
 abbrev pub TellsSymbol : Surroundings → Visible → Symbol → Option ScopeCause → Type 0
 TellsSymbol around v x = Tells (SymbolMeets around.declarations.now around.kind v x)
@@ -79,11 +86,8 @@ fault_at around cause before = Broken cause (record { decl = around.decl; alt = 
 abbrev pub Walked : Surroundings → ℕ → List Occurrence → Visible → Visible → Visible → Result ℕ ScopeFault → Type 0
 Walked around before os binding old new (Ok next) =
     (next ≡ before + length os) × All (SymbolFree around.declarations.now around.kind) os × (new ≡ old ++ binding)
-Walked around before os binding old new (Err (Broken cause place)) =
-    (k : ℕ) × (place ≡ record { decl = around.decl; alt = around.alt; symbol = before + k + 1 }) ×
-    FirstIn (SymbolFree around.declarations.now around.kind)
-        (SymbolCaught around.declarations.now around.kind (condition_of cause)) os k
-Walked around before os binding old new (Err Memory) = Unit {0}
+Walked around before os binding old new (Err fault) =
+    StoppedAt around.declarations.now around.kind around.decl around.alt before os fault
 
 module _ (decls : List Decl) (decl : Decl) where
   abbrev pub AlternativeFree : Alt → Type 0
@@ -92,35 +96,40 @@ module _ (decls : List Decl) (decl : Decl) where
   abbrev pub AlternativeCaught : ℕ → Condition → Alt → Type 0
   AlternativeCaught symbol c a = FirstNumber (AlternativeHas decls decl a) symbol c
 
-module _ (numbered : Numbered) where
-  abbrev pub IsFree : Alt → Type 0
-  IsFree = AlternativeFree numbered.declarations.now numbered.decl.now
-
-  abbrev pub IsCaught : ℕ → Condition → Alt → Type 0
-  IsCaught = AlternativeCaught numbered.declarations.now numbered.decl.now
-
-  -- of an alternative of the declaration
-  abbrev pub TellsAlternative : ℕ → Alt → {T : Type 0} → Result T ScopeFault → Type 0
-  TellsAlternative alt a (Ok done) = IsFree a
-  TellsAlternative alt a (Err (Broken cause place)) =
-      (place.decl ≡ numbered.number) × (place.alt ≡ alt) × IsCaught place.symbol (condition_of cause) a
-  TellsAlternative alt a (Err Memory) = Unit {0}
+module _ (decls : List Decl) (decl : Decl) (number : ℕ) where
+  -- of an alternative of the declaration of this number
+  abbrev pub OfAlternative : ℕ → Alt → {T : Type 0} → Result T ScopeFault → Type 0
+  OfAlternative alt a (Ok done) = AlternativeFree decls decl a
+  OfAlternative alt a (Err (Broken cause place)) =
+      (place.decl ≡ number) × (place.alt ≡ alt) × AlternativeCaught decls decl place.symbol (condition_of cause) a
+  OfAlternative alt a (Err Memory) = Unit {0}
 
   -- of alternatives that have so many before them, and how many stand before what comes next
-  abbrev pub TellsLevel : ℕ → List Alt → Result ℕ ScopeFault → Type 0
-  TellsLevel before alts (Ok next) = (next ≡ before + length alts) × All IsFree alts
-  TellsLevel before alts (Err (Broken cause place)) =
-      (k : ℕ) × (place.decl ≡ numbered.number) × (place.alt ≡ before + k + 1) ×
-      FirstIn IsFree (IsCaught place.symbol (condition_of cause)) alts k
-  TellsLevel before alts (Err Memory) = Unit {0}
+  abbrev pub OfLevel : ℕ → List Alt → Result ℕ ScopeFault → Type 0
+  OfLevel before alts (Ok next) = (next ≡ before + length alts) × All (AlternativeFree decls decl) alts
+  OfLevel before alts (Err (Broken cause place)) =
+      (k : ℕ) × (place.decl ≡ number) × (place.alt ≡ before + k + 1) ×
+      FirstIn (AlternativeFree decls decl) (AlternativeCaught decls decl place.symbol (condition_of cause)) alts k
+  OfLevel before alts (Err Memory) = Unit {0}
 
   -- of all alternatives
-  abbrev pub TellsAlternatives : {T : Type 0} → Result T ScopeFault → Type 0
-  TellsAlternatives (Ok done) = All IsFree (alternatives numbered.decl.now.levels)
-  TellsAlternatives (Err (Broken cause place)) =
-      (k : ℕ) × (place.decl ≡ numbered.number) × (place.alt ≡ k + 1) ×
-      FirstIn IsFree (IsCaught place.symbol (condition_of cause)) (alternatives numbered.decl.now.levels) k
-  TellsAlternatives (Err Memory) = Unit {0}
+  abbrev pub OfAlternatives : {T : Type 0} → Result T ScopeFault → Type 0
+  OfAlternatives (Ok done) = All (AlternativeFree decls decl) (alternatives decl.levels)
+  OfAlternatives (Err (Broken cause place)) =
+      (k : ℕ) × (place.decl ≡ number) × (place.alt ≡ k + 1) ×
+      FirstIn (AlternativeFree decls decl) (AlternativeCaught decls decl place.symbol (condition_of cause))
+          (alternatives decl.levels) k
+  OfAlternatives (Err Memory) = Unit {0}
+
+-- the same of a declaration with its number
+abbrev pub TellsAlternative : Numbered → ℕ → Alt → {T : Type 0} → Result T ScopeFault → Type 0
+TellsAlternative numbered = OfAlternative numbered.declarations.now numbered.decl.now numbered.number
+
+abbrev pub TellsLevel : Numbered → ℕ → List Alt → Result ℕ ScopeFault → Type 0
+TellsLevel numbered = OfLevel numbered.declarations.now numbered.decl.now numbered.number
+
+abbrev pub TellsAlternatives : Numbered → {T : Type 0} → Result T ScopeFault → Type 0
+TellsAlternatives numbered = OfAlternatives numbered.declarations.now numbered.decl.now numbered.number
 
 module _ (decls : List Decl) (decl : Decl) where
   -- of the declaration, which has so many before it

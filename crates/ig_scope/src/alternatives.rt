@@ -4,8 +4,8 @@ ghost use Rattle.std.specs.Prelude.{◌≡◌, ◌+◌, ◌<◌, ◌↔◌, IsTr
 ghost use Rattle.ig_grammar.specs.declared.symbol.Alt.{Alt};
 ghost use Rattle.ig_grammar.specs.Visible.{parameters};
 ghost use Rattle.ig_grammar.specs.Numbering.{alternatives};
-ghost use Rattle.ig_grammar.specs.Condition.{AlternativeMeets, TooManyVariables};
-ghost use Rattle.ig_scope.specs.Limits.{place_limit};
+ghost use Rattle.ig_grammar.specs.Regular.{counts_bound};
+ghost use Rattle.ig_scope.specs.Room.{HasTooMany};
 ghost use Rattle.ig_scope.specs.Told.{TellsAlternative, TellsLevel, TellsAlternatives};
 
 use crate::binders::leave_sequence;
@@ -45,7 +45,7 @@ fn check_level(
     alts: &[Alt],
 ) -> Result<u32, ScopeFault>
     requires visible { variables.old ≡ parameters numbered.now.decl.now.params }
-    requires numbers { before + length alts.now < place_limit }
+    requires numbers { before + length alts.now < counts_bound }
     requires among { (a : Alt) → Contains alts.now a
         → Contains (alternatives numbered.now.decl.now.levels) a }
     ensures told { TellsLevel numbered.now before alts.now result }
@@ -97,8 +97,7 @@ fn check_alternative(
 
 /// Whether the alternative has too many variables.
 fn is_passed(numbered: &Numbered, alternative: &Alt) -> bool
-    ensures { IsTrue result
-        ↔ AlternativeMeets numbered.now.decl.now alternative.now TooManyVariables }
+    ensures { IsTrue result ↔ HasTooMany numbered.now.decl.now alternative.now }
 {
     match numbered.room {
         Some(room) => leave_sequence(room, &alternative.symbols).is_none(),

@@ -11,8 +11,7 @@ ghost use Rattle.ig_grammar.specs.Condition.{binds_name};
 ghost use Rattle.ig_scope.specs.Binders.{Leaves, binders};
 ghost use Rattle.ig_scope.specs.Told.{from};
 
-use crate::names::is_name;
-use ig_grammar::{Alts, Symbol, Symbols};
+use ig_grammar::{Alts, Symbol, Symbols, is_name};
 
 /// Of a symbol and those inside it.
 #[cycle(binders)]

@@ -1,9 +1,8 @@
 ghost use Rattle.std.specs.Prelude.{◌≡◌, ◌+◌, ◌<◌, IfOk, IfErr};
-ghost use Rattle.ig_grammar.specs.Regular.{IsRegular};
+ghost use Rattle.ig_grammar.specs.Regular.{IsRegular, counts_bound};
 ghost use Rattle.ig_grammar.specs.WellScoped.{IsWellScoped};
 ghost use Rattle.ig_grammar.specs.Checked.{rules};
 ghost use Rattle.ig_scope.specs.Heads.{is_layout};
-ghost use Rattle.ig_scope.specs.Limits.{place_limit};
 ghost use Rattle.ig_scope.specs.Places.{AreNumbered, HaveNumberedAlternatives};
 ghost use Rattle.ig_scope.specs.Places.{HaveNumberedSymbols};
 ghost use Rattle.ig_scope.specs.Told.{TellsDeclaration, TellsDeclarations};
@@ -13,10 +12,9 @@ use crate::alternatives::check_alternatives;
 use crate::declarations::Declarations;
 use crate::fault::ScopeFault;
 use crate::heads::{Head, head_cause};
-use crate::names::is_name;
 use crate::numbered::{Numbered, room_of};
 use crate::starts::start_cause;
-use ig_grammar::{Checked, DeclKind, Grammar, Place};
+use ig_grammar::{Checked, DeclKind, Grammar, Place, is_name};
 use std::alloc::Global;
 
 /// The grammar, where it is well scoped: that is, no condition of
@@ -57,7 +55,10 @@ fn check_grammar(alloc: Global, grammar: &Grammar) -> Result<(), ScopeFault>
 }
 
 /// The first fault of the declarations.
-fn check_declarations(alloc: Global, declarations: &Declarations) -> Result<(), ScopeFault>
+fn check_declarations<'a>(
+    alloc: Global,
+    declarations: &'a Declarations<'a>,
+) -> Result<(), ScopeFault>
     requires { AreNumbered declarations.now }
     ensures { TellsDeclarations declarations.now result }
 {
@@ -72,7 +73,7 @@ fn check_declarations(alloc: Global, declarations: &Declarations) -> Result<(), 
             named,
             has_layout,
         };
-        check_declaration(alloc, head)?;
+        check_declaration(alloc, &head)?;
         if is_name(&decl.name) {
             named += 1;
         }
@@ -82,11 +83,12 @@ fn check_declarations(alloc: Global, declarations: &Declarations) -> Result<(), 
 }
 
 /// The first fault of the declaration, at its head or in an alternative.
-fn check_declaration(alloc: Global, head: Head) -> Result<(), ScopeFault>
-    requires few { head.before + 1 < place_limit }
-    requires alternatives { HaveNumberedAlternatives head.decl.now }
-    requires symbols { HaveNumberedSymbols head.decl.now }
-    ensures { TellsDeclaration head.declarations.now head.decl.now head.before result }
+fn check_declaration(alloc: Global, head: &Head) -> Result<(), ScopeFault>
+    requires number { head.now.before + 1 < counts_bound }
+    requires alternatives { HaveNumberedAlternatives head.now.decl.now }
+    requires symbols { HaveNumberedSymbols head.now.decl.now }
+    ensures { TellsDeclaration
+        head.now.declarations.now head.now.decl.now head.now.before result }
 {
     let number = head.before as u32 + 1;
     if let Some(cause) = head_cause(alloc, head)? {

@@ -9,8 +9,8 @@ ghost use Rattle.ig_scope.specs.Heads.{have_layout};
 
 use crate::declarations::Declarations;
 use crate::fault::{Many, ScopeCause};
-use crate::names::{count_named, is_name};
-use ig_grammar::{Assoc, Decl, DeclKind, Level, Param};
+use crate::names::count_named;
+use ig_grammar::{Assoc, Decl, DeclKind, Level, Param, is_name};
 use indexmap::IndexSet;
 use std::alloc::{AllocError, Global};
 
@@ -38,8 +38,9 @@ pub(crate) struct Head<'a> {
 
 /// Of the conditions that hold at the head the one of the least number; `None` exactly where none
 /// holds there.
-pub(crate) fn head_cause(alloc: Global, head: Head) -> Result<Option<ScopeCause>, AllocError>
-    ensures { IfOk result (Tells (HeadMeets head.declarations.now head.before head.decl.now)) }
+pub(crate) fn head_cause(alloc: Global, head: &Head) -> Result<Option<ScopeCause>, AllocError>
+    ensures { IfOk result
+        (Tells (HeadMeets head.now.declarations.now head.now.before head.now.decl.now)) }
 {
     if is_declared(head) {
         return Ok(Some(ScopeCause::DuplicateName));
@@ -54,9 +55,9 @@ pub(crate) fn head_cause(alloc: Global, head: Head) -> Result<Option<ScopeCause>
 }
 
 /// Whether an earlier declaration has this name.
-fn is_declared(head: Head) -> bool
+fn is_declared(head: &Head) -> bool
     ensures { IsTrue result
-        ↔ Contains (names (take head.before head.declarations.now)) head.decl.now.name }
+        ↔ Contains (names (take head.now.before head.now.declarations.now)) head.now.decl.now.name }
 {
     match head.declarations.place_of(&head.decl.name) {
         Some(place) => place < head.before,
@@ -65,9 +66,9 @@ fn is_declared(head: Head) -> bool
 }
 
 /// Whether the declaration is a layout declaration that isn't plain.
-fn is_unplain_layout(head: Head) -> bool
-    ensures { IsTrue result ↔ ((head.decl.now.kind ≡ DeclKind.Layout)
-        × IsNotPlain head.declarations.now head.before head.decl.now) }
+fn is_unplain_layout(head: &Head) -> bool
+    ensures { IsTrue result ↔ ((head.now.decl.now.kind ≡ DeclKind.Layout)
+        × IsNotPlain head.now.declarations.now head.now.before head.now.decl.now) }
 {
     match head.decl.kind {
         DeclKind::Layout => is_not_plain(head),
@@ -79,8 +80,9 @@ fn is_unplain_layout(head: Head) -> bool
 
 /// Whether a layout declaration isn't plain: it has parameters, more than one level or an
 /// associativity, or there is an earlier one.
-fn is_not_plain(head: Head) -> bool
-    ensures { IsTrue result ↔ IsNotPlain head.declarations.now head.before head.decl.now }
+fn is_not_plain(head: &Head) -> bool
+    ensures { IsTrue result
+        ↔ IsNotPlain head.now.declarations.now head.now.before head.now.decl.now }
 {
     if head.has_layout {
         return true;
@@ -108,8 +110,9 @@ fn have_associativity(levels: &[Level]) -> bool
 }
 
 /// The limit that is passed at the head of a declaration.
-fn passed_limit(head: Head) -> Option<ScopeCause>
-    ensures { Tells (LimitMeets head.declarations.now head.before head.decl.now) result }
+fn passed_limit(head: &Head) -> Option<ScopeCause>
+    ensures { Tells
+        (LimitMeets head.now.declarations.now head.now.before head.now.decl.now) result }
 {
     if !is_name(&head.decl.name) {
         return None;

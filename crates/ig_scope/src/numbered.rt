@@ -5,8 +5,8 @@ ghost use Rattle.ig_scope.specs.Places.{HaveNumberedAlternatives, HaveNumberedSy
 ghost use Rattle.ig_scope.specs.Room.{HasFewParameters, room_of};
 
 use crate::declarations::Declarations;
-use crate::names::{count_named, is_name};
-use ig_grammar::Decl;
+use crate::names::count_named;
+use ig_grammar::{Decl, is_name};
 
 /// The parameters, labels and lets that an alternative may have.
 const MOST_VARIABLES: usize = 32;

@@ -1,5 +1,5 @@
 ghost use Rattle.std.specs.Prelude.{◌≡◌, ◌+◌, ◌<◌};
-ghost use Rattle.ig_scope.specs.Limits.{place_limit};
+ghost use Rattle.ig_grammar.specs.Regular.{counts_bound};
 ghost use Rattle.ig_scope.specs.Told.{fault_at};
 
 use crate::declarations::Declarations;
@@ -21,7 +21,7 @@ pub(crate) struct Surroundings<'a> {
 impl Surroundings<'_> {
     /// The fault at the symbol that has so many before it in the alternative.
     pub(crate) fn fault(&self, cause: ScopeCause, before: u32) -> ScopeFault
-        requires { before + 1 < place_limit }
+        requires { before + 1 < counts_bound }
         ensures { result ≡ fault_at self.now cause before }
     {
         let place = Place {

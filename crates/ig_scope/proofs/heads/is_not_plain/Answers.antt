@@ -7,11 +7,11 @@ use Rattle.ig_scope.proofs.HeadCauses.{not_plain_second, not_plain_last}
 use Rattle.ig_scope.proofs.heads.is_not_plain.Goals as goal
 
 pub returns-then-head : goal.returns-then-head
-returns-then-head c = not_plain_second c.args.head c.if-head.true
+returns-then-head c = not_plain_second c.args.head.now c.if-head.true
 
 pub returns : goal.returns
 returns c =
-    not_plain_last c.args.head c.have_associativity.result
+    not_plain_last c.args.head.now c.have_associativity.result
     (subst (λ z. IsTrue c.have_associativity.result ↔ HaveAssociativity z) c.as_slice-levels.ensures c.have_associativity.ensures) c.if-head.false
-    (is_nothing c.as_slice.result.now c.args.head.decl.now.params c.is_empty.result c.is_empty.ensures c.if-not-is_empty.false c.as_slice.ensures)
-    (λ l. let n : length c.as_slice-levels.result.now ≡ length c.args.head.decl.now.levels = ap length c.as_slice-levels.ensures in let f : ⊥ = omega arith in f)
+    (is_nothing c.as_slice.result.now c.args.head.now.decl.now.params c.is_empty.result c.is_empty.ensures c.if-not-is_empty.false c.as_slice.ensures)
+    (λ l. let n : length c.as_slice-levels.result.now ≡ length c.args.head.now.decl.now.levels = ap length c.as_slice-levels.ensures in let f : ⊥ = omega arith in f)
