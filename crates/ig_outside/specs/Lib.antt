@@ -1,5 +1,6 @@
 pub mod Counts
 pub mod Told
+pub mod States
 pub mod Fetch
 pub mod Put
 pub mod MemoryShelf

@@ -5,6 +5,7 @@ use Rattle.std.specs.BTreeMap.{get_by_text}
 use Rattle.std.specs.BTreeSet.{contains}
 use Rattle.std.specs.declared.alloc.Global.{Global}
 use Rattle.ig_outside.specs.declared.memory_shelf.MemoryShelf.{MemoryShelf}
+use Rattle.ig_outside.specs.States.{ShelfState}
 use Rattle.ig_outside.specs.Told.{Told, nothing, bytes}
 
 -- what is told of a name where this is found
@@ -23,6 +24,10 @@ faults_of s = s.faults
 -- how many fetches there were
 abbrev pub fetches_of : MemoryShelf → ℕ
 fetches_of s = s.fetches
+
+-- what its callers see
+abbrev pub state_of : MemoryShelf → ShelfState
+state_of s = record { holds = content_of s; faults = faults_of s; fetches = fetches_of s }
 
 -- whether the fetch of this number was told to fail
 abbrev pub fails_at : MemoryShelf → ℕ → Bool

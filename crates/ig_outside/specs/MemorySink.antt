@@ -4,6 +4,7 @@ use Rattle.std.specs.Ordering.{nat_cmp}
 use Rattle.std.specs.BTreeMap.{get}
 use Rattle.ig_outside.specs.declared.memory_sink.MemorySink.{MemorySink}
 use Rattle.ig_outside.specs.Counts.{risen}
+use Rattle.ig_outside.specs.States.{SinkState}
 
 -- the bytes that the sink took so far
 abbrev pub taken_by : MemorySink → List ℕ
@@ -24,6 +25,10 @@ faults_of s = s.faults
 -- how many puts there were
 abbrev pub puts_of : MemorySink → ℕ
 puts_of s = s.puts
+
+-- what its callers see
+abbrev pub state_of : MemorySink → SinkState
+state_of s = record { got = Some (taken_by s); faults = faults_of s }
 
 -- how many bytes the put of this number may append before it fails, where it was told to fail
 abbrev pub kept_at : MemorySink → ℕ → Option ℕ

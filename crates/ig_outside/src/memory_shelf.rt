@@ -1,9 +1,12 @@
 //! A shelf in memory, which fails at the fetches that it was told to fail at.
-ghost use Rattle.std.specs.Prelude.{◌≡◌, ◌≢◌, ℕ, ◌≤◌, ◌↔◌, List, IsTrue, false, OnOk, OnErr, if◌then◌else◌, option_copied};
+ghost use Rattle.std.specs.Prelude.{◌≡◌, ◌≢◌, ℕ, ◌≤◌, ◌↔◌, List, IsTrue, false, OnOk, OnErr};
+ghost use Rattle.std.specs.Prelude.{if◌then◌else◌, option_copied};
 ghost use Rattle.ig_outside.specs.Counts.{last_count, risen};
 ghost use Rattle.ig_outside.specs.Told.{nothing};
 ghost use Rattle.ig_outside.specs.Fetch.{AnswersFetch, CausesFetch};
-ghost use Rattle.ig_outside.specs.MemoryShelf.{content_of, told_of, faults_of, fetches_of, fails_at, Holds, Fails, SameContent, SameCounts, SameFailures};
+ghost use Rattle.ig_outside.specs.MemoryShelf.{content_of, told_of, faults_of, fetches_of};
+ghost use Rattle.ig_outside.specs.MemoryShelf.{state_of, fails_at, Holds, Fails, SameContent};
+ghost use Rattle.ig_outside.specs.MemoryShelf.{SameCounts, SameFailures};
 
 use crate::shelf::{FetchFault, Shelf};
 use std::alloc::{AllocError, Global};
@@ -23,10 +26,10 @@ pub struct MemoryShelf {
 impl MemoryShelf {
     /// A shelf that holds nothing, fails at no fetch and has the counts 0. Takes no memory.
     pub fn new(alloc: Global) -> MemoryShelf
-        ensures empty { (n : List ℕ) → ⟦<MemoryShelf as Shelf>⟧.holds result n ≡ nothing }
+        ensures empty { (n : List ℕ) → (⟦<MemoryShelf as Shelf>⟧.state result).holds n ≡ nothing }
         ensures no_failures { (k : ℕ) → fails_at result k ≡ false }
-        ensures faults { ⟦<MemoryShelf as Shelf>⟧.faults result ≡ 0 }
-        ensures fetches { ⟦<MemoryShelf as Shelf>⟧.fetches result ≡ 0 }
+        ensures faults { (⟦<MemoryShelf as Shelf>⟧.state result).faults ≡ 0 }
+        ensures fetches { (⟦<MemoryShelf as Shelf>⟧.state result).fetches ≡ 0 }
     {
         MemoryShelf {
             alloc,
@@ -67,29 +70,28 @@ impl MemoryShelf {
 
     /// How many fetches failed, or the last count where there were more. Takes no memory.
     pub fn count(&self) -> u64
-        ensures { result ≡ ⟦<MemoryShelf as Shelf>⟧.faults self.now }
+        ensures { result ≡ (⟦<MemoryShelf as Shelf>⟧.state self.now).faults }
     {
         self.faults
     }
 }
 
 impl Shelf for MemoryShelf {
-    ghost holds = { content_of };
-
-    ghost faults = { faults_of };
-
-    ghost fetches = { fetches_of };
+    ghost state = { state_of };
 
     /// Fetches as every shelf does. It fails exactly where this fetch was told to fail, and each
     /// failure raises the count of faults by one.
     fn fetch(&mut self, alloc: Global, name: &str, most: u64) -> Result<Vec<u8>, FetchFault>
         ensures answer { AnswersFetch (content_of self.old name.now) most result }
         ensures cause { CausesFetch (faults_of self.old) (faults_of self.new) result }
-        ensures bounded { (faults_of self.old ≤ last_count) × (faults_of self.new ≤ last_count) }
+        ensures before { faults_of self.old ≤ last_count }
+        ensures after { faults_of self.new ≤ last_count }
         ensures counted { fetches_of self.new ≡ risen (fetches_of self.old) }
         ensures same { (n : List ℕ) → content_of self.new n ≡ content_of self.old n }
-        ensures failed { IsTrue (fails_at self.old (fetches_of self.new)) ↔ (result ≡ Err FetchFault.Failed) }
-        ensures rise { faults_of self.new ≡ (if fails_at self.old (fetches_of self.new) then risen (faults_of self.old) else faults_of self.old) }
+        ensures failed { IsTrue (fails_at self.old (fetches_of self.new)) ↔
+            (result ≡ Err FetchFault.Failed) }
+        ensures rise { faults_of self.new ≡ (if fails_at self.old (fetches_of self.new)
+            then risen (faults_of self.old) else faults_of self.old) }
         ensures failures { SameFailures self.old self.new }
     {
         let faults = self.faults;

@@ -1,5 +1,7 @@
 //! A sink in memory, with a fixed room, which fails at the puts that it was told to fail at.
-ghost use Rattle.std.specs.Prelude.{◌≡◌, ℕ, ◌+◌, ◌≤◌, ◌↔◌, [], ◌++◌, length, take, vec_len, vec_capacity, IsOk, is_ok, Some, None, IfOk, OnOk, OnErr, if◌then◌else◌};
+ghost use Rattle.std.specs.Prelude.{◌≡◌, ℕ, ◌+◌, ◌≤◌, ◌↔◌, [], ◌++◌, length, take, vec_len};
+ghost use Rattle.std.specs.Prelude.{vec_capacity, IsOk, is_ok, Some, None, IfOk, OnOk, OnErr};
+ghost use Rattle.std.specs.Prelude.{if◌then◌else◌};
 ghost use Rattle.ig_outside.specs.Counts.{last_count, risen};
 ghost use Rattle.ig_outside.specs.Put.{AnswersPut, CausesPut};
 
@@ -23,16 +25,17 @@ pub struct MemorySink {
 }
 
 impl MemorySink {
-    ghost use Rattle.ig_outside.specs.MemorySink.{room_of, puts_of, kept_at, Fails, SameContent, SameCounts, SameFailures};
+    ghost use Rattle.ig_outside.specs.MemorySink.{room_of, puts_of, kept_at, Fails, SameContent};
+    ghost use Rattle.ig_outside.specs.MemorySink.{SameCounts, SameFailures};
 
     /// A sink with room for `room` bytes. It has none yet, fails at no put and has the counts 0.
     ///
     /// Refused only for want of memory for the room.
     pub fn new(alloc: Global, room: u64) -> Result<MemorySink, AllocError>
-        ensures empty { IfOk result (λ s. ⟦<MemorySink as Sink>⟧.got s ≡ Some []) }
+        ensures empty { IfOk result (λ s. (⟦<MemorySink as Sink>⟧.state s).got ≡ Some []) }
         ensures room { IfOk result (λ s. room_of s ≡ room) }
         ensures no_failures { IfOk result (λ s. (k : ℕ) → kept_at s k ≡ None) }
-        ensures faults { IfOk result (λ s. ⟦<MemorySink as Sink>⟧.faults s ≡ 0) }
+        ensures faults { IfOk result (λ s. (⟦<MemorySink as Sink>⟧.state s).faults ≡ 0) }
         ensures puts { IfOk result (λ s. puts_of s ≡ 0) }
     {
         let room = room as usize;
@@ -62,37 +65,41 @@ impl MemorySink {
 
     /// The bytes taken so far. Takes no memory.
     pub fn bytes(&self) -> &[u8]
-        ensures { ⟦<MemorySink as Sink>⟧.got self.now ≡ Some result.now }
+        ensures { (⟦<MemorySink as Sink>⟧.state self.now).got ≡ Some result.now }
     {
         self.taken.as_slice()
     }
 
     /// How many puts failed, or the last count where there were more. Takes no memory.
     pub fn count(&self) -> u64
-        ensures { result ≡ ⟦<MemorySink as Sink>⟧.faults self.now }
+        ensures { result ≡ (⟦<MemorySink as Sink>⟧.state self.now).faults }
     {
         self.faults
     }
 }
 
 impl Sink for MemorySink {
-    ghost use Rattle.ig_outside.specs.MemorySink.{taken_by, room_of, room_left, faults_of, puts_of, kept_at, limit_of, SameFailures};
+    ghost use Rattle.ig_outside.specs.MemorySink.{taken_by, room_of, room_left, faults_of, puts_of};
+    ghost use Rattle.ig_outside.specs.MemorySink.{kept_at, limit_of, state_of, SameFailures};
 
-    ghost got = { λ s. Some (taken_by s) };
-
-    ghost faults = { faults_of };
+    ghost state = { state_of };
 
     /// Puts as every sink does. It appends what the room and, where this put was told to fail, the
     /// bytes that it is to keep allow. It fails exactly where it was told to fail or the room does
     /// not suffice, and each failure raises the count of faults by one.
     fn put(&mut self, piece: &[u8]) -> Result<(), SinkFault>
-        ensures answer { AnswersPut (Some (taken_by self.old)) (Some (taken_by self.new)) piece.now result }
+        ensures answer { AnswersPut (state_of self.old).got
+            (state_of self.new).got piece.now result }
         ensures cause { CausesPut (faults_of self.old) (faults_of self.new) result }
-        ensures bounded { (faults_of self.old ≤ last_count) × (faults_of self.new ≤ last_count) }
+        ensures before { faults_of self.old ≤ last_count }
+        ensures after { faults_of self.new ≤ last_count }
         ensures counted { puts_of self.new ≡ risen (puts_of self.old) }
-        ensures appended { taken_by self.new ≡ taken_by self.old ++ take (limit_of self.old) piece.now }
-        ensures ok { IsOk result ↔ ((kept_at self.old (puts_of self.new) ≡ None) × (length piece.now ≤ room_left self.old)) }
-        ensures rise { faults_of self.new ≡ (if is_ok result then faults_of self.old else risen (faults_of self.old)) }
+        ensures appended { taken_by self.new ≡
+            taken_by self.old ++ take (limit_of self.old) piece.now }
+        ensures ok { IsOk result ↔ ((kept_at self.old (puts_of self.new) ≡ None)
+            × (length piece.now ≤ room_left self.old)) }
+        ensures rise { faults_of self.new ≡
+            (if is_ok result then faults_of self.old else risen (faults_of self.old)) }
         ensures room { room_of self.new ≡ room_of self.old }
         ensures failures { SameFailures self.old self.new }
     {

@@ -1,7 +1,7 @@
 //! The trait of what named bytes are fetched from.
 ghost use Rattle.std.specs.Prelude.{◌≡◌, ℕ, ◌≤◌, List};
 ghost use Rattle.ig_outside.specs.Counts.{last_count, risen};
-ghost use Rattle.ig_outside.specs.Told.{Told};
+ghost use Rattle.ig_outside.specs.States.{ShelfState};
 ghost use Rattle.ig_outside.specs.Fetch.{AnswersFetch, CausesFetch};
 
 use std::alloc::Global;
@@ -21,14 +21,9 @@ pub enum FetchFault {
 
 /// What named bytes are fetched from.
 pub trait Shelf {
-    /// What the shelf tells of each name, which is given by its bytes.
-    ghost holds: { Self → List ℕ → Told };
-
-    /// How many faults there were. It never falls, and stands still at its last value.
-    ghost faults: { Self → ℕ };
-
-    /// How many fetches there were. It stands still at its last value.
-    ghost fetches: { Self → ℕ };
+    /// What the shelf tells of each name, which is given by its bytes, and how many faults and how
+    /// many fetches there were. A count never falls, and stands still at its last value.
+    ghost state: { Self → ShelfState };
 
     /// Fetches the bytes under `name`, of which there are to be at most `most`. A shelf that tells
     /// gives exactly what it holds; one that does not may give any bytes, but no more than `most`.
@@ -42,9 +37,10 @@ pub trait Shelf {
     /// Every answer but `Failed` leaves the count of faults as it was. No answer changes what the
     /// shelf holds, and each call is counted.
     fn fetch(&mut self, alloc: Global, name: &str, most: u64) -> Result<Vec<u8>, FetchFault>
-        ensures answer { AnswersFetch (holds self.old name.now) most result }
-        ensures cause { CausesFetch (faults self.old) (faults self.new) result }
-        ensures bounded { (faults self.old ≤ last_count) × (faults self.new ≤ last_count) }
-        ensures counted { fetches self.new ≡ risen (fetches self.old) }
-        ensures same { (n : List ℕ) → holds self.new n ≡ holds self.old n };
+        ensures answer { AnswersFetch ((state self.old).holds name.now) most result }
+        ensures cause { CausesFetch (state self.old).faults (state self.new).faults result }
+        ensures before { (state self.old).faults ≤ last_count }
+        ensures after { (state self.new).faults ≤ last_count }
+        ensures counted { (state self.new).fetches ≡ risen (state self.old).fetches }
+        ensures same { (n : List ℕ) → (state self.new).holds n ≡ (state self.old).holds n };
 }
