@@ -1,17 +1,14 @@
 -- From the parts of a grammar to the whole of it.
-use Rattle.std.proofs.Common.{◌≡◌, ℕ, zero, suc, ◌<◌, ◌≤◌, ◌+◌, ◌⊎◌, inl, inr, List, [], ◌∷◌, ◌++◌, length, get_or, take, Option, Some, Bool, true, false, ◌||◌, cond, refl, sym, ◌∙◌, ap, subst, arith, Result, Ok, Err}
-use Rattle.std.specs.Prelude.{Contains, IsTrue, ◌↔◌, slice_get, count_by}
+use Rattle.std.proofs.Common.{◌≡◌, ℕ, zero, suc, ◌<◌, ◌≤◌, ◌+◌, ◌⊎◌, inl, inr, List, [], ◌∷◌, length, get_or, take, Some, Bool, true, false, ◌||◌, cond, refl, sym, ◌∙◌, ap, subst, arith, Result, Ok, Err}
+use Rattle.std.specs.Prelude.{slice_get}
 use Rattle.std.specs.Result.{IsErrAnd}
-use Rattle.std.proofs.lemmas.List.{take_more}
 use Rattle.std.proofs.lemmas.List.Sums.{count_by_more_yes, count_by_more_no}
-use Rattle.std.proofs.lemmas.List.Elements.{Contains-push, Contains-push_cases, Contains-append_left}
 use Rattle.std.proofs.lemmas.Option.{slice_get-get_or}
 use Rattle.ig_grammar.specs.Numbering.{alternatives}
 use Rattle.ig_grammar.specs.Name.{is_name}
 use Rattle.ig_grammar.specs.Condition.{Condition, HeadMeets, StartMeets, too_many_parameters, TooMany, Parameters, most_parameters, named_parameters}
 use Rattle.ig_grammar.specs.WellScoped.{IsLeast, IsFirst, IsBefore, GrammarHas, DeclarationHas, AlternativeHas}
 use Rattle.ig_grammar.specs.declared.symbol.Alt.{Alt}
-use Rattle.ig_grammar.specs.declared.declaration.DeclKind.TheVariants.{Layout}
 use Rattle.ig_grammar.specs.declared.declaration.Decl.{Decl}
 use Rattle.ig_grammar.specs.declared.grammar.Grammar.{Grammar}
 use Rattle.ig_grammar.specs.declared.place.Place.{Place}
@@ -22,11 +19,9 @@ use Rattle.ig_scope.specs.Heads.{count_names, is_layout, have_layout}
 use Rattle.ig_scope.specs.Told.{FirstIn, FirstPair, AlternativeFree, AlternativeCaught, OfAlternatives, TellsDeclaration, AreFree, TellsDeclarations, TellsGrammar}
 use Rattle.ig_scope.specs.declared.fault.ScopeFault.{ScopeFault}
 use Rattle.ig_scope.specs.declared.fault.ScopeFault.TheVariants.{Broken, Memory}
+use Rattle.ig_text.proofs.Options.{one_value}
 use Rattle.ig_scope.proofs.Firsts.{first_there, first_before, free_at}
 use Rattle.ig_scope.proofs.Walks.{fault_passed}
-
-one : {X : Type 0} (r : Option X) (x y : X) → r ≡ Some x → r ≡ Some y → x ≡ y
-one r x y e f = let z : Some x ≡ Some y = sym e ∙ f in cc
 
 module _ (decls : List Decl) (index : ℕ) (decl : Decl) where
   pub head_told : (c : Condition) → IsLeast (HeadMeets decls index decl) c → FirstPair (DeclarationHas decls index decl) 0 0 c
@@ -50,8 +45,8 @@ module _ (decls : List Decl) (index : ℕ) (decl : Decl) where
       record {
         there = record {
           holds = (t.0, t.1, t.2.there.holds);
-          least = λ other h. t.2.there.least other (subst (λ a. AlternativeHas decls decl a s other) (one (slice_get (alternatives decl.levels) k) h.0 t.0 h.1 t.1) h.2);
-          first_case = λ other h e. t.2.there.first_case other (subst (λ a. AlternativeHas decls decl a s other) (one (slice_get (alternatives decl.levels) k) h.0 t.0 h.1 t.1) h.2) e;
+          least = λ other h. t.2.there.least other (subst (λ a. AlternativeHas decls decl a s other) (one_value (slice_get (alternatives decl.levels) k) h.0 t.0 h.1 t.1) h.2);
+          first_case = λ other h e. t.2.there.first_case other (subst (λ a. AlternativeHas decls decl a s other) (one_value (slice_get (alternatives decl.levels) k) h.0 t.0 h.1 t.1) h.2) e;
         };
         none_before = λ b u other l h. go b u other l h t;
       }
@@ -64,7 +59,7 @@ module _ (decls : List Decl) (index : ℕ) (decl : Decl) where
           first_before (AlternativeFree decls decl) (AlternativeCaught decls decl s c) (alternatives decl.levels) k f j h.0 (omega arith) h.1 u other h.2
       go (suc j) u other (inr l) h t =
           let same : j ≡ k = (let z = l.0 in omega arith) in
-          let a = one (slice_get (alternatives decl.levels) k) h.0 t.0 (ap (slice_get (alternatives decl.levels)) (sym same) ∙ h.1) t.1 in
+          let a = one_value (slice_get (alternatives decl.levels) k) h.0 t.0 (ap (slice_get (alternatives decl.levels)) (sym same) ∙ h.1) t.1 in
           t.2.none_before u other l.1 (subst (λ a. AlternativeHas decls decl a u other) a h.2)
 
 pub declaration_told : (decls : List Decl) (decl : Decl) (index : ℕ) (r : Result (Unit {0}) ScopeFault) →
@@ -88,7 +83,7 @@ free_more decls i decl l e f h k d a s c m g p =
     elim (split k i m) [
       | inl r ↦ f k d a s c r g p
       | inr r ↦
-          let same = one (slice_get decls i) d decl (ap (slice_get decls) (sym r) ∙ g) (slice_get-get_or decls i decl l ∙ ap Some (sym e)) in
+          let same = one_value (slice_get decls i) d decl (ap (slice_get decls) (sym r) ∙ g) (slice_get-get_or decls i decl l ∙ ap Some (sym e)) in
           h a s c (subst (λ z. DeclarationHas decls i z a s c) same (subst (λ z. DeclarationHas decls z d a s c) r p))
     ]
   where
@@ -131,8 +126,8 @@ module _ (g : Grammar) where
   caught_declaration index a s decl c n at f free = record {
     there = record {
       holds = (decl, at, f.there.holds);
-      least = λ other h. f.there.least other (subst (λ d. DeclarationHas g.decls index d a s other) (one (slice_get g.decls index) h.0 decl h.1 at) h.2);
-      first_case = λ other h e. f.there.first_case other (subst (λ d. DeclarationHas g.decls index d a s other) (one (slice_get g.decls index) h.0 decl h.1 at) h.2) e;
+      least = λ other h. f.there.least other (subst (λ d. DeclarationHas g.decls index d a s other) (one_value (slice_get g.decls index) h.0 decl h.1 at) h.2);
+      first_case = λ other h e. f.there.first_case other (subst (λ d. DeclarationHas g.decls index d a s other) (one_value (slice_get g.decls index) h.0 decl h.1 at) h.2) e;
     };
     none_before = λ p other l h. go p.decl p.alt p.symbol other l h;
   }
@@ -144,7 +139,7 @@ module _ (g : Grammar) where
       go (suc j) b t other (inl l) h = free j h.0 b t other (omega arith) h.1 h.2
       go (suc j) b t other (inr l) h =
           let same : j ≡ index = (let z = l.0 in omega arith) in
-          let d = one (slice_get g.decls index) h.0 decl (ap (slice_get g.decls) (sym same) ∙ h.1) at in
+          let d = one_value (slice_get g.decls index) h.0 decl (ap (slice_get g.decls) (sym same) ∙ h.1) at in
           f.none_before b t other l.1 (subst (λ z. DeclarationHas g.decls index z b t other) d (subst (λ z. DeclarationHas g.decls z h.0 b t other) same h.2))
 
   pub grammar_told : (r : Result (Unit {0}) ScopeFault) → NoneHolds (StartMeets g) → TellsDeclarations g.decls r → TellsGrammar g r

@@ -1,13 +1,13 @@
 -- The alternatives of a declaration, one after the other.
 use Rattle.std.proofs.Common.{◌≡◌, ℕ, zero, suc, ◌<◌, ◌≤◌, ◌+◌, ◌-◌, cond, List, [], ◌∷◌, ◌++◌, length, get_or, take, Option, Some, None, Bool, true, false, refl, sym, ◌∙◌, ap, subst, arith, length-append, Result, Ok, Err, true≢false}
-use Rattle.std.specs.Prelude.{All, Contains, IsTrue, ◌↔◌, slice_get, is_none, is_some, not}
+use Rattle.std.specs.Prelude.{All, Contains, IsTrue, ◌↔◌, slice_get, is_none}
 use Rattle.std.specs.Result.{IsErrAnd}
 use Rattle.std.proofs.lemmas.List.{take_more, take_all, append-nil}
 use Rattle.std.proofs.lemmas.Grind.{flat_map-append}
 use Rattle.std.proofs.lemmas.List.Elements.{All-append, Contains-append_left, Contains-append_right}
 use Rattle.ig_grammar.specs.Numbering.{alternatives}
 use Rattle.ig_grammar.specs.Name.{is_name}
-use Rattle.ig_grammar.specs.Visible.{Visible, Occurrence}
+use Rattle.ig_grammar.specs.Visible.{Occurrence}
 use Rattle.ig_grammar.specs.Condition.{Condition, number, case_number, SymbolMeets, AlternativeMeets, TooMany, Variables, most_variables, too_many_variables, named_parameters, symbols_of}
 use Rattle.ig_grammar.specs.WellScoped.{AlternativeHas}
 use Rattle.ig_grammar.specs.declared.symbol.Alt.{Alt}
@@ -183,12 +183,6 @@ level_fits all front level before s e l =
 pub level_within : (all front : List Level) (level : Level) (a : Alt) → SplitsLevels all front level → Contains level.alts a → Contains (alternatives all) a
 level_within all front level a s m =
     subst (λ z. Contains z a) (sym s.whole) (Contains-append_left (alternatives front ++ level.alts) s.rest a (Contains-append_right (alternatives front) level.alts a m))
-
-pub none_is : (r : Option ℕ) (b : Bool) → is_some r ≡ not b → is_none r ≡ b
-none_is None true e = refl
-none_is None false e = cc
-none_is (Some x) true e = cc
-none_is (Some x) false e = refl
 
 pub level_done : (decls : List Decl) (decl : Decl) (nr before next i : ℕ) (alts : List Alt) → next ≡ before + i →
     All (AlternativeFree decls decl) (take i alts) → i ≤ length alts → length alts ≤ i → OfLevel decls decl nr before alts (Ok next)

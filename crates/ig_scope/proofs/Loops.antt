@@ -1,7 +1,7 @@
 -- Walks along a sequence, and along the alternatives of a group: a member after those before it.
-use Rattle.std.proofs.Common.{◌≡◌, ℕ, zero, suc, ◌<◌, ◌+◌, List, [], ◌∷◌, ◌++◌, length, take, get_or, map, refl, sym, ◌∙◌, ap, subst, arith, length-append, Result, Ok, Err}
+use Rattle.std.proofs.Common.{◌≡◌, ℕ, zero, suc, ◌<◌, ◌+◌, List, [], ◌∷◌, ◌++◌, length, take, get_or, map, sym, ◌∙◌, ap, subst, arith, length-append, Result, Ok, Err}
 use Rattle.std.specs.Result.{IsErrAnd}
-use Rattle.std.proofs.lemmas.List.{append-nil, map_more}
+use Rattle.std.proofs.lemmas.List.{append-nil, map_more, map-append}
 use Rattle.ig_grammar.specs.Symbol as tree
 use Rattle.ig_grammar.specs.Symbol.{gathered}
 use Rattle.ig_grammar.specs.Alternative.{gathered_alternatives}
@@ -25,17 +25,13 @@ split_at [] i x l e = let f : ⊥ = omega arith in absurd f
 split_at (y ∷ xs) zero x l e = record { rest = xs; whole = ap (λ z. z ∷ xs) (sym e) }
 split_at (y ∷ xs) (suc i) x l e = let h = split_at xs i x (omega arith) e in record { rest = h.rest; whole = ap (λ z. y ∷ z) h.whole }
 
-map_append : {X Y : Type 0} (f : X → Y) (xs ys : List X) → map f (xs ++ ys) ≡ map f xs ++ map f ys
-map_append f [] ys = refl
-map_append f (x ∷ xs) ys = ap (λ z. f x ∷ z) (map_append f xs ys)
-
 pub split_map : {X Y : Type 0} (f : X → Y) (xs : List X) (ys : List Y) (i : ℕ) (x : X) → map f xs ≡ ys → i < length xs → x ≡ get_or xs i x →
     Splits ys (map f (take i xs)) (f x)
 split_map f xs ys i x m l e =
     let h = split_at xs i x l e in
     record {
       rest = map f h.rest;
-      whole = sym m ∙ ap (map f) h.whole ∙ map_append f (take i xs ++ x ∷ []) h.rest ∙ ap (λ z. z ++ map f h.rest) (map_append f (take i xs) (x ∷ []));
+      whole = sym m ∙ ap (map f) h.whole ∙ map-append f (take i xs ++ x ∷ []) h.rest ∙ ap (λ z. z ++ map f h.rest) (map-append f (take i xs) (x ∷ []));
     }
 
 pub more_mapped : {X Y : Type 0} (f : X → Y) (xs : List X) (i : ℕ) (x : X) → i < length xs → x ≡ get_or xs i x →

@@ -1,7 +1,8 @@
 -- Sequences and groups, in two parts.
 use Rattle.std.proofs.Common.{◌≡◌, ℕ, zero, suc, ◌<◌, ◌≤◌, List, [], ◌∷◌, ◌++◌, length, get_or, map, refl, sym, ◌∙◌, ap, subst, arith, append_assoc}
 use Rattle.std.proofs.lemmas.List.{append-nil}
-use Rattle.ig_grammar.specs.Symbol.{Symbol, gathered, nodes, nodes_of_symbols, nodes_of_alternatives}
+use Rattle.ig_grammar.specs.CodingSizes.{nodes, nodes_of_symbols, nodes_of_alternatives}
+use Rattle.ig_grammar.specs.Symbol.{Symbol, gathered}
 use Rattle.ig_grammar.specs.Alternative.{gathered_alternatives}
 use Rattle.ig_grammar.specs.Visible.{Visible, inside_sequence, inside_choices, binds, all_bind}
 use Rattle.ig_grammar.specs.View.{symbol_of}

@@ -1,23 +1,18 @@
 -- What holds at the start line.
-use Rattle.std.proofs.Common.{◌≡◌, ◌≢◌, ℕ, ◌≤◌, List, [], Option, Some, None, sym, ◌∙◌, ap, arith}
+use Rattle.std.proofs.Common.{◌≡◌, ◌≢◌, ℕ, ◌≤◌, List, [], Some, None, ◌∙◌, ap, arith}
 use Rattle.ig_grammar.specs.Condition as condition
 use Rattle.ig_grammar.specs.Condition.{Condition, number, StartMeets, declaration_of, unknown_start, no_start, start_has_parameters}
 use Rattle.ig_grammar.specs.WellScoped.{IsLeast}
 use Rattle.ig_grammar.specs.declared.declaration.Decl.{Decl}
 use Rattle.ig_grammar.specs.declared.grammar.Grammar.{Grammar}
-
-apart : {X : Type 0} (r : Option X) (x : X) → r ≡ None → r ≡ Some x → ⊥
-apart r x p q = let f : None ≡ Some x = sym p ∙ q in cc
-
-same : {X : Type 0} (r : Option X) (x y : X) → r ≡ Some x → r ≡ Some y → x ≡ y
-same r x y p q = let f : Some x ≡ Some y = sym p ∙ q in cc
+use Rattle.ig_text.proofs.Options.{not_none, one_value}
 
 module _ (g : Grammar) where
   pub start_missing : g.start ≡ None → IsLeast (StartMeets g) condition.NoStart
   start_missing n = record { holds = no_start n; least = λ other h. go other h; first_case = λ other p e. omega arith }
     where
       go : (other : Condition) → StartMeets g other → 7 ≤ number other
-      go other (unknown_start name s d) = absurd (apart g.start name n s)
+      go other (unknown_start name s d) = absurd (not_none g.start name n s)
       go other (no_start s) = omega arith
       go other (start_has_parameters name decl s d p) = omega arith
 
@@ -34,6 +29,6 @@ module _ (g : Grammar) where
   start_parametrized name decl s d p = record { holds = start_has_parameters name decl s d p; least = λ other h. go other h; first_case = λ other p e. omega arith }
     where
       go : (other : Condition) → StartMeets g other → 8 ≤ number other
-      go other (unknown_start n t e) = absurd (apart (declaration_of g.decls name) decl (ap (declaration_of g.decls) (same g.start name n s t) ∙ e) d)
-      go other (no_start t) = absurd (apart g.start name t s)
+      go other (unknown_start n t e) = absurd (not_none (declaration_of g.decls name) decl (ap (declaration_of g.decls) (one_value g.start name n s t) ∙ e) d)
+      go other (no_start t) = absurd (not_none g.start name t s)
       go other (start_has_parameters n e t f q) = omega arith

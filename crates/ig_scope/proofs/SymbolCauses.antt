@@ -1,6 +1,6 @@
 -- What holds at a symbol of each form.
 use Rattle.std.proofs.Common.{◌≡◌, ◌≢◌, ℕ, zero, suc, ◌<◌, ◌≤◌, List, [], ◌∷◌, length, get_or, map, Option, Some, None, refl, sym, ◌∙◌, ap, subst, arith}
-use Rattle.std.specs.Prelude.{Contains, slice_get, MatchOption}
+use Rattle.std.specs.Prelude.{Contains, slice_get}
 use Rattle.std.proofs.lemmas.Option.{slice_get-get_or}
 use Rattle.ig_expr.specs.Expression.{Expression}
 use Rattle.ig_expr.specs.declared.kind.Kind.TheVariants as kind
@@ -16,6 +16,7 @@ use Rattle.ig_grammar.specs.declared.declaration.DeclKind.TheVariants.{Syntax}
 use Rattle.ig_grammar.specs.declared.declaration.Param.{Param}
 use Rattle.ig_grammar.specs.declared.declaration.Decl.{Decl}
 use Rattle.ig_scope.specs.Causes.{Tells, NoneHolds}
+use Rattle.ig_text.proofs.Options.{not_none}
 use Rattle.ig_scope.specs.Told.{HasUnknown, HasUnkinded, IsMismatched, TellsMark}
 use Rattle.ig_scope.specs.declared.fault.ScopeCause.{ScopeCause}
 use Rattle.ig_scope.specs.declared.fault.ScopeCause.TheVariants.{MarkInLexical}
@@ -198,9 +199,6 @@ module _ (decls : List Decl) (within : DeclKind) (v : Visible) where
   entry_free bs x n k c (unknown_variable y d m u) = n (d, m, u)
   entry_free bs x n k c (no_kind y d m u) = k (d, m, u.1)
 
-  undeclared : (r : Option Decl) (callee : Decl) → r ≡ None → r ≡ Some callee → ⊥
-  undeclared r callee n s = let f : None ≡ Some callee = sym n ∙ s in cc
-
   one_callee : (r : Option Decl) (a b : Decl) → r ≡ Some a → r ≡ Some b → a ≡ b
   one_callee r a b p q = let f : Some a ≡ Some b = sym p ∙ q in cc
 
@@ -221,7 +219,7 @@ module _ (decls : List Decl) (within : DeclKind) (v : Visible) where
     call_arity a = record { holds = wrong_arity name es callee found a; least = λ other h. go other h; first_case = λ other p e. omega arith }
       where
         go : (other : Condition) → SymbolMeets decls within v (Call name es) other → 3 ≤ number other
-        go other (unknown_name n m p) = absurd (undeclared (declaration_of decls name) callee p found)
+        go other (unknown_name n m p) = absurd (not_none (declaration_of decls name) callee p found)
         go other (wrong_arity n m d p q) = omega arith
         go other (unknown_variable y e m u) = omega arith
         go other (no_kind y e m u) = omega arith
@@ -232,7 +230,7 @@ module _ (decls : List Decl) (within : DeclKind) (v : Visible) where
     call_unknown a h = record { holds = unknown_variable (Call name es) h.0 h.1 h.2; least = λ other h. go other h; first_case = λ other p e. omega arith }
       where
         go : (other : Condition) → SymbolMeets decls within v (Call name es) other → 4 ≤ number other
-        go other (unknown_name n m p) = absurd (undeclared (declaration_of decls name) callee p found)
+        go other (unknown_name n m p) = absurd (not_none (declaration_of decls name) callee p found)
         go other (wrong_arity n m d p q) = absurd (q (a ∙ ap (λ (z : Decl). length z.params) (one_callee (declaration_of decls name) callee d found p)))
         go other (unknown_variable y e m u) = omega arith
         go other (no_kind y e m u) = omega arith
@@ -248,7 +246,7 @@ module _ (decls : List Decl) (within : DeclKind) (v : Visible) where
     }
       where
         go : (other : Condition) → SymbolMeets decls within v (Call name es) other → 6 ≤ number other
-        go other (unknown_name n m p) = absurd (undeclared (declaration_of decls name) callee p found)
+        go other (unknown_name n m p) = absurd (not_none (declaration_of decls name) callee p found)
         go other (wrong_arity n m d p q) = absurd (q (a ∙ ap (λ (z : Decl). length z.params) (one_callee (declaration_of decls name) callee d found p)))
         go other (unknown_variable y e m u) = absurd (n (e, m, u))
         go other (no_kind y e m u) = omega arith
@@ -279,7 +277,7 @@ module _ (decls : List Decl) (within : DeclKind) (v : Visible) where
     call_syntax a n f i s = record { holds = syntax_in_lexical name es callee i found s; least = λ other h. go other h; first_case = λ other p e. omega arith }
       where
         go : (other : Condition) → SymbolMeets decls within v (Call name es) other → 12 ≤ number other
-        go other (unknown_name x m p) = absurd (undeclared (declaration_of decls name) callee p found)
+        go other (unknown_name x m p) = absurd (not_none (declaration_of decls name) callee p found)
         go other (wrong_arity x m d p q) = absurd (q (a ∙ ap (λ (z : Decl). length z.params) (one_callee (declaration_of decls name) callee d found p)))
         go other (unknown_variable y e m u) = absurd (n (e, m, u))
         go other (no_kind y e m u) = let c = contained_at es e m in absurd (fitting a f c.0 e c.1 u.1)
@@ -290,7 +288,7 @@ module _ (decls : List Decl) (within : DeclKind) (v : Visible) where
 
     pub call_free : length es ≡ length callee.params → (HasUnknown v es → ⊥) → (IsMismatched v es callee.params → ⊥) → (IsInLexical within → callee.kind ≡ Syntax → ⊥) →
         NoneHolds (SymbolMeets decls within v (Call name es))
-    call_free a n f i c (unknown_name x m p) = undeclared (declaration_of decls name) callee p found
+    call_free a n f i c (unknown_name x m p) = not_none (declaration_of decls name) callee p found
     call_free a n f i c (wrong_arity x m d p q) = q (a ∙ ap (λ (z : Decl). length z.params) (one_callee (declaration_of decls name) callee d found p))
     call_free a n f i c (unknown_variable y e m u) = n (e, m, u)
     call_free a n f i c (no_kind y e m u) = let k = contained_at es e m in fitting a f k.0 e k.1 u.1

@@ -4,7 +4,7 @@ use Rattle.ig_expr.specs.Expression.{Expression}
 use Rattle.ig_grammar.specs.Symbol.{Symbol}
 use Rattle.ig_grammar.specs.Numbering.{alternatives}
 use Rattle.ig_grammar.specs.Visible.{Visible, Occurrence, at, inside, kind_at}
-use Rattle.ig_grammar.specs.Condition.{Condition, SymbolMeets, NamesUnknown, IsInLexical, symbols_of}
+use Rattle.ig_grammar.specs.Condition.{Condition, SymbolMeets, NamesUnknown, IsInLexical}
 use Rattle.ig_grammar.specs.WellScoped.{IsLeast, IsFirst, IsWellScoped, AlternativeHas, DeclarationHas}
 use Rattle.ig_grammar.specs.declared.symbol.Alt.{Alt}
 use Rattle.ig_grammar.specs.declared.declaration.DeclKind.{DeclKind}
@@ -118,7 +118,7 @@ module _ (decls : List Decl) (decl : Decl) (number : ℕ) where
   OfAlternatives (Err (Broken cause place)) =
       (k : ℕ) × (place.decl ≡ number) × (place.alt ≡ k + 1) ×
       FirstIn (AlternativeFree decls decl) (AlternativeCaught decls decl place.symbol (condition_of cause))
-          (alternatives decl.levels) k
+      (alternatives decl.levels) k
   OfAlternatives (Err Memory) = Unit {0}
 
 -- the same of a declaration with its number

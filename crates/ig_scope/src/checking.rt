@@ -55,10 +55,7 @@ fn check_grammar(alloc: Global, grammar: &Grammar) -> Result<(), ScopeFault>
 }
 
 /// The first fault of the declarations.
-fn check_declarations<'a>(
-    alloc: Global,
-    declarations: &'a Declarations<'a>,
-) -> Result<(), ScopeFault>
+fn check_declarations(alloc: Global, declarations: &Declarations) -> Result<(), ScopeFault>
     requires { AreNumbered declarations.now }
     ensures { TellsDeclarations declarations.now result }
 {

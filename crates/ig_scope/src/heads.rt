@@ -22,9 +22,9 @@ const MOST_PARAMETERS: usize = 16;
 
 /// A declaration where it stands, with what is before it.
 #[derive(Clone, Copy)]
-pub(crate) struct Head<'a> {
-    pub(crate) declarations: &'a Declarations<'a>,
-    pub(crate) decl: &'a Decl,
+pub(crate) struct Head<'d, 'g> {
+    pub(crate) declarations: &'d Declarations<'g>,
+    pub(crate) decl: &'g Decl,
     /// How many declarations stand before it.
     pub(crate) before: usize,
     /// How many of these have names of the notation.

@@ -13,9 +13,9 @@ const MOST_VARIABLES: usize = 32;
 
 /// A declaration, the number of which is `number`.
 #[derive(Clone, Copy)]
-pub(crate) struct Numbered<'a> {
-    pub(crate) declarations: &'a Declarations<'a>,
-    pub(crate) decl: &'a Decl,
+pub(crate) struct Numbered<'d, 'g> {
+    pub(crate) declarations: &'d Declarations<'g>,
+    pub(crate) decl: &'g Decl,
     pub(crate) number: u32,
     /// How many labels and lets each alternative may have; `None` where they aren't counted.
     pub(crate) room: Option<usize>,

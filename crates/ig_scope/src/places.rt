@@ -8,8 +8,8 @@ use ig_grammar::{DeclKind, Place};
 
 /// The alternative in which symbols stand, and the declarations that they call.
 #[derive(Clone, Copy)]
-pub(crate) struct Surroundings<'a> {
-    pub(crate) declarations: &'a Declarations<'a>,
+pub(crate) struct Surroundings<'d, 'g> {
+    pub(crate) declarations: &'d Declarations<'g>,
     /// What the declaration of the alternative is.
     pub(crate) kind: DeclKind,
     /// The number of that declaration.
@@ -18,7 +18,7 @@ pub(crate) struct Surroundings<'a> {
     pub(crate) alt: u32,
 }
 
-impl Surroundings<'_> {
+impl Surroundings<'_, '_> {
     /// The fault at the symbol that has so many before it in the alternative.
     pub(crate) fn fault(&self, cause: ScopeCause, before: u32) -> ScopeFault
         requires { before + 1 < counts_bound }

@@ -1,7 +1,7 @@
 ghost use Rattle.std.specs.Prelude.{◌≡◌, ◌∷◌, [], ◌++◌, ◌↔◌, length, take};
 ghost use Rattle.std.specs.Prelude.{IsTrue, Contains, Some, IfOk, OnOk};
 ghost use Rattle.ig_expr.specs.View.{expression_of};
-ghost use Rattle.ig_expr.specs.Names.{place_of, is_word};
+ghost use Rattle.ig_expr.specs.Names.{place_of};
 ghost use Rattle.ig_grammar.specs.Visible.{names, kind_at, parameters, replaced, with_kind};
 
 use ig_expr::{Expr, Kind, kind_of};
@@ -142,12 +142,5 @@ impl Variables {
 fn place_of(names: &[Word], name: &Word) -> Option<usize>
     ensures { result ≡ place_of names.now name.now }
 {
-    names.iter().position(|n| is_word(n, name))
-}
-
-/// Whether two words are equal.
-fn is_word(a: &Word, b: &Word) -> bool
-    ensures { result ≡ is_word a.now b.now }
-{
-    a.as_chars() == b.as_chars()
+    names.iter().position(|n| n == name)
 }

@@ -1,4 +1,4 @@
-use Rattle.std.proofs.Common.{refl, subst, ◌+◌}
+use Rattle.std.proofs.Common.{subst}
 use Rattle.ig_grammar.specs.Condition.{HeadMeets}
 use Rattle.ig_scope.specs.Causes.{Tells}
 use Rattle.ig_scope.proofs.Checks.{few_parameters, declaration_told}

@@ -1,6 +1,7 @@
 use Rattle.std.proofs.Common.{◌*◌, ◌+◌, [], take, map, Ok}
 use Rattle.ig_grammar.specs.View.{symbol_of}
-use Rattle.ig_grammar.specs.Symbol.{nodes, nodes_of_symbols, nodes_of_alternatives, gathered}
+use Rattle.ig_grammar.specs.CodingSizes.{nodes, nodes_of_symbols, nodes_of_alternatives}
+use Rattle.ig_grammar.specs.Symbol.{gathered}
 use Rattle.ig_grammar.specs.Alternative.{gathered_alternatives}
 use Rattle.ig_grammar.specs.Visible.{inside_sequence, inside_choices, all_bind}
 use Rattle.ig_scope.specs.Told.{Walked}
