@@ -12,7 +12,7 @@ use Rattle.ig_tool.specs.declared.core_grammar.Step.TheVariants as step
 use Rattle.ig_text.specs.declared.tag.Tag.TheVariants.{Root}
 use Rattle.ig_tool.specs.Core.{alternative_of}
 use Rattle.ig_tool.specs.CoreOf.{core_of, alternatives, core_alt_of, core_alts_of, nonterminal_of, nonterminals_of, root_alts_of, step_of, number_of}
-use Rattle.ig_tool.specs.Accepted.{alt_dots, decl_dots, dots}
+use Rattle.ig_tool.specs.Accepted.{alt_dots, decl_dots, dots, most_dots}
 use Rattle.ig_tool.specs.Saturation.{FitsNumbers}
 use Rattle.ig_tool.proofs.LevelAlternatives.{few_alternatives, dots_of_alternatives, alts_length}
 
@@ -93,14 +93,14 @@ steps_few g (suc n) a made alt e f =
     let same : length alt.steps ≡ length of.0.symbols = of.2 in
     omega arith
 
-alternative_is : (g : Grammar) (few : dots g ≤ 65536) (n a : ℕ) (o : Option Nonterminal) (alt : CoreAlt) →
+alternative_is : (g : Grammar) (few : dots g ≤ most_dots) (n a : ℕ) (o : Option Nonterminal) (alt : CoreAlt) →
     slice_get (core_of g).nonterminals n ≡ o → alternative_of o a ≡ Some alt → length alt.steps < 2 ^ 32
 alternative_is g few n a None alt e f = cc
 alternative_is g few n a (Some made) alt e f =
     let h : length alt.steps ≤ dots g = steps_few g n a made alt e f in omega arith
 
 -- an accepted grammar has few dots, so all numbers of its core grammar fit
-pub core_fits : (g : Grammar) → dots g ≤ 65536 → FitsNumbers (core_of g)
+pub core_fits : (g : Grammar) → dots g ≤ most_dots → FitsNumbers (core_of g)
 core_fits g few =
     record {
       alternatives = λ n made e. let h : length made.alternatives ≤ dots g = alternatives_few g n made e in omega arith;

@@ -16,14 +16,6 @@ use Rattle.ig_tool.specs.declared.stop.Stop.TheVariants as halt
 use Rattle.ig_tool.specs.Refusals.{IsRefused, not_grammar, too_large, not_scoped, large_text, condition_text, place_text}
 use Rattle.ig_tool.specs.Stops.{ReadsGrammar, RefusesWith}
 
--- bytes that aren't too many are few
-pub few_bytes : (bytes : List ℕ) (b : Bool) → IsTrue b ↔ (262144 < length bytes) → b ≡ false → length bytes ≤ 262144
-few_bytes bytes b h e = go (cases_lt 262144 (length bytes))
-  where
-    go : (262144 < length bytes) ⊎ (length bytes ≤ 262144) → length bytes ≤ 262144
-    go (inl more) = let on = h.1 more in absurd (cc)
-    go (inr few) = few
-
 -- a refusal with the text of the bytes' fault
 pub refused_as : (bytes text : List ℕ) (stop : Stop) → RefusesWith text stop → IsRefused bytes text → ReadsGrammar bytes (Err stop)
 refused_as bytes text (halt.Note s line) h refused =

@@ -3,24 +3,25 @@ use Rattle.std.proofs.Common.{◌≡◌, ◌≢◌, ℕ, List, [], ◌++◌, ◌
 use Rattle.std.proofs.lemmas.List.{append-nil}
 use Rattle.std.specs.Prelude.{chars, option_map}
 use Rattle.ig_text.specs.Decoding.{IsDecoded, IsFaulty}
+use Rattle.ig_text.specs.Limits.{most_bytes, most_characters}
 use Rattle.ig_text.specs.declared.text.TextFault.{TextFault}
 use Rattle.ig_text.specs.declared.text.TextFault.TheVariants as text_fault
-use Rattle.ig_outside.specs.Counts.{Rose}
+use Rattle.ig_outside.specs.States.{ShelfState, SinkState}
 use Rattle.ig_outside.specs.Told.{Told, silent, nothing, bytes}
 use Rattle.ig_grammar.specs.declared.grammar.Grammar.{Grammar}
 use Rattle.ig_grammar.specs.WellScoped.{IsFirst}
-use Rattle.ig_notation.specs.Outcome.{too_many_bytes}
+use Rattle.ig_notation.specs.Outcome.{too_many_bytes, OneReading, ReadOrRefused}
 use Rattle.ig_notation.specs.declared.fault.Large.TheVariants as large
 use Rattle.ig_notation.specs.declared.fault.ReadFault.TheVariants as read
-use Rattle.ig_notation.proofs.Readings.{only_reading, not_both}
 use Rattle.ig_tool.specs.declared.status.Status.{Status}
 use Rattle.ig_tool.specs.declared.status.Status.TheVariants as status
 use Rattle.ig_tool.specs.Commands.{Request, check, show, forest, grammar_name, IsCommand}
 use Rattle.ig_tool.specs.CoreOf.{core_of}
 use Rattle.ig_tool.specs.Accepted.{IsAccepted, IsRunnable}
 use Rattle.ig_tool.specs.Refusals.{IsRefused, too_many, not_utf8, not_grammar, too_large, not_scoped}
+use Rattle.ig_tool.specs.Change.{Change, FetchFailed, PutFailed, Got, Untouched}
 use Rattle.ig_tool.specs.Outcome as answer
-use Rattle.ig_tool.specs.Outcome.{MayGive, HasFiles, IsForestOf, Decided, ok_text, shown_text, Sunk, Got, Failed, Untouched, Noted, Answers, written, noted, unwritten, unnoted, no_memory}
+use Rattle.ig_tool.specs.Outcome.{MayGive, HasFiles, IsForestOf, Decided, ok_text, shown_text, Answers, written, noted, unwritten, unnoted, no_memory}
 use Rattle.ig_tool.specs.Headline.{Asks, Outcome, over_budget, no_parse, parsed, Says, Headline, checks, shows, GrammarCommands}
 use Rattle.ig_tool.proofs.Uniqueness.{only_one}
 
@@ -36,17 +37,25 @@ same_request words (forest g i) (check h) a b = let p = a.words_are in let q = b
 same_request words (forest g i) (show h) a b = let p = a.words_are in let q = b.words_are in cc
 same_request words (forest g i) (forest h j) a b = let p = a.words_are in let q = b.words_are in cc
 
+-- what the reader's laws say
+pub record Laws : Type 0 where
+  pub only_reading : OneReading
+  pub not_both : ReadOrRefused
+
+pub given : OneReading → ReadOrRefused → Laws
+given one apart = record { only_reading = one; not_both = apart }
+
 -- bytes that are accepted aren't refused
-accepted_or_refused : (xs text : List ℕ) (g : Grammar) → IsAccepted xs g → IsRefused xs text → ⊥
-accepted_or_refused xs text g a (too_many more) =
-    let none = not_both xs g (read.TooLarge large.Bytes) a.reading (too_many_bytes more) in cc
-accepted_or_refused xs text g a (not_utf8 at few bad valid) = bad a.utf8
-accepted_or_refused xs text g a (not_grammar at utf8 fault) = let none = not_both xs g (read.Syntax at) a.reading fault in cc
-accepted_or_refused xs text g a (too_large which utf8 fault) =
-    let none = not_both xs g (read.TooLarge which) a.reading fault in cc
-accepted_or_refused xs text g a (not_scoped h place c utf8 reading first) =
+accepted_or_refused : (laws : Laws) (xs text : List ℕ) (g : Grammar) → IsAccepted xs g → IsRefused xs text → ⊥
+accepted_or_refused laws xs text g a (too_many more) =
+    let none = laws.not_both xs g (read.TooLarge large.Bytes) a.reading (too_many_bytes more) in cc
+accepted_or_refused laws xs text g a (not_utf8 at few bad valid) = bad a.utf8
+accepted_or_refused laws xs text g a (not_grammar at utf8 fault) = let none = laws.not_both xs g (read.Syntax at) a.reading fault in cc
+accepted_or_refused laws xs text g a (too_large which utf8 fault) =
+    let none = laws.not_both xs g (read.TooLarge which) a.reading fault in cc
+accepted_or_refused laws xs text g a (not_scoped h place c utf8 reading first) =
     a.scoped place c
-    (subst (λ (z : Grammar). IsFirst z place c) (only_reading xs h g reading a.reading) first).there.holds
+    (subst (λ (z : Grammar). IsFirst z place c) (laws.only_reading xs h g reading a.reading) first).there.holds
 
 gives_held : (told : Told) (xs ys : List ℕ) → told ≡ bytes xs → MayGive told ys → ys ≡ xs
 gives_held silent xs ys e h = cc
@@ -57,10 +66,10 @@ gives_held (bytes zs) xs ys e h = let same : zs ≡ xs = cc in h ∙ same
 not_faulty : (ys text : List ℕ) (fault : TextFault) → IsDecoded ys text → IsFaulty ys fault →
     fault ≢ text_fault.Memory → ⊥
 not_faulty ys text (text_fault.NotUtf8 at) d f c = f.not_utf8 d.utf8
-not_faulty ys text text_fault.TooLong d (inl f) c = let few : length ys ≤ 4194304 = d.few_bytes in omega arith
+not_faulty ys text text_fault.TooLong d (inl f) c = let few : length ys ≤ most_bytes = d.few_bytes in omega arith
 not_faulty ys text text_fault.TooLong d (inr f) c =
-    let few : length (chars ys) ≤ 1048576 = subst (λ (z : List ℕ). length z ≤ 1048576) d.characters d.few_characters in
-    let more : 1048576 < length (chars ys) = f.1 in
+    let few : length (chars ys) ≤ most_characters = subst (λ (z : List ℕ). length z ≤ most_characters) d.characters d.few_characters in
+    let more : most_characters < length (chars ys) = f.1 in
     omega arith
 not_faulty ys text text_fault.Memory d f c = c refl
 
@@ -69,31 +78,31 @@ nothing_added : (told : Option (List ℕ)) → told ≡ option_map (λ xs. xs ++
 nothing_added None = refl
 nothing_added (Some xs) = ap Some (sym (append-nil xs))
 
-got_none : (sink : Sunk) → Untouched sink → Got sink []
-got_none sink u = record { told = u.told ∙ nothing_added sink.told_before; calm = u.calm }
+got_none : (sink : Change SinkState) → Untouched sink → Got sink []
+got_none sink u = record { told = u.told ∙ nothing_added sink.before.got; calm = u.calm }
 
 -- where the words ask for a grammar that is held and accepted, it is what was read
-module _ (words : List (List ℕ)) (holds : List ℕ → Told) (request : Request) (asked : IsCommand words request)
-    (xs : List ℕ) (held : holds (grammar_name request) ≡ bytes xs) (g : Grammar) (accepted : IsAccepted xs g) where
-  told_grammar : (r : Request) → IsCommand words r → holds (grammar_name r) ≡ bytes xs
-  told_grammar r command = ap (λ z. holds (grammar_name z)) (same_request words r request command asked) ∙ held
+module _ (laws : Laws) (words : List (List ℕ)) (shelf : Change ShelfState) (request : Request) (asked : IsCommand words request)
+    (xs : List ℕ) (held : shelf.before.holds (grammar_name request) ≡ bytes xs) (g : Grammar) (accepted : IsAccepted xs g) where
+  told_grammar : (r : Request) → IsCommand words r → shelf.before.holds (grammar_name r) ≡ bytes xs
+  told_grammar r command = ap (λ z. shelf.before.holds (grammar_name z)) (same_request words r request command asked) ∙ held
 
-  given_grammar : (r : Request) (ys : List ℕ) → IsCommand words r → MayGive (holds (grammar_name r)) ys → ys ≡ xs
-  given_grammar r ys command gives = gives_held (holds (grammar_name r)) xs ys (told_grammar r command) gives
+  given_grammar : (r : Request) (ys : List ℕ) → IsCommand words r → MayGive (shelf.before.holds (grammar_name r)) ys → ys ≡ xs
+  given_grammar r ys command gives = gives_held (shelf.before.holds (grammar_name r)) xs ys (told_grammar r command) gives
 
-  not_missing : (r : Request) → IsCommand words r → holds (grammar_name r) ≡ nothing → ⊥
+  not_missing : (r : Request) → IsCommand words r → shelf.before.holds (grammar_name r) ≡ nothing → ⊥
   not_missing r command n = let told = told_grammar r command in cc
 
-  not_refused_grammar : (r : Request) (ys text : List ℕ) → IsCommand words r → MayGive (holds (grammar_name r)) ys →
+  not_refused_grammar : (r : Request) (ys text : List ℕ) → IsCommand words r → MayGive (shelf.before.holds (grammar_name r)) ys →
       IsRefused ys text → ⊥
   not_refused_grammar r ys text command gives refused =
-      accepted_or_refused ys text g
+      accepted_or_refused laws ys text g
       (subst (λ (z : List ℕ). IsAccepted z g) (sym (given_grammar r ys command gives)) accepted) refused
 
-  grammar_is : (r : Request) (ys : List ℕ) (h : Grammar) → IsCommand words r → MayGive (holds (grammar_name r)) ys →
+  grammar_is : (r : Request) (ys : List ℕ) (h : Grammar) → IsCommand words r → MayGive (shelf.before.holds (grammar_name r)) ys →
       IsAccepted ys h → h ≡ g
   grammar_is r ys h command gives other =
-      only_reading xs h g (subst (λ (z : List ℕ). IsAccepted z h) (given_grammar r ys command gives) other).reading accepted.reading
+      laws.only_reading xs h g (subst (λ (z : List ℕ). IsAccepted z h) (given_grammar r ys command gives) other).reading accepted.reading
 
   -- what out gets where no forest is asked for
   abbrev text_for : Request → List ℕ
@@ -113,77 +122,77 @@ module _ (words : List (List ℕ)) (holds : List ℕ → Told) (request : Reques
   text_of_request r out command e = e ∙ ap text_for (same_request words r request command asked)
 
   -- what was decided is that text
-  decided_text : (old new : ℕ) (s : Status) (out note : List ℕ) (k : ℕ) → AsksNoForest request →
-      Decided words holds old new s out note k → (Rose old new → ⊥) → (s ≡ status.Done) × (out ≡ text_for request)
-  decided_text old new s out note k none (answer.usage e no_command) calm = absurd (no_command request asked)
-  decided_text old new s out note k none (answer.grammar_missing r e command n) calm = absurd (not_missing r command n)
-  decided_text old new s out note k none (answer.grammar_unread r rose command) calm = absurd (calm rose)
-  decided_text old new s out note k none (answer.grammar_refused r ys text e command gives refused) calm =
+  decided_text : (s : Status) (out note : List ℕ) (k : ℕ) → AsksNoForest request →
+      Decided words shelf s out note k → (FetchFailed shelf → ⊥) → (s ≡ status.Done) × (out ≡ text_for request)
+  decided_text s out note k none (answer.usage e no_command) calm = absurd (no_command request asked)
+  decided_text s out note k none (answer.grammar_missing r e command n) calm = absurd (not_missing r command n)
+  decided_text s out note k none (answer.grammar_unread r rose command) calm = absurd (calm rose)
+  decided_text s out note k none (answer.grammar_refused r ys text e command gives refused) calm =
       absurd (not_refused_grammar r ys text command gives refused)
-  decided_text old new s out note k none (answer.checked file ys h e command gives other) calm =
+  decided_text s out note k none (answer.checked file ys h e command gives other) calm =
       (refl, text_of_request (check file) ok_text command refl)
-  decided_text old new s out note k none (answer.shown file ys h e command gives other) calm =
+  decided_text s out note k none (answer.shown file ys h e command gives other) calm =
       (refl, text_of_request (show file) (shown_text h) command (ap shown_text (grammar_is (show file) ys h command gives other)))
-  decided_text old new s out note k none (answer.not_built file i ys h e command gives other refused) calm =
+  decided_text s out note k none (answer.not_built file i ys h e command gives other refused) calm =
       absurd (no_forest (forest file i) command none)
-  decided_text old new s out note k none (answer.input_missing file i ys h e command gives other runnable n) calm =
+  decided_text s out note k none (answer.input_missing file i ys h e command gives other runnable n) calm =
       absurd (no_forest (forest file i) command none)
-  decided_text old new s out note k none (answer.input_unread file i ys h rose command gives other runnable) calm =
+  decided_text s out note k none (answer.input_unread file i ys h rose command gives other runnable) calm =
       absurd (calm rose)
-  decided_text old new s out note k none (answer.input_refused file i ys zs h fault e command gives other runnable given faulty cause) calm =
+  decided_text s out note k none (answer.input_refused file i ys zs h fault e command gives other runnable given faulty cause) calm =
       absurd (no_forest (forest file i) command none)
-  decided_text old new s out note k none (answer.over_budget h text e files more) calm =
+  decided_text s out note k none (answer.over_budget h text e files more) calm =
       absurd (no_forest (forest files.grammar_file files.input_file) files.command none)
-  decided_text old new s out note k none (answer.no_parse h text e files few no_tree) calm =
+  decided_text s out note k none (answer.no_parse h text e files few no_tree) calm =
       absurd (no_forest (forest files.grammar_file files.input_file) files.command none)
-  decided_text old new s out note k none (answer.parsed h text f e files few is) calm =
+  decided_text s out note k none (answer.parsed h text f e files few some is) calm =
       absurd (no_forest (forest files.grammar_file files.input_file) files.command none)
 
-  answered_text : (old new before after : ℕ) (out notes : Sunk) (s : Status) → AsksNoForest request →
-      Answers words holds old new before after out notes s → (Rose old new → ⊥) →
-      (Rose out.faults_before out.faults_after → ⊥) → (Rose notes.faults_before notes.faults_after → ⊥) →
+  answered_text : (out notes : Change SinkState) (s : Status) → AsksNoForest request →
+      Answers words shelf out notes s → (FetchFailed shelf → ⊥) →
+      (PutFailed out → ⊥) → (PutFailed notes → ⊥) →
       ((s ≡ status.NoMemory) × Untouched out) ⊎ ((s ≡ status.Done) × Got out (text_for request) × Untouched notes)
-  answered_text old new before after out notes s none (written text k d count got untouched) calm a b =
-      let is = decided_text old new status.Done text [] k none d calm in
+  answered_text out notes s none (written text k d count got untouched) calm a b =
+      let is = decided_text status.Done text [] k none d calm in
       inr (refl, subst (Got out) is.1 got, untouched)
-  answered_text old new before after out notes s none (noted t note k d not_done count untouched got) calm a b =
-      absurd (not_done (decided_text old new t [] note k none d calm).0)
-  answered_text old new before after out notes s none (unwritten text k d count failed part) calm a b = absurd (a failed.rose)
-  answered_text old new before after out notes s none (unnoted t note k d not_done count untouched failed) calm a b =
+  answered_text out notes s none (noted t note k d not_done count untouched got) calm a b =
+      absurd (not_done (decided_text t [] note k none d calm).0)
+  answered_text out notes s none (unwritten text k d count failed part) calm a b = absurd (a failed.rose)
+  answered_text out notes s none (unnoted t note k d not_done count untouched failed) calm a b =
       absurd (b failed.rose)
-  answered_text old new before after out notes s none (no_memory k few count stood untouched part) calm a b =
+  answered_text out notes s none (no_memory k few count stood untouched part) calm a b =
       inl (refl, untouched)
 
 -- where the words ask for a grammar and an input, these are what was read
-module _ (words : List (List ℕ))
-    (holds : List ℕ → Told) (g : Grammar) (input : List ℕ) (asked : Asks words holds g input) where
-  told_input : (file i : List ℕ) → IsCommand words (forest file i) → holds i ≡ bytes asked.input_bytes
+module _ (laws : Laws) (words : List (List ℕ))
+    (shelf : Change ShelfState) (g : Grammar) (input : List ℕ) (asked : Asks words shelf.before g input) where
+  told_input : (file i : List ℕ) → IsCommand words (forest file i) → shelf.before.holds i ≡ bytes asked.input_bytes
   told_input file i command =
       let same = same_request words (forest file i) (forest asked.grammar_file asked.input_file) command asked.command in
       let name : i ≡ asked.input_file = cc in
-      ap holds name ∙ asked.holds_input
+      ap shelf.before.holds name ∙ asked.holds_input
 
-  given_input : (file i ys : List ℕ) → IsCommand words (forest file i) → MayGive (holds i) ys → ys ≡ asked.input_bytes
-  given_input file i ys command gives = gives_held (holds i) asked.input_bytes ys (told_input file i command) gives
+  given_input : (file i ys : List ℕ) → IsCommand words (forest file i) → MayGive (shelf.before.holds i) ys → ys ≡ asked.input_bytes
+  given_input file i ys command gives = gives_held (shelf.before.holds i) asked.input_bytes ys (told_input file i command) gives
 
   not_refused : (ys : List ℕ) (fault : TextFault) → ys ≡ asked.input_bytes → IsFaulty ys fault →
       fault ≢ text_fault.Memory → ⊥
   not_refused ys fault e faulty cause = not_faulty asked.input_bytes input fault asked.decoded
       (subst (λ (z : List ℕ). IsFaulty z fault) e faulty) cause
 
-  same_grammar : (file i xs : List ℕ) (h : Grammar) → IsCommand words (forest file i) → MayGive (holds file) xs →
+  same_grammar : (file i xs : List ℕ) (h : Grammar) → IsCommand words (forest file i) → MayGive (shelf.before.holds file) xs →
       IsAccepted xs h → h ≡ g
   same_grammar file i xs h command gives other =
-      grammar_is words holds (forest asked.grammar_file asked.input_file) asked.command asked.grammar_bytes asked.holds_grammar g
+      grammar_is laws words shelf (forest asked.grammar_file asked.input_file) asked.command asked.grammar_bytes asked.holds_grammar g
       asked.accepted (forest file i) xs h command gives other
 
-  input_is : (h : Grammar) (text : List ℕ) → HasFiles words holds h text → text ≡ input
+  input_is : (h : Grammar) (text : List ℕ) → HasFiles words shelf.before h text → text ≡ input
   input_is h text files =
       files.decoded.characters ∙
       (ap chars (given_input files.grammar_file files.input_file files.input_bytes files.command files.gives_input) ∙
       sym asked.decoded.characters)
 
-  moved : (h : Grammar) (text : List ℕ) (s : Status) (out note : List ℕ) → HasFiles words holds h text →
+  moved : (h : Grammar) (text : List ℕ) (s : Status) (out note : List ℕ) → HasFiles words shelf.before h text →
       Outcome h text s out note → Outcome g input s out note
   moved h text s out note files o =
       subst (λ (z : List ℕ). Outcome g z s out note) (input_is h text files)
@@ -191,60 +200,58 @@ module _ (words : List (List ℕ))
       (same_grammar files.grammar_file files.input_file files.grammar_bytes h files.command files.gives_grammar files.accepted) o)
 
   -- what was decided is the outcome
-  decided_outcome : (old new : ℕ) (s : Status) (out note : List ℕ) (k : ℕ) → Decided words holds old new s out note k →
-      (Rose old new → ⊥) → Outcome g input s out note
-  decided_outcome old new s out note k (answer.usage e none) calm =
+  decided_outcome : (s : Status) (out note : List ℕ) (k : ℕ) → Decided words shelf s out note k →
+      (FetchFailed shelf → ⊥) → Outcome g input s out note
+  decided_outcome s out note k (answer.usage e none) calm =
       absurd (none (forest asked.grammar_file asked.input_file) asked.command)
-  decided_outcome old new s out note k (answer.grammar_missing r e command n) calm =
-      absurd (not_missing words holds (forest asked.grammar_file asked.input_file) asked.command asked.grammar_bytes
+  decided_outcome s out note k (answer.grammar_missing r e command n) calm =
+      absurd (not_missing laws words shelf (forest asked.grammar_file asked.input_file) asked.command asked.grammar_bytes
       asked.holds_grammar g asked.accepted r command n)
-  decided_outcome old new s out note k (answer.grammar_unread r rose command) calm = absurd (calm rose)
-  decided_outcome old new s out note k (answer.grammar_refused r xs text e command gives refused) calm =
-      absurd (not_refused_grammar words holds (forest asked.grammar_file asked.input_file) asked.command asked.grammar_bytes
+  decided_outcome s out note k (answer.grammar_unread r rose command) calm = absurd (calm rose)
+  decided_outcome s out note k (answer.grammar_refused r xs text e command gives refused) calm =
+      absurd (not_refused_grammar laws words shelf (forest asked.grammar_file asked.input_file) asked.command asked.grammar_bytes
       asked.holds_grammar g asked.accepted r xs text command gives refused)
-  decided_outcome old new s out note k (answer.checked file xs h e command gives other) calm =
+  decided_outcome s out note k (answer.checked file xs h e command gives other) calm =
       let same = same_request words (check file) (forest asked.grammar_file asked.input_file) command asked.command in cc
-  decided_outcome old new s out note k (answer.shown file xs h e command gives other) calm =
+  decided_outcome s out note k (answer.shown file xs h e command gives other) calm =
       let same = same_request words (show file) (forest asked.grammar_file asked.input_file) command asked.command in cc
-  decided_outcome old new s out note k (answer.not_built file i xs h e command gives other refused) calm =
+  decided_outcome s out note k (answer.not_built file i xs h e command gives other refused) calm =
       absurd (refused (subst IsRunnable (sym (same_grammar file i xs h command gives other)) asked.runnable))
-  decided_outcome old new s out note k (answer.input_missing file i xs h e command gives other runnable n) calm =
+  decided_outcome s out note k (answer.input_missing file i xs h e command gives other runnable n) calm =
       let told = told_input file i command in cc
-  decided_outcome old new s out note k (answer.input_unread file i xs h rose command gives other runnable) calm =
+  decided_outcome s out note k (answer.input_unread file i xs h rose command gives other runnable) calm =
       absurd (calm rose)
-  decided_outcome old new s out note k (answer.input_refused file i xs ys h fault e command gives other runnable gives_input faulty cause) calm =
+  decided_outcome s out note k (answer.input_refused file i xs ys h fault e command gives other runnable gives_input faulty cause) calm =
       absurd (not_refused ys fault (given_input file i ys command gives_input) faulty cause)
-  decided_outcome old new s out note k (answer.over_budget h text e files more) calm =
+  decided_outcome s out note k (answer.over_budget h text e files more) calm =
       moved h text s out note files (over_budget more)
-  decided_outcome old new s out note k (answer.no_parse h text e files few none) calm =
+  decided_outcome s out note k (answer.no_parse h text e files few none) calm =
       moved h text s out note files (no_parse few none)
-  decided_outcome old new s out note k (answer.parsed h text f e files few is) calm =
-      moved h text s out note files (parsed f few is (λ other whole. only_one (core_of h) text other f whole is.whole))
+  decided_outcome s out note k (answer.parsed h text f e files few some is) calm =
+      moved h text s out note files (parsed f few some is (λ other whole. only_one (core_of h) text other f whole is.whole))
 
-  answer_outcome : (old new before after : ℕ) (out notes : Sunk) (s : Status) →
-      Answers words holds old new before after out notes s → (Rose old new → ⊥) →
-      (Rose out.faults_before out.faults_after → ⊥) → (Rose notes.faults_before notes.faults_after → ⊥) →
+  answer_outcome : (out notes : Change SinkState) (s : Status) →
+      Answers words shelf out notes s → (FetchFailed shelf → ⊥) →
+      (PutFailed out → ⊥) → (PutFailed notes → ⊥) →
       Says g input out notes s
-  answer_outcome old new before after out notes s (written text k d count got untouched) calm a b =
-      inr (text, ([], (decided_outcome old new status.Done text [] k d calm, got, got_none notes untouched)))
-  answer_outcome old new before after out notes s (noted t note k d not_done count untouched got) calm a b =
-      inr ([], (note, (decided_outcome old new t [] note k d calm, got_none out untouched, got)))
-  answer_outcome old new before after out notes s (unwritten text k d count failed part) calm a b = absurd (a failed.rose)
-  answer_outcome old new before after out notes s (unnoted t note k d not_done count untouched failed) calm a b =
+  answer_outcome out notes s (written text k d count got untouched) calm a b =
+      inr (text, ([], (decided_outcome status.Done text [] k d calm, got, got_none notes untouched)))
+  answer_outcome out notes s (noted t note k d not_done count untouched got) calm a b =
+      inr ([], (note, (decided_outcome t [] note k d calm, got_none out untouched, got)))
+  answer_outcome out notes s (unwritten text k d count failed part) calm a b = absurd (a failed.rose)
+  answer_outcome out notes s (unnoted t note k d not_done count untouched failed) calm a b =
       absurd (b failed.rose)
-  answer_outcome old new before after out notes s (no_memory k few count stood untouched part) calm a b =
+  answer_outcome out notes s (no_memory k few count stood untouched part) calm a b =
       inl (refl, untouched)
 
-pub headline : (words : List (List ℕ))
-    (holds : List ℕ → Told) (old new before after : ℕ) (out notes : Sunk) (s : Status) →
-    Answers words holds old new before after out notes s → Headline words holds old new out notes s
-headline words holds old new before after out notes s answers g input asked calm a b =
-    answer_outcome words holds g input asked old new before after out notes s answers calm a b
+pub headline : (laws : Laws) (words : List (List ℕ)) (shelf : Change ShelfState) (out notes : Change SinkState) (s : Status) →
+    Answers words shelf out notes s → Headline words shelf out notes s
+headline laws words shelf out notes s answers g input asked calm a b =
+    answer_outcome laws words shelf g input asked out notes s answers calm a b
 
-pub grammar_commands : (words : List (List ℕ))
-    (holds : List ℕ → Told) (old new before after : ℕ) (out notes : Sunk) (s : Status) →
-    Answers words holds old new before after out notes s → GrammarCommands words holds old new out notes s
-grammar_commands words holds old new before after out notes s answers file xs g text (checks command) held accepted calm a b =
-    answered_text words holds (check file) command xs held g accepted old new before after out notes s tt answers calm a b
-grammar_commands words holds old new before after out notes s answers file xs g text (shows command) held accepted calm a b =
-    answered_text words holds (show file) command xs held g accepted old new before after out notes s tt answers calm a b
+pub grammar_commands : (laws : Laws) (words : List (List ℕ)) (shelf : Change ShelfState) (out notes : Change SinkState) (s : Status) →
+    Answers words shelf out notes s → GrammarCommands words shelf out notes s
+grammar_commands laws words shelf out notes s answers file xs g text (checks command) held accepted calm a b =
+    answered_text laws words shelf (check file) command xs held g accepted out notes s tt answers calm a b
+grammar_commands laws words shelf out notes s answers file xs g text (shows command) held accepted calm a b =
+    answered_text laws words shelf (show file) command xs held g accepted out notes s tt answers calm a b

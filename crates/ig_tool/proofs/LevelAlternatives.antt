@@ -14,7 +14,7 @@ use Rattle.ig_grammar.specs.declared.symbol.Symbol.{Symbol}
 use Rattle.ig_tool.specs.declared.core_grammar.CoreAlt.{CoreAlt}
 use Rattle.ig_tool.specs.declared.core_grammar.Step.{Step}
 use Rattle.ig_tool.specs.CoreOf.{step_of, alternatives, core_alt_of, core_alts_of}
-use Rattle.ig_tool.specs.Accepted.{alt_dots, level_dots}
+use Rattle.ig_tool.specs.Accepted.{alt_dots, level_dots, most_dots}
 use Rattle.ig_tool.proofs.SymbolViews.{map_viewed}
 
 -- with or without the number of the level, they are in one order
@@ -109,7 +109,7 @@ alt_built decls d before after whole made alts i alt have within read added is =
 -- its number fits
 pub alt_fits : (decls : List Decl) (d : ℕ) (before first : List CoreAlt) (alts : List Alt) (i : ℕ) →
     before ++ core_alts_of decls d (suc (length before)) (drop i alts) ≡ first ++ core_alts_of decls d (suc (length first)) alts →
-    i < length alts → length first + length alts ≤ 65536 → length before < 65536
+    i < length alts → length first + length alts ≤ most_dots → length before < most_dots
 alt_fits decls d before first alts i have within few =
     let a : length (before ++ core_alts_of decls d (suc (length before)) (drop i alts)) ≡ length before + length (drop i alts) =
     length-append before (core_alts_of decls d (suc (length before)) (drop i alts)) ∙
@@ -158,8 +158,8 @@ level_built decls d before after whole levels i level alts have within read view
 -- there is room for the next level
 pub level_fits : (decls : List Decl) (d : ℕ) (before : List CoreAlt) (levels : List Level) (i : ℕ) (level : Level) (alts : List Alt) →
     before ++ core_alts_of decls d (suc (length before)) (alternatives (drop i levels)) ≡ core_alts_of decls d 1 (alternatives levels) →
-    i < length levels → level ≡ get_or levels i level → alts ≡ level.alts → length (alternatives levels) ≤ 65536 →
-    length before + length alts ≤ 65536
+    i < length levels → level ≡ get_or levels i level → alts ≡ level.alts → length (alternatives levels) ≤ most_dots →
+    length before + length alts ≤ most_dots
 level_fits decls d before levels i level alts have within read viewed few =
     let rest = alternatives (drop i levels) in
     let a : length (before ++ core_alts_of decls d (suc (length before)) rest) ≡ length before + length rest =

@@ -12,9 +12,10 @@ use Rattle.ig_tool.specs.declared.stop.Stop.{Stop}
 use Rattle.ig_tool.specs.declared.stop.Stop.TheVariants as halt
 use Rattle.ig_tool.specs.CoreOf.{core_of}
 use Rattle.ig_tool.specs.Items.{MoreThan, RootIsComplete}
-use Rattle.ig_tool.specs.Whole.{IsWhole}
-use Rattle.ig_tool.specs.Outcome.{IsForestOf, budget}
+use Rattle.ig_tool.specs.Whole.{IsWhole, root_key}
+use Rattle.ig_tool.specs.Outcome.{IsParsed, IsForestOf, budget}
 use Rattle.ig_tool.specs.Stops.{Shows, Parses, over_budget, no_parse, IsOverBudget}
+use Rattle.ig_text.proofs.Lists.{contains_from_at}
 use Rattle.ig_tool.proofs.CoreLaw.{same_trees, one_root}
 use Rattle.ig_tool.proofs.ForestLaw.{unfolds_to_core_trees}
 use Rattle.ig_tool.proofs.ItemTrees.{trees_by_items}
@@ -31,6 +32,26 @@ is_forest_of g input f built distinct whole =
           (λ u. let c = forest.0 u in (trees.0 c.0, c.1), λ p. forest.1 (trees.1 p.0, p.1));
     }
 
+-- a whole forest has a node of the root, so the root is complete
+root_is_complete : (core : Core) (text : List ℕ) (f : Forest) → IsWhole core text f → RootIsComplete core text
+root_is_complete core text f whole =
+    let x = (whole.node_keys_are.members (root_key text)).0 (contains_from_at whole.node_keys f.root (root_key text) whole.root) in
+    record {
+      item = x.0;
+      reachable = (whole.keys_are.members x.0).0 x.1;
+      complete = x.2.complete;
+      of_root = x.2.nonterminal;
+      from_start = x.2.start;
+      to_end = x.2.end;
+    }
+
+-- so a tree is permitted
+some_permitted : (g : Grammar) (input : List ℕ) (f : Forest) → IsBuiltGrammar g → AreDistinct (names g.decls) →
+    IsWhole (core_of g) input f → IsParsed g input
+some_permitted g input f built distinct whole =
+    let c = (trees_by_items (core_of g) input (one_root g)).0 (root_is_complete (core_of g) input f whole) in
+    (c.0, (same_trees g input c.0 built distinct).0 c.1)
+
 -- where the root is not complete, no tree is permitted
 pub none_permitted : (g : Grammar) (input : List ℕ) → IsBuiltGrammar g → AreDistinct (names g.decls) →
     (RootIsComplete (core_of g) input → ⊥) → (t : Tree) → Permitted g (as_written g) input t → ⊥
@@ -40,7 +61,7 @@ none_permitted g input built distinct none t p =
 shown_parses : (g : Grammar) (input : List ℕ) (r : Result (Vec ℕ Global) Stop) → IsBuiltGrammar g → AreDistinct (names g.decls) →
     (MoreThan (core_of g) input budget → ⊥) → Shows (core_of g) input r → Parses g input r
 shown_parses g input (Ok text) built distinct few h =
-    record { suffices = few; forest = h.0; is = is_forest_of g input h.0 built distinct h.1; text_is = h.2 }
+    record { suffices = few; some = some_permitted g input h.0 built distinct h.1; forest = h.0; is = is_forest_of g input h.0 built distinct h.1; text_is = h.2 }
 shown_parses g input (Err (halt.Note s line)) built distinct few h =
     no_parse s line.items few (none_permitted g input built distinct h.2) h.0 h.1
 shown_parses g input (Err halt.Memory) built distinct few h = tt

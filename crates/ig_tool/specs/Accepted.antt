@@ -1,5 +1,5 @@
 -- Which grammar texts are accepted, and which grammars are run.
-use Rattle.std.specs.Prelude.{ℕ, ◌+◌, ◌≤◌, List, length, sum_by, IsUtf8}
+use Rattle.std.specs.Prelude.{◌≡◌, ℕ, ◌+◌, ◌<◌, ◌≤◌, List, length, sum_by, Option, Some, None, IsUtf8}
 use Rattle.ig_grammar.specs.declared.symbol.Alt.{Alt}
 use Rattle.ig_grammar.specs.declared.declaration.Level.{Level}
 use Rattle.ig_grammar.specs.declared.declaration.Decl.{Decl}
@@ -28,7 +28,16 @@ decl_dots decl = sum_by level_dots decl.levels
 abbrev pub dots : Grammar → ℕ
 dots g = sum_by decl_dots g.decls + 2
 
--- a grammar is run where all of its forms are built, and it has at most 65,536 dots
+-- the most dots that a core grammar may have
+abbrev pub most_dots : ℕ
+most_dots = 65536
+
+-- so many and so many more, where both are no more than that
+abbrev pub Sums : ℕ → ℕ → Option ℕ → Type 0
+Sums before more None = most_dots < before + more
+Sums before more (Some n) = (n ≡ before + more) × (n ≤ most_dots)
+
+-- a grammar is run where all of its forms are built, and it has no more dots
 pub record IsRunnable (g : Grammar) : Type 0 where
   pub built : IsBuiltGrammar g
-  pub few_dots : dots g ≤ 65536
+  pub few_dots : dots g ≤ most_dots

@@ -1,5 +1,5 @@
 -- Which words are a command.
-use Rattle.std.specs.Prelude.{◌≡◌, ◌≢◌, ℕ, zero, ◌≤◌, List, [], ◌∷◌, codes}
+use Rattle.std.specs.Prelude.{◌≡◌, ◌≢◌, ℕ, zero, ◌≤◌, List, [], ◌∷◌, Option, Some, None, codes}
 use Rattle.ig_tool.specs.declared.command.Command.{Command}
 use Rattle.ig_tool.specs.declared.command.Command.TheVariants as stored
 
@@ -55,3 +55,8 @@ abbrev pub request_of : Command → Request
 request_of (stored.Check grammar) = check grammar.now
 request_of (stored.Show grammar) = show grammar.now
 request_of (stored.Forest grammar input) = forest grammar.now input.now
+
+-- the words are this command, or none
+abbrev pub Reads : List (List ℕ) → Option Command → Type 0
+Reads words None = (request : Request) → IsCommand words request → ⊥
+Reads words (Some command) = IsCommand words (request_of command)

@@ -2,6 +2,7 @@
 use Rattle.std.specs.Prelude.{ℕ, ◌<◌, ◌≤◌, List, ◌++◌, length, IsUtf8, codes}
 use Rattle.std.specs.Fmt.{decimal}
 use Rattle.std.specs.Str.{IsValidUpTo}
+use Rattle.ig_syntax.specs.Notation.{most_bytes}
 use Rattle.ig_grammar.specs.Condition as condition
 use Rattle.ig_grammar.specs.Condition.{Condition}
 use Rattle.ig_grammar.specs.WellScoped.{IsFirst}
@@ -26,9 +27,9 @@ condition_text condition.LayoutNotPlain = codes "layout not plain"
 condition_text condition.AlignNotList = codes "align not list"
 condition_text condition.MarkInLexical = codes "mark in lexical"
 condition_text condition.SyntaxInLexical = codes "syntax in lexical"
-condition_text condition.TooManyNonterminals = codes "too many nonterminals"
-condition_text condition.TooManyParameters = codes "too many parameters"
-condition_text condition.TooManyVariables = codes "too many variables"
+condition_text (condition.TooMany condition.Nonterminals) = codes "too many nonterminals"
+condition_text (condition.TooMany condition.Parameters) = codes "too many parameters"
+condition_text (condition.TooMany condition.Variables) = codes "too many variables"
 
 -- the text of a place
 abbrev pub place_text : Place → List ℕ
@@ -45,10 +46,10 @@ large_text large.Nesting = codes "too large: nesting"
 
 -- the first of these tests that the bytes fail, with the text that says so
 pub data IsRefused (bytes : List ℕ) : List ℕ → Type 0 where
-  -- there are more than 262,144
-  too_many : 262144 < length bytes → IsRefused bytes (large_text large.Bytes)
+  -- there are too many
+  too_many : most_bytes < length bytes → IsRefused bytes (large_text large.Bytes)
   -- they aren't UTF-8, and `at` is the length of their longest valid prefix
-  not_utf8 : (at : ℕ) → length bytes ≤ 262144 → (IsUtf8 bytes → ⊥) → IsValidUpTo bytes at →
+  not_utf8 : (at : ℕ) → length bytes ≤ most_bytes → (IsUtf8 bytes → ⊥) → IsValidUpTo bytes at →
       IsRefused bytes (codes "not UTF-8 at byte " ++ decimal at)
   -- they are no sequence of tokens, or the tokens don't follow the rules
   not_grammar : (at : ℕ) → IsUtf8 bytes → IsReadFault bytes (read.Syntax at) →

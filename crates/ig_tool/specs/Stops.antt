@@ -6,6 +6,7 @@ use Rattle.ig_text.specs.declared.text.Text.{Text}
 use Rattle.ig_text.specs.declared.text.TextFault.{TextFault}
 use Rattle.ig_text.specs.declared.text.TextFault.TheVariants as text_fault
 use Rattle.ig_outside.specs.Counts.{Rose}
+use Rattle.ig_outside.specs.States.{ShelfState, SinkState}
 use Rattle.ig_outside.specs.Told.{Told, nothing}
 use Rattle.ig_grammar.specs.declared.grammar.Grammar.{Grammar}
 use Rattle.ig_grammar.specs.Numbering.{as_written}
@@ -17,6 +18,7 @@ use Rattle.ig_tool.specs.declared.stop.Stop.{Stop}
 use Rattle.ig_tool.specs.declared.stop.Stop.TheVariants as halt
 use Rattle.ig_tool.specs.declared.status.Status.{Status}
 use Rattle.ig_tool.specs.declared.status.Status.TheVariants as status
+use Rattle.ig_tool.specs.Change.{Change, Fetched, Stood, Got, Failed, Untouched, Noted}
 use Rattle.ig_tool.specs.Commands.{MayFetch}
 use Rattle.ig_tool.specs.CoreOf.{core_of}
 use Rattle.ig_tool.specs.ForestText.{forest_text, line_end}
@@ -25,7 +27,7 @@ use Rattle.ig_grammar.specs.Checked.{CheckedGrammar}
 use Rattle.ig_tool.specs.Accepted.{IsAccepted, IsRunnable}
 use Rattle.ig_tool.specs.Refusals.{IsRefused}
 use Rattle.ig_tool.specs.Whole.{IsWhole}
-use Rattle.ig_tool.specs.Outcome.{MayGive, budget, budget_note, cannot_read_note, cannot_write_note, input_note, no_memory_note, no_parse_note, grammar_note, not_built_note, shown_text, ok_text, IsForestOf, Decided, raised, Sunk, Got, Failed, Untouched, Noted, Stood}
+use Rattle.ig_tool.specs.Outcome.{MayGive, budget, budget_note, cannot_read_note, cannot_write_note, input_note, no_memory_note, no_parse_note, grammar_note, not_built_note, shown_text, ok_text, IsParsed, IsForestOf, Decided}
 
 -- a line of two pieces
 abbrev pub IsLine : List ℕ → List ℕ → Vec ℕ Global → Type 0
@@ -89,16 +91,25 @@ pub data StopsAt (told : Told) (name : List ℕ) (old new : ℕ) (Refused : List
   refused : (s : Status) (note xs : List ℕ) → new ≡ old → MayGive told xs → Refused xs s note →
       StopsAt told name old new Refused s note
 
-abbrev pub LoadsGrammar : Told → List ℕ → ℕ → ℕ → Result CheckedGrammar Stop → Type 0
-LoadsGrammar told name old new (Ok checked) =
+-- a file that is to be a grammar
+abbrev pub GivesGrammar : Told → List ℕ → ℕ → ℕ → Result CheckedGrammar Stop → Type 0
+GivesGrammar told name old new (Ok checked) =
     (new ≡ old) × ((xs : List ℕ) × MayGive told xs × IsAccepted xs checked.grammar)
-LoadsGrammar told name old new (Err (halt.Note s line)) = StopsAt told name old new IsNoGrammar s line.items
-LoadsGrammar told name old new (Err halt.Memory) = Stood old new
+GivesGrammar told name old new (Err (halt.Note s line)) = StopsAt told name old new IsNoGrammar s line.items
+GivesGrammar told name old new (Err halt.Memory) = Stood old new
 
-abbrev pub LoadsInput : Told → List ℕ → ℕ → ℕ → Result Text Stop → Type 0
-LoadsInput told name old new (Ok text) = (new ≡ old) × ((xs : List ℕ) × MayGive told xs × IsDecoded xs text)
-LoadsInput told name old new (Err (halt.Note s line)) = StopsAt told name old new IsNoInput s line.items
-LoadsInput told name old new (Err halt.Memory) = Stood old new
+-- a file that is to be an input
+abbrev pub GivesInput : Told → List ℕ → ℕ → ℕ → Result Text Stop → Type 0
+GivesInput told name old new (Ok text) = (new ≡ old) × ((xs : List ℕ) × MayGive told xs × IsDecoded xs text)
+GivesInput told name old new (Err (halt.Note s line)) = StopsAt told name old new IsNoInput s line.items
+GivesInput told name old new (Err halt.Memory) = Stood old new
+
+-- what is loaded from the shelf under the name
+abbrev pub LoadsGrammar : Change ShelfState → List ℕ → Result CheckedGrammar Stop → Type 0
+LoadsGrammar shelf name = GivesGrammar (shelf.before.holds name) name shelf.before.faults shelf.after.faults
+
+abbrev pub LoadsInput : Change ShelfState → List ℕ → Result Text Stop → Type 0
+LoadsInput shelf name = GivesInput (shelf.before.holds name) name shelf.before.faults shelf.after.faults
 
 abbrev pub IsOverBudget : Stop → Type 0
 IsOverBudget = StopsWith status.Budget budget_note
@@ -123,6 +134,7 @@ pub data StopsParse (g : Grammar) (input : List ℕ) : Status → List ℕ → T
 -- the text is that of the forest of the permitted trees
 pub record IsParse (g : Grammar) (input text : List ℕ) : Type 0 where
   pub suffices : MoreThan (core_of g) input budget → ⊥
+  pub some : IsParsed g input
   pub forest : Forest
   pub is : IsForestOf g input forest
   pub text_is : text ≡ forest_text (core_of g) forest
@@ -165,30 +177,31 @@ pub record HasForest (g : Grammar) (told : Told) (old new : ℕ) (text : List �
   pub is_parse : IsParse g input text
 
 -- the forest of an accepted grammar and the input of this name; at most one file is fetched
-abbrev pub RunsForest : Grammar → Told → List ℕ → ℕ → ℕ → ℕ → ℕ → Result (Vec ℕ Global) Stop → Type 0
-RunsForest g told name old new before after (Ok text) = HasForest g told old new text.items × (after ≡ raised 1 before)
-RunsForest g told name old new before after (Err (halt.Note s line)) =
-    (k : ℕ) × StopsForest g told name old new s line.items k × (after ≡ raised k before)
-RunsForest g told name old new before after (Err halt.Memory) = (k : ℕ) × (k ≤ 1) × (after ≡ raised k before) × Stood old new
+abbrev pub RunsForest : Grammar → Change ShelfState → List ℕ → Result (Vec ℕ Global) Stop → Type 0
+RunsForest g shelf name (Ok text) =
+    HasForest g (shelf.before.holds name) shelf.before.faults shelf.after.faults text.items × Fetched shelf 1
+RunsForest g shelf name (Err (halt.Note s line)) =
+    (k : ℕ) × StopsForest g (shelf.before.holds name) name shelf.before.faults shelf.after.faults s line.items k × Fetched shelf k
+RunsForest g shelf name (Err halt.Memory) =
+    (k : ℕ) × (k ≤ 1) × Fetched shelf k × Stood shelf.before.faults shelf.after.faults
 
 -- what is decided before anything is written
-abbrev pub Decides : List (List ℕ) → (List ℕ → Told) → ℕ → ℕ → ℕ → ℕ → Result (Vec ℕ Global) Stop → Type 0
-Decides words holds old new before after (Ok text) =
-    (k : ℕ) × Decided words holds old new status.Done text.items [] k × (after ≡ raised k before)
-Decides words holds old new before after (Err (halt.Note s line)) =
-    (k : ℕ) × Decided words holds old new s [] line.items k × (after ≡ raised k before) × (s ≢ status.Done)
-Decides words holds old new before after (Err halt.Memory) =
-    (k : ℕ) × MayFetch words k × (after ≡ raised k before) × Stood old new
+abbrev pub Decides : List (List ℕ) → Change ShelfState → Result (Vec ℕ Global) Stop → Type 0
+Decides words shelf (Ok text) = (k : ℕ) × Decided words shelf status.Done text.items [] k × Fetched shelf k
+Decides words shelf (Err (halt.Note s line)) =
+    (k : ℕ) × Decided words shelf s [] line.items k × Fetched shelf k × (s ≢ status.Done)
+Decides words shelf (Err halt.Memory) =
+    (k : ℕ) × MayFetch words k × Fetched shelf k × Stood shelf.before.faults shelf.after.faults
 
 -- the sinks got what was decided, as far as they took it
-abbrev pub WritesText : List ℕ → Sunk → Sunk → Status → Type 0
+abbrev pub WritesText : List ℕ → Change SinkState → Change SinkState → Status → Type 0
 WritesText text out notes answer =
     ((answer ≡ status.Done) × Got out text × Untouched notes) ⊎
     ((answer ≡ status.WriteFault) × Failed out text × Noted notes cannot_write_note)
 
-abbrev pub WritesNote : Status → List ℕ → Sunk → Status → Type 0
+abbrev pub WritesNote : Status → List ℕ → Change SinkState → Status → Type 0
 WritesNote s line notes answer =
     ((answer ≡ s) × Got notes line) ⊎ ((answer ≡ status.WriteFault) × Failed notes line)
 
-abbrev pub GivesUp : Sunk → Status → Type 0
+abbrev pub GivesUp : Change SinkState → Status → Type 0
 GivesUp notes answer = (answer ≡ status.NoMemory) × Noted notes no_memory_note

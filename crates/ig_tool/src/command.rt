@@ -1,6 +1,6 @@
 //! The words of a command.
-ghost use Rattle.std.specs.Prelude.{◌≡◌, ◌↔◌, ◌∷◌, [], List, map, IsTrue, MatchOption, string_bytes};
-ghost use Rattle.ig_tool.specs.Commands.{IsFileName, IsCommand, Request, grammar_name, request_of};
+ghost use Rattle.std.specs.Prelude.{◌≡◌, ◌↔◌, ◌∷◌, [], map, IsTrue, string_bytes};
+ghost use Rattle.ig_tool.specs.Commands.{IsFileName, Reads, grammar_name, request_of};
 
 /// What the words of a command ask for, with the names of its files.
 #[derive(Clone, Copy, Debug)]
@@ -16,7 +16,7 @@ pub(crate) enum Command<'a> {
 /// The command that the words are: `check`, `show` or `forest`, and the names of its files. A name
 /// isn't empty and doesn't begin with `-`. Takes no memory.
 pub(crate) fn command_of(words: &[String]) -> Option<Command<'_>>
-    ensures { MatchOption result ((r : Request) → IsCommand (map string_bytes words.now) r → ⊥) (λ c. IsCommand (map string_bytes words.now) (request_of c)) }
+    ensures { Reads (map string_bytes words.now) result }
 {
     match words {
         [name, grammar] => grammar_command(name.as_str(), grammar.as_str()),
@@ -27,7 +27,7 @@ pub(crate) fn command_of(words: &[String]) -> Option<Command<'_>>
 
 /// The command of this name over a grammar alone.
 fn grammar_command<'a>(name: &str, grammar: &'a str) -> Option<Command<'a>>
-    ensures { MatchOption result ((r : Request) → IsCommand (name.now ∷ grammar.now ∷ []) r → ⊥) (λ c. IsCommand (name.now ∷ grammar.now ∷ []) (request_of c)) }
+    ensures { Reads (name.now ∷ grammar.now ∷ []) result }
 {
     if !is_file_name(grammar) {
         return None;
@@ -41,7 +41,7 @@ fn grammar_command<'a>(name: &str, grammar: &'a str) -> Option<Command<'a>>
 
 /// The command of this name over a grammar and an input.
 fn forest_command<'a>(name: &str, grammar: &'a str, input: &'a str) -> Option<Command<'a>>
-    ensures { MatchOption result ((r : Request) → IsCommand (name.now ∷ grammar.now ∷ input.now ∷ []) r → ⊥) (λ c. IsCommand (name.now ∷ grammar.now ∷ input.now ∷ []) (request_of c)) }
+    ensures { Reads (name.now ∷ grammar.now ∷ input.now ∷ []) result }
 {
     if name == "forest" && is_file_name(grammar) && is_file_name(input) {
         Some(Command::Forest { grammar, input })

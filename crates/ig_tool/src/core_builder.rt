@@ -1,9 +1,10 @@
 //! From a grammar to its core grammar.
 
 ghost use Rattle.std.specs.Prelude.{◌≡◌, suc, ◌+◌, ◌≤◌, ◌++◌, length, map, codes, IfOk, OnOk};
+ghost use Rattle.ig_syntax.specs.Notation.{most_bytes};
 ghost use Rattle.ig_grammar.specs.Names.{AreDistinct, names};
 ghost use Rattle.ig_grammar.specs.View.{symbol_of};
-ghost use Rattle.ig_tool.specs.Accepted.{dots};
+ghost use Rattle.ig_tool.specs.Accepted.{dots, most_dots};
 ghost use Rattle.ig_tool.specs.CoreOf.{core_of, nonterminal_of, root_alts_of, core_alts_of, alternatives, step_of, number_of};
 ghost use Rattle.ig_tool.specs.NameTables.{Numbers};
 
@@ -21,8 +22,8 @@ const ROOT: &str = "$root";
 /// each declaration, numbered from 1 in order.
 pub fn build_core(alloc: Global, grammar: &Grammar) -> Result<Core, AllocError>
     requires distinct { AreDistinct (names grammar.now.decls) }
-    requires few { length grammar.now.decls ≤ 262144 }
-    requires few_dots { dots grammar.now ≤ 65536 }
+    requires few { length grammar.now.decls ≤ most_bytes }
+    requires few_dots { dots grammar.now ≤ most_dots }
     ensures { IfOk result (λ core. core ≡ core_of grammar.now) }
 {
     let decls = grammar.decls.as_slice();
@@ -49,7 +50,7 @@ fn build_root(
     numbers: &BTreeMap<&str, u32>,
     start: &Option<Word>,
 ) -> Result<Nonterminal, AllocError>
-    requires few { length decls.now ≤ 262144 }
+    requires few { length decls.now ≤ most_bytes }
     requires numbered { Numbers numbers.now decls.now }
     ensures { IfOk result (λ r. r ≡ record { name = codes "$root"; alternatives = root_alts_of decls.now start.now }) }
 {
@@ -65,7 +66,7 @@ fn build_root_alts(
     numbers: &BTreeMap<&str, u32>,
     start: &Option<Word>,
 ) -> Result<CoreAlts, AllocError>
-    requires few { length decls.now ≤ 262144 }
+    requires few { length decls.now ≤ most_bytes }
     requires numbered { Numbers numbers.now decls.now }
     ensures { IfOk result (λ a. a ≡ root_alts_of decls.now start.now) }
 {
@@ -91,9 +92,9 @@ fn build_nonterminal(
     number: u32,
     decl: &Decl,
 ) -> Result<Nonterminal, AllocError>
-    requires few { length decls.now ≤ 262144 }
+    requires few { length decls.now ≤ most_bytes }
     requires numbered { Numbers numbers.now decls.now }
-    requires few_alts { length (alternatives decl.now.levels) ≤ 65536 }
+    requires few_alts { length (alternatives decl.now.levels) ≤ most_dots }
     ensures { IfOk result (λ n. n ≡ nonterminal_of decls.now number decl.now) }
 {
     let alternatives = build_levels(alloc, decls, numbers, number, decl.levels.as_slice())?;
@@ -109,9 +110,9 @@ fn build_levels(
     number: u32,
     levels: &[Level],
 ) -> Result<CoreAlts, AllocError>
-    requires few { length decls.now ≤ 262144 }
+    requires few { length decls.now ≤ most_bytes }
     requires numbered { Numbers numbers.now decls.now }
-    requires few_alts { length (alternatives levels.now) ≤ 65536 }
+    requires few_alts { length (alternatives levels.now) ≤ most_dots }
     ensures { IfOk result (λ a. a ≡ core_alts_of decls.now number 1 (alternatives levels.now)) }
 {
     let mut built = Vec::new(alloc);
@@ -137,9 +138,9 @@ fn add_alts(
     alts: &[Alt],
     built: &mut Vec<CoreAlt>,
 ) -> Result<(), AllocError>
-    requires few { length decls.now ≤ 262144 }
+    requires few { length decls.now ≤ most_bytes }
     requires numbered { Numbers numbers.now decls.now }
-    requires few_alts { length built.old.items + length alts.now ≤ 65536 }
+    requires few_alts { length built.old.items + length alts.now ≤ most_dots }
     ensures { OnOk result (built.new.items ≡ built.old.items ++ core_alts_of decls.now number (suc (length built.old.items)) alts.now) }
 {
     for alt in alts {
@@ -160,7 +161,7 @@ fn build_steps(
     numbers: &BTreeMap<&str, u32>,
     symbols: &[Symbol],
 ) -> Result<Steps, AllocError>
-    requires few { length decls.now ≤ 262144 }
+    requires few { length decls.now ≤ most_bytes }
     requires numbered { Numbers numbers.now decls.now }
     ensures { IfOk result (λ s. s ≡ map (λ x. step_of decls.now (symbol_of x)) symbols.now) }
 {
@@ -178,7 +179,7 @@ fn build_step(
     numbers: &BTreeMap<&str, u32>,
     symbol: &Symbol,
 ) -> Result<Step, AllocError>
-    requires few { length decls.now ≤ 262144 }
+    requires few { length decls.now ≤ most_bytes }
     requires numbered { Numbers numbers.now decls.now }
     ensures { IfOk result (λ s. s ≡ step_of decls.now (symbol_of symbol.now)) }
 {
@@ -191,7 +192,7 @@ fn build_step(
 
 /// The number of the nonterminal of that name, one past the last where it isn't declared.
 fn nonterminal_number(decls: &[Decl], numbers: &BTreeMap<&str, u32>, name: &Word) -> u32
-    requires few { length decls.now ≤ 262144 }
+    requires few { length decls.now ≤ most_bytes }
     requires numbered { Numbers numbers.now decls.now }
     ensures { result ≡ number_of decls.now name.now }
 {

@@ -1,7 +1,8 @@
 //! From bytes to an accepted grammar, or to the note that says why they are none.
 
-ghost use Rattle.std.specs.Prelude.{◌≡◌, ◌↔◌, ◌<◌, ◌++◌, length, IsTrue, OnOk};
+ghost use Rattle.std.specs.Prelude.{◌≡◌, ◌≤◌, ◌++◌, length, OnOk};
 ghost use Rattle.std.specs.Fmt.{decimal};
+ghost use Rattle.ig_syntax.specs.Notation.{most_bytes};
 ghost use Rattle.ig_scope.specs.Causes.{condition_of};
 ghost use Rattle.ig_tool.specs.Refusals.{condition_text, large_text, place_text};
 ghost use Rattle.ig_tool.specs.Stops.{ReadsGrammar, RefusesWith};
@@ -9,20 +10,20 @@ ghost use Rattle.ig_tool.specs.Stops.{ReadsGrammar, RefusesWith};
 use crate::status::Status;
 use crate::stop::{Stop, stop_with};
 use ig_grammar::{Checked, Place};
-use ig_notation::{Large, MOST_BYTES, ReadFault, read};
+use ig_notation::{Large, ReadFault, read, read_grammars_are_regular};
 use ig_scope::{Many, ScopeCause, ScopeFault, check};
 use itoa::Buffer;
 use std::alloc::{AllocError, Global};
 use std::str;
 
-/// The well-scoped grammar that the bytes read as; or the note on the first of these tests that they
-/// fail: at most 262,144 bytes; UTF-8; tokens; numbers and nesting; the rules of the notation; scopes.
+/// The well-scoped grammar that the bytes read as; or the note on the first of these tests that
+/// they fail: UTF-8; tokens; numbers and nesting; the rules of the notation; scopes. The bytes are
+/// at most [`MOST_BYTES`](ig_notation::MOST_BYTES), since no more were fetched.
 pub(crate) fn read_grammar(alloc: Global, bytes: &[u8]) -> Result<Checked, Stop>
+    requires { length bytes.now ≤ most_bytes }
     ensures { ReadsGrammar bytes.now result }
 {
-    if is_long(bytes) {
-        return Err(too_large(alloc, Large::Bytes));
-    }
+    read_grammars_are_regular();
     let source = match str::from_utf8(bytes) {
         Ok(source) => source,
         Err(error) => {
@@ -40,13 +41,6 @@ pub(crate) fn read_grammar(alloc: Global, bytes: &[u8]) -> Result<Checked, Stop>
         Err(ScopeFault::Broken { cause, place }) => Err(not_scoped(alloc, cause, place)),
         Err(ScopeFault::Memory) => Err(Stop::Memory),
     }
-}
-
-/// Whether the bytes are more than a grammar text may have.
-fn is_long(bytes: &[u8]) -> bool
-    ensures { IsTrue result ↔ (262144 < length bytes.now) }
-{
-    bytes.len() > MOST_BYTES
 }
 
 /// The grammar is refused with this text.
@@ -74,7 +68,7 @@ fn refuse_at(alloc: Global, text: &[u8], at: u32) -> Stop
     let mut line = Vec::new(alloc);
     match push_numbered(&mut line, text, at) {
         Ok(()) => refuse(alloc, line.as_slice()),
-        Err(AllocError) => Stop::Memory,
+        Err(error) => Stop::from(error),
     }
 }
 
@@ -85,13 +79,14 @@ fn not_scoped(alloc: Global, cause: ScopeCause, place: Place) -> Stop
     let mut line = Vec::new(alloc);
     match push_broken(&mut line, cause, place) {
         Ok(()) => refuse(alloc, line.as_slice()),
-        Err(AllocError) => Stop::Memory,
+        Err(error) => Stop::from(error),
     }
 }
 
 /// Adds the texts of the cause and the place.
 fn push_broken(line: &mut Vec<u8>, cause: ScopeCause, place: Place) -> Result<(), AllocError>
-    ensures { OnOk result (line.new.items ≡ line.old.items ++ (condition_text (condition_of cause) ++ place_text place)) }
+    ensures { OnOk result (line.new.items
+        ≡ line.old.items ++ (condition_text (condition_of cause) ++ place_text place)) }
 {
     line.extend_from_slice(cause_text(cause).as_bytes())?;
     push_numbered(line, b" at declaration ", place.decl)?;

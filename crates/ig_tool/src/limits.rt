@@ -1,8 +1,9 @@
 //! The limits of grammars.
 
-ghost use Rattle.std.specs.Prelude.{◌≡◌, ◌+◌, ◌<◌, ◌≤◌, sum_by, MatchOption};
+ghost use Rattle.std.specs.Prelude.{◌+◌, ◌≤◌, sum_by};
 ghost use Rattle.std.specs.Bool.{Decides};
-ghost use Rattle.ig_tool.specs.Accepted.{IsRunnable, alt_dots, level_dots, decl_dots};
+ghost use Rattle.ig_tool.specs.Accepted.{IsRunnable, Sums};
+ghost use Rattle.ig_tool.specs.Accepted.{alt_dots, level_dots, decl_dots, most_dots};
 
 use crate::built::unbuilt;
 use ig_grammar::{Alt, Decl, Grammar, Level};
@@ -22,7 +23,7 @@ pub(crate) fn is_runnable(grammar: &Grammar) -> bool
 
 /// Whether the dots of the declarations, and two of the root, are at most 65,536.
 fn has_few_dots(decls: &[Decl]) -> bool
-    ensures { Decides result (sum_by decl_dots decls.now + 2 ≤ 65536) }
+    ensures { Decides result (sum_by decl_dots decls.now + 2 ≤ most_dots) }
 {
     let mut dots = 2;
     for decl in decls {
@@ -36,8 +37,8 @@ fn has_few_dots(decls: &[Decl]) -> bool
 
 /// The dots and those of the levels; `None` exactly where they are more than 65,536.
 fn add_level_dots(before: usize, levels: &[Level]) -> Option<usize>
-    requires { before ≤ 65536 }
-    ensures { MatchOption result (65536 < before + sum_by level_dots levels.now) (λ n. (n ≡ before + sum_by level_dots levels.now) × (n ≤ 65536)) }
+    requires { before ≤ most_dots }
+    ensures { Sums before (sum_by level_dots levels.now) result }
 {
     let mut dots = before;
     for level in levels {
@@ -51,8 +52,8 @@ fn add_level_dots(before: usize, levels: &[Level]) -> Option<usize>
 
 /// The dots and those of the alternatives; `None` exactly where they are more than 65,536.
 fn add_dots(before: usize, alts: &[Alt]) -> Option<usize>
-    requires { before ≤ 65536 }
-    ensures { MatchOption result (65536 < before + sum_by alt_dots alts.now) (λ n. (n ≡ before + sum_by alt_dots alts.now) × (n ≤ 65536)) }
+    requires { before ≤ most_dots }
+    ensures { Sums before (sum_by alt_dots alts.now) result }
 {
     let mut dots = before;
     for alt in alts {

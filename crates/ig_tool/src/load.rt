@@ -1,7 +1,8 @@
 //! Fetching and reading the files of a command.
 ghost use Rattle.std.specs.Prelude.{◌≡◌, ℕ, List};
-ghost use Rattle.ig_outside.specs.Counts.{risen};
-ghost use Rattle.ig_tool.specs.Stops.{IsBadAt, IsCannotRead, IsTooLong, LoadsGrammar, LoadsInput, ReadsInput};
+ghost use Rattle.ig_tool.specs.Change.{change, Fetched};
+ghost use Rattle.ig_tool.specs.Stops.{IsBadAt, IsCannotRead, IsTooLong};
+ghost use Rattle.ig_tool.specs.Stops.{LoadsGrammar, LoadsInput, ReadsInput};
 
 use crate::grammar_text::{read_grammar, too_large};
 use crate::status::Status;
@@ -22,9 +23,9 @@ pub(crate) fn load_grammar<F: Shelf>(
     shelf: &mut F,
     name: &str,
 ) -> Result<Checked, Stop>
-    ensures answer { LoadsGrammar (F.holds shelf.old name.now) name.now (F.faults shelf.old) (F.faults shelf.new) result }
-    ensures counted { F.fetches shelf.new ≡ risen (F.fetches shelf.old) }
-    ensures same { (n : List ℕ) → F.holds shelf.new n ≡ F.holds shelf.old n }
+    ensures answer { LoadsGrammar (change (F.state shelf.old) (F.state shelf.new)) name.now result }
+    ensures counted { Fetched (change (F.state shelf.old) (F.state shelf.new)) 1 }
+    ensures same { (n : List ℕ) → (F.state shelf.new).holds n ≡ (F.state shelf.old).holds n }
 {
     match shelf.fetch(alloc, name, MOST_BYTES as u64) {
         Ok(bytes) => read_grammar(alloc, bytes.as_slice()),
@@ -37,9 +38,9 @@ pub(crate) fn load_grammar<F: Shelf>(
 
 /// The text in the file of that name.
 pub(crate) fn load_input<F: Shelf>(alloc: Global, shelf: &mut F, name: &str) -> Result<Text, Stop>
-    ensures answer { LoadsInput (F.holds shelf.old name.now) name.now (F.faults shelf.old) (F.faults shelf.new) result }
-    ensures counted { F.fetches shelf.new ≡ risen (F.fetches shelf.old) }
-    ensures same { (n : List ℕ) → F.holds shelf.new n ≡ F.holds shelf.old n }
+    ensures answer { LoadsInput (change (F.state shelf.old) (F.state shelf.new)) name.now result }
+    ensures counted { Fetched (change (F.state shelf.old) (F.state shelf.new)) 1 }
+    ensures same { (n : List ℕ) → (F.state shelf.new).holds n ≡ (F.state shelf.old).holds n }
 {
     match shelf.fetch(alloc, name, MOST_INPUT_BYTES) {
         Ok(bytes) => read_input(alloc, bytes.as_slice()),

@@ -1,6 +1,7 @@
 //! The numbers of the names that declarations declare.
 
 ghost use Rattle.std.specs.Prelude.{◌≡◌, ◌≤◌, List, length, IfOk, MatchOption};
+ghost use Rattle.ig_syntax.specs.Notation.{most_bytes};
 ghost use Rattle.ig_grammar.specs.declared.declaration.Decl.{Decl};
 ghost use Rattle.ig_grammar.specs.Names.{AreDistinct, names};
 ghost use Rattle.ig_tool.specs.NameTables.{Numbers, found};
@@ -15,7 +16,7 @@ pub(crate) fn number_names<'a>(
     alloc: Global,
     decls: &'a [Decl],
 ) -> Result<Option<BTreeMap<&'a str, u32>>, AllocError>
-    requires { length decls.now ≤ 262144 }
+    requires { length decls.now ≤ most_bytes }
     ensures { IfOk result (λ r. MatchOption r (AreDistinct (names decls.now) → ⊥) (λ m. AreDistinct (names decls.now) × Numbers m decls.now)) }
 {
     let mut numbers = BTreeMap::new(alloc);

@@ -1,6 +1,7 @@
 //! Running a grammar on an input.
 ghost use Rattle.std.specs.Prelude.{◌≡◌, ◌↔◌, ◌<◌, ◌≤◌, ◌^◌, ℕ, Contains, length};
 ghost use Rattle.ig_grammar.specs.WellScoped.{IsWellScoped};
+ghost use Rattle.ig_syntax.specs.Notation.{most_bytes};
 ghost use Rattle.ig_tool.specs.Items.{MoreThan, NoneTwice, Reachable};
 ghost use Rattle.ig_tool.specs.Stops.{IsOverBudget, IsUnparsed, Parses, Shows};
 ghost use Rattle.ig_tool.specs.Accepted.{IsRunnable};
@@ -23,13 +24,11 @@ const BUDGET: u32 = 1_000_000;
 /// The text of the forest of a grammar and an input.
 pub(crate) fn parse(alloc: Global, grammar: &Grammar, input: &Text) -> Result<Vec<u8>, Stop>
     requires scoped { IsWellScoped grammar.now }
-    requires few { length grammar.now.decls ≤ 262144 }
+    requires few { length grammar.now.decls ≤ most_bytes }
     requires runnable { IsRunnable grammar.now }
     ensures { Parses grammar.now input.now result }
 {
-    let Ok(core) = build_core(alloc, grammar) else {
-        return Err(Stop::Memory);
-    };
+    let core = build_core(alloc, grammar)?;
     match saturate(alloc, &core, input, BUDGET) {
         Ok(items) => show(alloc, &core, input, items.as_slice()),
         Err(RunFault::Budget) => Err(over_budget(alloc)),
@@ -44,16 +43,11 @@ fn show(alloc: Global, core: &Core, input: &Text, items: &[Item]) -> Result<Vec<
     requires numbers { length items.now < 2 ^ 32 }
     ensures { Shows core.now input.now result }
 {
-    let Ok(found) = build(alloc, core, input, items) else {
-        return Err(Stop::Memory);
-    };
-    let Some(forest) = found else {
+    let Some(forest) = build(alloc, core, input, items)? else {
         return Err(unparsed(alloc));
     };
-    match show_forest(alloc, core, &forest) {
-        Ok(text) => Ok(text.into_bytes()),
-        Err(_) => Err(Stop::Memory),
-    }
+    let text = show_forest(alloc, core, &forest)?;
+    Ok(text.into_bytes())
 }
 
 /// More items are reachable than the budget allows.

@@ -14,13 +14,24 @@ pub(crate) enum Stop {
     Memory,
 }
 
+impl From<AllocError> for Stop {
+    ghost use Rattle.std.specs.Prelude.{◌≡◌};
+    ghost use Rattle.ig_tool.specs.declared.stop.Stop.TheVariants.{Memory};
+
+    ghost from_gives = { λ _ stop. stop ≡ Memory };
+
+    fn from(_error: AllocError) -> Stop {
+        Stop::Memory
+    }
+}
+
 /// The stop with that status, whose line is the two pieces and a line feed.
 pub(crate) fn stop_with(alloc: Global, status: Status, front: &[u8], back: &[u8]) -> Stop
     ensures { IsStop status front.now back.now result }
 {
     match line(alloc, front, back) {
         Ok(line) => Stop::Note(status, line),
-        Err(AllocError) => Stop::Memory,
+        Err(error) => Stop::from(error),
     }
 }
 

@@ -1,9 +1,12 @@
 //! The top call.
 ghost use Rattle.std.specs.Prelude.{◌≡◌, ◌≤◌, ℕ, List, length, map, string_bytes};
+ghost use Rattle.ig_grammar.specs.WellScoped.{IsWellScoped};
+ghost use Rattle.ig_syntax.specs.Notation.{most_bytes};
+ghost use Rattle.ig_tool.specs.Change.{change};
 ghost use Rattle.ig_tool.specs.Outcome.{Answers};
 ghost use Rattle.ig_tool.specs.Headline.{GrammarCommands, Headline};
-ghost use Rattle.ig_tool.specs.Stops.{Decides, GivesUp, RunsForest, SaysOk, ShowsGrammar, WritesNote, WritesText};
-ghost use Rattle.ig_grammar.specs.WellScoped.{IsWellScoped};
+ghost use Rattle.ig_tool.specs.Stops.{Decides, GivesUp, RunsForest, SaysOk, ShowsGrammar};
+ghost use Rattle.ig_tool.specs.Stops.{WritesNote, WritesText};
 
 use crate::command::{Command, command_of, grammar_of};
 use crate::grammar_text::refuse;
@@ -13,6 +16,7 @@ use crate::parse::parse;
 use crate::status::Status;
 use crate::stop::{Stop, stop_with};
 use ig_grammar::Grammar;
+use ig_notation::{one_reading, read_grammars_are_regular, texts_are_read_or_refused};
 use ig_outside::{Shelf, Sink};
 use ig_show::show_grammar;
 use std::alloc::Global;
@@ -31,11 +35,22 @@ pub fn iguana<F: Shelf, O: Sink, N: Sink>(
     out: &mut O,
     notes: &mut N,
 ) -> Status
-    ensures answer { Answers (map string_bytes words.now) (F.holds shelf.old) (F.faults shelf.old) (F.faults shelf.new) (F.fetches shelf.old) (F.fetches shelf.new) (record { told_before = O.got out.old; told_after = O.got out.new; faults_before = O.faults out.old; faults_after = O.faults out.new }) (record { told_before = N.got notes.old; told_after = N.got notes.new; faults_before = N.faults notes.old; faults_after = N.faults notes.new }) result }
-    ensures headline { Headline (map string_bytes words.now) (F.holds shelf.old) (F.faults shelf.old) (F.faults shelf.new) (record { told_before = O.got out.old; told_after = O.got out.new; faults_before = O.faults out.old; faults_after = O.faults out.new }) (record { told_before = N.got notes.old; told_after = N.got notes.new; faults_before = N.faults notes.old; faults_after = N.faults notes.new }) result }
-    ensures grammar_commands { GrammarCommands (map string_bytes words.now) (F.holds shelf.old) (F.faults shelf.old) (F.faults shelf.new) (record { told_before = O.got out.old; told_after = O.got out.new; faults_before = O.faults out.old; faults_after = O.faults out.new }) (record { told_before = N.got notes.old; told_after = N.got notes.new; faults_before = N.faults notes.old; faults_after = N.faults notes.new }) result }
-    ensures same { (n : List ℕ) → F.holds shelf.new n ≡ F.holds shelf.old n }
+    ensures answer { Answers (map string_bytes words.now)
+        (change (F.state shelf.old) (F.state shelf.new))
+        (change (O.state out.old) (O.state out.new))
+        (change (N.state notes.old) (N.state notes.new)) result }
+    ensures headline { Headline (map string_bytes words.now)
+        (change (F.state shelf.old) (F.state shelf.new))
+        (change (O.state out.old) (O.state out.new))
+        (change (N.state notes.old) (N.state notes.new)) result }
+    ensures grammar_commands { GrammarCommands (map string_bytes words.now)
+        (change (F.state shelf.old) (F.state shelf.new))
+        (change (O.state out.old) (O.state out.new))
+        (change (N.state notes.old) (N.state notes.new)) result }
+    ensures same { (n : List ℕ) → (F.state shelf.new).holds n ≡ (F.state shelf.old).holds n }
 {
+    one_reading();
+    texts_are_read_or_refused();
     match decide(alloc, words, shelf) {
         Ok(text) => write_text(&text, out, notes),
         Err(Stop::Note(status, line)) => write_note(status, &line, notes),
@@ -45,16 +60,15 @@ pub fn iguana<F: Shelf, O: Sink, N: Sink>(
 
 /// The text for out, or why there is none. Writes nothing.
 fn decide<F: Shelf>(alloc: Global, words: &[String], shelf: &mut F) -> Result<Vec<u8>, Stop>
-    ensures answer { Decides (map string_bytes words.now) (F.holds shelf.old) (F.faults shelf.old) (F.faults shelf.new) (F.fetches shelf.old) (F.fetches shelf.new) result }
-    ensures same { (n : List ℕ) → F.holds shelf.new n ≡ F.holds shelf.old n }
+    ensures answer { Decides (map string_bytes words.now)
+        (change (F.state shelf.old) (F.state shelf.new)) result }
+    ensures same { (n : List ℕ) → (F.state shelf.new).holds n ≡ (F.state shelf.old).holds n }
 {
+    read_grammars_are_regular();
     let Some(command) = command_of(words) else {
         return Err(stop_with(alloc, Status::Usage, b"usage", b""));
     };
-    let checked = match load_grammar(alloc, shelf, grammar_of(command)) {
-        Ok(checked) => checked,
-        Err(stop) => return Err(stop),
-    };
+    let checked = load_grammar(alloc, shelf, grammar_of(command))?;
     match command {
         Command::Check { .. } => say_ok(alloc),
         Command::Show { .. } => show(alloc, checked.grammar()),
@@ -66,20 +80,16 @@ fn decide<F: Shelf>(alloc: Global, words: &[String], shelf: &mut F) -> Result<Ve
 fn say_ok(alloc: Global) -> Result<Vec<u8>, Stop>
     ensures { SaysOk result }
 {
-    match Vec::from_slice(alloc, b"ok\n") {
-        Ok(text) => Ok(text),
-        Err(_) => Err(Stop::Memory),
-    }
+    let text = Vec::from_slice(alloc, b"ok\n")?;
+    Ok(text)
 }
 
 /// The canonical text of the grammar.
 fn show(alloc: Global, grammar: &Grammar) -> Result<Vec<u8>, Stop>
     ensures { ShowsGrammar grammar.now result }
 {
-    match show_grammar(alloc, grammar) {
-        Ok(text) => Ok(text),
-        Err(_) => Err(Stop::Memory),
-    }
+    let text = show_grammar(alloc, grammar)?;
+    Ok(text)
 }
 
 /// The text of the forest of the grammar and the input in the file of that name. The input is
@@ -91,23 +101,22 @@ fn run<F: Shelf>(
     input_name: &str,
 ) -> Result<Vec<u8>, Stop>
     requires scoped { IsWellScoped grammar.now }
-    requires few { length grammar.now.decls ≤ 262144 }
-    ensures answer { RunsForest grammar.now (F.holds shelf.old input_name.now) input_name.now (F.faults shelf.old) (F.faults shelf.new) (F.fetches shelf.old) (F.fetches shelf.new) result }
-    ensures same { (n : List ℕ) → F.holds shelf.new n ≡ F.holds shelf.old n }
+    requires few { length grammar.now.decls ≤ most_bytes }
+    ensures answer { RunsForest grammar.now
+        (change (F.state shelf.old) (F.state shelf.new)) input_name.now result }
+    ensures same { (n : List ℕ) → (F.state shelf.new).holds n ≡ (F.state shelf.old).holds n }
 {
     if !is_runnable(grammar) {
         return Err(refuse(alloc, b"not built"));
     }
-    let input = match load_input(alloc, shelf, input_name) {
-        Ok(input) => input,
-        Err(stop) => return Err(stop),
-    };
+    let input = load_input(alloc, shelf, input_name)?;
     parse(alloc, grammar, &input)
 }
 
 /// Puts the text on out. Where out fails, notes get a line of their own.
 fn write_text<O: Sink, N: Sink>(text: &[u8], out: &mut O, notes: &mut N) -> Status
-    ensures { WritesText text.now (record { told_before = O.got out.old; told_after = O.got out.new; faults_before = O.faults out.old; faults_after = O.faults out.new }) (record { told_before = N.got notes.old; told_after = N.got notes.new; faults_before = N.faults notes.old; faults_after = N.faults notes.new }) result }
+    ensures { WritesText text.now (change (O.state out.old) (O.state out.new))
+        (change (N.state notes.old) (N.state notes.new)) result }
 {
     match out.put(text) {
         Ok(()) => Status::Done,
@@ -120,7 +129,8 @@ fn write_text<O: Sink, N: Sink>(text: &[u8], out: &mut O, notes: &mut N) -> Stat
 
 /// Puts the line on notes.
 fn write_note<N: Sink>(status: Status, line: &[u8], notes: &mut N) -> Status
-    ensures { WritesNote status line.now (record { told_before = N.got notes.old; told_after = N.got notes.new; faults_before = N.faults notes.old; faults_after = N.faults notes.new }) result }
+    ensures { WritesNote status line.now
+        (change (N.state notes.old) (N.state notes.new)) result }
 {
     match notes.put(line) {
         Ok(()) => status,
@@ -130,7 +140,7 @@ fn write_note<N: Sink>(status: Status, line: &[u8], notes: &mut N) -> Status
 
 /// Notes that memory ran out.
 fn give_up<N: Sink>(notes: &mut N) -> Status
-    ensures { GivesUp (record { told_before = N.got notes.old; told_after = N.got notes.new; faults_before = N.faults notes.old; faults_after = N.faults notes.new }) result }
+    ensures { GivesUp (change (N.state notes.old) (N.state notes.new)) result }
 {
     let _ = notes.put(b"out of memory\n");
     Status::NoMemory

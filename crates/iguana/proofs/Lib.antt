@@ -1,1 +1,2 @@
 pub mod WrittenParts
+pub mod ReadParts

@@ -1,56 +1,50 @@
 //! A shelf over files.
 ghost use Rattle.std.specs.Prelude.{◌≡◌, ◌<◌, IfOk, IfErr, length};
-ghost use Rattle.ig_outside.specs.Told.{silent};
 ghost use Rattle.ig_outside.specs.Fetch.{AnswersFetch};
-ghost use Rattle.iguana.specs.Reading.{told_by, Piece, IsReadFault};
+ghost use Rattle.iguana.specs.Reading.{told_by, shelf_state, Piece, IsReadFault};
 
 #[cfg(test)]
 mod tests;
 
+use crate::folder::Folder;
 use ig_outside::{FetchFault, Shelf};
 use std::alloc::Global;
-use std::fs;
 use std::io::Read;
-use std::rt::Files;
 
 /// How many bytes one read asks for at most.
 const PIECE: usize = 65536;
 
-/// A shelf that fetches files by their names, and tells nothing of what they hold.
+/// A shelf that fetches files by their names, and tells what its folder tells.
 #[derive(Drop)]
-pub(crate) struct FileShelf<'a, R> {
-    files: &'a R,
+pub(crate) struct FileShelf<'a, D> {
+    folder: &'a D,
     faults: u64,
     fetches: u64,
 }
 
-impl<'a, R: Files> FileShelf<'a, R> {
+impl<'a, D: Folder> FileShelf<'a, D> {
     /// A shelf with the counts 0. Takes no memory.
-    pub(crate) fn new(files: &'a R) -> FileShelf<'a, R>
-        ensures faults { ⟦<FileShelf<'a, R> as Shelf>⟧.faults result ≡ 0 }
-        ensures fetches { ⟦<FileShelf<'a, R> as Shelf>⟧.fetches result ≡ 0 }
+    pub(crate) fn new(folder: &'a D) -> FileShelf<'a, D>
+        ensures { ⟦<FileShelf<'a, D> as Shelf>⟧.state result
+            ≡ shelf_state (D.content folder.now) 0 0 }
     {
         FileShelf {
-            files,
+            folder,
             faults: 0,
             fetches: 0,
         }
     }
 }
 
-impl<R: Files> Shelf for FileShelf<'_, R> {
-    ghost holds = { λ _ _. silent };
-
-    ghost faults = { λ s. s.faults };
-
-    ghost fetches = { λ s. s.fetches };
+impl<D: Folder> Shelf for FileShelf<'_, D> {
+    ghost state = { λ s. shelf_state (D.content s.folder.now) s.faults s.fetches };
 
     /// Fetches as every shelf does. It is `Failed` exactly where the file can't be opened, as where
     /// there is none, or a read fails.
     fn fetch(&mut self, alloc: Global, name: &str, most: u64) -> Result<Vec<u8>, FetchFault> {
         let faults = self.faults;
         self.fetches = self.fetches.saturating_add(1);
-        match read_file(alloc, self.files, name, most) {
+        match read_file(alloc, self.folder, name, most) {
             Ok(content) => Ok(content),
             Err(FetchFault::Failed) => {
                 self.faults = faults.saturating_add(1);
@@ -62,17 +56,17 @@ impl<R: Files> Shelf for FileShelf<'_, R> {
 }
 
 /// The bytes of the file of that name.
-fn read_file<R: Files>(
+fn read_file<D: Folder>(
     alloc: Global,
-    files: &R,
+    folder: &D,
     name: &str,
     most: u64,
 ) -> Result<Vec<u8>, FetchFault>
-    ensures { AnswersFetch silent most result }
+    ensures { AnswersFetch (told_by (D.content folder.now name.now)) most result }
 {
-    match fs::open(files, name) {
-        Ok(mut file) => read_all(alloc, &mut file, most),
-        Err(_) => Err(FetchFault::Failed),
+    match folder.open(name) {
+        Some(mut file) => read_all(alloc, &mut file, most),
+        None => Err(FetchFault::Failed),
     }
 }
 
@@ -105,7 +99,8 @@ fn read_piece<F: Read>(
     content: &mut Vec<u8>,
 ) -> Result<usize, FetchFault>
     requires { 0 < length room.old }
-    ensures ok { IfOk result (Piece (F.remaining reader.old) (F.remaining reader.new) content.old.items content.new.items (length room.old)) }
+    ensures ok { IfOk result (Piece (F.remaining reader.old) (F.remaining reader.new)
+        content.old.items content.new.items (length room.old)) }
     ensures refused { IfErr result IsReadFault }
 {
     let Ok(count) = reader.read(room) else {

@@ -1,4 +1,5 @@
-//! The program Iguana: it checks a grammar, shows it, or prints the forest of a grammar and an input.
+//! The program Iguana: it checks a grammar, shows it, or prints the forest of a grammar and an
+//! input.
 //!
 //! `iguana forest GRAMMAR INPUT` reads the two files that it names. The forest goes to standard
 //! output, a note on why there is none to standard error, and the exit status says which it was.
@@ -8,6 +9,7 @@
 #![tactic(auto)]
 
 mod file_shelf;
+mod folder;
 #[cfg(test)]
 mod rows;
 #[cfg(test)]
@@ -21,6 +23,7 @@ ghost use Rattle.ig_tool.specs.Outcome.{number_of};
 ghost use Rattle.iguana.specs.Ending.{MayEnd};
 
 use crate::file_shelf::FileShelf;
+use crate::folder::{Folder, SystemFolder};
 use crate::stream_sink::StreamSink;
 use crate::words::words;
 use ig_tool::iguana;
@@ -28,27 +31,30 @@ use ig_tool::status::Status;
 use std::alloc::Global;
 use std::io::Write;
 use std::process::ExitCode;
-use std::rt::Files;
 
 fn main(rt: HostRuntime) -> ExitCode {
     let status = match words(&rt) {
-        Ok(words) => run(rt.alloc(), words.as_slice(), &rt, rt.stdout(), rt.stderr()),
+        Ok(words) => {
+            let folder = SystemFolder { files: &rt };
+            let words = words.as_slice();
+            run(rt.alloc(), words, &folder, rt.stdout(), rt.stderr())
+        }
         Err(status) => status,
     };
     exit_code(status)
 }
 
 /// Runs the top call over files and the two streams.
-fn run<R: Files, O: Write + Drop, N: Write + Drop>(
+fn run<D: Folder, O: Write + Drop, N: Write + Drop>(
     alloc: Global,
     words: &[String],
-    files: &R,
+    folder: &D,
     out: O,
     notes: N,
 ) -> Status
-    ensures { MayEnd (map string_bytes words.now) result }
+    ensures { MayEnd (map string_bytes words.now) (D.content folder.now) result }
 {
-    let mut shelf = FileShelf::new(files);
+    let mut shelf = FileShelf::new(folder);
     let mut out = StreamSink::new(out);
     let mut notes = StreamSink::new(notes);
     iguana(alloc, words, &mut shelf, &mut out, &mut notes)

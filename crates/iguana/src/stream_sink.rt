@@ -1,6 +1,8 @@
 //! A sink over a stream.
-ghost use Rattle.std.specs.Prelude.{◌≡◌, None};
-ghost use Rattle.iguana.specs.Writing.{WritesAll};
+ghost use Rattle.std.specs.Prelude.{◌≡◌, ◌≤◌};
+ghost use Rattle.ig_outside.specs.Counts.{last_count};
+ghost use Rattle.ig_outside.specs.Put.{AnswersPut, CausesPut};
+ghost use Rattle.iguana.specs.Writing.{WritesAll, sink_state};
 
 #[cfg(test)]
 mod tests;
@@ -18,20 +20,27 @@ pub(crate) struct StreamSink<W> {
 impl<W: Write> StreamSink<W> {
     /// A sink with the count 0. Takes no memory.
     pub(crate) fn new(stream: W) -> StreamSink<W>
-        ensures { ⟦<StreamSink<W> as Sink>⟧.faults result ≡ 0 }
+        ensures { ⟦<StreamSink<W> as Sink>⟧.state result ≡ sink_state 0 }
     {
         StreamSink { stream, faults: 0 }
     }
 }
 
 impl<W: Write> Sink for StreamSink<W> {
-    ghost got = { λ _. None };
+    ghost state = { λ s. sink_state s.faults };
 
-    ghost faults = { λ s. s.faults };
-
-    /// Puts as every sink does. It fails exactly where a write fails, or takes nothing of bytes that
-    /// are left.
-    fn put(&mut self, piece: &[u8]) -> Result<(), SinkFault> {
+    /// Puts as every sink does: where it is known what the stream holds, an `Ok` appended the whole
+    /// piece to that. It fails exactly where a write fails, or takes nothing of bytes that are left;
+    /// then a prefix of the piece was written.
+    fn put(&mut self, piece: &[u8]) -> Result<(), SinkFault>
+        ensures answer { AnswersPut (sink_state self.old.faults).got
+            (sink_state self.new.faults).got piece.now result }
+        ensures cause { CausesPut self.old.faults self.new.faults result }
+        ensures before { self.old.faults ≤ last_count }
+        ensures after { self.new.faults ≤ last_count }
+        ensures written { WritesAll (W.contents self.old.stream) (W.contents self.new.stream)
+            piece.now result }
+    {
         let faults = self.faults;
         match write_all(&mut self.stream, piece) {
             Ok(()) => Ok(()),

@@ -1,5 +1,6 @@
 //! Fetches of a file that the test makes.
 use super::*;
+use crate::folder::SystemFolder;
 use std::test::Fail;
 use std::{env, process};
 
@@ -10,8 +11,9 @@ fn fetches_files(rt: HostRuntime) -> Result<(), Fail> {
     let folder = folder.as_str();
     let number = process::id(rt.process());
     let name = format!(in alloc; "{folder}/iguana-{number}")?;
-    fs::write(&rt, name.as_str(), "text")?;
-    let mut shelf = FileShelf::new(&rt);
+    std::fs::write(&rt, name.as_str(), "text")?;
+    let folder = SystemFolder { files: &rt };
+    let mut shelf = FileShelf::new(&folder);
     let table: [(u64, Result<&[u8], FetchFault>); 4] = [
         (4, Ok(b"text")),
         (3, Err(FetchFault::Long)),
@@ -24,7 +26,7 @@ fn fetches_files(rt: HostRuntime) -> Result<(), Fail> {
             Err(fault) => assert_eq!(rt; Err(fault), want),
         }
     }
-    fs::remove_file(&rt, name.as_str())?;
+    std::fs::remove_file(&rt, name.as_str())?;
     assert_eq!(rt; shelf.faults, 0);
     assert!(rt;
         matches!(

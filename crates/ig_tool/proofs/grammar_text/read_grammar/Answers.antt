@@ -1,27 +1,19 @@
 use Rattle.std.proofs.Common.{subst, sym, ◌++◌}
 use Rattle.std.specs.Prelude.{codes, IsUtf8}
 use Rattle.std.specs.Fmt.{decimal}
-use Rattle.ig_notation.proofs.Regularity.{read_regular}
-use Rattle.ig_notation.specs.declared.fault.Large.TheVariants as large
-use Rattle.ig_tool.specs.Refusals.{large_text, too_many, not_utf8}
-use Rattle.ig_tool.proofs.GrammarTexts.{few_bytes, refused_as, refused_syntax, refused_large, refused_scope}
+use Rattle.ig_tool.specs.Refusals.{not_utf8}
+use Rattle.ig_tool.proofs.GrammarTexts.{refused_as, refused_syntax, refused_large, refused_scope}
 use Rattle.ig_tool.proofs.grammar_text.read_grammar.Goals as goal
-
-pub returns-then-is_long : goal.returns-then-is_long
-returns-then-is_long c =
-    refused_as c.args.bytes.now (large_text large.Bytes) c.too_large.result c.too_large.ensures
-    (too_many (c.is_long.ensures.0 c.if-is_long.true))
 
 pub returns-in-Err : goal.returns-in-Err
 returns-in-Err c =
     refused_as c.args.bytes.now (codes "not UTF-8 at byte " ++ decimal c.valid_up_to.result) c.refuse_at.result c.refuse_at.ensures
-    (not_utf8 c.valid_up_to.result (few_bytes c.args.bytes.now c.is_long.result c.is_long.ensures c.if-is_long.false) c.in-Err.ensures.cases.0
-    (rw c.valid_up_to.ensures c.in-Err.ensures.cases.1))
+    (not_utf8 c.valid_up_to.result c.requires c.in-Err.ensures.cases.0 (rw c.valid_up_to.ensures c.in-Err.ensures.cases.1))
 
 pub check-requires : goal.check-requires
 check-requires c =
     let same = c.in-Ok.ensures.cases.0 in
-    read_regular c.in-Ok.source.now c.in-Ok-read.grammar (subst IsUtf8 (sym same) c.in-Ok.ensures.cases.1) c.in-Ok-read.ensures.ok
+    (c.read_grammars_are_regular.ensures c.in-Ok.source.now c.in-Ok-read.grammar (subst IsUtf8 (sym same) c.in-Ok.ensures.cases.1) c.in-Ok-read.ensures.ok).0
 
 pub returns-in-Err-Syntax : goal.returns-in-Err-Syntax
 returns-in-Err-Syntax c =

@@ -1,4 +1,6 @@
-use Rattle.ig_tool.proofs.Loading.{grammar_given, grammar_long, grammar_unread, grammar_missing}
+use Rattle.std.proofs.Common.{◌≤◌, ℕ, List, length, subst, sym}
+use Rattle.ig_syntax.specs.Notation.{most_bytes}
+use Rattle.ig_tool.proofs.Loading.{given_few, grammar_given, grammar_long, grammar_unread, grammar_missing}
 use Rattle.ig_tool.proofs.load.load_grammar.Goals as goal
 
 pub returns-in-Ok-clause-answer : goal.returns-in-Ok-clause-answer
@@ -22,3 +24,7 @@ returns-in-Err-Missing-clause-answer g c =
     let answer = rw c.in-Err-Missing.field-0-is at c.in-Err-Missing.ensures.answer in
     let cause = rw c.in-Err-Missing.field-0-is at c.in-Err-Missing.ensures.cause in
     grammar_missing _ c.args.name.now _ _ _ c.cannot_read-in-Err-Missing.result answer cause c.cannot_read-in-Err-Missing.ensures
+
+pub read_grammar-requires : goal.read_grammar-requires
+read_grammar-requires g c =
+    subst (λ (z : List ℕ). length z ≤ most_bytes) (sym c.as_slice.ensures.value) (given_few _ most_bytes c.in-Ok.bytes c.in-Ok.ensures.answer)
