@@ -23,7 +23,7 @@ returns-in-Err-Syntax c =
 pub returns-in-Err-TooLarge : goal.returns-in-Err-TooLarge
 returns-in-Err-TooLarge c =
     refused_large c.args.bytes.now c.in-Ok.source.now c.in-Ok.ensures.cases.0 c.in-Ok.ensures.cases.1 c.in-Err-TooLarge.which
-    c.too_large-in-Err-TooLarge.result c.too_large-in-Err-TooLarge.ensures
+    c.too_large.result c.too_large.ensures
     (rw c.in-Err-TooLarge.field-0-is at c.in-Err-TooLarge.ensures.fault)
 
 pub returns-in-Err-Broken : goal.returns-in-Err-Broken

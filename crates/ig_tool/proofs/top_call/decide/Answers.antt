@@ -1,6 +1,7 @@
 use Rattle.std.proofs.Common.{◌≤◌, length, subst, sym, Err}
 use Rattle.ig_grammar.specs.declared.grammar.Grammar.{Grammar}
 use Rattle.ig_syntax.specs.Notation.{most_bytes}
+use Rattle.ig_tool.specs.Change.{change}
 use Rattle.ig_tool.specs.Stops.{Decides}
 use Rattle.ig_tool.proofs.Deciding.{passed, decides_usage, decides_at_grammar, decides_check, decides_show, decides_forest, few_declarations}
 use Rattle.ig_tool.proofs.top_call.decide.Goals as goal
@@ -29,7 +30,8 @@ returns-in-Show-clause-answer g c =
 pub run-requires-clause-few : goal.run-requires-clause-few
 run-requires-clause-few g c =
     subst (λ (z : Grammar). length z.decls ≤ most_bytes) (sym c.grammar-in-Forest.ensures.same)
-    (few_declarations c.read_grammars_are_regular.ensures _ c.grammar_of.result.now c.in_ok-checked.checked c.in_ok-checked.ensures.answer)
+    (few_declarations c.read_grammars_are_regular.ensures
+    (change (g.F.Shelf.state c.args.shelf.now) (g.F.Shelf.state c.load_grammar.new.shelf)) c.grammar_of.result.now c.in_ok-checked.checked c.in_ok-checked.ensures.answer)
 
 pub returns-clause-answer : goal.returns-clause-answer
 returns-clause-answer g c =
