@@ -46,7 +46,7 @@ module _ (law : RegularityByForm) (number : List ℕ → ℕ) where
   term_regular : (label : Option (List ℕ)) (excluded : List Pattern) (x : Symbol) → IsTerm Any x → StandsWell x →
       All HasCharacter excluded → IsRegularStep (step_with number label excluded x)
   term_regular label excluded (Literal word) is well all =
-      (All-head HasNoEmptyLiteral (pattern.Literal word) [] (law.stands (Literal word) well).0, all)
+      (All-head HasNoEmptyLiteral (pattern.Literal word) [] (law.stands (Literal word) well).0.0, all)
   term_regular label excluded (OneOf class) is well all = (tt, all)
   term_regular label excluded (Call name arguments) is well all = all
   term_regular label excluded x is well all = absurd is
@@ -55,15 +55,15 @@ module _ (law : RegularityByForm) (number : List ℕ → ℕ) where
       IsRegularStep (step_with number label (excluded_of x) (unfiltered x))
   excluding_regular label (Filtered x filters) is well =
       let by = law.stands (Filtered x filters) well in
-      term_regular label (exclusions filters) x is.1 by.2 (excluded_have filters by.0)
+      term_regular label (exclusions filters) x is.1 by.1 (excluded_have filters by.0.0)
   excluding_regular label (Literal word) is well =
-      (All-head HasNoEmptyLiteral (pattern.Literal word) [] (law.stands (Literal word) well).0, All-nil HasCharacter)
+      (All-head HasNoEmptyLiteral (pattern.Literal word) [] (law.stands (Literal word) well).0.0, All-nil HasCharacter)
   excluding_regular label (OneOf class) is well = (tt, All-nil HasCharacter)
   excluding_regular label (Call name arguments) is well = All-nil HasCharacter
   excluding_regular label x is well = absurd is
 
   step_regular : (x : Symbol) → Remains Any x → StandsWell x → IsRegularStep (step_of number x)
-  step_regular (Label name x) is well = excluding_regular (Some name) x is (law.stands (Label name x) well).2
+  step_regular (Label name x) is well = excluding_regular (Some name) x is (law.stands (Label name x) well).1
   step_regular (Guard condition) is well = tt
   step_regular (Let name value) is well = tt
   step_regular (Filtered x filters) is well = excluding_regular None (Filtered x filters) is well
