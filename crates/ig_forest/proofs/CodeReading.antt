@@ -23,7 +23,7 @@ pub read_none : {X : Type 0} (xs ys : List X) (k : ℕ) → ys ≡ xs → None �
 read_none xs ys k e at = ap (λ (z : List _). slice_get z k) (sym e) ∙ sym at
 
 module _ (root : ℕ) (names : List (List ℕ)) (lists : List (List Value)) (nodes : List StoredNode) (items : List StoredItem) (f : parts.Forest)
-    (is : forest_by root names lists nodes items ≡ f) (fits : FitsForest names lists nodes items) where
+    (is : forest_by root names lists nodes items ≡ f) (fits : FitsForest root names lists nodes items) where
   pub node_absent : (k : ℕ) → slice_get nodes k ≡ None → None ≡ slice_get f.nodes k
   node_absent k none =
       sym (slice_get-map (node_by names lists) nodes k ∙ ap (option_map (node_by names lists)) none) ∙ ap (λ (z : parts.Forest). slice_get z.nodes k) is

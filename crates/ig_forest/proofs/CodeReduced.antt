@@ -9,6 +9,7 @@ use Rattle.ig_item.specs.declared.core_grammar.Nonterminal.{Nonterminal}
 use Rattle.ig_forest.specs.Forest as parts
 use Rattle.ig_forest.specs.Live as live
 use Rattle.ig_forest.specs.Live.{NodeKey, Completes, IsLive}
+use Rattle.ig_forest.specs.Unfold.{IsTrim}
 use Rattle.ig_forest.specs.Reduced as reduced
 use Rattle.ig_forest.specs.Reduced.{Each, IsNamed, IsNode, IsItemNode, IsChoice, IsReduced, root_key}
 use Rattle.ig_forest.specs.CodeTables.{RowFits, AreRows, item_by, key_by, node_of, list_at, list_cmp}
@@ -167,10 +168,12 @@ module _ (k : Kept) (are : AreFinal k) where
           root = map_at (key_by L) k.nodes.now root row root_at ∙ ap Some is;
         })
 
-    pub fits_forest : (lists : List (List Value)) → lists ≡ L → FitsForest names lists nodes items
-    fits_forest lists lists_are =
-        subst (λ (z : List (List Value)). FitsForest names z nodes items) (sym lists_are)
+    pub fits_forest : (root : ℕ) (lists : List (List Value)) → lists ≡ L → IsTrim (forest_by root names lists nodes items) →
+        FitsForest root names lists nodes items
+    fits_forest root lists lists_are trim =
+        subst (λ (z : List (List Value)). FitsForest root names z nodes items) (sym lists_are)
         (record {
+          trim = subst (λ (z : List (List Value)). IsTrim (forest_by root names z nodes items)) lists_are trim;
           nodes_named = λ n c. let (m, at) = node_nonterminal n c in within m n.row.nonterminal at;
           nodes_listed = node_fits;
           items_named = λ it c. let (m, at) = item_nonterminal it c in within m it.row.nonterminal at;

@@ -6,7 +6,8 @@ use Rattle.ig_text.specs.declared.text.Span.{Span}
 use Rattle.ig_expr.specs.declared.value.Value.{Value}
 use Rattle.ig_item.specs.declared.core_grammar.Nonterminal.{Nonterminal}
 use Rattle.ig_forest.specs.Forest as parts
-use Rattle.ig_forest.specs.Orders.{choice_cmp, entry_cmp}
+use Rattle.ig_forest.specs.Unfold.{IsTrim}
+use Rattle.ig_forest.specs.Orders.{choice_cmp}
 use Rattle.ig_forest.specs.CodeTables.{list_at, node_of}
 use Rattle.ig_forest.specs.CodeSteps.{StandsLast}
 use Rattle.ig_forest.specs.CodeDone.{IsDoneRow}
@@ -64,8 +65,10 @@ pub record HasChoices (core : List Nonterminal) (rows : List ItemRow) (node : No
   pub members : (choice : Choice) → Contains choices choice ↔ IsChoiceRow core rows node choice
   pub order : IsStrictlySortedBy choice_cmp choices
 
--- what the stored nodes and items name is there
-pub record FitsForest (names : List (List ℕ)) (lists : List (List Value)) (nodes : List StoredNode) (items : List StoredItem) : Type 0 where
+-- the forest is trim, and what the stored nodes and items name is there
+pub record FitsForest (root : ℕ) (names : List (List ℕ)) (lists : List (List Value)) (nodes : List StoredNode)
+    (items : List StoredItem) : Type 0 where
+  pub trim : IsTrim (forest_by root names lists nodes items)
   pub nodes_named : (n : StoredNode) → Contains nodes n → n.row.nonterminal < length names
   pub nodes_listed : (n : StoredNode) → Contains nodes n → n.row.values < length lists
   pub items_named : (it : StoredItem) → Contains items it → it.row.nonterminal < length names

@@ -12,6 +12,7 @@ use crate::alternatives::with_alternatives;
 use crate::done::nodes_of;
 use crate::entries::{Kept, number_of_node};
 use crate::forest::Forest;
+use crate::laws::reduced_forest_is_trim;
 use crate::links::{Link, Sources, links_of};
 use crate::live::{kept_of, rows_at};
 use crate::reach::{Graph, reached};
@@ -25,11 +26,9 @@ use std::alloc::{AllocError, Global};
 pub(crate) fn from_sources(
     alloc: Global,
     sources: &Sources,
-    nonterminals: u32,
 ) -> Result<Option<Forest>, AllocError>
     requires sources { AreSources sources.now }
     requires few { length sources.now.nodes.now < 4294967296 }
-    requires nonterminals { nonterminals ≡ length sources.now.core.now }
     ensures { IfOk result (λ forest. MatchOption forest
         (RootIsComplete sources.now.core.now sources.now.text.now → ⊥)
         (IsReduced sources.now.core.now sources.now.text.now)) }
@@ -51,7 +50,7 @@ pub(crate) fn from_sources(
         live,
         nodes,
     };
-    let forest = finished(alloc, tables, kept, root, nonterminals)?;
+    let forest = finished(alloc, tables, kept, root)?;
     Ok(Some(forest))
 }
 
@@ -85,17 +84,17 @@ fn finished(
     tables: Kept,
     kept: &[u32],
     root: u32,
-    nonterminals: u32,
 ) -> Result<Forest, AllocError>
     requires tables { AreFinal tables }
     requires kept { AreTaken tables.sources.rows.now kept.now tables.live.now }
     requires root { IsRootAt tables.sources root }
     requires root_live { RootIsLive tables root }
-    requires nonterminals { nonterminals ≡ length tables.sources.core.now }
     ensures { IfOk result
         (IsReduced tables.entry.sources.core.now tables.entry.sources.text.now) }
 {
+    reduced_forest_is_trim();
     let sources = tables.sources;
+    let nonterminals = sources.core.nonterminals();
     let nodes = with_alternatives(alloc, sources.core, tables.live, tables.nodes)?;
     let items = tables.with_entries(alloc, kept)?;
     let names = copied_names(alloc, sources.core, nonterminals)?;
