@@ -1,5 +1,5 @@
 -- What the readers of a forest read.
-use Rattle.std.proofs.Common.{◌≡◌, ℕ, ◌<◌, List, Some, None, Option, length, map, slice_get, refl, sym, ap, ◌∙◌, subst, arith}
+use Rattle.std.proofs.Common.{◌≡◌, ℕ, ◌<◌, List, Some, None, length, slice_get, sym, ap, ◌∙◌}
 use Rattle.std.specs.Prelude.{option_map}
 use Rattle.std.proofs.lemmas.Option.{slice_get-get_or, slice_get-map, get_or_from_slice_get, none-some}
 use Rattle.ig_expr.specs.declared.value.Value.{Value}
@@ -10,7 +10,6 @@ use Rattle.ig_forest.specs.declared.entry.Choice.{Choice}
 use Rattle.ig_forest.specs.declared.entry.Entry.{Entry}
 use Rattle.ig_forest.specs.declared.stored.StoredNode.{StoredNode}
 use Rattle.ig_forest.specs.declared.stored.StoredItem.{StoredItem}
-use Rattle.ig_forest.proofs.Lists.{contains_from_at}
 use Rattle.ig_forest.proofs.CodeSorted.{map_at}
 
 pub there_not : {X : Type 0} (xs : List X) (d : X) (n : ℕ) → n < length xs → None ≡ slice_get xs n → ⊥

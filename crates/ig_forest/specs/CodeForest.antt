@@ -1,8 +1,7 @@
 -- The forest of the stored nodes and item nodes, and what the code knows of their parts.
-use Rattle.std.specs.Prelude.{◌≡◌, ◌↔◌, ◌⊎◌, ℕ, ◌<◌, ◌≤◌, List, [], map, length, Contains, Option, Some, slice_get, slice_index_or}
+use Rattle.std.specs.Prelude.{◌≡◌, ◌↔◌, ℕ, ◌<◌, List, [], map, length, Contains, Some, slice_get, slice_index_or}
 use Rattle.std.specs.List.Sorted.{IsStrictlySortedBy}
 use Rattle.ig_text.specs.declared.tag.Tag.{Tag}
-use Rattle.ig_text.specs.declared.text.Span.{Span}
 use Rattle.ig_expr.specs.declared.value.Value.{Value}
 use Rattle.ig_item.specs.declared.core_grammar.Nonterminal.{Nonterminal}
 use Rattle.ig_forest.specs.Forest as parts
@@ -10,9 +9,7 @@ use Rattle.ig_forest.specs.Unfold.{IsTrim}
 use Rattle.ig_forest.specs.Orders.{choice_cmp}
 use Rattle.ig_forest.specs.CodeTables.{list_at, node_of}
 use Rattle.ig_forest.specs.CodeSteps.{StandsLast}
-use Rattle.ig_forest.specs.CodeDone.{IsDoneRow}
 use Rattle.ig_forest.specs.declared.entry.Choice.{Choice}
-use Rattle.ig_forest.specs.declared.entry.Entry.{Entry}
 use Rattle.ig_forest.specs.declared.rows.ItemRow.{ItemRow}
 use Rattle.ig_forest.specs.declared.rows.NodeRow.{NodeRow}
 use Rattle.ig_forest.specs.declared.stored.StoredNode.{StoredNode}

@@ -1,5 +1,6 @@
 //! How the reduced forest is made from the tables of a run.
-ghost use Rattle.std.specs.Prelude.{◌≡◌, ◌≤◌, ◌<◌, ◌∷◌, [], ◌++◌, IfOk, OnOk, MatchOption, map, length};
+ghost use Rattle.std.specs.Prelude.{◌≡◌, ◌≤◌, ◌<◌, ◌∷◌, [], ◌++◌, IfOk, OnOk, MatchOption, map};
+ghost use Rattle.std.specs.Prelude.{length};
 ghost use Rattle.ig_item.specs.Items.{RootIsComplete};
 ghost use Rattle.ig_forest.specs.CodeBuilder.{AreLiveNumbers, RootIsLive};
 ghost use Rattle.ig_forest.specs.CodeEntries.{AreFinal};
@@ -23,10 +24,7 @@ use ig_text::{Copied, Word, Words};
 use std::alloc::{AllocError, Global};
 
 /// The reduced forest, where the root has a node.
-pub(crate) fn from_sources(
-    alloc: Global,
-    sources: &Sources,
-) -> Result<Option<Forest>, AllocError>
+pub(crate) fn from_sources(alloc: Global, sources: &Sources) -> Result<Option<Forest>, AllocError>
     requires sources { AreSources sources.now }
     requires few { length sources.now.nodes.now < 4294967296 }
     ensures { IfOk result (λ forest. MatchOption forest
@@ -79,12 +77,7 @@ fn live_numbers(
 }
 
 /// The forest of the kept items and nodes.
-fn finished(
-    alloc: Global,
-    tables: Kept,
-    kept: &[u32],
-    root: u32,
-) -> Result<Forest, AllocError>
+fn finished(alloc: Global, tables: Kept, kept: &[u32], root: u32) -> Result<Forest, AllocError>
     requires tables { AreFinal tables }
     requires kept { AreTaken tables.sources.rows.now kept.now tables.live.now }
     requires root { IsRootAt tables.sources root }

@@ -1,5 +1,6 @@
 //! The reduced forest: its tables, how they are made, and readers that hand out borrowing views.
-ghost use Rattle.std.specs.Prelude.{◌≡◌, ◌↔◌, IfOk, MatchOption, Contains, length, option_map, slice_get};
+ghost use Rattle.std.specs.Prelude.{◌≡◌, ◌↔◌, IfOk, MatchOption, Contains, length, option_map};
+ghost use Rattle.std.specs.Prelude.{slice_get};
 ghost use Rattle.std.specs.Option.{option_copied};
 ghost use Rattle.ig_item.specs.Items.{Item, Reachable, RootIsComplete};
 ghost use Rattle.ig_item.specs.Tables.{items_of};

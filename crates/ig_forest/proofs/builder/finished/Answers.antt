@@ -1,5 +1,5 @@
 use Rattle.std.proofs.Common.{◌∙◌, Some, ap}
-use Rattle.std.proofs.lemmas.Option.{slice_get-get_or, slice_get_within, get_or_from_slice_get}
+use Rattle.std.proofs.lemmas.Option.{get_or_from_slice_get}
 use Rattle.ig_forest.proofs.CodeReduced.{is_reduced, fits_forest}
 use Rattle.ig_forest.proofs.builder.finished.Goals as goal
 
