@@ -1,21 +1,15 @@
 -- Links that are added, one item at a time.
-use Rattle.std.proofs.Common.{◌≡◌, ◌↔◌, ◌⊎◌, inl, inr, ℕ, suc, ◌+◌, ◌<◌, ◌≤◌, List, [], ◌∷◌, ◌++◌, Some, None, Option, length, map, take, get_or, slice_get, Contains, refl, sym, ap, ◌∙◌, subst, subst₂, arith, OnOk, Result, Ok, Err}
+use Rattle.std.proofs.Common.{◌≡◌, ◌↔◌, ◌⊎◌, inl, inr, ℕ, ◌+◌, ◌<◌, List, [], ◌∷◌, ◌++◌, Some, None, Option, length, take, get_or, slice_get, Contains, refl, sym, ap, ◌∙◌, subst, OnOk, Result, Ok, Err}
 use Rattle.std.proofs.lemmas.List.Elements.{Contains-append_left, Contains-push, Contains-push_cases}
 use Rattle.std.proofs.lemmas.List.{take_more}
-use Rattle.std.proofs.lemmas.Option.{same_Some, slice_get-get_or}
-use Rattle.ig_text.specs.declared.pattern.Pattern.{Pattern}
+use Rattle.std.proofs.lemmas.Option.{same_Some}
 use Rattle.ig_text.specs.declared.text.Span.{Span}
-use Rattle.ig_text.specs.Pattern.{Matches}
-use Rattle.ig_expr.specs.Expression.{Expression}
-use Rattle.ig_expr.specs.declared.value.Value.{Value}
-use Rattle.ig_item.specs.Items.{Item, Reachable, past}
-use Rattle.ig_forest.specs.Live.{NodeKey, Taken, Gives, nothing, leaf, tree}
-use Rattle.ig_forest.specs.CodeTables.{RowFits, AreRows, item_by, key_by, list_at, list_cmp, row_cmp}
+use Rattle.ig_item.specs.Items.{Item}
+use Rattle.ig_forest.specs.Live.{Taken, Gives, nothing, leaf}
+use Rattle.ig_forest.specs.CodeTables.{RowFits, item_by, row_cmp}
 use Rattle.ig_forest.specs.CodeSteps.{Adds}
-use Rattle.ig_forest.specs.CodeLinks.{AreSources, LinkedFrom, LinkedBy, LinkedByOne, IsLinkTo, Took, no_tree, a_leaf, a_node, lists_of}
+use Rattle.ig_forest.specs.CodeLinks.{AreSources, LinkedFrom, IsLinkTo, Took, a_node, lists_of}
 use Rattle.ig_forest.specs.declared.rows.ItemRow.{ItemRow}
-use Rattle.ig_forest.specs.declared.rows.NodeRow.{NodeRow}
-use Rattle.ig_forest.specs.declared.filed.FiledNode.{FiledNode}
 use Rattle.ig_forest.specs.declared.links.Link.{Link}
 use Rattle.ig_forest.specs.declared.links.Sources.{Sources}
 use Rattle.ig_forest.proofs.Lists.{one_place, contains_from_at}

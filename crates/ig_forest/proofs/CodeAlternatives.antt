@@ -1,19 +1,18 @@
 -- The alternatives of nodes.
-use Rattle.std.proofs.Common.{◌≡◌, ◌↔◌, ◌⊎◌, inl, inr, ℕ, zero, suc, ◌+◌, ◌<◌, ◌≤◌, List, [], ◌∷◌, ◌++◌, Some, None, Option, Less, length, map, take, get_or, slice_get, Contains, refl, sym, ap, ◌∙◌, subst, arith}
+use Rattle.std.proofs.Common.{◌≡◌, ◌↔◌, ◌⊎◌, inl, inr, ℕ, ◌+◌, ◌<◌, ◌≤◌, List, [], ◌∷◌, ◌++◌, Some, Option, length, map, take, get_or, slice_get, Contains, refl, sym, ap, ◌∙◌, subst, arith}
 use Rattle.std.specs.Prelude.{option_map, option_and_then, MatchOption}
 use Rattle.std.specs.List.Sorted.{IsStrictlySortedBy}
-use Rattle.std.specs.Ordering.{nat_cmp}
 use Rattle.std.proofs.lemmas.List.{map-append}
 use Rattle.std.proofs.lemmas.List.Elements.{Contains-append_left, Contains-push, Contains-push_cases}
-use Rattle.std.proofs.lemmas.Option.{same_Some, slice_get-get_or, slice_get_within}
+use Rattle.std.proofs.lemmas.Option.{same_Some, slice_get-get_or}
 use Rattle.ig_text.specs.declared.tag.Tag.{Tag}
-use Rattle.ig_item.specs.Core.{IsAlternative, alternative_at, numbered}
+use Rattle.ig_item.specs.Core.{alternative_at, numbered}
 use Rattle.ig_item.specs.declared.core_grammar.Nonterminal.{Nonterminal}
 use Rattle.ig_item.specs.declared.core_grammar.CoreAlt.{CoreAlt}
 use Rattle.ig_forest.specs.Orders.{choice_cmp}
 use Rattle.ig_forest.specs.CodeTables.{node_of}
 use Rattle.ig_forest.specs.CodeSteps.{StandsLast}
-use Rattle.ig_forest.specs.CodeForest.{IsTagged, IsChoiceRow, HasChoices}
+use Rattle.ig_forest.specs.CodeForest.{IsTagged, HasChoices}
 use Rattle.ig_forest.specs.CodeChoices as adds
 use Rattle.ig_forest.specs.CodeChoices.{AddsChoice}
 use Rattle.ig_forest.specs.declared.entry.Choice.{Choice}
@@ -75,13 +74,13 @@ module _ (core : List Nonterminal) (rows : List ItemRow) where
       ],
       λ h. subst (λ (z : List Choice). Contains z c) (sym is) (elim (at_or_below c.item place h.upto) [
         | inl lower ↦
-          Contains-append_left before (record { tag = tag; item = place } ∷ []) c
-          ((are.members c).1 (record { row = h.row; numbered = h.numbered; tag = h.tag; from = h.from; upto = lower }))
+            Contains-append_left before (record { tag = tag; item = place } ∷ []) c
+            ((are.members c).1 (record { row = h.row; numbered = h.numbered; tag = h.tag; from = h.from; upto = lower }))
         | inr same ↦
-          let r : h.row ≡ row = same_Some h.row row (sym h.numbered ∙ ap (slice_get rows) same ∙ at) in
-          let t : c.tag ≡ tag = one_tag core row c.tag tag (subst (λ (z : ItemRow). IsTagged core z c.tag) r h.tag) tagged in
-          let e : c ≡ record { tag = tag; item = place } = (λ i. record { tag = t i; item = same i }) in
-          subst (Contains (before ++ record { tag = tag; item = place } ∷ [])) (sym e) (Contains-push before (record { tag = tag; item = place }))
+            let r : h.row ≡ row = same_Some h.row row (sym h.numbered ∙ ap (slice_get rows) same ∙ at) in
+            let t : c.tag ≡ tag = one_tag core row c.tag tag (subst (λ (z : ItemRow). IsTagged core z c.tag) r h.tag) tagged in
+            let e : c ≡ record { tag = tag; item = place } = (λ i. record { tag = t i; item = same i }) in
+            subst (Contains (before ++ record { tag = tag; item = place } ∷ [])) (sym e) (Contains-push before (record { tag = tag; item = place }))
       ]),
     );
     order =
@@ -94,7 +93,7 @@ module _ (core : List Nonterminal) (rows : List ItemRow) where
       λ h. subst (λ (z : List Choice). Contains z c) (sym is) (elim (at_or_below c.item place h.upto) [
         | inl lower ↦ (are.members c).1 (record { row = h.row; numbered = h.numbered; tag = h.tag; from = h.from; upto = lower })
         | inr same ↦
-          absurd (never (subst (StandsLast core) (same_Some h.row row (sym h.numbered ∙ ap (slice_get rows) same ∙ at)) h.tag.last))
+            absurd (never (subst (StandsLast core) (same_Some h.row row (sym h.numbered ∙ ap (slice_get rows) same ∙ at)) h.tag.last))
       ]),
     );
     order = subst (IsStrictlySortedBy choice_cmp) (sym is) are.order;
@@ -106,14 +105,14 @@ module _ (core : List Nonterminal) (rows : List ItemRow) where
   choices_all node first place end choices onward le ge exact are = record {
     members = λ c. (
       λ h.
-      let b = (are.members c).0 h in
-      let u = b.upto in
-      let g = ge onward in
-      record { row = b.row; numbered = b.numbered; node_is = (exact c.item b.row b.numbered).1 (b.from, omega (arith, u, g)); tag = b.tag },
+          let b = (are.members c).0 h in
+          let u = b.upto in
+          let g = ge onward in
+          record { row = b.row; numbered = b.numbered; node_is = (exact c.item b.row b.numbered).1 (b.from, omega (arith, u, g)); tag = b.tag },
       λ h.
-      let p = (exact c.item h.row h.numbered).0 h.node_is in
-      let u = p.1 in
-      (are.members c).1 (record { row = h.row; numbered = h.numbered; tag = h.tag; from = p.0; upto = omega (arith, u, le) }),
+          let p = (exact c.item h.row h.numbered).0 h.node_is in
+          let u = p.1 in
+          (are.members c).1 (record { row = h.row; numbered = h.numbered; tag = h.tag; from = p.0; upto = omega (arith, u, le) }),
     );
     order = are.order;
   }

@@ -1,21 +1,21 @@
 -- The parts of the builder fit together.
 use Rattle.std.proofs.Common.{◌≡◌, ◌↔◌, ℕ, ◌+◌, ◌<◌, ◌≤◌, List, [], ◌∷◌, ◌++◌, Bool, true, Some, None, Option, Bor, length, map, take, slice_get, Contains, refl, sym, ap, ◌∙◌, subst, arith}
-use Rattle.std.proofs.lemmas.List.{map-append, take_all}
-use Rattle.std.proofs.lemmas.Option.{same_Some, slice_get-get_or, slice_get_within, get_or_from_slice_get}
+use Rattle.std.proofs.lemmas.List.{take_all}
+use Rattle.std.proofs.lemmas.Option.{same_Some, slice_get_within}
 use Rattle.ig_expr.specs.declared.value.Value.{Value}
-use Rattle.ig_item.specs.Items.{Item, Reachable, Follows}
-use Rattle.ig_item.specs.Laws.{ReachableIsClosed, EnvironmentsFit, EnvironmentFits}
+use Rattle.ig_item.specs.Items.{Item, Reachable}
+use Rattle.ig_item.specs.Laws.{ReachableIsClosed, EnvironmentsFit}
 use Rattle.ig_item.specs.WellKinded.{IsWellKinded}
 use Rattle.ig_item.specs.Tables.{Tables, items_of}
 use Rattle.ig_item.specs.declared.core_grammar.Nonterminal.{Nonterminal}
 use Rattle.ig_forest.specs.Live as live
 use Rattle.ig_forest.specs.Live.{NodeKey, Completes, IsLive}
 use Rattle.ig_forest.specs.Reduced.{root_key}
-use Rattle.ig_forest.specs.CodeTables.{RowFits, AreLists, AreRows, item_by, key_by, node_of, list_cmp}
+use Rattle.ig_forest.specs.CodeTables.{AreLists, AreRows, item_by, key_by, node_of}
 use Rattle.ig_forest.specs.CodeSteps.{all_names}
-use Rattle.ig_forest.specs.CodeDone.{AreNodesOf, IsDoneRow}
-use Rattle.ig_forest.specs.CodeLinks.{AreSources, AreLinks, AreFiled, Took, a_node, no_tree, a_leaf, lists_of}
-use Rattle.ig_forest.specs.CodeReach.{FitsGraph, FitsLink, AreMarked}
+use Rattle.ig_forest.specs.CodeDone.{AreNodesOf}
+use Rattle.ig_forest.specs.CodeLinks.{AreSources, AreLinks, AreFiled, Took, a_node, lists_of}
+use Rattle.ig_forest.specs.CodeReach.{FitsGraph, AreMarked}
 use Rattle.ig_forest.specs.CodeKept.{AreKept, AreTaken}
 use Rattle.ig_forest.specs.CodeBuilder.{AreLiveNumbers, RootIsLive}
 use Rattle.ig_forest.specs.CodeEntries.{AreFinal}

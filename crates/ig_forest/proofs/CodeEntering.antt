@@ -6,20 +6,18 @@ use Rattle.std.proofs.lemmas.Cmp.{nat_cmp_total}
 use Rattle.std.proofs.lemmas.List.{map-append}
 use Rattle.std.proofs.lemmas.List.Elements.{Contains-append_left, Contains-push, Contains-push_cases}
 use Rattle.std.proofs.lemmas.Option.{same_Some, slice_get-get_or, slice_get_within, get_or_from_slice_get}
-use Rattle.ig_text.specs.declared.text.Span.{Span}
 use Rattle.ig_expr.specs.declared.value.Value.{Value}
 use Rattle.ig_item.specs.Step.{Step, Test, Bind, Term, Call}
-use Rattle.ig_item.specs.Items.{Item, Reachable, StandsBefore}
+use Rattle.ig_item.specs.Items.{Item}
 use Rattle.ig_item.specs.declared.core_grammar.Nonterminal.{Nonterminal}
 use Rattle.ig_forest.specs.Live as live
 use Rattle.ig_forest.specs.Live.{NodeKey, Taken, Gives, IsLive, Completes, nothing, leaf, tree}
 use Rattle.ig_forest.specs.Orders.{entry_cmp, previous}
 use Rattle.ig_forest.specs.Reduced as reduced
 use Rattle.ig_forest.specs.Reduced.{IsEntry}
-use Rattle.ig_forest.specs.CodeTables.{RowFits, AreRows, item_by, key_by, node_of, list_at, list_cmp, row_cmp, node_row_cmp}
+use Rattle.ig_forest.specs.CodeTables.{item_by, key_by, row_cmp, node_row_cmp}
 use Rattle.ig_forest.specs.CodeSteps.{StandsAt}
-use Rattle.ig_forest.specs.CodeDone.{AreNodesOf}
-use Rattle.ig_forest.specs.CodeLinks.{AreSources, AreLinks, Linked, Took, no_tree, a_leaf, a_node, lists_of, link_cmp}
+use Rattle.ig_forest.specs.CodeLinks.{Linked, Took, no_tree, a_leaf, a_node, lists_of, link_cmp}
 use Rattle.ig_forest.specs.CodeKept.{AreTaken}
 use Rattle.ig_forest.specs.CodeEntries as entries
 use Rattle.ig_forest.specs.CodeEntries.{AreFinal, live_at, Shows, EntryOf, TakenBy, begun, HasEntries}
@@ -29,11 +27,10 @@ use Rattle.ig_forest.specs.declared.entry.Child.TheVariants as child
 use Rattle.ig_forest.specs.declared.rows.ItemRow.{ItemRow}
 use Rattle.ig_forest.specs.declared.rows.NodeRow.{NodeRow}
 use Rattle.ig_forest.specs.declared.links.Link.{Link}
-use Rattle.ig_forest.specs.declared.links.Sources.{Sources}
 use Rattle.ig_forest.specs.declared.entries.Kept.{Kept}
 use Rattle.ig_forest.specs.declared.stored.StoredItem.{StoredItem}
 use Rattle.ig_forest.proofs.Lists.{contains_from_at, at_from_contains, rises, one_place}
-use Rattle.ig_forest.proofs.Liveness.{live_is_reachable, previous_reachable}
+use Rattle.ig_forest.proofs.Liveness.{previous_reachable}
 use Rattle.ig_forest.proofs.CodeOrders.{row_total, node_row_total}
 use Rattle.ig_forest.proofs.CodeSorted.{map_at, at_of_map}
 use Rattle.ig_forest.proofs.CodeGives.{same_row, same_step, same_list_place, any_step, stands_at, by_test, by_bind, by_term, by_call, names_there}
@@ -131,8 +128,7 @@ module _ (k : Kept) (are : AreFinal k) where
       let done_live =
       live.child (item_by L p.target) (item_by L p.prev) (item_by L done) (key_by L node) (target_live link.target p.target l p.target_at) g
       (are.sources.rows.sound done among) completes in
-      let in_rows = at_from_contains rows done among in
-      (
+      let in_rows = at_from_contains rows done among in (
         (are.nodes.members node).1
             (done, kept_row in_rows.0 done in_rows.1 done_live, record { last = Rattle.ig_forest.proofs.CodeGives.last_from_complete core L done is_done.complete; node_is = is_done.node_is }),
         t,
@@ -354,8 +350,8 @@ module _ (k : Kept) (are : AreFinal k) where
               | inr l ↦ elim ((taken_more run i link lt f l.0).0 l.1) [
                 | inl old ↦ Contains-append_left es (e ∷ []) y ((so_far.members y).1 (inr (l.0, old, l.2)))
                 | inr same ↦
-                  let s : y ≡ e = entry_one link y e (subst (λ (z : Link). EntryOf k z y) same l.2) of in
-                  subst (Contains (es ++ e ∷ [])) (sym s) (Contains-push es e)
+                    let s : y ≡ e = entry_one link y e (subst (λ (z : Link). EntryOf k z y) same l.2) of in
+                    subst (Contains (es ++ e ∷ [])) (sym s) (Contains-push es e)
               ]
             ]),
           );
@@ -379,14 +375,14 @@ module _ (k : Kept) (are : AreFinal k) where
         λ c. elim ((so_far.members e).0 c) [
           | inl b ↦ let p = from_begun row.dot e b in reduced.begin e p.0 p.1
           | inr l ↦
-            let p = (run_is l.0).0 (subst (λ (z : List Link). Contains z l.0) (Rattle.std.proofs.lemmas.List.take_all i run le) l.1) in
-            entry_to l.0 e number row l.2 p.1 at
+              let p = (run_is l.0).0 (subst (λ (z : List Link). Contains z l.0) (Rattle.std.proofs.lemmas.List.take_all i run le) l.1) in
+              entry_to l.0 e number row l.2 p.1 at
         ],
         λ h. elim (entry_from number row e at h) [
           | inl b ↦ (so_far.members e).1 (inl (in_begun e b.0 b.1))
           | inr l ↦
-            (so_far.members e).1
-            (inr (l.0, subst (λ (z : List Link). Contains z l.0) (sym (Rattle.std.proofs.lemmas.List.take_all i run le)) ((run_is l.0).1 (l.1, l.2)), l.3))
+              (so_far.members e).1
+              (inr (l.0, subst (λ (z : List Link). Contains z l.0) (sym (Rattle.std.proofs.lemmas.List.take_all i run le)) ((run_is l.0).1 (l.1, l.2)), l.3))
         ],
       );
       order = so_far.order;

@@ -1,8 +1,7 @@
 -- What the rules say at each step, and what tells rows apart.
-use Rattle.std.proofs.Common.{◌≡◌, ◌↔◌, ◌⊎◌, inl, inr, ℕ, suc, ◌+◌, ◌<◌, ◌≤◌, List, [], ◌∷◌, ◌++◌, Some, None, Option, length, map, get_or, slice_get, Contains, refl, sym, ap, ◌∙◌, subst, subst₂, arith}
-use Rattle.std.proofs.lemmas.Option.{slice_get-get_or, slice_get_within, get_or_from_slice_get, same_Some}
+use Rattle.std.proofs.Common.{◌≡◌, ℕ, ◌<◌, List, [], ◌∷◌, Some, Option, length, slice_get, refl, sym, ap, ◌∙◌, subst, subst₂}
+use Rattle.std.proofs.lemmas.Option.{slice_get-get_or, same_Some}
 use Rattle.ig_text.specs.declared.pattern.Pattern.{Pattern}
-use Rattle.ig_text.specs.declared.text.Span.{Span}
 use Rattle.ig_text.specs.Pattern.{Matches}
 use Rattle.ig_expr.specs.Expression.{Expression}
 use Rattle.ig_expr.specs.declared.value.Value.{Value}
@@ -12,15 +11,13 @@ use Rattle.ig_item.specs.Core.{IsAlternative}
 use Rattle.ig_item.specs.Items.{Item, Reachable, StandsBefore, HasValue, Calls, MatchesNone, past, span_of, IsComplete}
 use Rattle.ig_item.specs.declared.core_grammar.Nonterminal.{Nonterminal}
 use Rattle.ig_item.specs.declared.core_grammar.CoreAlt.{CoreAlt}
-use Rattle.ig_item.specs.declared.items.Instance.{Instance}
 use Rattle.ig_forest.specs.Live as live
 use Rattle.ig_forest.specs.Live.{NodeKey, Taken, Gives, Completes, nothing, leaf, tree}
-use Rattle.ig_forest.specs.CodeTables.{RowFits, item_by, key_by, list_at, list_cmp, row_cmp}
+use Rattle.ig_forest.specs.CodeTables.{RowFits, item_by, list_at, list_cmp}
 use Rattle.ig_forest.specs.CodeSteps.{StandsAt, StandsLast, HasNames}
 use Rattle.ig_forest.specs.declared.rows.ItemRow.{ItemRow}
-use Rattle.ig_forest.specs.declared.rows.NodeRow.{NodeRow}
 use Rattle.ig_forest.proofs.Lists.{one_place}
-use Rattle.ig_forest.proofs.CodeOrders.{list_total, row_total}
+use Rattle.ig_forest.proofs.CodeOrders.{list_total}
 use Rattle.std.specs.List.Sorted.{IsStrictlySortedBy}
 
 pub same_alternative : (core : List Nonterminal) (n a : ℕ) (nt mt : Nonterminal) (alt other : CoreAlt) → IsAlternative core n a nt alt →

@@ -1,17 +1,17 @@
 -- The rows of a run's items.
-use Rattle.std.proofs.Common.{◌≡◌, ◌↔◌, inl, inr, ℕ, ◌+◌, ◌<◌, ◌≤◌, List, [], ◌∷◌, ◌++◌, Some, Bool, length, map, take, get_or, slice_get, Contains, IsPermutation, IsSorted, refl, sym, ap, ◌∙◌, subst, arith}
-use Rattle.std.specs.Prelude.{slice_index_or, option_map}
+use Rattle.std.proofs.Common.{◌≡◌, inl, inr, ℕ, ◌+◌, ◌<◌, List, [], ◌∷◌, ◌++◌, Some, length, map, take, get_or, slice_get, Contains, refl, sym, ap, ◌∙◌, subst, arith}
+use Rattle.std.specs.Prelude.{slice_index_or}
 use Rattle.std.proofs.lemmas.List.Elements.{Contains-get_or, Contains-push_cases}
-use Rattle.std.proofs.lemmas.Option.{slice_get-get_or, slice_get_within, get_or_from_slice_get, same_Some}
+use Rattle.std.proofs.lemmas.Option.{slice_get-get_or, slice_get_within, get_or_from_slice_get}
 use Rattle.ig_expr.specs.declared.value.Value.{Value}
 use Rattle.ig_item.specs.Items.{Item, root_instance}
 use Rattle.ig_item.specs.Tables.{Tables, AreTables, HaveValues, instance_by, item_of, items_of}
 use Rattle.ig_item.specs.declared.items.Instance.{Instance}
 use Rattle.ig_item.specs.declared.items.InstanceKey.{InstanceKey}
 use Rattle.ig_item.specs.declared.items.Item as stored
-use Rattle.ig_forest.specs.CodeTables.{ArePlaces, AreLists, AreRows, RowFits, item_by, list_at, row_cmp}
+use Rattle.ig_forest.specs.CodeTables.{ArePlaces, AreRows, RowFits, item_by, list_at, row_cmp}
 use Rattle.ig_forest.specs.declared.rows.ItemRow.{ItemRow}
-use Rattle.ig_forest.proofs.Lists.{at_within, contains_from_at, at_from_contains}
+use Rattle.ig_forest.proofs.Lists.{at_within, contains_from_at}
 use Rattle.ig_forest.proofs.CodeSorted.{map_at, at_of_map, map_member, member_of_map, IsOnce}
 use Rattle.ig_forest.proofs.CodeEnvironments.{map_next}
 

@@ -1,25 +1,23 @@
 -- The items that paths from the root lead to are the live ones.
-use Rattle.std.proofs.Common.{◌≡◌, ◌↔◌, ◌⊎◌, inl, inr, ℕ, ◌+◌, ◌<◌, ◌≤◌, List, [], ◌∷◌, Some, None, Option, Bor, length, map, get_or, slice_get, Contains, refl, sym, ap, ◌∙◌, subst, subst₂, arith}
-use Rattle.std.proofs.lemmas.Option.{same_Some, slice_get-get_or, slice_get_within, get_or_from_slice_get}
-use Rattle.ig_text.specs.declared.text.Span.{Span}
+use Rattle.std.proofs.Common.{◌≡◌, ℕ, ◌+◌, List, Some, None, Option, Bor, length, slice_get, Contains, refl, sym, ap, ◌∙◌, subst, subst₂, arith}
+use Rattle.std.proofs.lemmas.Option.{same_Some, slice_get_within}
 use Rattle.ig_expr.specs.declared.value.Value.{Value}
-use Rattle.ig_item.specs.Items.{Item, Reachable, IsComplete, IsCompleteRoot, RootIsComplete, past, root_instance}
-use Rattle.ig_item.specs.declared.items.Instance.{Instance}
+use Rattle.ig_item.specs.Items.{Item, Reachable, IsComplete}
 use Rattle.ig_forest.specs.Live as live
 use Rattle.ig_forest.specs.Live.{NodeKey, Taken, Completes, Gives, IsLive, nothing, leaf, tree}
 use Rattle.ig_forest.specs.Reduced.{root_key}
-use Rattle.ig_forest.specs.CodeTables.{RowFits, AreRows, item_by, key_by, node_of, list_at}
+use Rattle.ig_forest.specs.CodeTables.{item_by, key_by, node_of}
 use Rattle.ig_forest.specs.CodeSteps.{StandsLast}
-use Rattle.ig_forest.specs.CodeLinks.{AreSources, AreLinks, Linked, Took, no_tree, a_leaf, a_node, lists_of}
-use Rattle.ig_forest.specs.CodeReach.{LeadsTo, prev, child, Edge, along, done, Path, here, step}
+use Rattle.ig_forest.specs.CodeLinks.{AreSources, AreLinks, Took, no_tree, a_leaf, a_node, lists_of}
+use Rattle.ig_forest.specs.CodeReach.{LeadsTo, prev, child, along, done, Path, here, step}
 use Rattle.ig_forest.specs.declared.rows.ItemRow.{ItemRow}
 use Rattle.ig_forest.specs.declared.rows.NodeRow.{NodeRow}
 use Rattle.ig_forest.specs.declared.links.Link.{Link}
 use Rattle.ig_forest.specs.declared.links.Sources.{Sources}
 use Rattle.ig_forest.specs.declared.reach.Graph.{Graph}
 use Rattle.ig_forest.proofs.Lists.{contains_from_at, at_from_contains}
-use Rattle.ig_forest.proofs.Liveness.{live_is_reachable, previous_reachable}
-use Rattle.ig_forest.proofs.CodeGives.{complete_from_last, last_from_complete, same_row}
+use Rattle.ig_forest.proofs.Liveness.{previous_reachable}
+use Rattle.ig_forest.proofs.CodeGives.{complete_from_last, last_from_complete}
 
 abbrev pub graph_of : Sources → Bor (List Link) → Graph
 graph_of s links = record { core = s.core; rows = s.rows; nodes = s.nodes; links = links }

@@ -1,9 +1,8 @@
 -- Marks that are set by a work list.
-use Rattle.std.proofs.Common.{◌≡◌, ◌↔◌, ◌⊎◌, inl, inr, ℕ, zero, suc, ◌+◌, ◌-◌, ◌<◌, ◌≤◌, List, [], ◌∷◌, ◌++◌, Bool, true, false, Some, None, Option, length, get_or, set, slice_get, Contains, refl, sym, ap, ◌∙◌, subst, arith, length-set, length-append, get_or-set_same, get_or-set_other}
+use Rattle.std.proofs.Common.{◌≡◌, ◌↔◌, ◌⊎◌, inl, inr, ℕ, zero, suc, ◌+◌, ◌<◌, ◌≤◌, List, [], ◌∷◌, ◌++◌, Bool, true, false, Some, None, length, get_or, set, slice_get, Contains, refl, sym, ap, ◌∙◌, subst, arith, length-set, length-append}
 use Rattle.std.proofs.lemmas.Bool.{cases_eq}
 use Rattle.std.proofs.lemmas.List.Elements.{Contains-append_left, Contains-push, Contains-push_cases}
-use Rattle.std.proofs.lemmas.Option.{same_Some, slice_get-get_or, slice_get_within, get_or_from_slice_get}
-use Rattle.ig_forest.specs.CodeSteps.{Adds}
+use Rattle.std.proofs.lemmas.Option.{same_Some, slice_get-get_or, slice_get_within}
 use Rattle.ig_forest.specs.CodeReach.{marks_in, AreMarks, MarksMore, Edge, Path, here, step, AreMarked}
 use Rattle.ig_forest.specs.declared.reach.Graph.{Graph}
 use Rattle.ig_forest.specs.declared.reach.Marks.{Marks}
@@ -165,12 +164,12 @@ module _ (g : Graph) (start : ℕ) where
         λ i u lt at_u w e.
         elim (below_or_at i turn lt) [
           | inl lower ↦
-            let (x, at_x) = at_within a.found.items i (earlier i turn v lower at) in
-            let same : u ≡ x = same_Some u x (sym at_u ∙ more.begins i x at_x) in
-            (more.adds w).1 (inl (walked.closed i x lower at_x w (subst (λ (z : ℕ). Edge g z w) same e)))
+              let (x, at_x) = at_within a.found.items i (earlier i turn v lower at) in
+              let same : u ≡ x = same_Some u x (sym at_u ∙ more.begins i x at_x) in
+              (more.adds w).1 (inl (walked.closed i x lower at_x w (subst (λ (z : ℕ). Edge g z w) same e)))
           | inr now ↦
-            let same : u ≡ v = same_Some u v (sym at_u ∙ ap (slice_get b.found.items) now ∙ more.begins turn v at) in
-            (more.adds w).1 (inr (subst (λ (z : ℕ). Edge g z w) same e))
+              let same : u ≡ v = same_Some u v (sym at_u ∙ ap (slice_get b.found.items) now ∙ more.begins turn v at) in
+              (more.adds w).1 (inr (subst (λ (z : ℕ). Edge g z w) same e))
         ];
   }
     where

@@ -1,7 +1,6 @@
 -- Rows in order are items and nodes in order.
-use Rattle.std.proofs.Common.{◌≡◌, ◌↔◌, ◌⊎◌, inl, inr, ℕ, ◌+◌, ◌<◌, ◌≤◌, zero, suc, Bool, true, List, [], ◌∷◌, Some, Less, Equal, Greater, length, map, get_or, slice_get, Contains, refl, sym, ap, ap₂, ◌∙◌, subst, arith}
+use Rattle.std.proofs.Common.{◌≡◌, ◌⊎◌, inl, inr, ℕ, ◌<◌, suc, Bool, true, List, [], ◌∷◌, Some, Less, Equal, Greater, length, map, slice_get, Contains, refl, sym, ap, ap₂, ◌∙◌, subst, arith}
 use Rattle.std.specs.declared.cmp.Ordering.{Ordering}
-use Rattle.std.specs.Cmp.{IsTotalOrder}
 use Rattle.std.specs.List.{AllByRecursion}
 use Rattle.std.specs.List.Sorted.{IsStrictlySortedBy}
 use Rattle.std.proofs.lemmas.Bool.Decides.{nat_tests}
@@ -15,7 +14,7 @@ use Rattle.ig_forest.specs.Live.{NodeKey, Completes, IsLive}
 use Rattle.ig_forest.specs.Orders.{item_cmp, node_cmp}
 use Rattle.ig_forest.specs.Reduced.{AreItems, AreNodes}
 use Rattle.ig_forest.specs.CodeTables.{RowFits, AreRows, item_by, key_by, list_at, list_cmp, node_of, row_cmp, node_row_cmp}
-use Rattle.ig_forest.specs.CodeDone.{AreNodesOf, IsDoneRow}
+use Rattle.ig_forest.specs.CodeDone.{AreNodesOf}
 use Rattle.ig_forest.specs.declared.rows.ItemRow.{ItemRow}
 use Rattle.ig_forest.specs.declared.rows.NodeRow.{NodeRow}
 use Rattle.ig_forest.specs.CodeKept.{AreKept, AreTaken}
@@ -54,15 +53,15 @@ rank lists a b sorted la lb =
     elim (three_ways a b) [
       | inl lt ↦ less_number a b lt ∙ sym (rises list_cmp list_total lists a b (list_at lists a) (list_at lists b) sorted at_a at_b lt)
       | inr (inl e) ↦
-        let n : nat_cmp a b ≡ Equal = ap (nat_cmp a) (sym e) ∙ tied_itself nat_cmp_total a in
-        let m : list_cmp (list_at lists a) (list_at lists b) ≡ Equal =
-        ap (λ z. list_cmp (list_at lists a) (list_at lists z)) (sym e) ∙ tied_itself list_total (list_at lists a) in
-        n ∙ sym m
+          let n : nat_cmp a b ≡ Equal = ap (nat_cmp a) (sym e) ∙ tied_itself nat_cmp_total a in
+          let m : list_cmp (list_at lists a) (list_at lists b) ≡ Equal =
+          ap (λ z. list_cmp (list_at lists a) (list_at lists z)) (sym e) ∙ tied_itself list_total (list_at lists a) in
+          n ∙ sym m
       | inr (inr gt) ↦
-        let n : nat_cmp a b ≡ Greater = nat_cmp_total.antisymm a b ∙ ap ordering_reverse (less_number b a gt) in
-        let r = rises list_cmp list_total lists b a (list_at lists b) (list_at lists a) sorted at_b at_a gt in
-        let m : list_cmp (list_at lists a) (list_at lists b) ≡ Greater = list_total.antisymm (list_at lists a) (list_at lists b) ∙ ap ordering_reverse r in
-        n ∙ sym m
+          let n : nat_cmp a b ≡ Greater = nat_cmp_total.antisymm a b ∙ ap ordering_reverse (less_number b a gt) in
+          let r = rises list_cmp list_total lists b a (list_at lists b) (list_at lists a) sorted at_b at_a gt in
+          let m : list_cmp (list_at lists a) (list_at lists b) ≡ Greater = list_total.antisymm (list_at lists a) (list_at lists b) ∙ ap ordering_reverse r in
+          n ∙ sym m
     ]
 
 module _ (lists : List (List Value)) (sorted : IsStrictlySortedBy list_cmp lists) where
@@ -104,25 +103,24 @@ module _ (lists : List (List Value)) (sorted : IsStrictlySortedBy list_cmp lists
   are_nodes core rows nodes fit are = record {
     members = λ key. (
       λ c.
-      let (node, among, is) = member_of_map (key_by lists) nodes key c in
-      let (row, row_among, done) = (are.members node).0 among in
-      let e : key_by lists (node_of row) ≡ key = ap (key_by lists) done.node_is ∙ is in
-      (
-        item_by lists row,
-        map_member (item_by lists) rows row row_among,
-        record {
-          complete = complete_from_last core lists row done.last;
-          instance = ap (λ (z : NodeKey). z.instance) e;
-          end = ap (λ (z : NodeKey). z.end) e;
-        },
-      ),
+          let (node, among, is) = member_of_map (key_by lists) nodes key c in
+          let (row, row_among, done) = (are.members node).0 among in
+          let e : key_by lists (node_of row) ≡ key = ap (key_by lists) done.node_is ∙ is in (
+            item_by lists row,
+            map_member (item_by lists) rows row row_among,
+            record {
+              complete = complete_from_last core lists row done.last;
+              instance = ap (λ (z : NodeKey). z.instance) e;
+              end = ap (λ (z : NodeKey). z.end) e;
+            },
+          ),
       λ h.
-      let (row, among, is) = member_of_map (item_by lists) rows h.0 h.1 in
-      let c : Completes core (item_by lists row) key = subst (λ (z : Item). Completes core z key) (sym is) h.2 in
-      let e : key_by lists (node_of row) ≡ key = (λ i. record { instance = c.instance i; end = c.end i }) in
-      subst (Contains (map (key_by lists) nodes)) e
-      (map_member (key_by lists) nodes (node_of row)
-      ((are.members (node_of row)).1 (row, among, record { last = last_from_complete core lists row c.complete; node_is = refl }))),
+          let (row, among, is) = member_of_map (item_by lists) rows h.0 h.1 in
+          let c : Completes core (item_by lists row) key = subst (λ (z : Item). Completes core z key) (sym is) h.2 in
+          let e : key_by lists (node_of row) ≡ key = (λ i. record { instance = c.instance i; end = c.end i }) in
+          subst (Contains (map (key_by lists) nodes)) e
+          (map_member (key_by lists) nodes (node_of row)
+          ((are.members (node_of row)).1 (row, among, record { last = last_from_complete core lists row c.complete; node_is = refl }))),
     );
     order =
         strict_map (key_by lists) node_row_cmp node_cmp (λ (z : NodeRow). z.values < length lists) (λ x y fx fy e. sym (node_as_key x y fx fy) ∙ e) nodes

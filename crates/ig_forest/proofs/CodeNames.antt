@@ -1,8 +1,8 @@
 -- The table of names.
-use Rattle.std.proofs.Common.{◌≡◌, ℕ, ◌+◌, ◌≤◌, ◌<◌, List, [], ◌∷◌, ◌++◌, Some, length, map, take, slice_get, refl, sym, ap, ◌∙◌, subst, arith, append-nil, append_assoc, get_or, add-one, zero, suc}
+use Rattle.std.proofs.Common.{◌≡◌, ℕ, ◌+◌, ◌≤◌, ◌<◌, List, [], ◌∷◌, ◌++◌, Some, length, map, take, slice_get, refl, sym, ap, ◌∙◌, arith, append-nil, append_assoc, get_or, add-one, zero, suc}
 use Rattle.std.specs.List.{flat_map}
-use Rattle.std.specs.Prelude.{Option, None, option_map, option_and_then, unwrap_or}
-use Rattle.std.proofs.lemmas.Option.{same_Some, slice_get-get_or}
+use Rattle.std.specs.Prelude.{Option, option_map, option_and_then, unwrap_or}
+use Rattle.std.proofs.lemmas.Option.{same_Some}
 use Rattle.ig_item.specs.Core.{alternative_at, numbered}
 use Rattle.std.proofs.lemmas.List.{map-append, take_all, take_more}
 use Rattle.ig_item.specs.Step.{Step, names_of}

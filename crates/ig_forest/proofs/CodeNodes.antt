@@ -1,11 +1,11 @@
 -- The nodes of complete items.
-use Rattle.std.proofs.Common.{◌≡◌, ◌↔◌, ◌⊎◌, inl, inr, ℕ, ◌+◌, ◌<◌, ◌≤◌, List, [], ◌∷◌, ◌++◌, Some, true, false, length, take, get_or, slice_get, Contains, refl, sym, ap, ◌∙◌, subst, arith}
+use Rattle.std.proofs.Common.{◌≡◌, ◌↔◌, inl, inr, ℕ, ◌+◌, ◌<◌, ◌≤◌, List, [], ◌∷◌, ◌++◌, Some, length, take, get_or, slice_get, Contains, refl, sym, ap, ◌∙◌, subst, arith}
 use Rattle.std.specs.List.Sorted.{IsStrictlySortedBy}
 use Rattle.std.proofs.lemmas.List.{take_all}
 use Rattle.std.proofs.lemmas.Option.{slice_get-get_or, slice_get_within, get_or_from_slice_get}
 use Rattle.ig_expr.specs.declared.value.Value.{Value}
 use Rattle.ig_item.specs.declared.core_grammar.Nonterminal.{Nonterminal}
-use Rattle.ig_forest.specs.CodeTables.{AreNodeRows, IsDone, item_by, node_of, node_row_cmp, row_cmp}
+use Rattle.ig_forest.specs.CodeTables.{AreNodeRows, node_of, node_row_cmp, row_cmp}
 use Rattle.ig_forest.specs.CodeSteps.{Adds, StandsLast}
 use Rattle.ig_forest.specs.CodeDone.{IsDoneRow, AreNodesOf}
 use Rattle.ig_forest.specs.declared.rows.ItemRow.{ItemRow}
@@ -13,7 +13,7 @@ use Rattle.ig_forest.specs.declared.rows.NodeRow.{NodeRow}
 use Rattle.ig_forest.proofs.CodeAdding.{taken_more, adds_none, adds_one}
 use Rattle.ig_forest.proofs.CodeSorted.{IsOnce}
 use Rattle.ig_forest.proofs.CodeOrders.{node_row_total, node_row_exact}
-use Rattle.ig_forest.proofs.CodeRuns.{rows_rising, inside, between_bounds, bounds_rise, Starts, Stops}
+use Rattle.ig_forest.proofs.CodeRuns.{inside, between_bounds, bounds_rise, Starts, Stops}
 use Rattle.ig_forest.proofs.CodeGives.{complete_from_last, last_from_complete}
 
 module _ (core : List Nonterminal) (rows : List ItemRow) where
@@ -46,10 +46,10 @@ module _ (core : List Nonterminal) (rows : List ItemRow) where
   nodes_all nodes sorted k le up once = record {
     members = λ node. (
       λ c.
-      let p = (up node).0 ((once.members node).0 c) in
-      (p.0, subst (λ (z : List ItemRow). Contains z p.0) (take_all k rows le) p.1, p.2),
+          let p = (up node).0 ((once.members node).0 c) in
+          (p.0, subst (λ (z : List ItemRow). Contains z p.0) (take_all k rows le) p.1, p.2),
       λ h.
-      (once.members node).1 ((up node).1 (h.0, subst (λ (z : List ItemRow). Contains z h.0) (sym (take_all k rows le)) h.1, h.2)),
+          (once.members node).1 ((up node).1 (h.0, subst (λ (z : List ItemRow). Contains z h.0) (sym (take_all k rows le)) h.1, h.2)),
     );
     order = once.order;
   }

@@ -1,5 +1,5 @@
 -- What the readers of a forest read.
-use Rattle.std.proofs.Common.{◌≡◌, ℕ, ◌<◌, List, Some, None, Option, length, map, slice_get, refl, sym, ap, ◌∙◌, subst, arith}
+use Rattle.std.proofs.Common.{◌≡◌, ℕ, ◌<◌, List, Some, None, length, slice_get, sym, ap, ◌∙◌}
 use Rattle.std.specs.Prelude.{option_map}
 use Rattle.std.proofs.lemmas.Option.{slice_get-get_or, slice_get-map, get_or_from_slice_get, none-some}
 use Rattle.ig_expr.specs.declared.value.Value.{Value}
@@ -10,7 +10,6 @@ use Rattle.ig_forest.specs.declared.entry.Choice.{Choice}
 use Rattle.ig_forest.specs.declared.entry.Entry.{Entry}
 use Rattle.ig_forest.specs.declared.stored.StoredNode.{StoredNode}
 use Rattle.ig_forest.specs.declared.stored.StoredItem.{StoredItem}
-use Rattle.ig_forest.proofs.Lists.{contains_from_at}
 use Rattle.ig_forest.proofs.CodeSorted.{map_at}
 
 pub there_not : {X : Type 0} (xs : List X) (d : X) (n : ℕ) → n < length xs → None ≡ slice_get xs n → ⊥
@@ -23,7 +22,7 @@ pub read_none : {X : Type 0} (xs ys : List X) (k : ℕ) → ys ≡ xs → None �
 read_none xs ys k e at = ap (λ (z : List _). slice_get z k) (sym e) ∙ sym at
 
 module _ (root : ℕ) (names : List (List ℕ)) (lists : List (List Value)) (nodes : List StoredNode) (items : List StoredItem) (f : parts.Forest)
-    (is : forest_by root names lists nodes items ≡ f) (fits : FitsForest names lists nodes items) where
+    (is : forest_by root names lists nodes items ≡ f) (fits : FitsForest root names lists nodes items) where
   pub node_absent : (k : ℕ) → slice_get nodes k ≡ None → None ≡ slice_get f.nodes k
   node_absent k none =
       sym (slice_get-map (node_by names lists) nodes k ∙ ap (option_map (node_by names lists)) none) ∙ ap (λ (z : parts.Forest). slice_get z.nodes k) is

@@ -1,21 +1,17 @@
 -- The stored nodes and item nodes are the reduced forest.
-use Rattle.std.proofs.Common.{◌≡◌, ◌↔◌, ◌⊎◌, inl, inr, ℕ, zero, suc, ◌+◌, ◌<◌, ◌≤◌, List, [], ◌∷◌, ◌++◌, Some, None, Bor, length, map, get_or, slice_get, Contains, refl, sym, ap, ap₂, ◌∙◌, subst, subst₂, arith}
+use Rattle.std.proofs.Common.{◌≡◌, ℕ, suc, ◌<◌, List, [], ◌∷◌, Some, length, map, slice_get, Contains, refl, sym, ap, ◌∙◌, subst, arith}
 use Rattle.std.specs.Prelude.{option_map}
-use Rattle.std.proofs.lemmas.Option.{same_Some, slice_get-get_or, slice_get_within, get_or_from_slice_get}
+use Rattle.std.proofs.lemmas.Option.{slice_get_within, get_or_from_slice_get}
 use Rattle.ig_expr.specs.declared.value.Value.{Value}
-use Rattle.ig_item.specs.Items.{Item, Reachable}
-use Rattle.ig_item.specs.Laws.{EnvironmentFits}
+use Rattle.ig_item.specs.Items.{Item}
 use Rattle.ig_item.specs.declared.core_grammar.Nonterminal.{Nonterminal}
-use Rattle.ig_forest.specs.Forest as parts
-use Rattle.ig_forest.specs.Live as live
-use Rattle.ig_forest.specs.Live.{NodeKey, Completes, IsLive}
+use Rattle.ig_forest.specs.Live.{NodeKey, Completes}
+use Rattle.ig_forest.specs.Unfold.{IsTrim}
 use Rattle.ig_forest.specs.Reduced as reduced
 use Rattle.ig_forest.specs.Reduced.{Each, IsNamed, IsNode, IsItemNode, IsChoice, IsReduced, root_key}
-use Rattle.ig_forest.specs.CodeTables.{RowFits, AreRows, item_by, key_by, node_of, list_at, list_cmp}
-use Rattle.ig_forest.specs.CodeDone.{AreNodesOf, IsDoneRow}
+use Rattle.ig_forest.specs.CodeTables.{item_by, key_by}
 use Rattle.ig_forest.specs.CodeForest.{node_by, item_node_by, name_at, forest_by, IsTagged, IsChoiceRow, HasChoices, FitsForest}
-use Rattle.ig_forest.specs.CodeLinks.{AreSources, lists_of}
-use Rattle.ig_forest.specs.CodeRoot.{IsRootAt}
+use Rattle.ig_forest.specs.CodeLinks.{lists_of}
 use Rattle.ig_forest.specs.CodeEntries.{AreFinal, HasEntries}
 use Rattle.ig_forest.specs.declared.entry.Choice.{Choice}
 use Rattle.ig_forest.specs.declared.rows.ItemRow.{ItemRow}
@@ -25,9 +21,8 @@ use Rattle.ig_forest.specs.declared.stored.StoredNode.{StoredNode}
 use Rattle.ig_forest.specs.declared.stored.StoredItem.{StoredItem}
 use Rattle.ig_forest.proofs.Lists.{contains_from_at, at_from_contains}
 use Rattle.ig_forest.proofs.Liveness.{live_is_reachable}
-use Rattle.ig_forest.proofs.CodeSorted.{map_at, at_of_map, map_member, member_of_map}
+use Rattle.ig_forest.proofs.CodeSorted.{map_at, at_of_map, map_member}
 use Rattle.ig_forest.proofs.CodeGives.{complete_from_last, last_from_complete}
-use Rattle.ig_forest.proofs.CodeAlternatives.{one_tag}
 use Rattle.ig_forest.proofs.CodeMembers.{are_items, are_nodes, nodes_fit}
 
 each_from : {S X Y : Type 0} (P : X → Y → Type 0) (f : S → X) (g : S → Y) (xs : List S) → ((s : S) → Contains xs s → P (f s) (g s)) → Each P (map f xs) (map g xs)
@@ -167,10 +162,12 @@ module _ (k : Kept) (are : AreFinal k) where
           root = map_at (key_by L) k.nodes.now root row root_at ∙ ap Some is;
         })
 
-    pub fits_forest : (lists : List (List Value)) → lists ≡ L → FitsForest names lists nodes items
-    fits_forest lists lists_are =
-        subst (λ (z : List (List Value)). FitsForest names z nodes items) (sym lists_are)
+    pub fits_forest : (root : ℕ) (lists : List (List Value)) → lists ≡ L → IsTrim (forest_by root names lists nodes items) →
+        FitsForest root names lists nodes items
+    fits_forest root lists lists_are trim =
+        subst (λ (z : List (List Value)). FitsForest root names z nodes items) (sym lists_are)
         (record {
+          trim = subst (λ (z : List (List Value)). IsTrim (forest_by root names z nodes items)) lists_are trim;
           nodes_named = λ n c. let (m, at) = node_nonterminal n c in within m n.row.nonterminal at;
           nodes_listed = node_fits;
           items_named = λ it c. let (m, at) = item_nonterminal it c in within m it.row.nonterminal at;

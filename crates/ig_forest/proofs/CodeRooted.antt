@@ -1,14 +1,13 @@
 -- The root has a node where it is complete.
-use Rattle.std.proofs.Common.{◌≡◌, ℕ, ◌<◌, List, [], ◌∷◌, Some, None, Option, length, slice_get, Contains, refl, sym, ap, ◌∙◌, subst, arith}
+use Rattle.std.proofs.Common.{◌≡◌, ℕ, List, [], Some, None, Option, length, slice_get, Contains, refl, sym, ap, ◌∙◌, subst}
 use Rattle.std.specs.Prelude.{MatchOption}
 use Rattle.std.proofs.lemmas.Option.{slice_get-get_or, slice_get_within, get_or_from_slice_get}
 use Rattle.ig_expr.specs.declared.value.Value.{Value}
 use Rattle.ig_item.specs.Items.{Item, IsComplete, RootIsComplete}
 use Rattle.ig_item.specs.declared.items.Instance.{Instance}
-use Rattle.ig_forest.specs.CodeTables.{item_by, key_by, list_at, node_of}
+use Rattle.ig_forest.specs.CodeTables.{item_by, list_at, node_of}
 use Rattle.ig_forest.specs.CodeLinks.{AreSources, lists_of}
 use Rattle.ig_forest.specs.CodeRoot.{IsRootAt}
-use Rattle.ig_forest.specs.declared.rows.ItemRow.{ItemRow}
 use Rattle.ig_forest.specs.declared.rows.NodeRow.{NodeRow}
 use Rattle.ig_forest.specs.declared.links.Sources.{Sources}
 use Rattle.ig_forest.proofs.Lists.{contains_from_at}

@@ -1,5 +1,5 @@
 -- The links behind each step are those that the rules give.
-use Rattle.std.proofs.Common.{◌≡◌, ◌↔◌, ◌⊎◌, inl, inr, ℕ, zero, suc, ◌+◌, ◌-◌, ◌<◌, ◌≤◌, List, [], ◌∷◌, ◌++◌, Some, None, Option, length, map, take, drop, get_or, slice_get, slice_range, Contains, refl, sym, ap, ◌∙◌, subst, subst₂, arith, length-take, length-drop, true}
+use Rattle.std.proofs.Common.{◌≡◌, ◌↔◌, inl, inr, ℕ, ◌+◌, ◌-◌, ◌<◌, ◌≤◌, List, [], ◌∷◌, ◌++◌, Some, None, Option, length, map, take, get_or, slice_get, slice_range, Contains, refl, sym, ap, ◌∙◌, subst, subst₂, arith, length-take, length-drop, true}
 use Rattle.std.proofs.lemmas.List.{take_all}
 use Rattle.std.proofs.lemmas.Option.{same_Some, slice_get-get_or, slice_get_within, get_or_from_slice_get}
 use Rattle.ig_text.specs.declared.pattern.Pattern.{Pattern}
@@ -16,17 +16,17 @@ use Rattle.ig_item.specs.Items.{Item, Reachable, StandsBefore, HasValue, HaveVal
 use Rattle.ig_item.specs.declared.items.Instance.{Instance}
 use Rattle.ig_forest.specs.Live as live
 use Rattle.ig_forest.specs.Live.{NodeKey, Taken, Gives, Completes, nothing, leaf, tree}
-use Rattle.ig_forest.specs.CodeTables.{RowFits, AreRows, AreNodeRows, IsDone, item_by, key_by, node_of, list_at, list_cmp, row_cmp}
-use Rattle.ig_forest.specs.CodeSteps.{Adds, StandsAt, StandsLast, HasNames, bound_by}
-use Rattle.ig_forest.specs.CodeLinks.{AreSources, LinkedFrom, LinkedBy, LinkedByOne, IsLinkTo, IsFiled, Took, no_tree, a_leaf, a_node, lists_of, CanTake, CanTakeNode, instance_row}
+use Rattle.ig_forest.specs.CodeTables.{item_by, key_by, list_at}
+use Rattle.ig_forest.specs.CodeSteps.{Adds, StandsAt, HasNames, bound_by}
+use Rattle.ig_forest.specs.CodeLinks.{AreSources, LinkedFrom, LinkedBy, LinkedByOne, IsLinkTo, Took, no_tree, a_leaf, a_node, lists_of, CanTake, CanTakeNode, instance_row}
 use Rattle.ig_forest.specs.declared.rows.ItemRow.{ItemRow}
 use Rattle.ig_forest.specs.declared.rows.NodeRow.{NodeRow}
 use Rattle.ig_forest.specs.declared.filed.FiledNode.{FiledNode}
 use Rattle.ig_forest.specs.declared.filed.InstanceRow.{InstanceRow}
 use Rattle.ig_forest.specs.declared.links.Link.{Link}
 use Rattle.ig_forest.specs.declared.links.Sources.{Sources}
-use Rattle.ig_forest.proofs.Lists.{contains_from_at, at_from_contains}
-use Rattle.ig_forest.proofs.CodeGives.{names_there, by_test, by_bind, by_term, by_call, ByTerm, ByCall, same_list_place, complete_from_last, last_from_complete, any_step, stands_at}
+use Rattle.ig_forest.proofs.Lists.{contains_from_at}
+use Rattle.ig_forest.proofs.CodeGives.{names_there, by_test, by_bind, by_term, by_call, same_list_place, any_step, stands_at}
 use Rattle.ig_forest.proofs.CodeAdding.{one_link, no_link, took_nothing, took_leaf, adds_none, adds_one, adds_then, adds_same, taken_more, same_number}
 use Rattle.ig_forest.proofs.CodeTargets.{row_at}
 

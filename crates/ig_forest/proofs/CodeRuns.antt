@@ -1,5 +1,5 @@
 -- The run of equal parts in a list that is sorted by them.
-use Rattle.std.proofs.Common.{◌≡◌, ◌↔◌, ◌⊎◌, inl, inr, ℕ, zero, suc, ◌+◌, ◌-◌, ◌<◌, ◌≤◌, List, [], ◌∷◌, ◌++◌, true, false, Some, length, take, drop, get_or, Contains, slice_get, slice_range, IsSorted, Ordering, Less, Equal, Greater, is_lt, is_le, length-take, length-drop, get_or-take, get_or-drop, arith, refl, sym, ◌∙◌, ap, subst}
+use Rattle.std.proofs.Common.{◌≡◌, ◌↔◌, inl, inr, ℕ, zero, suc, ◌+◌, ◌-◌, ◌<◌, ◌≤◌, List, [], ◌∷◌, true, false, length, take, drop, get_or, Contains, slice_range, IsSorted, Ordering, Less, Equal, Greater, is_lt, is_le, length-take, length-drop, get_or-take, get_or-drop, arith, refl, sym, ◌∙◌, ap, subst}
 use Rattle.std.specs.Cmp.{IsTotalOrder}
 use Rattle.std.specs.Ordering.{nat_cmp, ordering_then, ordering_index}
 use Rattle.std.specs.List.{AllByRecursion}
@@ -9,9 +9,8 @@ use Rattle.std.proofs.lemmas.List.Sorted.{searchable_from_sorted}
 use Rattle.std.proofs.lemmas.Map.Lookups.{CmpEqualImpliesEq, exact_unsigned}
 use Rattle.std.proofs.lemmas.Bool.{cases_lt}
 use Rattle.ig_forest.specs.CodeTables.{node_of, node_row_cmp, row_cmp}
-use Rattle.ig_forest.specs.CodeLinks.{instance_row, instance_row_cmp, filed_cmp, link_cmp, IsFiled, AreFiled}
+use Rattle.ig_forest.specs.CodeLinks.{instance_row_cmp, filed_cmp, link_cmp}
 use Rattle.ig_forest.specs.declared.rows.ItemRow.{ItemRow}
-use Rattle.ig_forest.specs.declared.rows.NodeRow.{NodeRow}
 use Rattle.ig_forest.specs.declared.filed.InstanceRow.{InstanceRow}
 use Rattle.ig_forest.specs.declared.filed.FiledNode.{FiledNode}
 use Rattle.ig_forest.specs.declared.links.Link.{Link}

@@ -1,9 +1,9 @@
 -- The item behind a step has a row, which a search finds.
-use Rattle.std.proofs.Common.{◌≡◌, ℕ, suc, ◌+◌, ◌<◌, ◌≤◌, List, [], ◌∷◌, ◌++◌, Some, None, Option, Bor, length, map, get_or, slice_get, Contains, refl, sym, ap, ◌∙◌, subst, arith, append-nil, add-one}
-use Rattle.std.proofs.lemmas.Option.{same_Some, slice_get-get_or, slice_get_within, get_or_from_slice_get}
+use Rattle.std.proofs.Common.{◌≡◌, ℕ, suc, ◌+◌, ◌<◌, List, [], ◌∷◌, ◌++◌, Some, Option, Bor, length, map, get_or, slice_get, Contains, refl, sym, ap, ◌∙◌, subst, arith, append-nil, add-one}
+use Rattle.std.proofs.lemmas.Option.{slice_get-get_or, slice_get_within, get_or_from_slice_get}
 use Rattle.ig_expr.specs.declared.value.Value.{Value}
 use Rattle.ig_item.specs.Items.{Item, Reachable, past}
-use Rattle.ig_forest.specs.CodeTables.{RowFits, AreRows, item_by, list_at, list_cmp, row_cmp}
+use Rattle.ig_forest.specs.CodeTables.{RowFits, item_by, list_at}
 use Rattle.ig_forest.specs.CodeSteps.{bound_by}
 use Rattle.ig_forest.specs.CodeLinks.{AreSources, IsLinkTo, lists_of}
 use Rattle.ig_forest.specs.declared.rows.ItemRow.{ItemRow}

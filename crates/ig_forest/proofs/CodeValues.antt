@@ -1,17 +1,16 @@
 -- The names and values that are visible where an item stands, as the code finds them.
-use Rattle.std.proofs.Common.{◌≡◌, ℕ, zero, suc, ◌+◌, ◌-◌, ◌<◌, ◌≤◌, List, [], ◌∷◌, ◌++◌, Some, None, Option, Bor, length, map, take, drop, get_or, slice_get, Contains, refl, sym, ap, ◌∙◌, subst, subst₂, arith, append_assoc, length-append, length-take}
+use Rattle.std.proofs.Common.{◌≡◌, ℕ, zero, suc, ◌+◌, ◌-◌, ◌<◌, ◌≤◌, List, [], ◌∷◌, ◌++◌, Some, None, Option, Bor, length, map, take, drop, get_or, slice_get, Contains, refl, sym, ap, ◌∙◌, arith, append_assoc, length-append, length-take}
 use Rattle.std.specs.List.{flat_map}
-use Rattle.std.specs.Prelude.{slice_range}
 use Rattle.std.proofs.lemmas.List.{take_at, take_more, take_all, map-append, take-append-drop}
 use Rattle.std.proofs.lemmas.List.Concat.{flat_map-append}
-use Rattle.std.proofs.lemmas.Option.{same_Some, slice_get-get_or, slice_get_within, get_or_from_slice_get, none-some}
+use Rattle.std.proofs.lemmas.Option.{slice_get-get_or, slice_get_within, get_or_from_slice_get, none-some}
 use Rattle.ig_expr.specs.declared.value.Value.{Value}
 use Rattle.ig_item.specs.Step.{Step, names_of}
-use Rattle.ig_item.specs.Core.{IsAlternative, numbered}
+use Rattle.ig_item.specs.Core.{numbered}
 use Rattle.ig_item.specs.Visible.{names_at}
 use Rattle.ig_item.specs.declared.core_grammar.Nonterminal.{Nonterminal}
 use Rattle.ig_item.specs.declared.core_grammar.CoreAlt.{CoreAlt}
-use Rattle.ig_forest.specs.CodeTables.{AreRows, item_by, list_at}
+use Rattle.ig_forest.specs.CodeTables.{item_by, list_at}
 use Rattle.ig_forest.specs.CodeSteps.{StandsAt, HasNames, all_names, nonterminal_names, names_behind}
 use Rattle.ig_forest.specs.CodeLinks.{AreSources, lists_of}
 use Rattle.ig_forest.specs.declared.rows.ItemRow.{ItemRow}

@@ -1,7 +1,7 @@
 -- What one visit marks.
-use Rattle.std.proofs.Common.{◌≡◌, ◌↔◌, ◌⊎◌, inl, inr, ℕ, zero, suc, ◌+◌, ◌-◌, ◌<◌, ◌≤◌, List, [], ◌∷◌, ◌++◌, Bool, true, false, Some, None, Option, length, take, get_or, slice_get, Contains, replicate, refl, sym, ap, ◌∙◌, subst, arith}
+use Rattle.std.proofs.Common.{◌≡◌, ◌↔◌, ◌⊎◌, inl, inr, ℕ, zero, suc, ◌+◌, ◌<◌, ◌≤◌, List, [], Bool, true, false, Some, None, length, take, get_or, slice_get, Contains, replicate, refl, sym, ap, ◌∙◌, subst, arith}
 use Rattle.std.proofs.lemmas.List.{take_all}
-use Rattle.std.proofs.lemmas.Option.{same_Some, slice_get-get_or, slice_get_within, get_or_from_slice_get}
+use Rattle.std.proofs.lemmas.Option.{same_Some, slice_get-get_or, get_or_from_slice_get}
 use Rattle.std.proofs.lemmas.List.Elements.{Contains-get_or}
 use Rattle.ig_forest.specs.CodeTables.{node_of}
 use Rattle.ig_forest.specs.CodeSteps.{StandsLast}
@@ -12,7 +12,7 @@ use Rattle.ig_forest.specs.declared.links.Link.{Link}
 use Rattle.ig_forest.specs.declared.reach.Graph.{Graph}
 use Rattle.ig_forest.specs.declared.reach.Marks.{Marks}
 use Rattle.ig_forest.proofs.CodeAdding.{taken_more}
-use Rattle.ig_forest.proofs.CodeMarks.{marks_none, marks_then, marks_same, marks_kept}
+use Rattle.ig_forest.proofs.CodeMarks.{marks_none, marks_then, marks_same}
 
 never_true : (n k : ℕ) → slice_get (replicate n false) k ≡ Some true → ⊥
 never_true zero k e = cc
@@ -129,12 +129,12 @@ module _ (g : Graph) where
         λ h. elim h [
           | inl old ↦ let u = old.upto in record { from = old.from; upto = omega (arith, u); done = old.done }
           | inr new ↦
-            let e = new.is in
-            record {
-              from = omega (arith, e, low);
-              upto = omega (arith, e);
-              done = record { row = new.row; at = ap (slice_get g.rows.now) e ∙ new.at; last = new.last; is = refl };
-            }
+              let e = new.is in
+              record {
+                from = omega (arith, e, low);
+                upto = omega (arith, e);
+                done = record { row = new.row; at = ap (slice_get g.rows.now) e ∙ new.at; last = new.last; is = refl };
+              }
         ],
       ))
 

@@ -1,5 +1,5 @@
 -- The entries of the kept items.
-use Rattle.std.specs.Prelude.{◌≡◌, ◌↔◌, ℕ, zero, suc, ◌<◌, List, [], ◌∷◌, map, length, Contains, Option, Some, None, slice_get}
+use Rattle.std.specs.Prelude.{◌≡◌, ◌↔◌, ℕ, zero, suc, ◌<◌, List, [], ◌∷◌, map, length, Contains, Some, slice_get}
 use Rattle.std.specs.List.Sorted.{IsStrictlySortedBy}
 use Rattle.ig_text.specs.declared.text.Span.{Span}
 use Rattle.ig_item.specs.Step.{Step, Test, Bind, Term, Call}
@@ -59,5 +59,5 @@ begun (suc n) = []
 pub record HasEntries (k : Kept) (row : ItemRow) (entries : List Entry) : Type 0 where
   pub members : (e : Entry) → Contains entries e ↔
       IsEntry k.sources.core.now k.sources.text.now (map (item_by (lists_of k.sources)) k.live.now) (map (key_by (lists_of k.sources)) k.nodes.now)
-          (item_by (lists_of k.sources) row) e
+      (item_by (lists_of k.sources) row) e
   pub order : IsStrictlySortedBy entry_cmp entries

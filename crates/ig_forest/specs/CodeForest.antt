@@ -1,17 +1,15 @@
 -- The forest of the stored nodes and item nodes, and what the code knows of their parts.
-use Rattle.std.specs.Prelude.{◌≡◌, ◌↔◌, ◌⊎◌, ℕ, ◌<◌, ◌≤◌, List, [], map, length, Contains, Option, Some, slice_get, slice_index_or}
+use Rattle.std.specs.Prelude.{◌≡◌, ◌↔◌, ℕ, ◌<◌, List, [], map, length, Contains, Some, slice_get, slice_index_or}
 use Rattle.std.specs.List.Sorted.{IsStrictlySortedBy}
 use Rattle.ig_text.specs.declared.tag.Tag.{Tag}
-use Rattle.ig_text.specs.declared.text.Span.{Span}
 use Rattle.ig_expr.specs.declared.value.Value.{Value}
 use Rattle.ig_item.specs.declared.core_grammar.Nonterminal.{Nonterminal}
 use Rattle.ig_forest.specs.Forest as parts
-use Rattle.ig_forest.specs.Orders.{choice_cmp, entry_cmp}
+use Rattle.ig_forest.specs.Unfold.{IsTrim}
+use Rattle.ig_forest.specs.Orders.{choice_cmp}
 use Rattle.ig_forest.specs.CodeTables.{list_at, node_of}
 use Rattle.ig_forest.specs.CodeSteps.{StandsLast}
-use Rattle.ig_forest.specs.CodeDone.{IsDoneRow}
 use Rattle.ig_forest.specs.declared.entry.Choice.{Choice}
-use Rattle.ig_forest.specs.declared.entry.Entry.{Entry}
 use Rattle.ig_forest.specs.declared.rows.ItemRow.{ItemRow}
 use Rattle.ig_forest.specs.declared.rows.NodeRow.{NodeRow}
 use Rattle.ig_forest.specs.declared.stored.StoredNode.{StoredNode}
@@ -64,8 +62,10 @@ pub record HasChoices (core : List Nonterminal) (rows : List ItemRow) (node : No
   pub members : (choice : Choice) → Contains choices choice ↔ IsChoiceRow core rows node choice
   pub order : IsStrictlySortedBy choice_cmp choices
 
--- what the stored nodes and items name is there
-pub record FitsForest (names : List (List ℕ)) (lists : List (List Value)) (nodes : List StoredNode) (items : List StoredItem) : Type 0 where
+-- the forest is trim, and what the stored nodes and items name is there
+pub record FitsForest (root : ℕ) (names : List (List ℕ)) (lists : List (List Value)) (nodes : List StoredNode)
+    (items : List StoredItem) : Type 0 where
+  pub trim : IsTrim (forest_by root names lists nodes items)
   pub nodes_named : (n : StoredNode) → Contains nodes n → n.row.nonterminal < length names
   pub nodes_listed : (n : StoredNode) → Contains nodes n → n.row.values < length lists
   pub items_named : (it : StoredItem) → Contains items it → it.row.nonterminal < length names

@@ -1,5 +1,5 @@
 -- How items come about from previous ones, over rows.
-use Rattle.std.specs.Prelude.{◌≡◌, ◌↔◌, ℕ, ◌<◌, List, [], ◌∷◌, map, length, Contains, Option, Some, None, slice_get}
+use Rattle.std.specs.Prelude.{◌≡◌, ◌↔◌, ℕ, ◌<◌, List, map, length, Contains, Option, Some, None, slice_get}
 use Rattle.std.specs.List.Sorted.{IsStrictlySortedBy, IsSorted}
 use Rattle.std.specs.Ordering.{nat_cmp, ordering_then}
 use Rattle.std.specs.declared.cmp.Ordering.{Ordering}
@@ -9,7 +9,7 @@ use Rattle.ig_expr.specs.declared.value.Value.{Value}
 use Rattle.ig_item.specs.Items.{Item, Reachable, Follows, Calls, MatchesNone, past, span_of}
 use Rattle.ig_item.specs.Laws.{EnvironmentFits}
 use Rattle.ig_item.specs.declared.core_grammar.Nonterminal.{Nonterminal}
-use Rattle.ig_forest.specs.Live.{NodeKey, Taken, Gives, nothing, leaf, tree}
+use Rattle.ig_forest.specs.Live.{Taken, Gives, nothing, leaf, tree}
 use Rattle.ig_forest.specs.CodeTables.{AreRows, AreNodeRows, item_by, key_by, list_cmp}
 use Rattle.ig_forest.specs.CodeSteps.{all_names}
 use Rattle.ig_forest.specs.declared.rows.ItemRow.{ItemRow}

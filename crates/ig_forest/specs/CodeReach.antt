@@ -1,11 +1,10 @@
 -- What a graph of items and nodes leads to.
-use Rattle.std.specs.Prelude.{◌≡◌, ◌↔◌, ℕ, suc, ◌+◌, ◌<◌, List, [], ◌∷◌, ◌++◌, Bool, true, false, length, Contains, Option, Some, slice_get}
+use Rattle.std.specs.Prelude.{◌≡◌, ◌↔◌, ℕ, suc, ◌+◌, ◌<◌, List, [], ◌∷◌, Bool, true, false, length, Contains, Some, slice_get}
 use Rattle.std.specs.List.Sorted.{IsStrictlySortedBy}
 use Rattle.ig_forest.specs.CodeTables.{node_of, row_cmp}
 use Rattle.ig_forest.specs.CodeSteps.{Adds, StandsLast}
 use Rattle.ig_forest.specs.CodeLinks.{link_cmp}
 use Rattle.ig_forest.specs.declared.rows.ItemRow.{ItemRow}
-use Rattle.ig_forest.specs.declared.rows.NodeRow.{NodeRow}
 use Rattle.ig_forest.specs.declared.links.Link.{Link}
 use Rattle.ig_forest.specs.declared.reach.Graph.{Graph}
 use Rattle.ig_forest.specs.declared.reach.Marks.{Marks}

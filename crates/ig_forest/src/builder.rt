@@ -1,5 +1,6 @@
 //! How the reduced forest is made from the tables of a run.
-ghost use Rattle.std.specs.Prelude.{◌≡◌, ◌≤◌, ◌<◌, ◌∷◌, [], ◌++◌, IfOk, OnOk, MatchOption, map, length};
+ghost use Rattle.std.specs.Prelude.{◌≡◌, ◌≤◌, ◌<◌, ◌∷◌, [], ◌++◌, IfOk, OnOk, MatchOption, map};
+ghost use Rattle.std.specs.Prelude.{length};
 ghost use Rattle.ig_item.specs.Items.{RootIsComplete};
 ghost use Rattle.ig_forest.specs.CodeBuilder.{AreLiveNumbers, RootIsLive};
 ghost use Rattle.ig_forest.specs.CodeEntries.{AreFinal};
@@ -12,6 +13,7 @@ use crate::alternatives::with_alternatives;
 use crate::done::nodes_of;
 use crate::entries::{Kept, number_of_node};
 use crate::forest::Forest;
+use crate::laws::reduced_forest_is_trim;
 use crate::links::{Link, Sources, links_of};
 use crate::live::{kept_of, rows_at};
 use crate::reach::{Graph, reached};
@@ -22,14 +24,9 @@ use ig_text::{Copied, Word, Words};
 use std::alloc::{AllocError, Global};
 
 /// The reduced forest, where the root has a node.
-pub(crate) fn from_sources(
-    alloc: Global,
-    sources: &Sources,
-    nonterminals: u32,
-) -> Result<Option<Forest>, AllocError>
+pub(crate) fn from_sources(alloc: Global, sources: &Sources) -> Result<Option<Forest>, AllocError>
     requires sources { AreSources sources.now }
     requires few { length sources.now.nodes.now < 4294967296 }
-    requires nonterminals { nonterminals ≡ length sources.now.core.now }
     ensures { IfOk result (λ forest. MatchOption forest
         (RootIsComplete sources.now.core.now sources.now.text.now → ⊥)
         (IsReduced sources.now.core.now sources.now.text.now)) }
@@ -51,7 +48,7 @@ pub(crate) fn from_sources(
         live,
         nodes,
     };
-    let forest = finished(alloc, tables, kept, root, nonterminals)?;
+    let forest = finished(alloc, tables, kept, root)?;
     Ok(Some(forest))
 }
 
@@ -80,22 +77,17 @@ fn live_numbers(
 }
 
 /// The forest of the kept items and nodes.
-fn finished(
-    alloc: Global,
-    tables: Kept,
-    kept: &[u32],
-    root: u32,
-    nonterminals: u32,
-) -> Result<Forest, AllocError>
+fn finished(alloc: Global, tables: Kept, kept: &[u32], root: u32) -> Result<Forest, AllocError>
     requires tables { AreFinal tables }
     requires kept { AreTaken tables.sources.rows.now kept.now tables.live.now }
     requires root { IsRootAt tables.sources root }
     requires root_live { RootIsLive tables root }
-    requires nonterminals { nonterminals ≡ length tables.sources.core.now }
     ensures { IfOk result
         (IsReduced tables.entry.sources.core.now tables.entry.sources.text.now) }
 {
+    reduced_forest_is_trim();
     let sources = tables.sources;
+    let nonterminals = sources.core.nonterminals();
     let nodes = with_alternatives(alloc, sources.core, tables.live, tables.nodes)?;
     let items = tables.with_entries(alloc, kept)?;
     let names = copied_names(alloc, sources.core, nonterminals)?;

@@ -1,5 +1,6 @@
 //! Complete items and the nodes to which they belong.
-ghost use Rattle.std.specs.Prelude.{◌≡◌, ◌↔◌, ◌+◌, ◌≤◌, ◌<◌, ℕ, IfOk, OnOk, Some, true, false, length, slice_get};
+ghost use Rattle.std.specs.Prelude.{◌≡◌, ◌↔◌, ◌+◌, ◌≤◌, ◌<◌, ℕ, IfOk, OnOk, Some, true, false};
+ghost use Rattle.std.specs.Prelude.{length, slice_get};
 ghost use Rattle.std.specs.List.Sorted.{IsPartitionPoint, IsStrictlySortedBy};
 ghost use Rattle.std.specs.Ordering.{is_le, is_lt};
 ghost use Rattle.ig_forest.specs.CodeTables.{node_of, node_row_cmp, row_cmp};

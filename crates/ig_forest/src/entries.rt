@@ -1,7 +1,9 @@
 //! The item nodes of a forest with their entries.
-ghost use Rattle.std.specs.Prelude.{◌≡◌, ◌<◌, ◌∷◌, [], ◌++◌, IfOk, OnOk, Some, None, map, length, slice_get, Contains};
+ghost use Rattle.std.specs.Prelude.{◌≡◌, ◌<◌, ◌∷◌, [], ◌++◌, IfOk, OnOk, Some, None, map, length};
+ghost use Rattle.std.specs.Prelude.{slice_get, Contains};
 ghost use Rattle.std.specs.List.Sorted.{IsStrictlySortedBy};
-ghost use Rattle.ig_forest.specs.CodeEntries.{AreFinal, EntryOf, HasEntries, TakenBy, begun, live_at};
+ghost use Rattle.ig_forest.specs.CodeEntries.{AreFinal, EntryOf, HasEntries, TakenBy, begun};
+ghost use Rattle.ig_forest.specs.CodeEntries.{live_at};
 ghost use Rattle.ig_forest.specs.CodeKept.{AreTaken};
 ghost use Rattle.ig_forest.specs.CodeTables.{node_row_cmp};
 ghost use Rattle.ig_item.specs.View.{step_of};
@@ -52,7 +54,8 @@ impl<'a, 'v> Kept<'a, 'v> {
         requires tables { AreFinal self.now }
         requires live { live_at self.now number }
         ensures { IfOk result (λ entries. (row : ItemRow) →
-            slice_get self.now.sources.rows.now number ≡ Some row → HasEntries self.now row entries) }
+            slice_get self.now.sources.rows.now number ≡ Some row →
+            HasEntries self.now row entries) }
     {
         let mut entries = first_entries(alloc, self.sources.rows[number as usize].dot)?;
         for link in links_to(self.links, number) {
@@ -86,7 +89,8 @@ impl<'a, 'v> Kept<'a, 'v> {
         requires tables { AreFinal self.now }
         requires link { Contains self.now.links.now link }
         requires node { link.node ≡ None }
-        requires prev { slice_get self.now.live.now prev ≡ slice_get self.now.sources.rows.now link.prev }
+        requires prev { slice_get self.now.live.now prev ≡
+            slice_get self.now.sources.rows.now link.prev }
         ensures { EntryOf self.now link result }
     {
         let before = self.sources.rows[link.prev as usize];

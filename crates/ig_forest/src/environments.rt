@@ -8,10 +8,7 @@ use ig_item::Items;
 use std::alloc::{AllocError, Global};
 
 /// The lists of values of the items, each once, in the order of lists.
-pub(crate) fn lists_of<'a>(
-    alloc: Global,
-    items: &'a Items,
-) -> Result<Vec<&'a [Value]>, AllocError>
+pub(crate) fn lists_of<'a>(alloc: Global, items: &'a Items) -> Result<Vec<&'a [Value]>, AllocError>
     ensures lists { IfOk result (λ lists.
         AreLists items.now.environments (map (λ l. l.now) lists.items)) }
     ensures few { IfOk result (λ lists. length lists.items < 4294967296) }

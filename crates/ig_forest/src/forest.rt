@@ -1,9 +1,11 @@
 //! The reduced forest: its tables, how they are made, and readers that hand out borrowing views.
-ghost use Rattle.std.specs.Prelude.{◌≡◌, ◌↔◌, IfOk, MatchOption, Contains, length, option_map, slice_get};
+ghost use Rattle.std.specs.Prelude.{◌≡◌, ◌↔◌, IfOk, MatchOption, Contains, length, option_map};
+ghost use Rattle.std.specs.Prelude.{slice_get};
 ghost use Rattle.std.specs.Option.{option_copied};
 ghost use Rattle.ig_item.specs.Items.{Item, Reachable, RootIsComplete};
 ghost use Rattle.ig_item.specs.Tables.{items_of};
 ghost use Rattle.ig_forest.specs.Reduced.{IsReduced};
+ghost use Rattle.ig_forest.specs.Unfold.{IsTrim};
 ghost use Rattle.ig_forest.specs.CodeViews.{item_node_view, node_view};
 
 use crate::builder::from_sources;
@@ -39,7 +41,7 @@ impl Model for Forest {
 
     ghost view = { λ s. forest_by s.root s.names s.lists s.nodes.items s.items.items };
 
-    ghost invariant = { λ s. FitsForest s.names s.lists s.nodes.items s.items.items };
+    ghost invariant = { λ s. FitsForest s.root s.names s.lists s.nodes.items s.items.items };
 }
 
 /// A node that is borrowed from a forest.
@@ -82,7 +84,7 @@ impl Forest {
     {
         reachable_is_closed();
         environments_fit();
-        let nonterminals = core.nonterminals();
+        let _ = core.nonterminals();
         let list_table = lists_of(alloc, items)?;
         let lists = list_table.as_slice();
         let row_table = rows_of(alloc, items, lists)?;
@@ -102,12 +104,13 @@ impl Forest {
             nodes,
             filed,
         };
-        from_sources(alloc, &sources, nonterminals)
+        from_sources(alloc, &sources)
     }
 
     /// The number of the root's node. Takes no memory.
     pub fn root(&self) -> u32
-        ensures { result ≡ self.now.root }
+        ensures number { result ≡ self.now.root }
+        ensures trim { IsTrim self.now }
     {
         self.root
     }

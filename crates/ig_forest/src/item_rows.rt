@@ -1,9 +1,12 @@
-//! The items of a run as rows, each once and in order, and the nodes of the complete ones.
-ghost use Rattle.std.specs.Prelude.{◌≡◌, ◌<◌, ◌↔◌, IfOk, OnOk, IsTrue, MatchOption, Some, map, length, Contains, slice_get};
+//! The items of a run as rows, each once and in order.
+ghost use Rattle.std.specs.Prelude.{◌≡◌, ◌<◌, ◌↔◌, IfOk, OnOk, IsTrue, MatchOption, Some, map};
+ghost use Rattle.std.specs.Prelude.{length, Contains, slice_get};
 ghost use Rattle.ig_item.specs.Items.{IsComplete, StandsBefore};
-ghost use Rattle.ig_item.specs.Tables.{AreTables, HaveValues, instance_by, item_of, items_of, tables_by};
+ghost use Rattle.ig_item.specs.Tables.{AreTables, HaveValues, instance_by, item_of, items_of};
+ghost use Rattle.ig_item.specs.Tables.{tables_by};
 ghost use Rattle.ig_item.specs.View.{step_of};
-ghost use Rattle.ig_forest.specs.CodeTables.{AreLists, AreNodeRows, ArePlaces, AreRows, item_by, node_of, RowFits};
+ghost use Rattle.ig_forest.specs.CodeTables.{AreLists, AreNodeRows, ArePlaces, AreRows, item_by};
+ghost use Rattle.ig_forest.specs.CodeTables.{node_of, RowFits};
 
 use crate::environments::places_of;
 use crate::rows::{ItemRow, NodeRow};
@@ -46,13 +49,13 @@ fn all_rows(
 {
     let mut rows = Vec::new(alloc);
     for item in items.items() {
-        rows.push(row_of(lists, places, items.instance_keys(), *item))?;
+        rows.push(row_of(places, items.instance_keys(), *item))?;
     }
     Ok(rows)
 }
 
-/// The row of an item. The lists are read by the clauses alone.
-fn row_of(lists: &[&[Value]], places: &[u32], keys: &[InstanceKey], item: Item) -> ItemRow
+/// The row of an item, where these are the places of the environments' lists.
+fn row_of(places: &[u32], keys: &[InstanceKey], item: Item) -> ItemRow
     requires instance { item.instance < length keys.now }
     requires env { item.env < length places.now }
     requires values { (key : InstanceKey) → Contains keys.now key → key.env < length places.now }

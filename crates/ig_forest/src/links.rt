@@ -2,7 +2,9 @@
 //!
 //! The walk goes from each item forward: what its next step may take gives a link to the item after
 //! that step. So it costs no more than there are links, but for the searches.
-ghost use Rattle.std.specs.Prelude.{◌≡◌, ◌↔◌, ◌≤◌, ◌<◌, ◌∷◌, [], ◌++◌, ℕ, false, IfOk, OnOk, MatchOption, Some, true, map, length, slice_get, Contains, List};
+ghost use Rattle.std.specs.Prelude.{◌≡◌, ◌↔◌, ◌≤◌, ◌<◌, ◌∷◌, [], ◌++◌, ℕ, false, IfOk, OnOk};
+ghost use Rattle.std.specs.Prelude.{MatchOption, Some, true, map, length, slice_get, Contains};
+ghost use Rattle.std.specs.Prelude.{List};
 ghost use Rattle.std.specs.Bool.{MatchBool};
 ghost use Rattle.ig_text.specs.Pattern.{Matches};
 ghost use Rattle.ig_expr.specs.Evaluation.{value_of};
@@ -13,14 +15,15 @@ ghost use Rattle.std.specs.List.Sorted.{IsPartitionPoint, IsStrictlySortedBy};
 ghost use Rattle.std.specs.Ordering.{is_le, is_lt, nat_cmp};
 ghost use Rattle.ig_expr.specs.declared.value.Value as element;
 ghost use Rattle.ig_expr.specs.declared.value.Value.TheVariants.{Bool};
-ghost use Rattle.ig_forest.specs.CodeLinks.{AreLinks, AreSources, CanTake, CanTakeNode, IsLinkTo, LinkedBy, LinkedByOne, LinkedFrom, link_cmp, lists_of};
+ghost use Rattle.ig_forest.specs.CodeLinks.{AreLinks, AreSources, CanTake, CanTakeNode, IsLinkTo};
+ghost use Rattle.ig_forest.specs.CodeLinks.{LinkedBy, LinkedByOne, LinkedFrom, link_cmp, lists_of};
 ghost use Rattle.ig_forest.specs.CodeSteps.{Adds, HasNames, StandsAt, all_names, bound_by};
 ghost use Rattle.ig_forest.specs.CodeTables.{item_by, list_at, row_cmp};
 
+use crate::dots::next_step;
 use crate::environments::place_of;
 use crate::filed::{FiledNode, InstanceRow, run_of};
 use crate::rows::{ItemRow, NodeRow};
-use crate::dots::next_step;
 use ig_expr::{Expr, Exprs, Value, evaluate};
 use ig_item::{Core, Step};
 use ig_text::{Pattern, Patterns, Sequence, Span, Text, Word, Words};
@@ -293,11 +296,11 @@ impl<'a, 'v> Sources<'a, 'v> {
         requires sources { AreSources self.now }
         requires there { (row : ItemRow) × (slice_get self.now.rows.now number ≡ Some row) ×
             Reachable self.now.core.now self.now.text.now
-                (past (item_by (lists_of self.now) row) (bound_by bound) end) }
+            (past (item_by (lists_of self.now) row) (bound_by bound) end) }
         ensures { OnOk result ((row : ItemRow) × (link : Link) ×
             (slice_get self.now.rows.now number ≡ Some row) ×
             IsLinkTo (lists_of self.now) self.now.rows.now
-                (past (item_by (lists_of self.now) row) (bound_by bound) end) number node link ×
+            (past (item_by (lists_of self.now) row) (bound_by bound) end) number node link ×
             (links.new.items ≡ links.old.items ++ link ∷ [])) }
     {
         let row = self.rows[number as usize];
@@ -332,7 +335,7 @@ impl<'a, 'v> Sources<'a, 'v> {
         ensures { IfOk result (λ r. MatchOption r
             (Contains (lists_of self.now) (list_at (lists_of self.now) env ++ bound_by bound) → ⊥)
             (λ k. slice_get (lists_of self.now) k ≡
-                Some (list_at (lists_of self.now) env ++ bound_by bound))) }
+            Some (list_at (lists_of self.now) env ++ bound_by bound))) }
     {
         match bound {
             Some(value) => self.lengthened(alloc, env, value),
@@ -347,7 +350,7 @@ impl<'a, 'v> Sources<'a, 'v> {
         ensures { IfOk result (λ r. MatchOption r
             (Contains (lists_of self.now) (list_at (lists_of self.now) env ++ value ∷ []) → ⊥)
             (λ k. slice_get (lists_of self.now) k ≡
-                Some (list_at (lists_of self.now) env ++ value ∷ []))) }
+            Some (list_at (lists_of self.now) env ++ value ∷ []))) }
     {
         let mut list = Vec::from_slice(alloc, self.lists[env as usize])?;
         list.push(value)?;
@@ -361,7 +364,7 @@ impl<'a, 'v> Sources<'a, 'v> {
         requires before { (step : tree.Step) × StandsAt self.now.core.now row step }
         ensures { (names : List (List ℕ)) → HasNames self.now.core.now row names →
             result ≡ value_of self.now.text.now names (list_at (lists_of self.now) row.env)
-                row.position (expression_of e.now) }
+            row.position (expression_of e.now) }
     {
         let env = self.lists[row.env as usize];
         let names = self.names_before(row, env.len());
@@ -381,11 +384,11 @@ impl<'a, 'v> Sources<'a, 'v> {
         ensures { IfOk result (λ r. (names : List (List ℕ)) →
             HasNames self.now.core.now row names →
             MatchOption r
-                ((vs : List element.Value) → map (value_of self.now.text.now names
-                    (list_at (lists_of self.now) row.env) row.position) args.now ≡ map Some vs → ⊥)
-                (λ vs. map (value_of self.now.text.now names
-                    (list_at (lists_of self.now) row.env) row.position) args.now ≡
-                    map Some vs.items)) }
+            ((vs : List element.Value) → map (value_of self.now.text.now names
+            (list_at (lists_of self.now) row.env) row.position) args.now ≡ map Some vs → ⊥)
+            (λ vs. map (value_of self.now.text.now names
+            (list_at (lists_of self.now) row.env) row.position) args.now ≡
+            map Some vs.items)) }
     {
         let mut values = Vec::new(alloc);
         for argument in args.as_slice() {

@@ -6,11 +6,7 @@ use crate::rows::ItemRow;
 use std::alloc::{AllocError, Global};
 
 /// The numbers below `count` that are marked, in order.
-pub(crate) fn kept_of(
-    alloc: Global,
-    marked: &[bool],
-    count: usize,
-) -> Result<Vec<u32>, AllocError>
+pub(crate) fn kept_of(alloc: Global, marked: &[bool], count: usize) -> Result<Vec<u32>, AllocError>
     requires long { count ≤ length marked.now }
     requires few { count < 4294967296 }
     ensures kept { IfOk result (λ kept. AreKept marked.now count kept.items) }

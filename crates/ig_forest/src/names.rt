@@ -29,11 +29,7 @@ pub(crate) fn names_of_core(alloc: Global, core: &Core) -> Result<Names, AllocEr
 }
 
 /// The names of the alternatives of a nonterminal; none where its number isn't there.
-fn names_of_nonterminal(
-    alloc: Global,
-    core: &Core,
-    nt: u32,
-) -> Result<Sequence<Words>, AllocError>
+fn names_of_nonterminal(alloc: Global, core: &Core, nt: u32) -> Result<Sequence<Words>, AllocError>
     ensures { IfOk result (λ names. (nonterminal : Nonterminal) →
         slice_get core.now nt ≡ Some nonterminal → names ≡ nonterminal_names nonterminal) }
 {

@@ -1,6 +1,7 @@
 //! What a forest uses: the items and the nodes to which links lead from the root, by a work list.
 ghost use Rattle.std.specs.Prelude.{◌≡◌, ◌<◌, ◌+◌, [], IfOk, OnOk, length, slice_get};
-ghost use Rattle.ig_forest.specs.CodeReach.{AreMarked, AreMarks, DoneAt, Edge, FitsGraph, FitsLink, LeadsTo, MarksMore};
+ghost use Rattle.ig_forest.specs.CodeReach.{AreMarked, AreMarks, DoneAt, Edge, FitsGraph, FitsLink};
+ghost use Rattle.ig_forest.specs.CodeReach.{LeadsTo, MarksMore};
 
 use crate::done::run_of_node;
 use crate::dots::is_complete;

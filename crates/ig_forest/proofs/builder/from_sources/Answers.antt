@@ -1,7 +1,6 @@
-use Rattle.std.proofs.Common.{ℕ, List, sym, subst}
+use Rattle.std.proofs.Common.{sym, subst}
 use Rattle.ig_forest.specs.CodeLinks.{AreLinks}
 use Rattle.ig_forest.specs.CodeBuilder.{AreLiveNumbers}
-use Rattle.ig_forest.specs.declared.links.Link.{Link}
 use Rattle.ig_forest.proofs.CodeBuilding.{are_final_by, root_is_live, live_below}
 use Rattle.ig_forest.proofs.builder.from_sources.Goals as goal
 

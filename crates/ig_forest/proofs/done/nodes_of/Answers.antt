@@ -1,4 +1,4 @@
-use Rattle.std.proofs.Common.{rules, ◌≤◌, length, arith}
+use Rattle.std.proofs.Common.{rules, arith}
 use Rattle.ig_forest.specs.contracts.rows.NodeRowPartialEq.TheImpl as row_eq
 use Rattle.ig_forest.specs.contracts.rows.NodeRowOrd.TheImpl.Laws as row_laws
 use Rattle.ig_forest.proofs.CodeSorted.{once}

@@ -1,5 +1,3 @@
-use Rattle.std.proofs.Common.{◌≡◌, ℕ, List, Some, ap, sym, ◌∙◌, subst}
-use Rattle.ig_forest.proofs.CodeSorted.{not_found}
 use Rattle.ig_forest.proofs.CodeEnvironments.{found_place, no_place}
 use Rattle.ig_forest.proofs.environments.place_of.Goals as goal
 

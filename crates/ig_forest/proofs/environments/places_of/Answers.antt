@@ -1,4 +1,4 @@
-use Rattle.std.proofs.Common.{refl, sym, map}
+use Rattle.std.proofs.Common.{sym, map}
 use Rattle.ig_forest.proofs.CodeEnvironments.{place_next, is_placed}
 use Rattle.ig_forest.proofs.environments.places_of.Goals as goal
 

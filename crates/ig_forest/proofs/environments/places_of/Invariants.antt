@@ -1,4 +1,4 @@
-use Rattle.std.proofs.Common.{◌≡◌, map, take}
+use Rattle.std.proofs.Common.{map, take}
 use Rattle.ig_forest.specs.CodeTables.{ArePlaces}
 use Rattle.ig_forest.proofs.environments.places_of.Given as goal
 

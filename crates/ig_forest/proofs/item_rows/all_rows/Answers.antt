@@ -1,8 +1,5 @@
-use Rattle.std.proofs.Common.{rules, ◌≡◌, ◌<◌, List, length, get_or, sym, ap, ◌∙◌, subst, arith, refl}
-use Rattle.std.proofs.lemmas.Option.{slice_get-get_or}
-use Rattle.ig_item.specs.Tables.{Tables}
-use Rattle.ig_item.specs.declared.items.Item as stored
-use Rattle.ig_forest.proofs.CodeItemRows.{rows_next, fit_next, keys_fit, keys_long, places_long, item_there, env_there, stored_at, items_few}
+use Rattle.std.proofs.Common.{rules}
+use Rattle.ig_forest.proofs.CodeItemRows.{rows_next, fit_next, keys_fit, keys_long, places_long, item_there, env_there, stored_at}
 use Rattle.ig_forest.proofs.item_rows.all_rows.Goals as goal
 
 pub row_of-requires-clause-instance : goal.row_of-requires-clause-instance

@@ -1,4 +1,3 @@
-use Rattle.std.proofs.Common.{◌≡◌, ap, sym}
 use Rattle.ig_forest.proofs.CodeMatches.{none_more, none_all}
 use Rattle.ig_forest.proofs.links.is_excluded.Goals as goal
 

@@ -1,4 +1,4 @@
-use Rattle.std.proofs.Common.{◌≡◌, take}
+use Rattle.std.proofs.Common.{take}
 use Rattle.ig_item.specs.Items.{MatchesNone}
 use Rattle.ig_forest.proofs.links.is_excluded.Given as goal
 

@@ -1,4 +1,4 @@
-use Rattle.std.proofs.Common.{rules, arith, ◌≤◌}
+use Rattle.std.proofs.Common.{rules, arith}
 use Rattle.ig_forest.proofs.CodeKeeping.{keeps_none}
 use Rattle.ig_forest.proofs.live.kept_of.Goals as goal
 

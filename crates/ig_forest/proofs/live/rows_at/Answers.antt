@@ -1,7 +1,5 @@
 use Rattle.std.proofs.lemmas.List.Elements.{Contains-get_or}
 use Rattle.ig_forest.proofs.CodeKeeping.{takes_next, takes_all}
-use Rattle.ig_forest.proofs.CodeLive.{live_has_path}
-use Rattle.ig_forest.proofs.CodeMembers.{kept_rows}
 use Rattle.ig_forest.proofs.live.rows_at.Goals as goal
 
 pub bounds-rows-number : goal.bounds-rows-number

@@ -1,7 +1,4 @@
-use Rattle.std.proofs.Common.{◌≡◌, List, ◌++◌, sym, ap, ◌∙◌, append-nil}
-use Rattle.std.proofs.lemmas.List.{take_all}
-use Rattle.std.specs.List.{flat_map}
-use Rattle.ig_item.specs.Step.{Step, names_of}
+use Rattle.std.proofs.Common.{sym, ◌∙◌, append-nil}
 use Rattle.ig_item.specs.View.{step_of}
 use Rattle.ig_forest.proofs.CodeNames.{names_next, names_all}
 use Rattle.ig_forest.proofs.names.names_behind.Goals as goal

@@ -1,4 +1,4 @@
-use Rattle.std.proofs.Common.{◌≡◌, ◌∙◌, sym}
+use Rattle.std.proofs.Common.{◌∙◌, sym}
 use Rattle.ig_forest.proofs.CodeMarks.{walk_begins, walk_next, turn_within, walk_stops, walk_runs_out}
 use Rattle.ig_forest.proofs.reach.reached.Goals as goal
 

@@ -1,4 +1,4 @@
-use Rattle.std.proofs.Common.{◌≡◌, ◌∙◌, sym}
+use Rattle.std.proofs.Common.{◌∙◌, sym}
 use Rattle.ig_expr.specs.View.{expression_of}
 use Rattle.ig_item.specs.Step.{Bind}
 use Rattle.ig_forest.proofs.CodeAdding.{on_ok}

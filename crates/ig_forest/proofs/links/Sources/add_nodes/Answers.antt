@@ -1,4 +1,4 @@
-use Rattle.std.proofs.Common.{◌≡◌, List, Some, Contains, ap, sym, ◌∙◌, subst}
+use Rattle.std.proofs.Common.{List, Some, Contains, ap, sym, ◌∙◌, subst}
 use Rattle.ig_expr.specs.declared.value.Value.{Value}
 use Rattle.ig_forest.specs.CodeLinks.{lists_of}
 use Rattle.ig_item.specs.Step.{Call}

@@ -1,5 +1,5 @@
-use Rattle.std.proofs.Common.{◌≡◌, ◌∙◌}
-use Rattle.ig_forest.proofs.CodeValues.{nonterminal_within, from_one, alternative_within, behind_got, part_within, names_are, taken_long}
+use Rattle.std.proofs.Common.{◌∙◌}
+use Rattle.ig_forest.proofs.CodeValues.{behind_got, part_within, names_are, taken_long}
 use Rattle.ig_forest.proofs.links.Sources.names_before.Goals as goal
 
 pub slice_bounds-result-end : goal.slice_bounds-result-end

@@ -1,4 +1,4 @@
-use Rattle.std.proofs.Common.{false, refl, sym, ◌∙◌}
+use Rattle.std.proofs.Common.{refl, sym, ◌∙◌}
 use Rattle.ig_forest.proofs.CodeMarks.{marked_now}
 use Rattle.ig_forest.proofs.reach.Marks.mark.Goals as goal
 
