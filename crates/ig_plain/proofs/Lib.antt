@@ -17,3 +17,6 @@ pub mod Calls
 pub mod Calling
 pub mod Alone
 pub mod Arrivals
+pub mod Starts
+pub mod Fewer
+pub mod Ends

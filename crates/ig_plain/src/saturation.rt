@@ -1,9 +1,9 @@
 //! Saturation in rising positions.
 ghost use Rattle.std.specs.Prelude.{◌≡◌, ◌↔◌, ◌≤◌, ◌+◌, ◌<◌, ◌⊎◌, ℕ, List, Contains, IfErr, IfOk, MatchResult, OnOk, length, map};
-ghost use Rattle.ig_item.specs.Items.{Item, MoreThan, Reachable};
-ghost use Rattle.ig_item.specs.Tables.{Tables, items_of, tables_by};
+ghost use Rattle.ig_item.specs.Items.{MoreThan};
+ghost use Rattle.ig_item.specs.Tables.{items_of};
 ghost use Rattle.ig_item.specs.WellKinded.{NoneTwice};
-ghost use Rattle.ig_plain.specs.Run.{IsRun, Refuses};
+ghost use Rattle.ig_plain.specs.Run.{AreReachable, IsRun, Refuses};
 ghost use Rattle.ig_plain.specs.Arrival.{ArrivesWith, IsNothing, IsParted, IsSorted};
 
 use crate::found::Found;
@@ -143,7 +143,7 @@ fn table_of(alloc: Global, envs: &[Values]) -> Result<EnvironmentTable, AllocErr
 /// The items that are reachable, each once. `Budget` exactly where there are more than `budget`, if
 /// memory doesn't run out before. No instance and no environment stands twice in its table.
 pub fn saturate(alloc: Global, core: &Core, text: &Text, budget: u32) -> Result<Items, RunFault>
-    ensures items { IfOk result (λ t. (x : Item) → Contains (items_of t) x ↔ Reachable core.now text.now x) }
+    ensures items { IfOk result (AreReachable core.now text.now) }
     ensures once { IfOk result (λ t. NoneTwice (items_of t)) }
     ensures within { IfOk result (λ t. length t.items ≤ budget) }
     ensures exact { IfOk result (λ t. MoreThan core.now text.now budget → ⊥) }
