@@ -7,7 +7,7 @@ ghost use Rattle.std.specs.Fmt.{decimal};
 ghost use Rattle.ig_show.specs.Listed.{line_end, numbered_texts};
 ghost use Rattle.ig_show.specs.TagText.{tag_text};
 ghost use Rattle.ig_show.specs.ValueText.{places_text, span_text, values_text, environment_text};
-ghost use Rattle.ig_forest.specs.Stub.{node_of, item_node_of};
+ghost use Rattle.ig_forest.specs.CodeViews.{node_view, item_node_view};
 ghost use Rattle.ig_show.specs.ForestText.{head_text, choice_text, child_text, entry_text};
 ghost use Rattle.ig_show.specs.ForestText.{node_line, node_text, place_text, item_line};
 ghost use Rattle.ig_show.specs.ForestText.{item_text, heading, forest_text};
@@ -15,7 +15,7 @@ ghost use Rattle.ig_show.specs.ForestText.{item_text, heading, forest_text};
 use crate::tags::push_tag;
 use crate::values::{push_environment, push_number, push_places, push_values, push_word};
 use ig_expr::Value;
-use ig_forest::{Child, Choice, Choices, Entries, Entry, Forest, ItemNode, Node};
+use ig_forest::{Child, Choice, Entry, Forest, ItemNode, Node};
 use ig_text::Word;
 use std::alloc::{AllocError, Global};
 
@@ -80,15 +80,12 @@ fn push_entry(out: &mut String, entry: Entry) -> Result<(), AllocError>
 }
 
 /// Adds the lines of the alternatives of a node of a nonterminal of that name.
-fn push_choices(out: &mut String, name: &Word, choices: &Choices<'_>) -> Result<(), AllocError>
+fn push_choices(out: &mut String, name: &Word, choices: &[Choice]) -> Result<(), AllocError>
     ensures { OnOk result (string_bytes out.new ≡ string_bytes out.old ++
         flat_map (choice_text name.now) choices.now) }
 {
-    for place in 0..choices.len() {
-        let Some(choice) = choices.get(place) else {
-            unreachable!()
-        };
-        push_choice(out, name, choice)?;
+    for choice in choices {
+        push_choice(out, name, *choice)?;
     }
     Ok(())
 }
@@ -96,7 +93,7 @@ fn push_choices(out: &mut String, name: &Word, choices: &Choices<'_>) -> Result<
 /// Adds the line of the node of that number.
 fn push_node_line(out: &mut String, number: u32, node: &Node<'_>) -> Result<(), AllocError>
     ensures { OnOk result (string_bytes out.new ≡ string_bytes out.old ++
-        node_line number (node_of node.now)) }
+        node_line number (node_view node.now)) }
 {
     out.push_str("node ")?;
     push_head(out, number, node.name, node.values)?;
@@ -107,22 +104,19 @@ fn push_node_line(out: &mut String, number: u32, node: &Node<'_>) -> Result<(), 
 /// Adds the node of that number, with its alternatives.
 fn push_node(out: &mut String, number: u32, node: &Node<'_>) -> Result<(), AllocError>
     ensures { OnOk result (string_bytes out.new ≡ string_bytes out.old ++
-        node_text number (node_of node.now)) }
+        node_text number (node_view node.now)) }
 {
     push_node_line(out, number, node)?;
-    push_choices(out, node.name, &node.alternatives)
+    push_choices(out, node.name, node.alternatives)
 }
 
 /// Adds the lines of entries.
-fn push_entries(out: &mut String, entries: &Entries<'_>) -> Result<(), AllocError>
+fn push_entries(out: &mut String, entries: &[Entry]) -> Result<(), AllocError>
     ensures { OnOk result (string_bytes out.new ≡ string_bytes out.old ++
         flat_map entry_text entries.now) }
 {
-    for place in 0..entries.len() {
-        let Some(entry) = entries.get(place) else {
-            unreachable!()
-        };
-        push_entry(out, entry)?;
+    for entry in entries {
+        push_entry(out, *entry)?;
     }
     Ok(())
 }
@@ -130,7 +124,7 @@ fn push_entries(out: &mut String, entries: &Entries<'_>) -> Result<(), AllocErro
 /// Adds the alternative, the dot, the environment and the positions of an item.
 fn push_place(out: &mut String, item: &ItemNode<'_>) -> Result<(), AllocError>
     ensures { OnOk result (string_bytes out.new ≡ string_bytes out.old ++
-        place_text (item_node_of item.now)) }
+        place_text (item_node_view item.now)) }
 {
     push_number(out, item.alternative)?;
     out.push_str(" ")?;
@@ -142,7 +136,7 @@ fn push_place(out: &mut String, item: &ItemNode<'_>) -> Result<(), AllocError>
 /// Adds the line of the item of that number.
 fn push_item_line(out: &mut String, number: u32, item: &ItemNode<'_>) -> Result<(), AllocError>
     ensures { OnOk result (string_bytes out.new ≡ string_bytes out.old ++
-        item_line number (item_node_of item.now)) }
+        item_line number (item_node_view item.now)) }
 {
     out.push_str("item ")?;
     push_head(out, number, item.name, item.values)?;
@@ -153,14 +147,14 @@ fn push_item_line(out: &mut String, number: u32, item: &ItemNode<'_>) -> Result<
 /// Adds the item of that number, with its entries.
 fn push_item(out: &mut String, number: u32, item: &ItemNode<'_>) -> Result<(), AllocError>
     ensures { OnOk result (string_bytes out.new ≡ string_bytes out.old ++
-        item_text number (item_node_of item.now)) }
+        item_text number (item_node_view item.now)) }
 {
     push_item_line(out, number, item)?;
-    push_entries(out, &item.entries)
+    push_entries(out, item.entries)
 }
 
 /// Adds the first line, with the numbers of nodes and items.
-fn push_heading(out: &mut String, forest: &Forest<'_>) -> Result<(), AllocError>
+fn push_heading(out: &mut String, forest: &Forest) -> Result<(), AllocError>
     ensures { OnOk result (string_bytes out.new ≡ string_bytes out.old ++ heading forest.now) }
 {
     out.push_str("forest ")?;
@@ -171,7 +165,7 @@ fn push_heading(out: &mut String, forest: &Forest<'_>) -> Result<(), AllocError>
 }
 
 /// Adds the nodes, which are numbered from 0.
-fn push_nodes(out: &mut String, forest: &Forest<'_>) -> Result<(), AllocError>
+fn push_nodes(out: &mut String, forest: &Forest) -> Result<(), AllocError>
     ensures { OnOk result (string_bytes out.new ≡ string_bytes out.old ++
         numbered_texts node_text 0 forest.now.nodes) }
 {
@@ -185,7 +179,7 @@ fn push_nodes(out: &mut String, forest: &Forest<'_>) -> Result<(), AllocError>
 }
 
 /// Adds the items, which are numbered from 0.
-fn push_items(out: &mut String, forest: &Forest<'_>) -> Result<(), AllocError>
+fn push_items(out: &mut String, forest: &Forest) -> Result<(), AllocError>
     ensures { OnOk result (string_bytes out.new ≡ string_bytes out.old ++
         numbered_texts item_text 0 forest.now.items) }
 {
@@ -202,7 +196,7 @@ fn push_items(out: &mut String, forest: &Forest<'_>) -> Result<(), AllocError>
 /// and for each of its alternatives, then a line for each item and for each of its entries. Nodes
 /// and items are numbered from 0, and a span is printed as the positions where it begins and ends,
 /// in characters from 0. Refuses only for want of memory.
-pub fn show_forest(alloc: Global, forest: &Forest<'_>) -> Result<Vec<u8>, AllocError>
+pub fn show_forest(alloc: Global, forest: &Forest) -> Result<Vec<u8>, AllocError>
     ensures { IfOk result (λ bytes. bytes.items ≡ forest_text forest.now) }
 {
     let mut out = String::new(alloc);
