@@ -1,7 +1,8 @@
 //! Saturation in rising positions.
-ghost use Rattle.std.specs.Prelude.{◌≡◌, ◌↔◌, ◌≤◌, ◌+◌, ◌<◌, ◌⊎◌, ℕ, List, Contains, IfErr, IfOk, MatchResult, OnOk, length, map};
+ghost use Rattle.std.specs.Prelude.{◌≡◌, ◌↔◌, ◌≤◌, ◌+◌, ◌<◌, ◌++◌, ℕ, List, IfErr, IfOk, MatchResult, OnOk, length, map};
 ghost use Rattle.ig_item.specs.Items.{MoreThan};
-ghost use Rattle.ig_item.specs.Tables.{items_of};
+ghost use Rattle.ig_item.specs.Tables.{HaveValues, items_of, tables_by};
+ghost use Rattle.ig_plain.specs.Found.{AllNamed};
 ghost use Rattle.ig_item.specs.WellKinded.{NoneTwice};
 ghost use Rattle.ig_plain.specs.Run.{AreReachable, IsRun, Refuses};
 ghost use Rattle.ig_plain.specs.Arrival.{ArrivesWith, IsNothing, IsParted, IsSorted};
@@ -140,6 +141,41 @@ fn table_of(alloc: Global, envs: &[Values]) -> Result<EnvironmentTable, AllocErr
     Ok(table)
 }
 
+/// The items over their tables. Refused where a table has 4,294,967,296 members too, which no memory
+/// holds.
+fn finish(alloc: Global, found: Found) -> Result<Items, AllocError>
+    requires values { HaveValues found.envs.keys found.keys.keys }
+    requires named { AllNamed found (found.done.items ++ found.here.keys) }
+    requires few { length (found.done.items ++ found.here.keys) < 4294967296 }
+    ensures { IfOk result (λ t. t ≡ tables_by found.keys.keys found.envs.keys (found.done.items ++ found.here.keys)) }
+{
+    let Found {
+        mut done,
+        here,
+        later: _,
+        envs,
+        keys,
+    } = found;
+    done.extend_from_slice(here.as_slice())?;
+    let envs = envs.as_slice();
+    let keys = keys.as_slice();
+    keep_few(envs.len())?;
+    keep_few(keys.len())?;
+    let table = table_of(alloc, envs)?;
+    let keys = Vec::from_slice(alloc, keys)?;
+    Ok(Items::of(keys, table, done))
+}
+
+/// Refuses a table whose members 32 bits don't number.
+fn keep_few(members: usize) -> Result<(), AllocError>
+    ensures { OnOk result (members < 4294967296) }
+{
+    match u32::try_from(members) {
+        Ok(_) => Ok(()),
+        Err(_) => Err(AllocError),
+    }
+}
+
 /// The items that are reachable, each once. `Budget` exactly where there are more than `budget`, if
 /// memory doesn't run out before. No instance and no environment stands twice in its table.
 pub fn saturate(alloc: Global, core: &Core, text: &Text, budget: u32) -> Result<Items, RunFault>
@@ -164,15 +200,5 @@ pub fn saturate(alloc: Global, core: &Core, text: &Text, budget: u32) -> Result<
         callers: Vec::new(alloc),
     };
     run_to_end(alloc, core, text, &mut found, &mut waiting, budget)?;
-    let Found {
-        mut done,
-        here,
-        later: _,
-        envs,
-        keys,
-    } = found;
-    done.extend_from_slice(here.as_slice())?;
-    let table = table_of(alloc, envs.as_slice())?;
-    let keys = Vec::from_slice(alloc, keys.as_slice())?;
-    Ok(Items::of(keys, table, done))
+    Ok(finish(alloc, found)?)
 }
