@@ -1,5 +1,5 @@
 -- At the end of the text the items found are exactly the reachable ones.
-use Rattle.std.proofs.Common.{◌≡◌, ◌↔◌, ◌⊎◌, ⊎_elim, inl, inr, ℕ, zero, suc, ◌+◌, ◌<◌, ◌≤◌, List, [], ◌∷◌, ◌++◌, Some, Option, length, map, take, Contains, refl, sym, ap, ◌∙◌, subst, arith, slice_get, length-append}
+use Rattle.std.proofs.Common.{◌≡◌, ◌↔◌, ℕ, suc, ◌<◌, ◌≤◌, List, [], ◌∷◌, ◌++◌, Some, length, map, Contains, refl, sym, ap, ◌∙◌, subst, arith, slice_get, length-append}
 use Rattle.std.specs.Prelude.{slice_index_or, option_map}
 use Rattle.std.proofs.lemmas.List.{append-nil}
 use Rattle.std.proofs.lemmas.Option.{slice_get-map, slice_get-get_or, get_or_from_slice_get}
@@ -15,10 +15,10 @@ use Rattle.ig_item.specs.declared.items.InstanceKey.{InstanceKey}
 use Rattle.ig_item.specs.declared.items.Item as stored
 use Rattle.ig_plain.specs.declared.found.Found.{Found}
 use Rattle.ig_plain.specs.declared.waiting.Waiting.{Waiting}
-use Rattle.ig_plain.specs.Tables.{IsNamed, item_by, no_key}
-use Rattle.ig_plain.specs.Found.{means, instances_in, found_in, later_in, taken_in, count, Named}
+use Rattle.ig_plain.specs.Tables.{IsNamed, no_key}
+use Rattle.ig_plain.specs.Found.{means, found_in, later_in, taken_in, Named}
 use Rattle.ig_plain.specs.Run.{IsRun}
-use Rattle.ig_plain.proofs.Lists.{at_from_contains, contains_from_at, contains_sides, none_in, mapped_in, same_map, left_contains, right_contains}
+use Rattle.ig_plain.proofs.Lists.{contains_from_at, mapped_in, same_map, left_contains, right_contains}
 use Rattle.ig_plain.proofs.Growth.{found_named}
 use Rattle.ig_plain.proofs.Following.{kept}
 use Rattle.ig_plain.proofs.Distinct.{different, counted}
@@ -35,6 +35,7 @@ module _ (core : List Nonterminal) (text : List ℕ) (law : ItemsAreInText) (bud
           let l = r.taking.stored.behind x c in
           let q = (law core text (means s x) (r.taking.reachable (means s x) (right_contains (found_in s) (later_in s) (means s x) (mapped_in (means s) s.later.items x c)))).within in
           omega (arith, l, q)
+
       none : (xs : List stored.Item) → ((x : stored.Item) → Contains xs x → ⊥) → xs ≡ []
       none [] f = refl
       none (x ∷ xs) f = absurd (f x (contains_from_at (x ∷ xs) 0 x refl))

@@ -31,7 +31,8 @@ fn take_all(
     budget: u32,
 ) -> Result<(), RunFault>
     requires { IsRun core.now text.now budget position 0 found.old waiting.old }
-    ensures { MatchResult result (λ _. IsRun core.now text.now budget position (length found.new.here.keys) found.new waiting.new) (Refuses core.now text.now budget) }
+    ensures { MatchResult result (λ _. IsRun core.now text.now budget position (length
+        found.new.here.keys) found.new waiting.new) (Refuses core.now text.now budget) }
 {
     let mut number = 0;
     while number < found.here.len() {
@@ -48,7 +49,8 @@ fn part(
     here: &mut IndexSet<Item>,
     position: u32,
 ) -> Result<Vec<Item>, AllocError>
-    ensures { IfOk result (λ rest. IsParted position later.now here.old.keys here.new.keys rest.items) }
+    ensures { IfOk result (λ rest. IsParted position later.now here.old.keys here.new.keys
+        rest.items) }
 {
     let mut rest = Vec::new(alloc);
     for item in later {
@@ -64,7 +66,8 @@ fn sort_item(
     item: Item,
     position: u32,
 ) -> Result<(), AllocError>
-    ensures { OnOk result (IsSorted position item here.old.keys here.new.keys rest.old.items rest.new.items) }
+    ensures { OnOk result (IsSorted position item here.old.keys here.new.keys rest.old.items
+        rest.new.items) }
 {
     if item.position == position {
         enter_item(here, item)?;
@@ -94,7 +97,8 @@ fn start(
     budget: u32,
 ) -> Result<(), RunFault>
     requires empty { IsNothing found.old waiting.old }
-    ensures { (text : List ℕ) → MatchResult result (λ _. IsRun core.now text budget 0 0 found.new waiting.new) (Refuses core.now text budget) }
+    ensures { (text : List ℕ) → MatchResult result (λ _. IsRun core.now text budget 0 0 found.new
+        waiting.new) (Refuses core.now text budget) }
 {
     reachable_is_closed();
     keep_well_kinded(core);
@@ -119,7 +123,8 @@ fn run_to_end(
     budget: u32,
 ) -> Result<(), RunFault>
     requires { IsNothing found.old waiting.old }
-    ensures { MatchResult result (λ _. IsRun core.now text.now budget (length text.now) (length found.new.here.keys) found.new waiting.new) (Refuses core.now text.now budget) }
+    ensures { MatchResult result (λ _. IsRun core.now text.now budget (length text.now) (length
+        found.new.here.keys) found.new waiting.new) (Refuses core.now text.now budget) }
 {
     start(alloc, core, found, waiting, budget)?;
     take_all(alloc, core, text, found, waiting, 0, budget)?;
@@ -141,13 +146,14 @@ fn table_of(alloc: Global, envs: &[Values]) -> Result<EnvironmentTable, AllocErr
     Ok(table)
 }
 
-/// The items over their tables. Refused where a table has 4,294,967,296 members too, which no memory
-/// holds.
+/// The items over their tables. Refused where a table has 4,294,967,296 members too, which no
+/// memory holds.
 fn finish(alloc: Global, found: Found) -> Result<Items, AllocError>
     requires values { HaveValues found.envs.keys found.keys.keys }
     requires named { AllNamed found (found.done.items ++ found.here.keys) }
     requires few { length (found.done.items ++ found.here.keys) < 4294967296 }
-    ensures { IfOk result (λ t. t ≡ tables_by found.keys.keys found.envs.keys (found.done.items ++ found.here.keys)) }
+    ensures { IfOk result (λ t. t ≡ tables_by found.keys.keys found.envs.keys (found.done.items ++
+        found.here.keys)) }
 {
     let Found {
         mut done,

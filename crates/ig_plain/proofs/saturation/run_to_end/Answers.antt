@@ -1,4 +1,4 @@
-use Rattle.std.proofs.Common.{◌≡◌, length, arith, subst, sym, ◌∙◌}
+use Rattle.std.proofs.Common.{◌≡◌, length, arith, subst}
 use Rattle.ig_plain.specs.Run.{IsRun}
 use Rattle.ig_plain.proofs.Instances.{at_exit}
 use Rattle.ig_plain.proofs.Arrivals.{arrives}

@@ -1,5 +1,5 @@
-use Rattle.std.proofs.Common.{ap, refl, sym, subst, ◌∙◌, ◌++◌, ◌<◌, ◌≤◌, length, arith}
-use Rattle.ig_item.specs.Tables.{HaveValues, items_of}
+use Rattle.std.proofs.Common.{refl, sym, subst, ◌++◌, ◌≤◌, length, arith}
+use Rattle.ig_item.specs.Tables.{items_of}
 use Rattle.ig_item.specs.WellKinded.{NoneTwice}
 use Rattle.ig_plain.specs.Run.{AreReachable}
 use Rattle.ig_plain.proofs.Ends.{exactly, none_twice, items_few, no_more, keys_once, have, inside}
