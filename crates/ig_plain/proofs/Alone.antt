@@ -1,18 +1,18 @@
 -- An item before a test, a binding or a terminal is taken.
-use Rattle.std.proofs.Common.{◌≡◌, ◌⊎◌, ⊎_elim, inl, inr, ℕ, zero, suc, ◌+◌, ◌<◌, ◌≤◌, List, [], ◌∷◌, ◌++◌, Some, None, Option, length, map, take, Contains, refl, sym, ap, ◌∙◌, subst, arith, slice_get, length-append, true}
+use Rattle.std.proofs.Common.{◌≡◌, inl, ℕ, zero, suc, ◌+◌, ◌<◌, ◌≤◌, List, [], ◌∷◌, ◌++◌, Some, None, Option, length, map, take, Contains, refl, sym, ap, ◌∙◌, subst, arith, slice_get, true}
 use Rattle.std.specs.Prelude.{Result, Ok, Err, option_map, option_and_then, MatchResult}
 use Rattle.std.specs.List.{flat_map}
-use Rattle.std.proofs.lemmas.Option.{same_Some, slice_get_within, slice_get-get_or}
+use Rattle.std.proofs.lemmas.Option.{same_Some}
 use Rattle.ig_text.specs.Pattern.{Matches}
 use Rattle.ig_text.specs.declared.pattern.Pattern.{Pattern}
 use Rattle.ig_expr.specs.Expression.{Expression}
 use Rattle.ig_expr.specs.declared.value.Value.{Value}
 use Rattle.ig_expr.specs.declared.value.Value.TheVariants.{Bool as truth}
-use Rattle.ig_item.specs.Step.{Step, Test, Bind, Term, Call, names_of}
+use Rattle.ig_item.specs.Step.{Step, Test, Bind, Term, names_of}
 use Rattle.ig_item.specs.View.{step_of}
 use Rattle.ig_item.specs.declared.step.Step as step
 use Rattle.ig_item.specs.Core.{IsAlternative, alternative_at}
-use Rattle.ig_item.specs.Items.{Item, Reachable, IsComplete, StandsBefore, HasValue, MatchesNone, MoreThan, past, span_of, first}
+use Rattle.ig_item.specs.Items.{Item, IsComplete, StandsBefore, HasValue, MatchesNone, MoreThan, past, span_of, first}
 use Rattle.ig_item.specs.Laws.{ReachableIsClosed, EnvironmentFits, EnvironmentsFit}
 use Rattle.ig_item.specs.WellKinded.{IsWellKinded}
 use Rattle.ig_item.specs.Visible.{names_at}
@@ -29,9 +29,9 @@ use Rattle.ig_plain.specs.Found as found
 use Rattle.ig_plain.specs.Found.{means, instances_in, found_in, later_in, taken_in, count, Named, Grows, GrowsLater, Has, Adds, AddsLater, AddsTerminal}
 use Rattle.ig_plain.specs.Rules as rules
 use Rattle.ig_plain.specs.Rules.{After, IsBehind, IsCaller, IsPastTerminal, Stands, step_at}
-use Rattle.ig_plain.specs.Run.{IsWaiting, IsTaking, IsRun, IsTaken, Refuses}
-use Rattle.ig_plain.proofs.Lists.{left_contains, contains_from_at, same_map}
-use Rattle.ig_plain.proofs.Following.{one_step, not_both, same_alternative}
+use Rattle.ig_plain.specs.Run.{IsWaiting, IsRun, IsTaken, Refuses}
+use Rattle.ig_plain.proofs.Lists.{left_contains, same_map}
+use Rattle.ig_plain.proofs.Following.{one_step, not_both}
 use Rattle.ig_plain.proofs.Running.{takes_found, taken_now, refuses, takes_later, taken_later, exceeds_later, named_still, means_still, all_later, item_found}
 use Rattle.ig_plain.proofs.Waiters.{Keeps, waits_alone}
 use Rattle.ig_plain.proofs.Completes.{keeps_grown, firsts_kept}
@@ -104,9 +104,12 @@ module _ (core : List Nonterminal) (text : List ℕ) (law : ReachableIsClosed) (
       behind x (rules.bind ns other f v b h g) = let z = one_step core text it ns names _ _ b before in cc
       behind x (rules.terminal ns pattern l f j b m free g) =
           let z = one_step core text it ns names (Term pattern l f) (Term what label excluded) b before in
-          let q : pattern ≡ what = cc z in let n : l ≡ label = cc z in let o : f ≡ excluded = cc z in
-          (j, subst (λ y. Matches text y it.position j) q m, subst (λ y. MatchesNone text y it.position j) o free,
-          g ∙ ap (λ y. past it (span_of y it.position j) j) n)
+          let q : pattern ≡ what = cc z in let n : l ≡ label = cc z in let o : f ≡ excluded = cc z in (
+            j,
+            subst (λ y. Matches text y it.position j) q m,
+            subst (λ y. MatchesNone text y it.position j) o free,
+            g ∙ ap (λ y. past it (span_of y it.position j) j) n,
+          )
       behind x (rules.call callee l f n a alt c has g) = let z = one_step core text it c.names names _ _ c.before before in cc
       behind x (rules.return done l f t c complete free g) = let z = one_step core text it c.names names _ _ c.before before in cc
       behind x (rules.returned caller l f t c complete free g) = absurd (not_both core text it names _ before complete)
@@ -139,8 +142,8 @@ module _ (core : List Nonterminal) (text : List ℕ) (law : ReachableIsClosed) (
             record {
               taking = takes_later core text law budget p k s item r.taking at x t g (over x m) (follows x m) within (λ y a. only y (behind y a));
               firsts = λ callee c a nonterminal alternative has.
-                all_later core text law budget p k s item r.taking at x t g (over x m) (follows x m) (first callee a)
-                (r.firsts callee (subst (λ (z : List Instance). Contains z callee) keeps_later.instances c) a nonterminal alternative has);
+                  all_later core text law budget p k s item r.taking at x t g (over x m) (follows x m) (first callee a)
+                  (r.firsts callee (subst (λ (z : List Instance). Contains z callee) keeps_later.instances c) a nonterminal alternative has);
               waiting = subst (λ (z : List Item). IsWaiting core text p t z w)
                   (sym (taken_later core text law budget p k s item r.taking at x t g (over x m) (follows x m)))
                   (waits_alone core text p s t (taken_in s k) it w keeps_later apart unfinished r.waiting);
@@ -174,7 +177,9 @@ stands_at core it n step f n_is e =
     record {
       names = names_at f.nonterminal f.alternative it.dot;
       before = record {
-        nonterminal = f.nonterminal; alternative = f.alternative; has = f.has;
+        nonterminal = f.nonterminal;
+        alternative = f.alternative;
+        has = f.has;
         next = sym (e ∙ ap (λ z. step_at core z it.alternative it.dot) n_is ∙
             ap (option_and_then (λ (m : CoreAlt). slice_get m.steps it.dot))
             (alternative_there core it.instance.nonterminal it.alternative f.nonterminal f.alternative f.has));

@@ -1,9 +1,10 @@
 -- At the end of the text the items found are exactly the reachable ones.
-use Rattle.std.proofs.Common.{◌≡◌, ◌↔◌, ◌⊎◌, ⊎_elim, inl, inr, ℕ, zero, suc, ◌+◌, ◌<◌, ◌≤◌, List, [], ◌∷◌, ◌++◌, Some, Option, length, map, take, Contains, refl, sym, ap, ◌∙◌, subst, arith, slice_get, length-append}
+use Rattle.std.proofs.Common.{◌≡◌, ◌↔◌, ℕ, suc, ◌<◌, ◌≤◌, List, [], ◌∷◌, ◌++◌, Some, length, map, Contains, refl, sym, ap, ◌∙◌, subst, arith, slice_get, length-append}
 use Rattle.std.specs.Prelude.{slice_index_or, option_map}
 use Rattle.std.proofs.lemmas.List.{append-nil}
 use Rattle.std.proofs.lemmas.Option.{slice_get-map, slice_get-get_or, get_or_from_slice_get}
 use Rattle.std.proofs.Math.Seq.{take-length}
+use Rattle.ig_expr.specs.declared.value.Value.{Value}
 use Rattle.ig_item.specs.Items.{Item, Follows, Reachable, MoreThan, root_instance}
 use Rattle.ig_item.specs.Laws.{ItemsAreInText}
 use Rattle.ig_item.specs.Tables.{Tables, AreTables, HaveValues, instance_by, item_of, items_of, tables_by}
@@ -14,10 +15,10 @@ use Rattle.ig_item.specs.declared.items.InstanceKey.{InstanceKey}
 use Rattle.ig_item.specs.declared.items.Item as stored
 use Rattle.ig_plain.specs.declared.found.Found.{Found}
 use Rattle.ig_plain.specs.declared.waiting.Waiting.{Waiting}
-use Rattle.ig_plain.specs.Tables.{item_by, no_key}
-use Rattle.ig_plain.specs.Found.{means, instances_in, found_in, later_in, taken_in, count, Named}
+use Rattle.ig_plain.specs.Tables.{IsNamed, no_key}
+use Rattle.ig_plain.specs.Found.{means, found_in, later_in, taken_in, Named}
 use Rattle.ig_plain.specs.Run.{IsRun}
-use Rattle.ig_plain.proofs.Lists.{at_from_contains, contains_from_at, contains_sides, none_in, mapped_in, same_map, left_contains, right_contains}
+use Rattle.ig_plain.proofs.Lists.{contains_from_at, mapped_in, same_map, left_contains, right_contains}
 use Rattle.ig_plain.proofs.Growth.{found_named}
 use Rattle.ig_plain.proofs.Following.{kept}
 use Rattle.ig_plain.proofs.Distinct.{different, counted}
@@ -34,6 +35,7 @@ module _ (core : List Nonterminal) (text : List ℕ) (law : ItemsAreInText) (bud
           let l = r.taking.stored.behind x c in
           let q = (law core text (means s x) (r.taking.reachable (means s x) (right_contains (found_in s) (later_in s) (means s x) (mapped_in (means s) s.later.items x c)))).within in
           omega (arith, l, q)
+
       none : (xs : List stored.Item) → ((x : stored.Item) → Contains xs x → ⊥) → xs ≡ []
       none [] f = refl
       none (x ∷ xs) f = absurd (f x (contains_from_at (x ∷ xs) 0 x refl))
@@ -109,3 +111,28 @@ module _ (core : List Nonterminal) (text : List ℕ) (law : ItemsAreInText) (bud
 
     pub inside : (x : stored.Item) → Contains items x → Named s x
     inside x c = found_named s r.taking.stored.named x (subst (λ (z : List stored.Item). Contains z x) items_are c)
+
+mapped_length : {A B : Type 0} (f : A → B) (xs : List A) → length (map f xs) ≡ length xs
+mapped_length f [] = refl
+mapped_length f (x ∷ xs) = ap suc (mapped_length f xs)
+
+-- tables that are complete
+pub are_tables : (envs table : List (List Value)) (ks keys : List InstanceKey) (items all : List stored.Item) → table ≡ envs → keys ≡ ks → items ≡ all →
+    ((x : stored.Item) → Contains all x → IsNamed envs ks x) → length envs < 4294967296 → length ks < 4294967296 → length all < 4294967296 →
+    AreTables (tables_by keys table items)
+are_tables envs table ks keys items all table_is keys_are items_are named few_envs few_keys few_items =
+    let n = mapped_length (instance_by table) keys ∙ ap length keys_are in
+    let m = ap length table_is in
+    let i = ap length items_are in
+    record {
+      instances_there = λ x c. let h = (named x (subst (λ (z : List stored.Item). Contains z x) items_are c)).instance in omega (arith, h, n);
+      environments_there = λ x c. let h = (named x (subst (λ (z : List stored.Item). Contains z x) items_are c)).env in omega (arith, h, m);
+      few_instances = omega (arith, n, few_keys);
+      few_environments = omega (arith, m, few_envs);
+      few_items = omega (arith, i, few_items);
+    }
+
+pub same_tables : (envs table : List (List Value)) (ks keys : List InstanceKey) (items all : List stored.Item) → table ≡ envs → keys ≡ ks → items ≡ all →
+    tables_by keys table items ≡ tables_by ks envs all
+same_tables envs table ks keys items all a b c =
+    ap (λ (z : List (List Value)). tables_by keys z items) a ∙ ap (λ (z : List InstanceKey). tables_by z envs items) b ∙ ap (tables_by ks envs) c

@@ -1,5 +1,5 @@
 -- Different members of a list are no more than its members.
-use Rattle.std.proofs.Common.{◌≡◌, ℕ, zero, suc, ◌+◌, ◌<◌, ◌≤◌, List, [], ◌∷◌, ◌++◌, Some, length, Contains, slice_get, get_or, sym, ap, ◌∙◌, refl, arith, eqb}
+use Rattle.std.proofs.Common.{◌≡◌, ℕ, zero, suc, ◌<◌, ◌≤◌, List, [], ◌∷◌, Some, length, Contains, slice_get, get_or, sym, ap, ◌∙◌, refl, arith}
 use Rattle.std.proofs.lemmas.Option.{slice_get_within}
 use Rattle.std.proofs.lemmas.Map.Made.{IsDistinct-from_AllPairs, is_member-Decides}
 use Rattle.std.proofs.lemmas.Map.Steps.{length-le_from_distinct_below}
@@ -65,4 +65,3 @@ at_most {X} xs ys different inside =
     let h : (k : ℕ) (y : X) → slice_get xs k ≡ Some y → (j : ℕ) × (slice_get ys j ≡ Some y) =
     λ k y e. at_from_contains ys y (inside y (contains_from_at xs k y e)) in
     at_most_by xs ys different h
-

@@ -1,6 +1,6 @@
 -- A run starts with the first item of the root.
-use Rattle.std.proofs.Common.{◌≡◌, ◌↔◌, ◌⊎◌, ⊎_elim, inl, inr, ℕ, zero, suc, ◌+◌, ◌<◌, ◌≤◌, List, [], ◌∷◌, ◌++◌, Some, None, Option, length, map, take, Contains, refl, sym, ap, ◌∙◌, subst, arith, slice_get, length-append, Bool, true, false}
-use Rattle.std.specs.Prelude.{Result, Ok, Err, MatchResult, slice_index_or}
+use Rattle.std.proofs.Common.{◌≡◌, ⊎_elim, ℕ, zero, suc, List, [], ◌∷◌, ◌++◌, Some, None, length, map, Contains, refl, sym, ap, ◌∙◌, subst, arith, slice_get, Bool, true, false}
+use Rattle.std.specs.Prelude.{Result, Ok, Err, MatchResult}
 use Rattle.std.proofs.lemmas.List.{append-nil}
 use Rattle.std.proofs.lemmas.Option.{same_Some, slice_get_within, get_or_from_slice_get}
 use Rattle.ig_expr.specs.declared.value.Value.{Value}
@@ -8,7 +8,7 @@ use Rattle.ig_item.specs.Core.{IsAlternative, numbered}
 use Rattle.ig_item.specs.Items as items
 use Rattle.ig_item.specs.Items.{Item, Follows, Reachable, first, root_instance}
 use Rattle.ig_item.specs.Laws.{ReachableIsClosed}
-use Rattle.ig_item.specs.Tables.{instance_by, HaveValues}
+use Rattle.ig_item.specs.Tables.{instance_by}
 use Rattle.ig_item.specs.WellKinded.{NoneTwice, IsWellKinded}
 use Rattle.ig_item.specs.declared.core_grammar.Nonterminal.{Nonterminal}
 use Rattle.ig_item.specs.declared.core_grammar.CoreAlt.{CoreAlt}
@@ -21,13 +21,13 @@ use Rattle.ig_plain.specs.declared.found.Found.{Found}
 use Rattle.ig_plain.specs.declared.waiting.Waiting.{Waiting}
 use Rattle.ig_plain.specs.declared.waiting.Called.{Called}
 use Rattle.ig_plain.specs.Tables.{IsNew}
-use Rattle.ig_plain.specs.Found.{means, instances_in, found_in, later_in, taken_in, count, Named, AreNamed, AreTables, IsStored, Grows, Adds}
+use Rattle.ig_plain.specs.Found.{means, instances_in, found_in, later_in, taken_in, count, AreNamed, IsStored, Grows, Adds}
 use Rattle.ig_plain.specs.Rules.{IsFirstOf}
 use Rattle.ig_plain.specs.Waiting.{not_called}
 use Rattle.ig_plain.specs.Run as run
 use Rattle.ig_plain.specs.Run.{IsWaiting, IsTaking, IsRun, Refuses}
 use Rattle.ig_plain.specs.Arrival.{IsNothing}
-use Rattle.ig_plain.proofs.Lists.{at_from_contains, contains_from_at, contains_sides, one_in, none_in, unmapped_in, left_contains}
+use Rattle.ig_plain.proofs.Lists.{contains_from_at, contains_sides, one_in, none_in, unmapped_in}
 use Rattle.ig_plain.proofs.Growth.{found_from, later_same}
 use Rattle.ig_plain.proofs.Distinct.{too_many}
 use Rattle.ig_plain.proofs.Running.{stored_grown}
@@ -50,8 +50,10 @@ module _ (core : List Nonterminal) (text : List ℕ) (law : ReachableIsClosed) (
 
   no_done : s1.done.items ≡ []
   no_done = done ∙ empty.done
+
   no_here : s1.here.keys ≡ []
   no_here = here ∙ empty.here
+
   no_later : s1.later.items ≡ []
   no_later = later ∙ empty.later
 
@@ -65,8 +67,8 @@ module _ (core : List Nonterminal) (text : List ℕ) (law : ReachableIsClosed) (
   named_1 =
       record {
         values = λ x c.
-          let e = one_in key x (subst (λ (z : List InstanceKey). Contains z x) keys c) in
-          let l = slice_get_within s1.envs.keys env [] there in let q = ap (λ (z : InstanceKey). z.env) e in omega (arith, l, q);
+            let e = one_in key x (subst (λ (z : List InstanceKey). Contains z x) keys c) in
+            let l = slice_get_within s1.envs.keys env [] there in let q = ap (λ (z : InstanceKey). z.env) e in omega (arith, l, q);
         done = λ x c. absurd (none_of s1.done.items no_done x c);
         here = λ x c. absurd (none_of s1.here.keys no_here x c);
         later = λ x c. absurd (none_of s1.later.items no_later x c);
@@ -170,29 +172,31 @@ module _ (core : List Nonterminal) (text : List ℕ) (law : ReachableIsClosed) (
           stored = stored_grown 0 may s1 t stored_1 d.grows;
           reachable = reachable t d.grows;
           closed = λ x f.
-            subst (Contains (found_in t ++ later_in t)) (sym (by_root t d.grows x f ∙ ap (λ (z : Instance). first z 1) (sym root_is)))
-            (d.has (first root 1) (1, kinded.root.nonterminal, kinded.root.alternative, one_alternative, refl));
+              subst (Contains (found_in t ++ later_in t)) (sym (by_root t d.grows x f ∙ ap (λ (z : Instance). first z 1) (sym root_is)))
+              (d.has (first root 1) (1, kinded.root.nonterminal, kinded.root.alternative, one_alternative, refl));
           came = λ x c. absurd (none_later t d.grows x c);
           few = omega arith;
           within = d.within (let e = count_1 in omega (arith, e));
         };
         firsts = λ callee c a nonterminal alternative has.
-          let e : callee ≡ root = one_in root callee (subst (λ (z : List Instance). Contains z callee) all c) in
-          d.has (first callee a)
-          (a, nonterminal, alternative, subst (λ (z : Instance). IsAlternative core z.nonterminal a nonterminal alternative) e has, ap (λ (z : Instance). first z a) e);
+            let e : callee ≡ root = one_in root callee (subst (λ (z : List Instance). Contains z callee) all c) in
+            d.has (first callee a)
+            (a, nonterminal, alternative, subst (λ (z : Instance). IsAlternative core z.nonterminal a nonterminal alternative) e has, ap (λ (z : Instance). first z a) e);
         waiting = record {
           lengths = ap length one ∙ sym (ap length all);
           callers = λ i callee c at known.
-            subst (λ (z : ℕ). run.HasCallers core text t (taken_in t 0) v.callers.items z callee) (ap (λ (z : Called). z.callers) (sym (known_one i c known)))
-            (record {
-              chain = []; chained = run.none;
-              named = λ y k. absurd (none_in y k);
-              callers = λ y k. absurd (none_in y k);
-              all = λ x k e. absurd (none_taken t d.grows x k);
-            });
-          ends = λ i callee c at known.
-            (λ e. let z : None ≡ Some 0 = sym (ap (λ (q : Called). q.last_end) (known_one i c known)) ∙ e in cc,
-            λ e. absurd (none_taken t d.grows e.item e.among));
+              subst (λ (z : ℕ). run.HasCallers core text t (taken_in t 0) v.callers.items z callee) (ap (λ (z : Called). z.callers) (sym (known_one i c known)))
+              (record {
+                chain = [];
+                chained = run.none;
+                named = λ y k. absurd (none_in y k);
+                callers = λ y k. absurd (none_in y k);
+                all = λ x k e. absurd (none_taken t d.grows x k);
+              });
+          ends = λ i callee c at known. (
+            λ e. let z : None ≡ Some 0 = sym (ap (λ (q : Called). q.last_end) (known_one i c known)) ∙ e in cc,
+            λ e. absurd (none_taken t d.grows e.item e.among),
+          );
           known = λ x callee k e. absurd (none_taken t d.grows x k);
           before = λ i c e known is. let z : None ≡ Some e = sym (ap (λ (q : Called). q.last_end) (known_one i c known)) ∙ is in cc;
         };

@@ -1,6 +1,4 @@
-pub mod Names
 pub mod Tables
-
 pub mod Rules
 pub mod Found
 pub mod Waiting

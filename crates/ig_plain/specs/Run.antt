@@ -1,5 +1,5 @@
 -- What a run in rising positions keeps.
-use Rattle.std.specs.Prelude.{◌≡◌, ◌↔◌, ◌⊎◌, ℕ, zero, suc, ◌+◌, ◌<◌, ◌≤◌, List, [], ◌∷◌, ◌++◌, map, length, take, Contains, Option, Some, slice_get, Result, MatchResult}
+use Rattle.std.specs.Prelude.{◌≡◌, ◌↔◌, ℕ, zero, suc, ◌≤◌, List, [], ◌∷◌, ◌++◌, length, Contains, Some, slice_get, Result, MatchResult}
 use Rattle.ig_item.specs.Core.{IsAlternative}
 use Rattle.ig_item.specs.Items.{Item, Follows, Reachable, MoreThan, IsComplete, first}
 use Rattle.ig_item.specs.declared.core_grammar.Nonterminal.{Nonterminal}

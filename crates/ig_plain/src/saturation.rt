@@ -1,7 +1,8 @@
 //! Saturation in rising positions.
-ghost use Rattle.std.specs.Prelude.{◌≡◌, ◌↔◌, ◌≤◌, ◌+◌, ◌<◌, ◌⊎◌, ℕ, List, Contains, IfErr, IfOk, MatchResult, OnOk, length, map};
+ghost use Rattle.std.specs.Prelude.{◌≡◌, ◌↔◌, ◌≤◌, ◌+◌, ◌<◌, ◌++◌, ℕ, List, IfErr, IfOk, MatchResult, OnOk, length, map};
 ghost use Rattle.ig_item.specs.Items.{MoreThan};
-ghost use Rattle.ig_item.specs.Tables.{items_of};
+ghost use Rattle.ig_item.specs.Tables.{HaveValues, items_of, tables_by};
+ghost use Rattle.ig_plain.specs.Found.{AllNamed};
 ghost use Rattle.ig_item.specs.WellKinded.{NoneTwice};
 ghost use Rattle.ig_plain.specs.Run.{AreReachable, IsRun, Refuses};
 ghost use Rattle.ig_plain.specs.Arrival.{ArrivesWith, IsNothing, IsParted, IsSorted};
@@ -30,7 +31,8 @@ fn take_all(
     budget: u32,
 ) -> Result<(), RunFault>
     requires { IsRun core.now text.now budget position 0 found.old waiting.old }
-    ensures { MatchResult result (λ _. IsRun core.now text.now budget position (length found.new.here.keys) found.new waiting.new) (Refuses core.now text.now budget) }
+    ensures { MatchResult result (λ _. IsRun core.now text.now budget position (length
+        found.new.here.keys) found.new waiting.new) (Refuses core.now text.now budget) }
 {
     let mut number = 0;
     while number < found.here.len() {
@@ -47,7 +49,8 @@ fn part(
     here: &mut IndexSet<Item>,
     position: u32,
 ) -> Result<Vec<Item>, AllocError>
-    ensures { IfOk result (λ rest. IsParted position later.now here.old.keys here.new.keys rest.items) }
+    ensures { IfOk result (λ rest. IsParted position later.now here.old.keys here.new.keys
+        rest.items) }
 {
     let mut rest = Vec::new(alloc);
     for item in later {
@@ -63,7 +66,8 @@ fn sort_item(
     item: Item,
     position: u32,
 ) -> Result<(), AllocError>
-    ensures { OnOk result (IsSorted position item here.old.keys here.new.keys rest.old.items rest.new.items) }
+    ensures { OnOk result (IsSorted position item here.old.keys here.new.keys rest.old.items
+        rest.new.items) }
 {
     if item.position == position {
         enter_item(here, item)?;
@@ -93,7 +97,8 @@ fn start(
     budget: u32,
 ) -> Result<(), RunFault>
     requires empty { IsNothing found.old waiting.old }
-    ensures { (text : List ℕ) → MatchResult result (λ _. IsRun core.now text budget 0 0 found.new waiting.new) (Refuses core.now text budget) }
+    ensures { (text : List ℕ) → MatchResult result (λ _. IsRun core.now text budget 0 0 found.new
+        waiting.new) (Refuses core.now text budget) }
 {
     reachable_is_closed();
     keep_well_kinded(core);
@@ -118,7 +123,8 @@ fn run_to_end(
     budget: u32,
 ) -> Result<(), RunFault>
     requires { IsNothing found.old waiting.old }
-    ensures { MatchResult result (λ _. IsRun core.now text.now budget (length text.now) (length found.new.here.keys) found.new waiting.new) (Refuses core.now text.now budget) }
+    ensures { MatchResult result (λ _. IsRun core.now text.now budget (length text.now) (length
+        found.new.here.keys) found.new waiting.new) (Refuses core.now text.now budget) }
 {
     start(alloc, core, found, waiting, budget)?;
     take_all(alloc, core, text, found, waiting, 0, budget)?;
@@ -138,6 +144,42 @@ fn table_of(alloc: Global, envs: &[Values]) -> Result<EnvironmentTable, AllocErr
         table.push(values.as_slice())?;
     }
     Ok(table)
+}
+
+/// The items over their tables. Refused where a table has 4,294,967,296 members too, which no
+/// memory holds.
+fn finish(alloc: Global, found: Found) -> Result<Items, AllocError>
+    requires values { HaveValues found.envs.keys found.keys.keys }
+    requires named { AllNamed found (found.done.items ++ found.here.keys) }
+    requires few { length (found.done.items ++ found.here.keys) < 4294967296 }
+    ensures { IfOk result (λ t. t ≡ tables_by found.keys.keys found.envs.keys (found.done.items ++
+        found.here.keys)) }
+{
+    let Found {
+        mut done,
+        here,
+        later: _,
+        envs,
+        keys,
+    } = found;
+    done.extend_from_slice(here.as_slice())?;
+    let envs = envs.as_slice();
+    let keys = keys.as_slice();
+    keep_few(envs.len())?;
+    keep_few(keys.len())?;
+    let table = table_of(alloc, envs)?;
+    let keys = Vec::from_slice(alloc, keys)?;
+    Ok(Items::of(keys, table, done))
+}
+
+/// Refuses a table whose members 32 bits don't number.
+fn keep_few(members: usize) -> Result<(), AllocError>
+    ensures { OnOk result (members < 4294967296) }
+{
+    match u32::try_from(members) {
+        Ok(_) => Ok(()),
+        Err(_) => Err(AllocError),
+    }
 }
 
 /// The items that are reachable, each once. `Budget` exactly where there are more than `budget`, if
@@ -164,15 +206,5 @@ pub fn saturate(alloc: Global, core: &Core, text: &Text, budget: u32) -> Result<
         callers: Vec::new(alloc),
     };
     run_to_end(alloc, core, text, &mut found, &mut waiting, budget)?;
-    let Found {
-        mut done,
-        here,
-        later: _,
-        envs,
-        keys,
-    } = found;
-    done.extend_from_slice(here.as_slice())?;
-    let table = table_of(alloc, envs.as_slice())?;
-    let keys = Vec::from_slice(alloc, keys.as_slice())?;
-    Ok(Items::of(keys, table, done))
+    Ok(finish(alloc, found)?)
 }

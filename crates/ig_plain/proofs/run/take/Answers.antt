@@ -1,6 +1,5 @@
-use Rattle.std.proofs.Common.{refl, sym, ap, subst, ◌∙◌, suc, ◌+◌, ◌≡◌, arith}
-use Rattle.std.specs.Prelude.{slice_get}
-use Rattle.ig_plain.specs.Run.{IsRun, Refuses, IsTaken}
+use Rattle.std.proofs.Common.{sym, subst}
+use Rattle.ig_plain.specs.Run.{IsRun}
 use Rattle.ig_plain.proofs.Lists.{contains_from_at}
 use Rattle.ig_plain.proofs.Alone.{fits, stands_at, complete_at, taken_next}
 use Rattle.ig_plain.proofs.run.take.Goals as goal

@@ -1,4 +1,4 @@
-use Rattle.std.proofs.Common.{refl, sym, ap, subst, ◌∙◌, ◌≡◌, [], ◌∷◌, true}
+use Rattle.std.proofs.Common.{refl, ap, subst, ◌∙◌, ◌≡◌, [], ◌∷◌, true}
 use Rattle.ig_expr.specs.View.{expression_of}
 use Rattle.ig_expr.specs.declared.value.Value.{Value}
 use Rattle.ig_expr.specs.declared.value.Value.TheVariants.{Bool as truth}

@@ -1,4 +1,4 @@
-use Rattle.std.proofs.Common.{refl, subst, sym, ap, ◌∙◌, ◌++◌}
+use Rattle.std.proofs.Common.{refl, subst, ap, ◌∙◌, ◌++◌}
 use Rattle.ig_plain.specs.Arrival.{IsParted}
 use Rattle.ig_plain.proofs.Arrivals.{arrives_with}
 use Rattle.ig_plain.proofs.saturation.arrive.Goals as goal

@@ -1,6 +1,5 @@
-use Rattle.std.proofs.Common.{refl}
-use Rattle.std.proofs.lemmas.Option.{slice_get_read, slice_get-get_or}
-use Rattle.ig_plain.proofs.Arrivals.{parts_none, parts_more}
+use Rattle.std.proofs.lemmas.Option.{slice_get-get_or}
+use Rattle.ig_plain.proofs.Arrivals.{parts_more}
 use Rattle.ig_plain.proofs.saturation.part.Goals as goal
 
 pub loop-item-preserved : goal.loop-item-preserved

@@ -1,4 +1,4 @@
-use Rattle.std.proofs.Common.{◌≡◌, length, arith, subst, sym, ◌∙◌}
+use Rattle.std.proofs.Common.{◌≡◌, length, arith, subst}
 use Rattle.ig_plain.specs.Run.{IsRun}
 use Rattle.ig_plain.proofs.Instances.{at_exit}
 use Rattle.ig_plain.proofs.Arrivals.{arrives}
@@ -14,5 +14,5 @@ take_all-requires-in-loop-before c =
 
 pub returns : goal.returns
 returns c =
-    let e : c.loop-before.before ≡ length c.args.text.now = omega (arith, c.loop-before-test.false, c.loop-before.auto.before-end, c.len.ensures.length) in
+    let e : c.loop-before.before ≡ length c.args.text.now = omega (arith, c.loop-before-test.false, c.loop-before.auto.before-end, c.len-before-end.ensures.length) in
     subst (λ z. IsRun c.args.core.now c.args.text.now c.args.budget z (length c.loop-before.found.here.keys) c.loop-before.found c.loop-before.waiting) e c.loop-before.invariant
