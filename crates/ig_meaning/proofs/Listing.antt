@@ -5,8 +5,6 @@ use Rattle.std.specs.declared.cmp.Ordering.{Ordering}
 use Rattle.std.specs.declared.cmp.Ordering.TheVariants.{Less, Equal, Greater}
 use Rattle.std.specs.Ordering.{ordering_reverse}
 use Rattle.ig_text.specs.Tree as plain
-use Rattle.ig_grammar.specs.Names.{names, AreDistinct}
-use Rattle.ig_grammar.specs.Checked.{FitShapes}
 use Rattle.ig_meaning.specs.Permitted.{Permitted}
 use Rattle.ig_meaning.specs.Annotated.{Tree, Annotates}
 use Rattle.ig_meaning.specs.AnnotatedLaws.{AreUnique}
