@@ -1,11 +1,13 @@
-//! The reduced forest of a core grammar and a text: all trees of the text, shared, and nothing else.
+//! The reduced forest of a core grammar and a text: all trees of the text, shared, and nothing
+//! else.
 //!
 //! A forest has nodes with alternatives and item nodes with entries, both numbered from 0.
-//! `specs/Forest.antt` says what it is, and `specs/Unfold.antt` which trees it has to a depth, each
-//! with its cursor. `specs/Live.antt` says which items some tree of the whole text uses, and
-//! `specs/Reduced.antt` which forest is the reduced one: it has the live items and no others, in the
-//! orders of `specs/Orders.antt`. The laws say that a core grammar and a text have one such forest at
-//! most, that it unfolds to exactly their trees, each with one cursor, and that no part of it is dead.
+//! `specs/Forest.antt` says what it is, and `specs/Unfold.antt` which trees it has to a depth,
+//! each with its cursor. `specs/Live.antt` says which items some tree of the whole text uses, and
+//! `specs/Reduced.antt` which forest is the reduced one: it has the live items and no others, in
+//! the orders of `specs/Orders.antt`. The laws say that a core grammar and a text have one such
+//! forest at most, that it unfolds to exactly their trees, each with one cursor, and that no part
+//! of it is dead.
 #![tactic(auto)]
 
 mod entry;
