@@ -200,16 +200,21 @@ decides_forest words first loaded last file input name grammar g r command n cou
 
     go : (r : Result (Vec ℕ Global) Stop) → RunsForest g (change loaded last) input r → Decides words (change first last) r
     go (Ok text) h =
-        let P : Told → ℕ → Type 0 = λ told old. HasForest g told old last.faults text.items in
-        (2, made_forest words (change first last) file input lg.1.0 g command gives accepted text.items (subst₂ P (same input) lg.0 h.0),
-        once_more 1 first.fetches loaded.fetches last.fetches count h.1)
+        let P : Told → ℕ → Type 0 = λ told old. HasForest g told old last.faults text.items in (
+          2,
+          made_forest words (change first last) file input lg.1.0 g command gives accepted text.items (subst₂ P (same input) lg.0 h.0),
+          once_more 1 first.fetches loaded.fetches last.fetches count h.1,
+        )
     go (Err (halt.Note s line)) h =
         let P : Told → ℕ → Type 0 = λ told old. StopsForest g told input old last.faults s line.items h.0 in
         let d = stopped_forest words (change first last) file input lg.1.0 g command gives accepted s line.items h.0 (subst₂ P (same input) lg.0 h.1) in
         (suc h.0, d.0, once_more h.0 first.fetches loaded.fetches last.fetches count h.2, d.1)
-    go (Err halt.Memory) h =
-        (suc h.0, for_names (forest file input) (suc h.0) command (let l : h.0 ≤ 1 = h.1 in omega arith),
-        once_more h.0 first.fetches loaded.fetches last.fetches count h.2, subst (λ z. Stood z last.faults) lg.0 h.3)
+    go (Err halt.Memory) h = (
+      suc h.0,
+      for_names (forest file input) (suc h.0) command (let l : h.0 ≤ 1 = h.1 in omega arith),
+      once_more h.0 first.fetches loaded.fetches last.fetches count h.2,
+      subst (λ z. Stood z last.faults) lg.0 h.3,
+    )
 
 -- what was decided is answered
 pub answers_text : (words : List (List ℕ)) (shelf : Change ShelfState) (out notes : Change SinkState)

@@ -7,9 +7,9 @@
 //! answers.
 //!
 //! Inside, a grammar text is read and its scopes are checked, or a note says why it is refused
-//! (`grammar_text`). For a forest its forms and dots are tested (`limits`), its core grammar is built
-//! (`core_builder`, over `names`), all reachable items are found (`saturate`), their forest is built
-//! (`forest_builder`, over `nodes` and `entries`) and printed (`forest_text`).
+//! (`grammar_text`). For a forest its forms and dots are tested (`limits`), its core grammar is
+//! built (`core_builder`, over `names`), all reachable items are found (`saturate`), their forest is
+//! built (`forest_builder`, over `nodes` and `entries`) and printed (`forest_text`).
 #![tactic(auto)]
 
 mod built;

@@ -24,8 +24,8 @@ use std::alloc::Global;
 /// Does all that the program does: reads the words of a command, fetches the files that they name
 /// from the shelf, puts the output on out, or one line on notes, and answers how that ended.
 ///
-/// `check G` puts `ok`, `show G` the canonical text of the grammar, and `forest G I` the text of the
-/// forest of the grammar and the input.
+/// `check G` puts `ok`, `show G` the canonical text of the grammar, and `forest G I` the text of
+/// the forest of the grammar and the input.
 ///
 /// The words come without the program's name. All memory is taken before the first put.
 pub fn iguana<F: Shelf, O: Sink, N: Sink>(
