@@ -1,1 +1,1 @@
-mod Parsing
+pub mod Parsing

@@ -1,14 +1,15 @@
 -- What a run over the core grammar says of the grammar.
 use Rattle.std.proofs.Common.{◌≡◌, ℕ, List, subst}
 use Rattle.ig_text.specs.Tree.{Tree}
-use Rattle.ig_grammar.specs.Checked.{CheckedGrammar}
+use Rattle.ig_grammar.specs.Checked.{CheckedGrammar, FitShapes}
+use Rattle.ig_grammar.specs.WellScoped.{IsWellScoped}
 use Rattle.ig_meaning.specs.Permitted.{Permitted}
 use Rattle.ig_item.specs.Items.{MoreThan, RootIsComplete}
 use Rattle.ig_item.specs.Laws.{TreesByItems}
 use Rattle.ig_item.specs.WellKinded.{IsWellKinded}
 use Rattle.ig_item.specs.declared.core_grammar.Nonterminal.{Nonterminal}
 use Rattle.ig_core.specs.CoreOf.{core_of}
-use Rattle.ig_core.specs.Laws.{IsReady, CoreTreesArePermitted}
+use Rattle.ig_core.specs.Laws.{IsReady, IsRemaining, CoreTreesArePermitted}
 use Rattle.ig_forest.specs.Forest.{Forest}
 use Rattle.ig_forest.specs.Laws.{UnfoldsToCoreTrees, HasOneCursor, OnlyOne, RootIsThere}
 use Rattle.ig_forest.specs.Reduced.{IsReduced}
@@ -28,6 +29,14 @@ pub record Runs (c : CheckedGrammar) (core : List Nonterminal) : Type 0 where
   pub ready : IsReady c.grammar c.shapes
   pub is : core ≡ core_of c.grammar c.shapes
   pub kinded : IsWellKinded core
+
+-- what a parser keeps
+pub runs_of : (c inside : CheckedGrammar) (core : List Nonterminal) → inside ≡ c → IsWellScoped inside.grammar →
+    FitShapes inside.grammar inside.shapes → IsRemaining inside.grammar × (core ≡ core_of inside.grammar inside.shapes) →
+    IsWellKinded core → Runs c core
+runs_of c inside core same scoped fit kept kinded =
+    subst (λ z. Runs z core) same
+    (record { ready = record { scoped = scoped; fit = fit; remaining = kept.0 }; is = kept.1; kinded = kinded })
 
 module _ (law : Given) (c : CheckedGrammar) (text : List ℕ) (budget : ℕ) where
   kinded : (core : List Nonterminal) → Runs c core → IsWellKinded (core_of c.grammar c.shapes)

@@ -34,8 +34,11 @@ impl<'g> Model for Parser<'g> {
     ghost use Rattle.ig_core.specs.CoreOf.{core_of};
     ghost use Rattle.ig_core.specs.Laws.{IsRemaining};
     ghost use Rattle.ig_grammar.specs.Checked.{CheckedGrammar};
+    ghost use Rattle.ig_grammar.specs.CodingChecked.{checked_code};
 
     ghost Value = { CheckedGrammar };
+
+    ghost coded = { checked_code };
 
     ghost view = { λ p. p.grammar.now };
 
