@@ -1,5 +1,5 @@
 -- What the top call decides, from what was loaded and run, and what it answers.
-use Rattle.std.proofs.Common.{◌≡◌, ◌≢◌, ℕ, suc, ◌<◌, ◌≤◌, List, length, [], inl, inr, refl, sym, ◌∙◌, ap, subst, subst₂, arith, Result, Ok, Err, Vec, Global}
+use Rattle.std.proofs.Common.{◌≡◌, ◌≢◌, ℕ, suc, ◌≤◌, List, length, [], inl, inr, refl, sym, ◌∙◌, ap, subst, subst₂, arith, Result, Ok, Err, Vec, Global}
 use Rattle.std.specs.Result.{IsErrAnd}
 use Rattle.ig_text.specs.declared.text.Text.{Text}
 use Rattle.ig_text.specs.Decoding.{IsDecoded}
@@ -20,7 +20,7 @@ use Rattle.ig_tool.specs.Accepted.{IsAccepted, IsRunnable}
 use Rattle.ig_tool.specs.Outcome as decided
 use Rattle.ig_tool.specs.Outcome.{MayGive, HasFiles, Decided, usage, grammar_missing, grammar_unread, grammar_refused, checked, shown, input_missing, input_unread, input_refused, over_budget, no_parse, parsed, usage_note, not_built_text, Answers, written, noted, unwritten, unnoted, no_memory}
 use Rattle.ig_tool.specs.Stops as stops
-use Rattle.ig_tool.specs.Stops.{StopsAt, IsNoGrammar, IsNoInput, LoadsGrammar, LoadsInput, StopsWith, RefusesWith, IsParse, StopsParse, Parses, StopsForest, HasForest, RunsForest, SaysOk, ShowsGrammar, Decides, WritesText, WritesNote, GivesUp}
+use Rattle.ig_tool.specs.Stops.{StopsAt, IsNoGrammar, IsNoInput, LoadsGrammar, LoadsInput, StopsWith, RefusesWith, StopsParse, Parses, StopsForest, HasForest, RunsForest, SaysOk, ShowsGrammar, Decides, WritesText, WritesNote, GivesUp}
 
 -- a stop that is passed on
 pub passed : {T : Type 0} (r : Result T Stop) (stop : Stop) → IsErrAnd r (λ s. s ≡ stop) → r ≡ Err stop

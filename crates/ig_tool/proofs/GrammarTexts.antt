@@ -1,7 +1,6 @@
 -- What the tests of a grammar text say of its bytes.
-use Rattle.std.proofs.Common.{◌≡◌, ℕ, ◌<◌, ◌≤◌, ◌⊎◌, inl, inr, Bool, false, List, length, ◌++◌, subst, Err}
-use Rattle.std.specs.Prelude.{◌↔◌, IsTrue, IsUtf8, codes}
-use Rattle.std.proofs.lemmas.Bool.{cases_lt}
+use Rattle.std.proofs.Common.{◌≡◌, ℕ, List, ◌++◌, subst, Err}
+use Rattle.std.specs.Prelude.{IsUtf8, codes}
 use Rattle.std.specs.Fmt.{decimal}
 use Rattle.ig_grammar.specs.WellScoped.{IsFirst}
 use Rattle.ig_grammar.specs.declared.grammar.Grammar.{Grammar}

@@ -21,7 +21,7 @@ use Rattle.ig_tool.specs.Accepted.{IsAccepted, IsRunnable}
 use Rattle.ig_tool.specs.Refusals.{IsRefused, too_many, not_utf8, not_grammar, too_large, not_scoped}
 use Rattle.ig_tool.specs.Change.{Change, FetchFailed, PutFailed, Got, Untouched}
 use Rattle.ig_tool.specs.Outcome as answer
-use Rattle.ig_tool.specs.Outcome.{MayGive, HasFiles, IsForestOf, Decided, ok_text, shown_text, Answers, written, noted, unwritten, unnoted, no_memory}
+use Rattle.ig_tool.specs.Outcome.{MayGive, HasFiles, Decided, ok_text, shown_text, Answers, written, noted, unwritten, unnoted, no_memory}
 use Rattle.ig_tool.specs.Headline.{Asks, Outcome, over_budget, no_parse, parsed, Says, Headline, checks, shows, GrammarCommands}
 use Rattle.ig_tool.proofs.Uniqueness.{only_one}
 

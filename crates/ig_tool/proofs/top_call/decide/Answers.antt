@@ -1,4 +1,4 @@
-use Rattle.std.proofs.Common.{◌≤◌, length, subst, sym, Err}
+use Rattle.std.proofs.Common.{◌≤◌, length, subst, sym}
 use Rattle.ig_grammar.specs.declared.grammar.Grammar.{Grammar}
 use Rattle.ig_syntax.specs.Notation.{most_bytes}
 use Rattle.ig_tool.specs.Change.{change}
