@@ -5,9 +5,9 @@ ghost use Rattle.ig_core.specs.Laws.{CoreTreesArePermitted, CoresAreWellKinded, 
 ghost use Rattle.ig_core.specs.Laws.{BuiltGrammarsRemain, RootIsNamed, NamesAreNotAdded};
 ghost use Rattle.ig_core.specs.Laws.{CoreNamesDiffer};
 
-use ig_meaning::trees_without_operators_are_clean;
 use ig_grammar::regularity_by_form;
 use ig_item::{names_differ, steps_fit};
+use ig_meaning::trees_without_operators_are_clean;
 
 /// A tree is one of the core grammar exactly where the grammar permits it. This law computes
 /// nothing.
