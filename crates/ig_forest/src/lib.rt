@@ -5,8 +5,8 @@
 //! with its cursor. `specs/Live.antt` says which items some tree of the whole text uses, and
 //! `specs/Reduced.antt` which forest is the reduced one: it has the live items and no others, in
 //! the orders of `specs/Orders.antt`. The laws say that a core grammar and a text have one such
-//! forest at most, that it unfolds to exactly their trees, each with one cursor, and that no part of
-//! it is dead.
+//! forest at most, that it unfolds to exactly their trees, each with one cursor, and that no part
+//! of it is dead.
 //!
 //! [`Forest::build`] gives exactly that forest, `None` exactly where the root isn't complete; every
 //! `Forest` is trim. It numbers lists of values in order, so that items and nodes are rows of

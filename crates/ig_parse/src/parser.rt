@@ -99,8 +99,8 @@ impl<'g> Parser<'g> {
 
 /// The reduced forest of exactly the trees that the grammar permits for the whole text. The faults
 /// come exactly as these: `TooManyDots` where the grammar's core grammar has more than `MOST_DOTS`
-/// dots, else `Budget` where more than `budget` items are reachable, else `NoParse` where no tree is
-/// permitted.
+/// dots, else `Budget` where more than `budget` items are reachable, else `NoParse` where no tree
+/// is permitted.
 pub fn parse(
     alloc: Global,
     grammar: &Checked,

@@ -1,5 +1,6 @@
 //! An item is taken: all that follows from it and those before it is added.
-ghost use Rattle.std.specs.Prelude.{◌≡◌, ◌<◌, ◌↔◌, ◌≤◌, ◌+◌, Contains, IfErr, IfOk, MatchResult, Some, length, map, option_map, slice_get, take, IfSome};
+ghost use Rattle.std.specs.Prelude.{◌≡◌, ◌<◌, ◌↔◌, ◌≤◌, ◌+◌, Contains, IfErr, IfOk, MatchResult};
+ghost use Rattle.std.specs.Prelude.{Some, length, map, option_map, slice_get, take, IfSome};
 ghost use Rattle.ig_item.specs.Items.{IsComplete, MoreThan, Reachable};
 ghost use Rattle.ig_item.specs.WellKinded.{NoneTwice};
 ghost use Rattle.ig_item.specs.Tables.{items_of};
@@ -15,7 +16,8 @@ ghost use Rattle.ig_item.specs.Step.{Call};
 ghost use Rattle.ig_item.specs.View.{step_of};
 ghost use Rattle.ig_plain.specs.Found.{Adds, AreNamed, Named, means};
 ghost use Rattle.ig_plain.specs.Rules.{IsFirstOf, IsReturn, Stands, StandsAtCall, step_at};
-ghost use Rattle.ig_plain.specs.Run.{EntersInstance, IsChainOf, IsReturnToOne, IsRun, Refuses, Taking, Takes};
+ghost use Rattle.ig_plain.specs.Run.{EntersInstance, IsChainOf, IsReturnToOne, IsRun, Refuses};
+ghost use Rattle.ig_plain.specs.Run.{Taking, Takes};
 
 use crate::found::{Found, add, go_on};
 use crate::interning::{enter_key, enter_values};

@@ -1,5 +1,6 @@
 //! Saturation in rising positions.
-ghost use Rattle.std.specs.Prelude.{◌≡◌, ◌↔◌, ◌≤◌, ◌+◌, ◌<◌, ◌++◌, ℕ, List, IfErr, IfOk, MatchResult, OnOk, length, map};
+ghost use Rattle.std.specs.Prelude.{◌≡◌, ◌↔◌, ◌≤◌, ◌+◌, ◌<◌, ◌++◌, ℕ, List, IfErr, IfOk};
+ghost use Rattle.std.specs.Prelude.{MatchResult, OnOk, length, map};
 ghost use Rattle.ig_item.specs.Items.{MoreThan};
 ghost use Rattle.ig_item.specs.Tables.{HaveValues, items_of, tables_by};
 ghost use Rattle.ig_plain.specs.Found.{AllNamed};

@@ -1,5 +1,6 @@
 //! Which items wait for an instance, and where it ended last.
-ghost use Rattle.std.specs.Prelude.{◌≡◌, ◌↔◌, ◌+◌, ◌<◌, [], ◌∷◌, ◌++◌, IsTrue, None, OnOk, Some, length, set, slice_get};
+ghost use Rattle.std.specs.Prelude.{◌≡◌, ◌↔◌, ◌+◌, ◌<◌, [], ◌∷◌, ◌++◌, IsTrue, None, OnOk, Some};
+ghost use Rattle.std.specs.Prelude.{length, set, slice_get};
 ghost use Rattle.ig_plain.specs.Waiting.{called_at};
 
 use ig_item::Item;
