@@ -1,3 +1,6 @@
+pub mod Budgets
+pub mod Fewness
+pub mod Requests
 pub mod Deciding
 pub mod GrammarTexts
 pub mod HeadlineLaw

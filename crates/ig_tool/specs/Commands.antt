@@ -1,5 +1,7 @@
 -- Which words are a command.
-use Rattle.std.specs.Prelude.{◌≡◌, ℕ, zero, ◌≤◌, List, [], ◌∷◌, Option, Some, None}
+use Rattle.std.specs.Prelude.{◌≡◌, ℕ, zero, ◌≤◌, if◌then◌else◌, List, [], ◌∷◌, Option, Some, None, option_map, option_and_then, codes}
+use Rattle.ig_text.specs.Words.{is_word}
+use Rattle.ig_tool.specs.Words.{Parts, parts_of, budget_of, usual_budget}
 use Rattle.ig_tool.specs.declared.command.Command.{Command}
 use Rattle.ig_tool.specs.declared.command.Command.TheVariants as stored
 
@@ -21,10 +23,42 @@ grammar_name (show grammar) = grammar
 grammar_name (core grammar) = grammar
 grammar_name (forest grammar input budget) = grammar
 
--- the request of the words; none exactly where they are no command
+-- the one file, where no option stands beside it
+abbrev pub only_file : List (List ℕ) → List (List ℕ) → Option (List ℕ)
+only_file (file ∷ []) [] = Some file
+only_file files budgets = None
+
+-- the budget of an option that stands once at most
+abbrev pub budget_among : List (List ℕ) → Option ℕ
+budget_among [] = Some usual_budget
+budget_among (value ∷ []) = budget_of value
+budget_among (value ∷ next ∷ others) = None
+
+-- a request for a grammar alone
+abbrev pub for_grammar : (List ℕ → Request) → Parts → Option Request
+for_grammar ask parts = option_map ask (only_file parts.files parts.budgets)
+
+abbrev pub forest_of : List (List ℕ) → Option ℕ → Option Request
+forest_of (grammar ∷ input ∷ []) budget = option_map (forest grammar input) budget
+forest_of files budget = None
+
+-- a request for a forest: two files, and a budget
+abbrev pub for_forest : Parts → Option Request
+for_forest parts = forest_of parts.files (budget_among parts.budgets)
+
+-- the request of the command of this name
+abbrev pub request_with : List ℕ → Parts → Option Request
+request_with name parts =
+    if is_word name (codes "check") then for_grammar check parts
+    else (if is_word name (codes "show") then for_grammar show parts
+    else (if is_word name (codes "core") then for_grammar core parts
+    else (if is_word name (codes "forest") then for_forest parts else None)))
+
+-- the request of the words: first the name of a command, then files and options in any order; none exactly where they are no
+-- command
 abbrev pub request_of : List (List ℕ) → Option Request
 request_of [] = None
-request_of (word ∷ words) = Some (check word)
+request_of (name ∷ words) = option_and_then (request_with name) (parts_of words)
 
 -- the words are the command
 abbrev pub IsCommand : List (List ℕ) → Request → Type 0

@@ -1,3 +1,5 @@
+pub mod Words
+pub mod WordParts
 pub mod Accepted
 pub mod Refusals
 pub mod Commands

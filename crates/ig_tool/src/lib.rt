@@ -6,7 +6,7 @@
 //! to exactly the derivation trees that the grammar permits. `specs/Headline.antt` has that
 //! theorem, `specs/Outcome.antt` all answers.
 //!
-//! Inside, the words are read (`command`), a grammar text is read and its scopes are checked, or a
+//! Inside, the words are read (`words`, `command`), a grammar text is read and its scopes are checked, or a
 //! note says why it is refused (`grammar_text`). Where all of its forms are built, its parser is
 //! made, unless it has too many dots, and a forest is that parser's (`parse`).
 #![tactic(auto)]
@@ -20,6 +20,7 @@ mod stop;
 #[cfg(test)]
 mod tests;
 mod top_call;
+mod words;
 
 pub use status::Status;
 pub use top_call::iguana;
