@@ -2,4 +2,4 @@ use Rattle.ig_examples.proofs.Rows.{letters_are_counted}
 use Rattle.ig_examples.proofs.letters_are_counted.Goals as goal
 
 pub returns : goal.returns
-returns k = letters_are_counted
+returns c = letters_are_counted c.matches_are_decided.ensures
