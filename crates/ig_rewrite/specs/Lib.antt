@@ -1,0 +1,5 @@
+pub mod SameTrees
+pub mod Added
+pub mod Rooted
+pub mod Rewriting
+pub mod Found
