@@ -1,1 +1,10 @@
-
+pub mod Chaining
+pub mod AddedNames
+pub mod FirstNamed
+pub mod CallsOnly
+pub mod Carried
+pub mod Spines
+pub mod RootCalls
+pub mod RootTrees
+pub mod RootScoped
+pub mod RootShaped
