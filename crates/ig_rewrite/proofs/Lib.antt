@@ -8,3 +8,5 @@ pub mod RootCalls
 pub mod RootTrees
 pub mod RootScoped
 pub mod RootShaped
+pub mod RootCode
+pub mod Gathering

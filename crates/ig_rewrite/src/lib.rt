@@ -10,6 +10,8 @@
 mod laws;
 mod rewriting;
 mod rooting;
+#[cfg(test)]
+mod tests;
 
 pub use laws::{added_names_are_new, declarations_are_found, rooted_is_the_same};
 pub use laws::{same_trees_is_an_equivalence};

@@ -1,10 +1,10 @@
 //! The declaration that stands for the root.
-ghost use Rattle.std.specs.Prelude.{◌≡◌, [], ◌∷◌, ◌++◌, false, IfOk, OnOk};
+ghost use Rattle.std.specs.Prelude.{◌≡◌, ◌↔◌, [], ◌∷◌, ◌++◌, false, length, IfOk, IsTrue, OnOk};
 ghost use Rattle.ig_grammar.specs.Symbol.{Call};
 ghost use Rattle.ig_grammar.specs.View.{symbol_of};
 ghost use Rattle.ig_grammar.specs.Numbering.{layout_among};
 ghost use Rattle.ig_meaning.specs.Permitted.{behind_layout};
-ghost use Rattle.ig_grammar.specs.declared.declaration.DeclKind.TheVariants.{Syntax};
+ghost use Rattle.ig_grammar.specs.declared.declaration.DeclKind.TheVariants.{Layout, Syntax};
 ghost use Rattle.ig_rewrite.specs.Added.{root_name, IsFresh};
 ghost use Rattle.ig_rewrite.specs.Rooted.{root_symbols, root_declaration, rooted_grammar};
 ghost use Rattle.ig_rewrite.specs.Rooted.{is_root, has_root, rooted};
@@ -18,14 +18,11 @@ use ig_grammar::{Shape, Shapes, Symbol, Symbols};
 use ig_text::{Copied, Word};
 use std::alloc::{AllocError, Global};
 
-/// The name of the declaration that stands for the root. No name of the notation begins so.
-const ROOT_NAME: &str = "$root";
-
 /// Whether some declaration stands for the root. Takes no memory.
 pub fn has_root(checked: &Checked) -> bool
     ensures { result ≡ has_root checked.now.shapes }
 {
-    for before in 0..checked.grammar().decls.len() {
+    for before in 0..count_of_shapes(checked) {
         if is_root(checked.shape_behind(before)) {
             return true;
         }
@@ -59,12 +56,19 @@ pub fn root(alloc: Global, checked: &Checked) -> Result<Checked, AllocError>
     Ok(Checked::with_shapes(grammar, shapes))
 }
 
+/// The number of declarations, each of which has a shape.
+fn count_of_shapes(checked: &Checked) -> usize
+    ensures { result ≡ length checked.now.shapes }
+{
+    checked.grammar().decls.len()
+}
+
 /// The shapes of the declarations.
 fn copy_of_shapes(alloc: Global, checked: &Checked) -> Result<Shapes, AllocError>
     ensures { IfOk result (λ r. r ≡ checked.now.shapes) }
 {
     let mut shapes = Shapes::new(alloc);
-    for before in 0..checked.grammar().decls.len() {
+    for before in 0..count_of_shapes(checked) {
         push_shape(&mut shapes, checked.shape_behind(before))?;
     }
     Ok(shapes)
@@ -85,7 +89,7 @@ fn rooted_grammar(alloc: Global, grammar: &Grammar) -> Result<Grammar, AllocErro
 {
     let mut decls = grammar.decls.copy(alloc)?;
     push_declaration(&mut decls, root_declaration(alloc, grammar)?)?;
-    let start = Some(Word::new(alloc, ROOT_NAME)?);
+    let start = Some(root_word(alloc)?);
     Ok(Grammar { start, decls })
 }
 
@@ -101,13 +105,20 @@ fn root_declaration(alloc: Global, grammar: &Grammar) -> Result<Decl, AllocError
         assoc: Assoc::Free,
         alts,
     })?;
-    let name = Word::new(alloc, ROOT_NAME)?;
+    let name = root_word(alloc)?;
     Ok(Decl {
         kind: DeclKind::Syntax,
         name,
         params: Params::new(alloc),
         levels,
     })
+}
+
+/// The name of the declaration that stands for the root.
+fn root_word(alloc: Global) -> Result<Word, AllocError>
+    ensures { IfOk result (λ w. w ≡ root_name) }
+{
+    Word::new(alloc, "$root")
 }
 
 /// The symbols of the root alternative of the grammar.
@@ -127,12 +138,19 @@ fn layout_call(alloc: Global, decls: &[Decl]) -> Result<Symbols, AllocError>
 {
     let mut symbols = Symbols::new(alloc);
     for decl in decls {
-        if matches!(decl.kind, DeclKind::Layout) {
+        if is_layout(decl.kind) {
             push_symbol(&mut symbols, call(alloc, &decl.name)?)?;
             return Ok(symbols);
         }
     }
     Ok(symbols)
+}
+
+/// Whether the declaration is of what may stand between tokens.
+fn is_layout(kind: DeclKind) -> bool
+    ensures { IsTrue result ↔ (kind ≡ Layout) }
+{
+    kind == DeclKind::Layout
 }
 
 /// A call of the nonterminal of this name, without arguments.
