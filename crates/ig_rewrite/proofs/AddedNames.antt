@@ -1,14 +1,11 @@
 -- Names that passes add are no names of the notation, and tell their declarations and their numbers.
-use Rattle.std.proofs.Common.{◌≡◌, ◌∙◌, ℕ, zero, suc, ◌<◌, ◌^◌, List, [], ◌∷◌, ◌++◌, Bool, true, false, refl, sym, ap, subst, arith, lit<, length, get_or}
-use Rattle.std.specs.Prelude.{◌≢◌, codes, ◌&&◌, decimal, Contains}
+use Rattle.std.proofs.Common.{◌≡◌, ◌∙◌, ℕ, zero, suc, ◌<◌, List, [], ◌∷◌, ◌++◌, Bool, true, false, refl, sym, ap, subst, arith, lit<, length, get_or}
+use Rattle.std.specs.Prelude.{codes, ◌&&◌, decimal, Contains}
 use Rattle.std.specs.List.{list_all}
-use Rattle.std.proofs.lemmas.Bool.{and_parts}
 use Rattle.std.proofs.lemmas.Fmt.{decimal_injective}
 use Rattle.std.proofs.lemmas.List.Elements.{Contains-append_left, Contains-append_right, Contains-push}
 use Rattle.unicode_ident.specs.Ident.{is_xid_start, is_xid_continue}
 use Rattle.unicode_ident.proofs.IdentLemmas.{is_xid_start-ascii, is_xid_continue-ascii}
-use Rattle.ig_text.specs.Class.{is_in_class}
-use Rattle.ig_text.specs.declared.class.Class.TheVariants.{XidStart, XidContinue}
 use Rattle.ig_text.proofs.Lists.{none_in_nil}
 use Rattle.ig_grammar.specs.Name.{is_name, is_identifier}
 use Rattle.ig_grammar.specs.Names.{names}
@@ -39,7 +36,7 @@ no_name : (before after : List ℕ) (c : ℕ) → is_xid_start c ≡ false → i
 no_name [] after c s e = no_start c after s
 no_name (b ∷ before) after c s e =
     refused_left (is_identifier (b ∷ (before ++ c ∷ after))) _
-      (refused_right (is_xid_start b) (list_all is_xid_continue (before ++ c ∷ after)) (all_refused is_xid_continue before after c e))
+    (refused_right (is_xid_start b) (list_all is_xid_continue (before ++ c ∷ after)) (all_refused is_xid_continue before after c e))
 
 pub root_is_no_name : is_name root_name ≡ false
 root_is_no_name = no_start 36 (codes "root") (is_xid_start-ascii 36 (lit< tt))
@@ -78,10 +75,10 @@ another c cs n rest (suc k, l, e) = rest (k, omega (arith, l), e)
 root_unsigned : HasNoSign root_name
 root_unsigned =
     another 36 (114 ∷ 111 ∷ 111 ∷ 116 ∷ []) (λ e. omega (arith, e))
-      (another 114 (111 ∷ 111 ∷ 116 ∷ []) (λ e. omega (arith, e))
-        (another 111 (111 ∷ 116 ∷ []) (λ e. omega (arith, e))
-          (another 111 (116 ∷ []) (λ e. omega (arith, e))
-            (another 116 [] (λ e. omega (arith, e)) (none_in_nil number_sign)))))
+    (another 114 (111 ∷ 111 ∷ 116 ∷ []) (λ e. omega (arith, e))
+    (another 111 (111 ∷ 116 ∷ []) (λ e. omega (arith, e))
+    (another 111 (116 ∷ []) (λ e. omega (arith, e))
+    (another 116 [] (λ e. omega (arith, e)) (none_in_nil number_sign)))))
 
 -- what stands before the sign, and what behind it
 sides_of_sign : (a b us vs : List ℕ) → HasNoSign a → HasNoSign b → a ++ number_sign ∷ us ≡ b ++ number_sign ∷ vs → (a ≡ b) × (us ≡ vs)
@@ -111,5 +108,5 @@ added_names =
       unsigned = unsigned;
       root_unsigned = root_unsigned;
       apart = apart;
-      signed = signed
+      signed = signed;
     }

@@ -1,5 +1,5 @@
 -- Symbols all of whose calls, at whatever depth, are of certain names.
-use Rattle.std.proofs.Common.{◌≡◌, ℕ, suc, List, [], ◌∷◌, ◌++◌, Some, refl, subst}
+use Rattle.std.proofs.Common.{◌≡◌, ℕ, suc, List, [], ◌∷◌, ◌++◌, Some, subst}
 use Rattle.std.specs.Prelude.{Contains}
 use Rattle.std.proofs.lemmas.List.Elements.{Contains-append_left, Contains-append_right, Contains-push}
 use Rattle.ig_grammar.specs.Symbol.{Symbol, Literal, OneOf, Call, Label, Guard, Let, Opt, Star, Plus, SepStar, SepPlus, Group, Offside, Ignore, Align, Filtered, Seq, Entry}
@@ -108,12 +108,14 @@ module _ (Named : List ℕ → Type 0) where
 
     pub from_symbols : (xs : Symbols) (v : Visible) → EveryCall (inside_sequence v xs) → SymbolsCallOnly xs
     from_symbols no_symbols v f = tt
-    from_symbols (next_symbol x xs) v f =
-        (from_here x v (first_every (at v x ∷ inside v x) (inside_sequence (v ++ binds v x) xs) f),
-          from_symbols xs (v ++ binds v x) (others_every (at v x ∷ inside v x) (inside_sequence (v ++ binds v x) xs) f))
+    from_symbols (next_symbol x xs) v f = (
+      from_here x v (first_every (at v x ∷ inside v x) (inside_sequence (v ++ binds v x) xs) f),
+      from_symbols xs (v ++ binds v x) (others_every (at v x ∷ inside v x) (inside_sequence (v ++ binds v x) xs) f),
+    )
 
     pub from_choices : (xs : Alternatives) (v : Visible) → EveryCall (inside_choices v xs) → ChoicesCallOnly xs
     from_choices no_alternatives v f = tt
-    from_choices (next_alternative xs others) v f =
-        (from_symbols xs v (first_every (inside_sequence v xs) (inside_choices v others) f),
-          from_choices others v (others_every (inside_sequence v xs) (inside_choices v others) f))
+    from_choices (next_alternative xs others) v f = (
+      from_symbols xs v (first_every (inside_sequence v xs) (inside_choices v others) f),
+      from_choices others v (others_every (inside_sequence v xs) (inside_choices v others) f),
+    )

@@ -1,8 +1,8 @@
 -- What is derived in one grammar is derived in another that has the called declarations, unchanged and in their places.
-use Rattle.std.proofs.Common.{◌≡◌, ◌∙◌, ℕ, List, Some, None, sym}
+use Rattle.std.proofs.Common.{◌≡◌, ◌∙◌, ℕ, List, Some, sym}
 use Rattle.ig_text.specs.Tree.{Tree, Trees}
 use Rattle.ig_expr.specs.declared.value.Value.{Value}
-use Rattle.ig_grammar.specs.Symbol.{Symbol, listed}
+use Rattle.ig_grammar.specs.Symbol.{Symbol}
 use Rattle.ig_grammar.specs.Numbering.{Levelled, Declares, IsAlternative, layout_among}
 use Rattle.ig_grammar.specs.declared.declaration.DeclKind.{DeclKind}
 use Rattle.ig_grammar.specs.declared.declaration.Decl.{Decl}
@@ -17,7 +17,7 @@ use Rattle.ig_rewrite.proofs.CallsOnly.{CallsOnly, EachCallsOnly, each_listed, c
 module _ (g : Grammar) (shapes : List Shape) (other : Grammar) (forms : List Shape) (text : List ℕ) (Named : List ℕ → Type 0)
     (moves : (name : List ℕ) (d : ℕ) (decl : Decl) (s : Shape) → Named name → Declares g shapes name d decl s → Declares other forms name d decl s)
     (calls : (name : List ℕ) (d : ℕ) (decl : Decl) (s : Shape) (k : ℕ) (a : Levelled) → Named name → Declares g shapes name d decl s →
-      IsAlternative decl k a → EachCallsOnly Named a.alternative.symbols)
+    IsAlternative decl k a → EachCallsOnly Named a.alternative.symbols)
     (same_layout : layout_among g.decls ≡ layout_among other.decls)
     (layout_named : (name : List ℕ) → layout_among g.decls ≡ Some name → Named name) where
   mutual
@@ -72,7 +72,7 @@ module _ (g : Grammar) (shapes : List Shape) (other : Grammar) (forms : List Sha
         first_item c x separator env after i e j ts starts (derives_too n.0 item)
     lists_too n (further_item c x separator env between after i h f m e j t us ts vs ks ms ls starts ps items list part item trees exposes begins) =
         further_item c x separator env between after i h f m e j t us ts vs ks ms ls starts ps items
-          (lists_too n list) (derives_too n.1 part) (derives_too n.0 item) trees exposes begins
+        (lists_too n list) (derives_too n.1 part) (derives_too n.0 item) trees exposes begins
     lists_too n (no_item c x separator env i) = no_item c x separator env i
     lists_too n (some_items c x separator env i j t starts items list) =
         some_items c x separator env i j t starts items (lists_too n list)
@@ -87,7 +87,7 @@ module _ (g : Grammar) (shapes : List Shape) (other : Grammar) (forms : List Sha
         Named name → Instance g shapes text name vs kind i e t starts → Instance other forms text name vs kind i e t starts
     instance_too n (alternative name vs kind d k decl shape a env after i e ts t starts declares numbered bound same covers tree) =
         alternative name vs kind d k decl shape a env after i e ts t starts (moves name d decl shape n declares) numbered bound same
-          (covers_too (calls name d decl shape k a n declares numbered) covers) tree
+        (covers_too (calls name d decl shape k a n declares numbered) covers) tree
 
     pub trails_too : {c : DeclKind} {e j : ℕ} {ts : Trees} → Trails g shapes text c e j ts → Trails other forms text c e j ts
     trails_too (layout name kind e j t starts declared instance) =

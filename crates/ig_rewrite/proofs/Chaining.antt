@@ -1,5 +1,4 @@
 -- 'Permits the same trees' is an equivalence.
-use Rattle.std.specs.Prelude.{ℕ, List, ◌↔◌}
 use Rattle.ig_grammar.specs.Checked.{CheckedGrammar}
 use Rattle.ig_rewrite.specs.SameTrees.{PermitSame, SameTreesIsAnEquivalence}
 

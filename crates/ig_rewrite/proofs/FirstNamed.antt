@@ -64,7 +64,7 @@ pub declaration_pushed : (ds : List Decl) (r : Decl) (name : List ℕ) →
 declaration_pushed [] r name = refl
 declaration_pushed (d ∷ ds) r name =
     declaration_first d (ds ++ r ∷ []) name ∙ further (is_word d.name name) (declaration_pushed ds r name) ∙
-      sym (ap (λ o. or_declared o (declaration_of (r ∷ []) name)) (declaration_first d ds name))
+    sym (ap (λ o. or_declared o (declaration_of (r ∷ []) name)) (declaration_first d ds name))
   where
     further : (b : Bool) → declaration_of (ds ++ r ∷ []) name ≡ or_declared (declaration_of ds name) (declaration_of (r ∷ []) name) →
         (if b then Some d else declaration_of (ds ++ r ∷ []) name) ≡ or_declared (if b then Some d else declaration_of ds name) (declaration_of (r ∷ []) name)
@@ -105,7 +105,7 @@ pub not_declared : (ds : List Decl) (name : List ℕ) → (Contains (names ds) n
 not_declared [] name fresh = refl
 not_declared (d ∷ ds) name fresh =
     declaration_first d ds name ∙ go (is_word d.name name) refl
-      (not_declared ds name (λ m. fresh (Contains-append_right (d.name ∷ []) (names ds) name m)))
+    (not_declared ds name (λ m. fresh (Contains-append_right (d.name ∷ []) (names ds) name m)))
   where
     go : (b : Bool) → is_word d.name name ≡ b → declaration_of ds name ≡ None → (if b then Some d else declaration_of ds name) ≡ None
     go true e rest = absurd (fresh (subst (λ z. Contains (d.name ∷ names ds) z) ((bytes_decides d.name name).0 e) (Contains-append_left (d.name ∷ []) (names ds) d.name (Contains-push [] d.name))))
@@ -133,9 +133,12 @@ first_at (d ∷ ds) (suc k) decl e f =
 -- in a well-scoped grammar a declaration is the first of its name
 pub itself_declared : (g : Grammar) (k : ℕ) (decl : Decl) → IsWellScoped g → slice_get g.decls k ≡ Some decl → declaration_of g.decls decl.name ≡ Some decl
 itself_declared g k decl scoped e = first_at g.decls k decl e (λ j d l there same.
-    scoped (record { decl = suc k; alt = 0; symbol = 0 }) meets.DuplicateName
-      (decl, e, meets.duplicate_name (subst (Contains (names (take k g.decls))) same
-        (contains_from_at (names (take k g.decls)) j d.name (named_at (take k g.decls) j d (in_take g.decls k j d l there))))))
+    scoped (record { decl = suc k; alt = 0; symbol = 0 }) meets.DuplicateName (
+      decl,
+      e,
+      meets.duplicate_name (subst (Contains (names (take k g.decls))) same
+          (contains_from_at (names (take k g.decls)) j d.name (named_at (take k g.decls) j d (in_take g.decls k j d l there)))),
+    ))
 
 pub found : DeclarationsAreFound
 found = record { first = declaration_first; itself = itself_declared }

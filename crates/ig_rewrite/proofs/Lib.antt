@@ -10,3 +10,4 @@ pub mod RootScoped
 pub mod RootShaped
 pub mod RootCode
 pub mod Gathering
+pub mod Barren

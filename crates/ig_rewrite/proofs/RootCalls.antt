@@ -115,7 +115,7 @@ module _ (g : Grammar) (scoped : IsWellScoped g) (fresh : IsFresh g root_name) w
   pub start_other : (name : List ℕ) → g.start ≡ Some name → IsOther name
   start_other name started e =
       scoped (record { decl = 0; alt = 0; symbol = 0 }) condition.UnknownName
-        (condition.unknown_start name started (ap (declaration_of g.decls) e ∙ not_declared g.decls root_name fresh))
+      (condition.unknown_start name started (ap (declaration_of g.decls) e ∙ not_declared g.decls root_name fresh))
 
   pub layout_other : (name : List ℕ) → layout_among g.decls ≡ Some name → IsOther name
   layout_other name e same =
@@ -134,6 +134,6 @@ module _ (g : Grammar) (scoped : IsWellScoped g) (fresh : IsFresh g root_name) w
       EachCallsOnly IsOther a.alternative.symbols
   calls_others b k decl a declared numbered =
       each_gathered IsOther a.alternative.symbols (from_symbols IsOther (gathered a.alternative.symbols) (parameters decl.params) (λ o m.
-        let there = at_from_contains (symbols_of decl a.alternative) o m in
-        call_other decl.kind o (λ c meets. scoped (record { decl = suc b; alt = suc numbered.0; symbol = suc there.0 }) c
-          (decl, declared, (a.alternative, alternative_at decl.levels numbered.0 a numbered.2, (o, there.1, meets))))))
+      let there = at_from_contains (symbols_of decl a.alternative) o m in
+      call_other decl.kind o (λ c meets. scoped (record { decl = suc b; alt = suc numbered.0; symbol = suc there.0 }) c
+      (decl, declared, (a.alternative, alternative_at decl.levels numbered.0 a numbered.2, (o, there.1, meets))))))

@@ -14,4 +14,4 @@ pub fits_with_root : RootedIsTheSame → (c : CheckedGrammar) (g : Grammar) (sha
     g ≡ rooted_grammar Syntax c.grammar → shapes ≡ c.shapes ++ Root ∷ [] → FitShapes g shapes
 fits_with_root law c g shapes scoped fit rootless fresh e f =
     subst (λ z. FitShapes z shapes) (sym e)
-      (subst (FitShapes (rooted_grammar Syntax c.grammar)) (sym f) (law c scoped fit rootless (fresh rootless)).fit)
+    (subst (FitShapes (rooted_grammar Syntax c.grammar)) (sym f) (law c scoped fit rootless (fresh rootless)).fit)

@@ -1,12 +1,12 @@
 -- A well-scoped grammar stays well scoped where its root is written as a declaration.
-use Rattle.std.proofs.Common.{◌≡◌, ◌∙◌, ℕ, zero, suc, ◌<◌, ◌≤◌, ◌+◌, List, [], ◌∷◌, ◌++◌, Option, Some, None, Bool, true, false, refl, sym, ap, subst, arith, length, take, inl, inr}
+use Rattle.std.proofs.Common.{◌≡◌, ◌∙◌, ℕ, zero, suc, ◌<◌, ◌≤◌, List, [], ◌∷◌, ◌++◌, Option, Some, None, true, false, refl, sym, ap, subst, arith, length, take, inl, inr}
 use Rattle.std.specs.Prelude.{◌≢◌, ◌⊎◌, Contains, slice_get, count_by}
 use Rattle.std.proofs.lemmas.Option.{slice_get_within}
 use Rattle.ig_text.proofs.Lists.{place_cases}
 use Rattle.ig_grammar.specs.Symbol.{Symbol, Call, gathered}
 use Rattle.ig_grammar.specs.Names.{names}
 use Rattle.ig_grammar.specs.Name.{is_name}
-use Rattle.ig_grammar.specs.Visible.{Visible, Occurrence, inside_sequence}
+use Rattle.ig_grammar.specs.Visible.{Visible, inside_sequence}
 use Rattle.ig_grammar.specs.Numbering.{layout_among, alternatives}
 use Rattle.ig_grammar.specs.Condition.{Condition, SymbolMeets, HeadMeets, StartMeets, IsNotPlain, declaration_of, symbols_of}
 use Rattle.ig_grammar.specs.Condition as meets
@@ -83,18 +83,22 @@ module _ (g : Grammar) (scoped : IsWellScoped g) (fresh : IsFresh g root_name) w
 
   layout_free : (name : List ℕ) → layout_among g.decls ≡ Some name → IsFree name
   layout_free name e =
-      let l = layout_there g.decls name e in
-      (l.1, declared_still g.decls r name l.1 (subst (λ n. declaration_of g.decls n ≡ Some l.1) l.3 (itself_declared g l.0 l.1 scoped l.2)),
-        no_parameters l.1.params (λ some. scoped (record { decl = suc l.0; alt = 0; symbol = 0 }) meets.LayoutNotPlain (l.1, l.2, meets.layout_not_plain l.4 (meets.parametrized some))))
+      let l = layout_there g.decls name e in (
+        l.1,
+        declared_still g.decls r name l.1 (subst (λ n. declaration_of g.decls n ≡ Some l.1) l.3 (itself_declared g l.0 l.1 scoped l.2)),
+        no_parameters l.1.params (λ some. scoped (record { decl = suc l.0; alt = 0; symbol = 0 }) meets.LayoutNotPlain (l.1, l.2, meets.layout_not_plain l.4 (meets.parametrized some))),
+      )
 
   start_free : (name : List ℕ) → g.start ≡ Some name → IsFree name
   start_free name e = go (declaration_of g.decls name) refl
     where
       go : (o : Option Decl) → declaration_of g.decls name ≡ o → IsFree name
       go None f = absurd (scoped (record { decl = 0; alt = 0; symbol = 0 }) meets.UnknownName (meets.unknown_start name e f))
-      go (Some d) f =
-          (d, declared_still g.decls r name d f,
-            no_parameters d.params (λ some. scoped (record { decl = 0; alt = 0; symbol = 0 }) meets.StartHasParameters (meets.start_has_parameters name d e f some)))
+      go (Some d) f = (
+        d,
+        declared_still g.decls r name d f,
+        no_parameters d.params (λ some. scoped (record { decl = 0; alt = 0; symbol = 0 }) meets.StartHasParameters (meets.start_has_parameters name d e f some)),
+      )
 
   root_declared : declaration_of h.decls root_name ≡ Some r
   root_declared = declared_last g.decls r (not_declared g.decls root_name fresh)
@@ -159,10 +163,12 @@ module _ (g : Grammar) (scoped : IsWellScoped g) (fresh : IsFresh g root_name) w
       before zero zero f m = scoped (record { decl = suc b; alt = 0; symbol = 0 }) c (decl, f, head_before b decl c (slice_get_within g.decls b decl f) m)
       before zero (suc s) f m = m
       before (suc k) s f m = symbol_before b k s decl m.0 c f m.1 m.2
+
       last : (a s : ℕ) → DeclarationHas h.decls (length g.decls) r a s c → ⊥
       last zero zero m = head_root c m
       last zero (suc s) m = m
       last (suc k) s m = symbol_root k s m.0 c m.1 m.2
+
       go : (slice_get g.decls b ≡ Some decl) ⊎ ((b ≡ length g.decls) × (r ≡ decl)) → ⊥
       go (inl f) = before a s f has
       go (inr f) = last a s (subst (λ d. DeclarationHas h.decls (length g.decls) d a s c) (sym f.1) (subst (λ n. DeclarationHas h.decls n decl a s c) f.0 has))

@@ -1,12 +1,12 @@
 -- The shapes of a grammar whose root is written as a declaration fit it, and it stays regular.
-use Rattle.std.proofs.Common.{◌≡◌, ◌∙◌, ℕ, zero, suc, ◌<◌, ◌+◌, List, [], ◌∷◌, ◌++◌, Option, Some, None, false, refl, sym, ap, subst, arith, length, inl, inr}
+use Rattle.std.proofs.Common.{◌≡◌, ◌∙◌, ℕ, suc, ◌<◌, ◌+◌, List, [], ◌∷◌, ◌++◌, Option, Some, None, false, refl, sym, ap, subst, arith, length, inl, inr}
 use Rattle.std.specs.Prelude.{◌≢◌, ◌⊎◌, Contains, All, slice_get}
 use Rattle.std.proofs.lemmas.Option.{slice_get_within}
 use Rattle.std.proofs.lemmas.List.{length-append}
 use Rattle.std.proofs.lemmas.List.Elements.{All-nil, All-cons, Contains-push_cases}
 use Rattle.ig_text.proofs.Lists.{at_from_contains, contains_one, place_cases}
 use Rattle.ig_expr.specs.Expression.{Expression}
-use Rattle.ig_grammar.specs.Symbol.{Symbol, Call, Alternatives, gathered}
+use Rattle.ig_grammar.specs.Symbol.{Symbol, Call, Alternatives}
 use Rattle.ig_grammar.specs.Alternative.{gathered_alternatives}
 use Rattle.ig_grammar.specs.Visible.{Occurrence}
 use Rattle.ig_grammar.specs.Numbering.{layout_among, alternatives}
@@ -65,7 +65,7 @@ module _ (c : CheckedGrammar) (scoped : IsWellScoped c.grammar) (fit : FitShapes
       go (inl m) e =
           let b = at_from_contains g.decls other m in let k = at_from_contains (alternatives other.levels) a has in let s = at_from_contains (symbols_of other a) o occurs in
           scoped (record { decl = suc b.0; alt = suc k.0; symbol = suc s.0 }) meets.UnknownName
-            (other, b.1, (a, k.1, (o, s.1, subst (λ x. SymbolMeets g.decls other.kind o.visible x meets.UnknownName) (sym e) (meets.unknown_name root_name arguments (not_declared g.decls root_name fresh)))))
+          (other, b.1, (a, k.1, (o, s.1, subst (λ x. SymbolMeets g.decls other.kind o.visible x meets.UnknownName) (sym e) (meets.unknown_name root_name arguments (not_declared g.decls root_name fresh)))))
       go (inr same) e =
           let only = only_root a (subst (λ d. Contains (alternatives d.levels) a) (sym same) has) in
           let s = at_from_contains (symbols_of r (record { symbols = root_symbols g })) o (subst (λ b. Contains (symbols_of r b) o) only (subst (λ d. Contains (symbols_of d a) o) (sym same) occurs)) in
@@ -86,7 +86,7 @@ module _ (c : CheckedGrammar) (scoped : IsWellScoped c.grammar) (fit : FitShapes
         no_layout = λ e. cc;
         after_rules = after_rules;
         uncalled = uncalled;
-        calls = λ a m. subst (λ b. All IsOfCalls b.symbols) (sym (only_root a m)) (all_calls IsOfCalls (λ name. tt) (layout_among g.decls) g.start)
+        calls = λ a m. subst (λ b. All IsOfCalls b.symbols) (sym (only_root a m)) (all_calls IsOfCalls (λ name. tt) (layout_among g.decls) g.start);
       }
 
   each : (before : ℕ) (decl : Decl) (s : Shape) → slice_get h.decls before ≡ Some decl → slice_get forms before ≡ Some s → FitsShape h forms before decl s
@@ -106,7 +106,7 @@ module _ (c : CheckedGrammar) (scoped : IsWellScoped c.grammar) (fit : FitShapes
   rooted_fits =
       record {
         counted = length-append c.shapes (shape.Root ∷ []) ∙ ap (λ n. n + 1) fit.counted ∙ sym (length-append g.decls (r ∷ []));
-        each = each
+        each = each;
       }
 
 abbrev root_alternatives : Option (List ℕ) → Option (List ℕ) → Alternatives
@@ -153,5 +153,5 @@ rooted_is_regular g w fewer =
     record {
       well = each_level AlternativesStandWell g w.well (root_stands (layout_among g.decls) g.start);
       unmarked = λ decl among plain. each_level AlternativesHaveNoMark g (w.unmarked decl (plain_before g decl among plain) plain) (root_unmarked (layout_among g.decls) g.start);
-      counted = fewer
+      counted = fewer;
     }

@@ -1,5 +1,5 @@
 -- A grammar with its root alternative as a declaration permits the same trees.
-use Rattle.std.proofs.Common.{◌≡◌, ◌∙◌, ℕ, zero, suc, ◌<◌, List, [], ◌∷◌, ◌++◌, Option, Some, None, false, refl, sym, ap, subst, arith, length, inl, inr}
+use Rattle.std.proofs.Common.{◌≡◌, ◌∙◌, ℕ, zero, suc, List, [], ◌∷◌, ◌++◌, Option, Some, None, false, refl, sym, ap, subst, arith, length, inl, inr}
 use Rattle.std.specs.Prelude.{◌⊎◌, slice_get, Contains}
 use Rattle.std.proofs.lemmas.Option.{slice_get_within}
 use Rattle.std.proofs.lemmas.List.Elements.{Contains-push}
@@ -72,7 +72,7 @@ module _ (c : CheckedGrammar) (scoped : IsWellScoped c.grammar) (fit : FitShapes
       record {
         numbered = numbered_there d decl a.numbered;
         shaped = (a.shaped.0, a.shaped.1, left_at shapes (shape.Root ∷ []) a.shaped.0 s a.shaped.2);
-        named = a.named
+        named = a.named;
       }
 
   here : (name : List ℕ) (d : ℕ) (decl : Decl) (s : Shape) → IsOther name → Declares h forms name d decl s → Declares g shapes name d decl s
@@ -80,6 +80,7 @@ module _ (c : CheckedGrammar) (scoped : IsWellScoped c.grammar) (fit : FitShapes
     where
       same_place : suc a.numbered.0 ≡ suc a.shaped.0
       same_place = sym a.numbered.1 ∙ a.shaped.1
+
       go : (slice_get g.decls a.numbered.0 ≡ Some decl) ⊎ ((a.numbered.0 ≡ length g.decls) × (r ≡ decl)) →
           (slice_get shapes a.shaped.0 ≡ Some s) ⊎ ((a.shaped.0 ≡ length shapes) × (shape.Root ≡ s)) → Declares g shapes name d decl s
       go (inl e) (inl f) = record { numbered = (a.numbered.0, a.numbered.1, e); shaped = (a.shaped.0, a.shaped.1, f); named = a.named }
@@ -103,8 +104,8 @@ module _ (c : CheckedGrammar) (scoped : IsWellScoped c.grammar) (fit : FitShapes
       EachCallsOnly IsOther xs → Covers h forms text k xs env i j ts after starts → Covers g shapes text k xs env i j ts after starts
   covers_here text =
       covers_too h forms g shapes text IsOther here
-        (λ name d decl s k a other declares numbered. called_in name d decl s k a other (here name d decl s other declares) numbered)
-        (sym same_layout) (λ name e. layout_other g scoped fresh name (same_layout ∙ e))
+      (λ name d decl s k a other declares numbered. called_in name d decl s k a other (here name d decl s other declares) numbered)
+      (sym same_layout) (λ name e. layout_other g scoped fresh name (same_layout ∙ e))
 
   symbols_others : EachCallsOnly IsOther (root_symbols g)
   symbols_others = root_names IsOther (layout_among g.decls) g.start (layout_other g scoped fresh) (start_other g scoped fresh)
@@ -166,7 +167,7 @@ module _ (c : CheckedGrammar) (scoped : IsWellScoped c.grammar) (fit : FitShapes
       record {
         numbered = (length g.decls, refl, place_last g.decls r);
         shaped = (length g.decls, refl, subst (λ k. slice_get forms k ≡ Some shape.Root) fit.counted (place_last shapes shape.Root));
-        named = refl
+        named = refl;
       }
 
   abbrev root_by : Levelled
@@ -182,10 +183,15 @@ module _ (c : CheckedGrammar) (scoped : IsWellScoped c.grammar) (fit : FitShapes
       go kind xs (written start _ started unrooted same) covered =
           let e : xs ≡ root_symbols g = same ∙ ap (λ s. behind_layout (layout_among g.decls) (calls_of_start s)) (sym started) in
           record {
-            kind = Syntax; symbols = root_symbols g; children = p.children; after = p.after; starts = p.starts;
+            kind = Syntax;
+            symbols = root_symbols g;
+            children = p.children;
+            after = p.after;
+            starts = p.starts;
             root = declared root_name (suc (length g.decls)) r root_by Syntax (root_symbols g) refl root_there (0, refl, refl) refl refl;
             covered = covers_there text symbols_others (subst (λ ys. Covers g shapes text Syntax ys [] 0 (length text) p.children p.after p.starts) e covered);
-            whole = p.whole; clean = cleaned g h ends_here begins_here t p.clean
+            whole = p.whole;
+            clean = cleaned g h ends_here begins_here t p.clean;
           }
       go kind xs (declared start d decl a _ _ started declares numbered same symbols) covered = absurd (no_root start d decl declares)
 
@@ -208,10 +214,17 @@ module _ (c : CheckedGrammar) (scoped : IsWellScoped c.grammar) (fit : FitShapes
       from covered =
           let started = some_start g.start refl in
           record {
-            kind = Syntax; symbols = root_symbols g; children = p.children; after = p.after; starts = p.starts;
+            kind = Syntax;
+            symbols = root_symbols g;
+            children = p.children;
+            after = p.after;
+            starts = p.starts;
             root = written started.0 (root_symbols g) started.1 (λ d decl a. no_root started.0 d decl a) (ap (λ s. behind_layout (layout_among g.decls) (calls_of_start s)) started.1);
-            covered = covers_here text symbols_others covered; whole = p.whole; clean = cleaned h g ends_there begins_there t p.clean
+            covered = covers_here text symbols_others covered;
+            whole = p.whole;
+            clean = cleaned h g ends_there begins_there t p.clean;
           }
+
       go : (kind : DeclKind) (xs : List Symbol) → IsRootAlternative h forms kind xs → Covers h forms text kind xs [] 0 (length text) p.children p.after p.starts → Permitted g shapes text t
       go kind xs (written start _ started unrooted same) covered =
           absurd (unrooted (suc (length g.decls)) r (subst (λ s. Declares h forms s (suc (length g.decls)) r shape.Root) (cc) root_there))
@@ -221,7 +234,7 @@ module _ (c : CheckedGrammar) (scoped : IsWellScoped c.grammar) (fit : FitShapes
           let e : kind ≡ Syntax = same ∙ ap (λ z. z.kind) (sym root) in
           let f = symbols ∙ only_alternative Syntax g 1 a (subst (λ z. IsAlternative z 1 a) (sym root) numbered) in
           from (subst (λ k. Covers h forms text k (root_symbols g) [] 0 (length text) p.children p.after p.starts) e
-            (subst (λ ys. Covers h forms text kind ys [] 0 (length text) p.children p.after p.starts) f covered))
+          (subst (λ ys. Covers h forms text kind ys [] 0 (length text) p.children p.after p.starts) f covered))
 
   pub rooted_permits_same : PermitSame c (with_root Syntax c)
   rooted_permits_same = record { same = λ text t. (permitted_there text t, permitted_here text t) }

@@ -1,5 +1,4 @@
 -- Trees are clean in a grammar whose operands are those of the other one.
-use Rattle.std.proofs.Common.{◌≡◌, ℕ, ◌≤◌}
 use Rattle.ig_text.specs.declared.tag.Tag.{Tag}
 use Rattle.ig_text.specs.Tree.{Tree, Trees, Leaf, Node, none, more}
 use Rattle.ig_grammar.specs.Numbering.{Levelled}

@@ -3,3 +3,4 @@ pub mod Added
 pub mod Rooted
 pub mod Rewriting
 pub mod Found
+pub mod Examples

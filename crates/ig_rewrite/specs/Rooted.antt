@@ -30,7 +30,7 @@ root_declaration kind g =
       kind = kind;
       name = root_name;
       params = [];
-      levels = record { assoc = Free; alts = record { symbols = root_symbols g } ∷ [] } ∷ []
+      levels = record { assoc = Free; alts = record { symbols = root_symbols g } ∷ [] } ∷ [];
     }
 
 abbrev pub rooted_grammar : DeclKind → Grammar → Grammar

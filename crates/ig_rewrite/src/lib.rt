@@ -13,7 +13,8 @@ mod rooting;
 #[cfg(test)]
 mod tests;
 
-pub use laws::{added_names_are_new, declarations_are_found, rooted_is_the_same};
-pub use laws::{same_trees_is_an_equivalence};
+pub use laws::{
+    added_names_are_new, declarations_are_found, rooted_is_the_same, same_trees_is_an_equivalence,
+};
 pub use rewriting::{OwnRule, rewrite_grammar, rewrite_levels};
 pub use rooting::{has_root, root};

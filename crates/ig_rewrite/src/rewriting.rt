@@ -103,7 +103,10 @@ fn rewritten_inner<O: OwnRule>(
 ) -> Result<Inner, AllocError>
     ensures { IfOk result (λ r. r ≡ rewritten (O.rule own.now decl.now) inner.now) }
 {
-    Inner::new(alloc, rewritten_symbol(own, alloc, decl, inner.as_symbol())?)
+    Inner::new(
+        alloc,
+        rewritten_symbol(own, alloc, decl, inner.as_symbol())?,
+    )
 }
 
 /// A symbol inside another, in whose parts each symbol is rewritten.
@@ -173,11 +176,7 @@ pub fn rewrite_grammar<O: OwnRule>(
 }
 
 /// The declaration, each symbol of which is rewritten.
-fn rewrite_declaration<O: OwnRule>(
-    own: &O,
-    alloc: Global,
-    decl: &Decl,
-) -> Result<Decl, AllocError>
+fn rewrite_declaration<O: OwnRule>(own: &O, alloc: Global, decl: &Decl) -> Result<Decl, AllocError>
     ensures { IfOk result (λ r. r ≡ rewritten_declaration (O.rule own.now) decl.now) }
 {
     let name = decl.name.copy(alloc)?;
@@ -193,21 +192,20 @@ fn rewrite_declaration<O: OwnRule>(
 
 /// The levels of the declaration, each symbol of which is rewritten by the pass's own rule, for a
 /// pass that changes more of a declaration than its symbols. Refused for want of memory alone.
-pub fn rewrite_levels<O: OwnRule>(
-    own: &O,
-    alloc: Global,
-    decl: &Decl,
-) -> Result<Levels, AllocError>
+pub fn rewrite_levels<O: OwnRule>(own: &O, alloc: Global, decl: &Decl) -> Result<Levels, AllocError>
     ensures { IfOk result (λ r.
         r ≡ map (rewritten_level (O.rule own.now decl.now)) decl.now.levels) }
 {
     let mut all = Levels::new(alloc);
     for level in decl.levels.as_slice() {
         let alts = rewritten_alternatives(own, alloc, decl, &level.alts)?;
-        push_level(&mut all, Level {
-            assoc: level.assoc,
-            alts,
-        })?;
+        push_level(
+            &mut all,
+            Level {
+                assoc: level.assoc,
+                alts,
+            },
+        )?;
     }
     Ok(all)
 }

@@ -10,11 +10,14 @@ ghost use Rattle.ig_rewrite.specs.Rooted.{root_symbols, root_declaration, rooted
 ghost use Rattle.ig_rewrite.specs.Rooted.{is_root, has_root, rooted};
 
 use crate::laws::rooted_is_the_same;
-use crate::rewriting::{copy_of_start, push_alternative, push_declaration};
-use crate::rewriting::{push_level, push_symbol};
+use crate::rewriting::{
+    copy_of_start, push_alternative, push_declaration, push_level, push_symbol,
+};
 use ig_expr::Exprs;
-use ig_grammar::{Alt, Alts, Assoc, Checked, Decl, DeclKind, Grammar, Level, Levels, Params};
-use ig_grammar::{Shape, Shapes, Symbol, Symbols};
+use ig_grammar::{
+    Alt, Alts, Assoc, Checked, Decl, DeclKind, Grammar, Level, Levels, Params, Shape, Shapes,
+    Symbol, Symbols,
+};
 use ig_text::{Copied, Word};
 use std::alloc::{AllocError, Global};
 
@@ -101,10 +104,13 @@ fn root_declaration(alloc: Global, grammar: &Grammar) -> Result<Decl, AllocError
     let mut alts = Alts::new(alloc);
     push_alternative(&mut alts, Alt { symbols })?;
     let mut levels = Levels::new(alloc);
-    push_level(&mut levels, Level {
-        assoc: Assoc::Free,
-        alts,
-    })?;
+    push_level(
+        &mut levels,
+        Level {
+            assoc: Assoc::Free,
+            alts,
+        },
+    )?;
     let name = root_word(alloc)?;
     Ok(Decl {
         kind: DeclKind::Syntax,

@@ -1,8 +1,13 @@
-//! A grammar of one declaration through the traversal, with ample memory.
+//! A grammar of one declaration through the traversal, and with its root, with ample memory.
+ghost use Rattle.std.specs.Prelude.{◌≡◌, IfOk};
+ghost use Rattle.ig_rewrite.specs.Examples.{barren_grammar};
+
 use crate::*;
 use ig_expr::Exprs;
-use ig_grammar::{Alt, Alts, Assoc, Decl, DeclKind, Decls, Grammar, Inner, Level, Levels};
-use ig_grammar::{Params, Symbol, Symbols};
+use ig_grammar::{
+    Alt, Alts, Assoc, Checked, Decl, DeclKind, Decls, Grammar, Inner, Level, Levels, Params,
+    Symbol, Symbols,
+};
 use ig_text::{Copied, Word};
 use std::alloc::{AllocError, Global};
 use std::test::Fail;
@@ -54,5 +59,29 @@ fn rewrites_a_grammar(rt: HostRuntime) -> Result<(), Fail> {
         assert_eq!(rt; rewrite_levels(&Unchanging {}, alloc, decl)?.len(), 1);
     }
     assert_eq!(rt; grammar.decls.len(), 1);
+    Ok(())
+}
+
+fn barren_grammar(alloc: Global, name: Word) -> Result<Grammar, AllocError>
+    ensures { IfOk result (λ g. g ≡ barren_grammar name) }
+{
+    let start = Some(name.copy(alloc)?);
+    let decl = Decl {
+        kind: DeclKind::Syntax,
+        name,
+        params: Params::new(alloc),
+        levels: Levels::new(alloc),
+    };
+    let decls = Decls::from_vec(vec![in alloc; decl]?);
+    Ok(Grammar { start, decls })
+}
+
+#[test]
+fn writes_the_root(rt: HostRuntime) -> Result<(), Fail> {
+    let alloc = rt.alloc();
+    let checked = Checked::of(barren_grammar(alloc, Word::new(alloc, "S")?)?);
+    let rooted = root(alloc, &checked)?;
+    assert!(rt; !has_root(&checked) && has_root(&rooted));
+    assert_eq!(rt; rooted.grammar().decls.len(), 2);
     Ok(())
 }

@@ -9,5 +9,5 @@ returns k = λ c scoped fit rootless fresh.
       same = rooted_permits_same c scoped fit rootless fresh;
       scoped = rooted_is_well_scoped c.grammar scoped fresh;
       fit = rooted_fits c scoped fit rootless fresh;
-      regular = rooted_is_regular c.grammar
+      regular = rooted_is_regular c.grammar;
     }

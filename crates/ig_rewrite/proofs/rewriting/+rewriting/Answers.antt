@@ -1,4 +1,4 @@
-use Rattle.std.proofs.Common.{◌≡◌, ◌<◌, ℕ, map, length, get_or, subst, arith}
+use Rattle.std.proofs.Common.{◌≡◌, ◌<◌, length, get_or, subst, arith}
 use Rattle.ig_rewrite.proofs.Gathering.{sequence_within, group_within, choice_at, node_below}
 use Rattle.ig_rewrite.proofs.rewriting.+rewriting.Goals as goal
 
