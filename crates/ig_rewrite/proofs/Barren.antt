@@ -1,5 +1,5 @@
 -- A grammar of one declaration without alternatives is well scoped.
-use Rattle.std.proofs.Common.{◌≡◌, ◌∙◌, ℕ, zero, suc, ◌<◌, List, [], ◌∷◌, Bool, true, Some, None, Contains, slice_get, if◌then◌else◌, refl, sym, ap, subst, arith}
+use Rattle.std.proofs.Common.{◌≡◌, ◌∙◌, ℕ, zero, suc, ◌<◌, List, [], ◌∷◌, Bool, true, Some, None, Contains, slice_get, if◌then◌else◌, refl, sym, ap, subst, arith, get_or, codes, chars}
 use Rattle.std.proofs.lemmas.Option.{same_Some}
 use Rattle.std.specs.Cmp.Lexicographic.{bytes_decides}
 use Rattle.ig_text.specs.Words.{is_word}
@@ -8,8 +8,10 @@ use Rattle.ig_grammar.specs.Condition as meets
 use Rattle.ig_grammar.specs.Condition.{Condition, StartMeets, HeadMeets, declaration_of}
 use Rattle.ig_grammar.specs.WellScoped.{GrammarHas, IsWellScoped}
 use Rattle.ig_grammar.specs.declared.declaration.Decl.{Decl}
+use Rattle.ig_grammar.specs.declared.grammar.Grammar.{Grammar}
+use Rattle.ig_text.proofs.Characters.{ascii_chars}
 use Rattle.ig_text.proofs.Lists.{contains_one}
-use Rattle.ig_rewrite.specs.Added.{IsFresh}
+use Rattle.ig_rewrite.specs.Added.{IsFresh, root_name}
 use Rattle.ig_rewrite.specs.Examples.{barren, barren_grammar}
 use Rattle.ig_rewrite.proofs.FirstNamed.{declaration_first}
 
@@ -58,5 +60,10 @@ nowhere name (suc zero) (suc b) s c h =
 pub barren_is_scoped : (name : List ℕ) → IsWellScoped (barren_grammar name)
 barren_is_scoped name place c h = nowhere name place.decl place.alt place.symbol c h
 
-pub barren_is_fresh : (name root : List ℕ) → (name ≡ root → ⊥) → IsFresh (barren_grammar name) root
+barren_is_fresh : (name root : List ℕ) → (name ≡ root → ⊥) → IsFresh (barren_grammar name) root
 barren_is_fresh name root apart among = apart (sym (contains_one name root among))
+
+pub named_s_is_fresh : (g : Grammar) (name : List ℕ) → g ≡ barren_grammar name → name ≡ chars (codes "S") → IsFresh g root_name
+named_s_is_fresh g name e is =
+    subst (λ (z : Grammar). IsFresh z root_name) (sym e) (barren_is_fresh name root_name (λ s.
+      let first : 83 ≡ 36 = ap (λ z. get_or z 0 0) (sym (is ∙ ascii_chars (codes "S") refl) ∙ s) in omega (arith, first)))

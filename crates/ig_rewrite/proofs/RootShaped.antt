@@ -148,6 +148,9 @@ plain_before g decl among plain = go (Contains-push_cases g.decls (root_declarat
     go (inl m) = m
     go (inr same) = absurd (let e : Syntax ≡ Plain = ap (λ (d : Decl). d.kind) same ∙ plain in cc)
 
+pub rooted_is_unmarked : (g : Grammar) → OfEachLevel AlternativesHaveNoMark g → OfEachLevel AlternativesHaveNoMark (rooted_grammar Syntax g)
+rooted_is_unmarked g none = each_level AlternativesHaveNoMark g none (root_unmarked (layout_among g.decls) g.start)
+
 pub rooted_is_regular : (g : Grammar) → IsRegular g → HasFewerThan counts_bound (rooted_grammar Syntax g) → IsRegular (rooted_grammar Syntax g)
 rooted_is_regular g w fewer =
     record {

@@ -3,7 +3,7 @@ use Rattle.std.specs.Prelude.{◌≡◌, ℕ, Bool, true, false, List, [], ◌�
 use Rattle.ig_grammar.specs.Symbol.{Symbol, Call}
 use Rattle.ig_grammar.specs.Numbering.{layout_among}
 use Rattle.ig_grammar.specs.Checked.{CheckedGrammar, FitShapes}
-use Rattle.ig_grammar.specs.Regular.{IsRegular, HasFewerThan, counts_bound}
+use Rattle.ig_grammar.specs.Regular.{AlternativesHaveNoMark, HasFewerThan, IsRegular, OfEachLevel, counts_bound}
 use Rattle.ig_grammar.specs.WellScoped.{IsWellScoped}
 use Rattle.ig_meaning.specs.Permitted.{behind_layout}
 use Rattle.ig_grammar.specs.declared.declaration.Assoc.TheVariants.{Free}
@@ -57,6 +57,8 @@ pub record RootAdds (c : CheckedGrammar) : Type 0 where
   pub same : PermitSame c (with_root Syntax c)
   pub scoped : IsWellScoped (with_root Syntax c).grammar
   pub fit : FitShapes (with_root Syntax c).grammar (with_root Syntax c).shapes
+  pub unmarked : OfEachLevel AlternativesHaveNoMark c.grammar →
+      OfEachLevel AlternativesHaveNoMark (with_root Syntax c).grammar
   pub regular : IsRegular c.grammar → HasFewerThan counts_bound (with_root Syntax c).grammar →
       IsRegular (with_root Syntax c).grammar
 
