@@ -1,0 +1,9 @@
+//! Lexical filters and layout, as passes from grammars to grammars with the same trees.
+//!
+//! `specs/Filters.antt` says what becomes of filters: follow and precede filters are guards before
+//! and behind their symbol, and exclusions stay on the symbol itself.
+#![tactic(auto)]
+
+mod laws;
+
+pub use laws::{filters_permit_the_same, layout_permits_the_same};
