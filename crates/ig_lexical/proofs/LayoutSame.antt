@@ -105,7 +105,7 @@ module _ (given : Given) (g : Grammar) (shapes : List Shape) (scoped : IsWellSco
           permitted_along h shapes g shapes text SameEnv AnyStarts AnyKind AnyName (λ t i j ks ms ts e. tt) backward_one refl refl (λ start e. tt)
             (λ start started. let r = root start started in (r.0, laid_declaration g r.1, there start r.0 r.1 shape.Root r.2)) t (λ k. given.cleans g free t))
 
-abbrev laid_of : CheckedGrammar → CheckedGrammar
+abbrev pub laid_of : CheckedGrammar → CheckedGrammar
 laid_of c = record { grammar = laid_grammar c.grammar; shapes = c.shapes }
 
 -- a grammar with a root

@@ -18,3 +18,11 @@ pub mod Unmarked
 pub mod Sorting
 pub mod Sides
 pub mod LayoutSame
+pub mod Placing
+pub mod Occurrences
+pub mod Meeting
+pub mod Keeping
+pub mod Counting
+pub mod LayoutScoped
+pub mod LayoutShaped
+pub mod LayoutChecked

@@ -6,4 +6,4 @@
 
 mod laws;
 
-pub use laws::{filters_permit_the_same, layout_permits_the_same};
+pub use laws::{filters_permit_the_same, layout_permits_the_same, layout_stays_checked};
