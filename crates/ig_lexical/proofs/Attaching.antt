@@ -63,7 +63,7 @@ passed looks text env after i e (NotPreceded pattern ∷ fs) b a x =
     All-cons (Passes text i e) (NotPreceded pattern) fs ((free_before looks text env i pattern).0 b.0) (passed looks text env after i e fs b.1 a x)
 passed looks text env after i e (Not pattern ∷ fs) b a x =
     All-cons (Passes text i e) (Not pattern) fs (All-head (Passes text i e) (Not pattern) (exclusions fs) x)
-      (passed looks text env after i e fs b a (All-tail (Passes text i e) (Not pattern) (exclusions fs) x))
+    (passed looks text env after i e fs b a (All-tail (Passes text i e) (Not pattern) (exclusions fs) x))
 
 -- in a declaration of this kind no layout stands behind tokens
 module _ (looks : TestsLookFor) (g : Grammar) (shapes : List Shape) (text : List ℕ) (c : DeclKind)
@@ -101,7 +101,7 @@ module _ (looks : TestsLookFor) (g : Grammar) (shapes : List Shape) (text : List
   guards_cover [] xs env after i j ts starts hold covers = covers
   guards_cover (e ∷ es) xs env after i j ts starts hold covers =
       symbol c (Guard e) (map Guard es ++ xs) env env after i i i j none ts ts [] starts starts (guard c e env i hold.0)
-        (guards_cover es xs env after i j ts starts hold.1 covers) refl refl
+      (guards_cover es xs env after i j ts starts hold.1 covers) refl refl
 
   pub record Unguarded (es : List Expression) (xs : List Symbol) (env after : Environment) (i j : ℕ) (ts : Trees) (starts : List ℕ) : Type 0 where
     pub hold : Hold text env i es
@@ -155,10 +155,10 @@ module _ (looks : TestsLookFor) (g : Grammar) (shapes : List Shape) (text : List
       Derives g shapes text c (Seq (gathered (map Guard bs ++ y ∷ map Guard cs))) env i j j ts after starts
   sequence_of bs cs y env after i e j ts starts before behind derived =
       let all : Covers g shapes text c (map Guard bs ++ y ∷ map Guard cs) env i j ts after starts =
-        guards_cover bs (y ∷ map Guard cs) env after i j ts starts before
-          (symbol c y (map Guard cs) env after after i e j j ts none ts starts [] starts derived (guards_end cs after j behind) (sym (join_none ts)) (sym (append-nil starts))) in
+      guards_cover bs (y ∷ map Guard cs) env after i j ts starts before
+      (symbol c y (map Guard cs) env after after i e j j ts none ts starts [] starts derived (guards_end cs after j behind) (sym (join_none ts)) (sym (append-nil starts))) in
       sequence c (gathered (map Guard bs ++ y ∷ map Guard cs)) env after i j ts starts
-        (subst (λ xs. Covers g shapes text c xs env i j ts after starts) (sym (listed_gathered (map Guard bs ++ y ∷ map Guard cs))) all)
+      (subst (λ xs. Covers g shapes text c xs env i j ts after starts) (sym (listed_gathered (map Guard bs ++ y ∷ map Guard cs))) all)
 
   -- what is derived with guards round it
   pub record Grouped (bs cs : List Expression) (y : Symbol) (env after : Environment) (i j : ℕ) (ts : Trees) (starts : List ℕ) : Type 0 where
@@ -176,8 +176,8 @@ module _ (looks : TestsLookFor) (g : Grammar) (shapes : List Shape) (text : List
         before = before;
         behind = subst (λ p. Hold text after p cs) s.same (subst (λ v. Hold text v h cs) (sym s.env_same) s.hold);
         derives = subst (λ p. Derives g shapes text c y env i e p vs after starts) s.same (subst (λ v. Derives g shapes text c y env i e h vs v starts) (sym s.env_same)
-          (subst (λ us. Derives g shapes text c y env i e h us between starts) (sym (join_none ts) ∙ ap (join ts) (sym s.trees) ∙ sym trees)
-            (subst (λ ms. Derives g shapes text c y env i e h ts between ms) (sym (append-nil ks) ∙ ap (λ ms. ks ++ ms) (sym s.exposes) ∙ sym exposes) first)))
+            (subst (λ us. Derives g shapes text c y env i e h us between starts) (sym (join_none ts) ∙ ap (join ts) (sym s.trees) ∙ sym trees)
+            (subst (λ ms. Derives g shapes text c y env i e h ts between ms) (sym (append-nil ks) ∙ ap (λ ms. ks ++ ms) (sym s.exposes) ∙ sym exposes) first)));
       }
 
   grouped : (bs cs : List Expression) (y : Symbol) {env after : Environment} {i e j : ℕ} {ts : Trees} {starts : List ℕ} →
@@ -221,15 +221,17 @@ module _ (looks : TestsLookFor) (g : Grammar) (shapes : List Shape) (text : List
   filtered_to x fs env after i e j ts starts derived =
       let r = filters_off derived in let a = asked looks text env after i e fs r.1 in
       guarded_to (befores fs) (afters fs) (with_filters x (exclusions fs)) env after i e j ts starts a.before (subst (λ p. Hold text after p (afters fs)) (own_end r.0) a.behind)
-        (excluded_to x (exclusions fs) env after i e j ts starts a.excluded r.0)
+      (excluded_to x (exclusions fs) env after i e j ts starts a.excluded r.0)
 
   filtered_from : (x : Symbol) (fs : List Filter) (env after : Environment) (i e j : ℕ) (ts : Trees) (starts : List ℕ) →
       Derives g shapes text c (guarded (befores fs) (afters fs) (with_filters x (exclusions fs))) env i e j ts after starts → Ending (Filtered x fs) env i j ts after starts
   filtered_from x fs env after i e j ts starts derived =
       let r = guarded_from (befores fs) (afters fs) (with_filters x (exclusions fs)) env after i e j ts starts derived in
-      let s = excluded_from x (exclusions fs) env after i r.end j ts starts r.derives in
-      (r.end, filtered c x fs env after i r.end j ts starts s.0
-        (passed looks text env after i r.end fs r.before (subst (λ p. Hold text after p (afters fs)) (sym (own_end s.0)) r.behind) s.1))
+      let s = excluded_from x (exclusions fs) env after i r.end j ts starts r.derives in (
+        r.end,
+        filtered c x fs env after i r.end j ts starts s.0
+            (passed looks text env after i r.end fs r.before (subst (λ p. Hold text after p (afters fs)) (sym (own_end s.0)) r.behind) s.1),
+      )
 
   label_off : {name : List ℕ} {x : Symbol} {env after : Environment} {i e j : ℕ} {ts : Trees} {starts : List ℕ} →
       Derives g shapes text c (Label name x) env i e j ts after starts →
@@ -242,7 +244,7 @@ module _ (looks : TestsLookFor) (g : Grammar) (shapes : List Shape) (text : List
   labelled_to name x fs env after i e j ts starts derived =
       let l = label_off derived in let r = filters_off l.1 in let a = asked looks text env after i e fs r.1 in
       guarded_to (befores fs) (afters fs) (Label name (with_filters x (exclusions fs))) env after i e j ts starts a.before (subst (λ p. Hold text after p (afters fs)) (own_end r.0) a.behind)
-        (label c name (with_filters x (exclusions fs)) env l.0 after i e j ts starts (excluded_to x (exclusions fs) env l.0 i e j ts starts a.excluded r.0) l.2)
+      (label c name (with_filters x (exclusions fs)) env l.0 after i e j ts starts (excluded_to x (exclusions fs) env l.0 i e j ts starts a.excluded r.0) l.2)
 
   labelled_from : (name : List ℕ) (x : Symbol) (fs : List Filter) (env after : Environment) (i e j : ℕ) (ts : Trees) (starts : List ℕ) →
       Derives g shapes text c (guarded (befores fs) (afters fs) (Label name (with_filters x (exclusions fs)))) env i e j ts after starts →
@@ -250,10 +252,12 @@ module _ (looks : TestsLookFor) (g : Grammar) (shapes : List Shape) (text : List
   labelled_from name x fs env after i e j ts starts derived =
       let r = guarded_from (befores fs) (afters fs) (Label name (with_filters x (exclusions fs))) env after i e j ts starts derived in
       let l = label_off r.derives in
-      let s = excluded_from x (exclusions fs) env l.0 i r.end j ts starts l.1 in
-      (r.end, label c name (Filtered x fs) env l.0 after i r.end j ts starts
-        (filtered c x fs env l.0 i r.end j ts starts s.0
-          (passed looks text env after i r.end fs r.before (subst (λ p. Hold text after p (afters fs)) (sym (own_end s.0)) r.behind) s.1)) l.2)
+      let s = excluded_from x (exclusions fs) env l.0 i r.end j ts starts l.1 in (
+        r.end,
+        label c name (Filtered x fs) env l.0 after i r.end j ts starts
+            (filtered c x fs env l.0 i r.end j ts starts s.0
+            (passed looks text env after i r.end fs r.before (subst (λ p. Hold text after p (afters fs)) (sym (own_end s.0)) r.behind) s.1)) l.2,
+      )
 
   abbrev pub SameDerived : Symbol → Symbol → Type 0
   SameDerived x y = (env after : Environment) (i e j : ℕ) (ts : Trees) (starts : List ℕ) → Derives g shapes text c x env i e j ts after starts → Ending y env i j ts after starts

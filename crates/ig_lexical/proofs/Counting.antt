@@ -1,5 +1,5 @@
 -- The layout pass adds nothing that binds.
-use Rattle.std.proofs.Common.{◌≡◌, ◌∙◌, ℕ, ◌+◌, List, [], ◌∷◌, ◌++◌, Bool, cond, true, false, map, refl, sym, ap, subst, arith}
+use Rattle.std.proofs.Common.{◌≡◌, ◌∙◌, ℕ, ◌+◌, List, [], ◌∷◌, ◌++◌, Bool, cond, true, false, map, refl, sym, ap, arith}
 use Rattle.std.specs.Prelude.{if◌then◌else◌, count_by}
 use Rattle.std.proofs.lemmas.List.Sums.{sum_by-append, sum_by-cons}
 use Rattle.ig_grammar.specs.Name.{is_name}
@@ -12,7 +12,7 @@ use Rattle.ig_rewrite.specs.Rewriting.{within, rewritten, rewritten_symbols, rew
 use Rattle.ig_lexical.proofs.Pass.{gathered_rewritten}
 use Rattle.ig_lexical.specs.Layout.{is_token, then_layout, laid_inside, laid}
 
-abbrev one_if : Bool → ℕ
+abbrev pub one_if : Bool → ℕ
 one_if b = cond b 1 0
 
 -- how many labels and lets with names of the notation are in it, itself counted

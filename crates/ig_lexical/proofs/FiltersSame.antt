@@ -36,16 +36,18 @@ pub with_root_same : TestsLookFor → TreesWithoutOperatorsAreClean → (c : Che
     ((start : List ℕ) → c.grammar.start ≡ Some start → (d : ℕ) × (decl : Decl) × Declares c.grammar c.shapes start d decl shape.Root) →
     PermitSame c (record { grammar = rewritten_grammar (λ decl. attached) c.grammar; shapes = c.shapes })
 with_root_same looks cleans c none free root =
-    record { same = λ text t.
-      let unlaid : layout_among (rewritten_grammar (λ decl. attached) c.grammar).decls ≡ None = sym (layout_rewritten (λ decl. attached) c.grammar.decls) ∙ none in
-      rewritten_permits (λ decl. attached) c.grammar c.shapes (λ x. Unit {0}) text
-        (record {
-          to = λ decl x env after i e j ts starts m q derived.
-            attached_to looks (rewritten_grammar (λ decl. attached) c.grammar) c.shapes text decl.kind (tight (rewritten_grammar (λ decl. attached) c.grammar) c.shapes text decl.kind unlaid) (within attached x) env after i e j ts starts derived;
-          from = λ decl x env after i e j ts starts m q derived.
-            attached_from looks (rewritten_grammar (λ decl. attached) c.grammar) c.shapes text decl.kind (tight (rewritten_grammar (λ decl. attached) c.grammar) c.shapes text decl.kind unlaid) (within attached x) env after i e j ts starts derived
-        })
-        (λ decl k a m n. always_symbols (gathered a.alternative.symbols)) cleans free root t }
+    record {
+      same = λ text t.
+          let unlaid : layout_among (rewritten_grammar (λ decl. attached) c.grammar).decls ≡ None = sym (layout_rewritten (λ decl. attached) c.grammar.decls) ∙ none in
+          rewritten_permits (λ decl. attached) c.grammar c.shapes (λ x. Unit {0}) text
+          (record {
+            to = λ decl x env after i e j ts starts m q derived.
+                attached_to looks (rewritten_grammar (λ decl. attached) c.grammar) c.shapes text decl.kind (tight (rewritten_grammar (λ decl. attached) c.grammar) c.shapes text decl.kind unlaid) (within attached x) env after i e j ts starts derived;
+            from = λ decl x env after i e j ts starts m q derived.
+                attached_from looks (rewritten_grammar (λ decl. attached) c.grammar) c.shapes text decl.kind (tight (rewritten_grammar (λ decl. attached) c.grammar) c.shapes text decl.kind unlaid) (within attached x) env after i e j ts starts derived;
+          })
+          (λ decl k a m n. always_symbols (gathered a.alternative.symbols)) cleans free root t;
+    }
 
 root_among : (shapes : List Shape) → has_root shapes ≡ true → (k : ℕ) × (slice_get shapes k ≡ Some shape.Root)
 root_among [] e = absurd (cc)
@@ -96,7 +98,7 @@ pub record Given : Type 0 where
   pub rooting : RootedIsTheSame
   pub equivalence : SameTreesIsAnEquivalence
 
-abbrev of : CheckedGrammar → CheckedGrammar
+abbrev pub of : CheckedGrammar → CheckedGrammar
 of b = record { grammar = rewritten_grammar (λ decl. attached) b.grammar; shapes = b.shapes }
 
 pub filters_same : Given → FiltersPermitSame
@@ -105,10 +107,10 @@ filters_same given c scoped fit none free fresh = go (has_root c.shapes) refl
     go : (b : Bool) → has_root c.shapes ≡ b → PermitSame c (FiltersOf c)
     go true e =
         subst (λ d. PermitSame c (of d)) (sym (ap (λ b. if b then c else with_root Syntax c) e))
-          (with_root_same given.looks given.cleans c none free (root_start c fit e))
+        (with_root_same given.looks given.cleans c none free (root_start c fit e))
     go false e =
         let r = given.rooting c scoped fit e (λ m. let t : false ≡ true = sym e ∙ fresh m in cc) in
         subst (λ d. PermitSame c (of d)) (sym (ap (λ b. if b then c else with_root Syntax c) e))
-          (given.equivalence.chained c (with_root Syntax c) (of (with_root Syntax c)) r.same
-            (with_root_same given.looks given.cleans (with_root Syntax c) (layout_kept c.grammar.decls (root_declaration Syntax c.grammar) refl ∙ none) (free_rooted c.grammar free)
-              (root_start (with_root Syntax c) r.fit (root_added c.shapes))))
+        (given.equivalence.chained c (with_root Syntax c) (of (with_root Syntax c)) r.same
+        (with_root_same given.looks given.cleans (with_root Syntax c) (layout_kept c.grammar.decls (root_declaration Syntax c.grammar) refl ∙ none) (free_rooted c.grammar free)
+        (root_start (with_root Syntax c) r.fit (root_added c.shapes))))

@@ -59,7 +59,7 @@ module _ (g : Grammar) (shapes : List Shape) (h : Grammar) (forms : List Shape) 
 
   module _ (gains_node : (t : Tag) (i j : ℕ) (ks ms : List ℕ) (ts : Trees) → Gains ks ms ts → Gains ks ms (one (Node t i j ts)))
       (alternatives_too : (n : ℕ) → LowInstances n → (name : List ℕ) (d : ℕ) (decl : Decl) (shape : Shape) (k : ℕ) (a : Levelled) → Named name →
-        Declares g shapes name d decl shape → IsAlternative decl k a → AlternativeToo n name d decl shape k a) where
+      Declares g shapes name d decl shape → IsAlternative decl k a → AlternativeToo n name d decl shape k a) where
     lifted : (n : ℕ) (ts : Trees) (t : Tree) (tag : Tag) (i e : ℕ) → t ≡ Node tag i e ts → height t ≤ suc n → greatest_height ts ≤ n
     lifted n ts t tag i e same low = let l : greatest_height ts + 1 ≤ suc n = subst (λ u. height u ≤ suc n) same low in omega (arith, l)
 
@@ -78,5 +78,5 @@ module _ (g : Grammar) (shapes : List Shape) (h : Grammar) (forms : List Shape) 
           exposes = r.exposes;
           derives = alternative name vs too.other.kind d k too.other shape too.by start.0 r.later i e ts t r.exposes too.declares too.numbered start.1 refl r.covers tree;
           kinds = subst (λ c. Kinds c too.other.kind) (sym same) too.kinds;
-          gains = subst (λ u. Gains starts r.exposes (one u)) (sym tree) (gains_node (tag_of shape d k) i e starts r.exposes ts r.gains)
+          gains = subst (λ u. Gains starts r.exposes (one u)) (sym tree) (gains_node (tag_of shape d k) i e starts r.exposes ts r.gains);
         }

@@ -3,8 +3,7 @@ use Rattle.std.proofs.Common.{◌≡◌, ◌∙◌, ℕ, List, [], ◌∷◌, �
 use Rattle.std.specs.Prelude.{if◌then◌else◌}
 use Rattle.std.proofs.lemmas.List.{append-nil}
 use Rattle.ig_expr.specs.declared.kind.Kind.TheVariants.{Span}
-use Rattle.ig_grammar.specs.Binding.{Binding}
-use Rattle.ig_grammar.specs.Symbol.{Symbol, Literal, OneOf, Call, Label, Guard, Let, Opt, Star, Plus, SepStar, SepPlus, Group, Offside, Ignore, Align, Filtered, Seq, Entry}
+use Rattle.ig_grammar.specs.Symbol.{Symbol, Call, Label, Filtered, Seq, Entry}
 use Rattle.ig_grammar.specs.Symbol.{Symbols, no_symbols, next_symbol, gathered}
 use Rattle.ig_grammar.specs.Visible.{Visible, binds, replaced}
 use Rattle.ig_grammar.specs.declared.declaration.Decl.{Decl}
@@ -28,10 +27,10 @@ module _ (N : Visible → Symbol → Type 0) (heads : (v : Visible) (x y : Symbo
       let S : Symbol → Symbol → Type 0 = Stays N N heads in
       let leaves : (x y : Symbol) → IsLeaf x → S x y → S x y = λ x y l s. s in
       let each = symbols_alike own IsNoMark (⊥) (λ bs. Unit {0}) S S admits
-            (λ x l n. record { placed = λ v p. p; bound = λ v p. refl })
-            (λ x n a. let r = alike_stays N N heads S leaves x (within own x) a in
-              record { placed = λ v p. (keeps (within own x) v (r.placed v p)).0; bound = λ v p. (keeps (within own x) v (r.placed v p)).1 ∙ r.bound v p })
-            (gathered xs) q in
+      (λ x l n. record { placed = λ v p. p; bound = λ v p. refl })
+      (λ x n a. let r = alike_stays N N heads S leaves x (within own x) a in
+      record { placed = λ v p. (keeps (within own x) v (r.placed v p)).0; bound = λ v p. (keeps (within own x) v (r.placed v p)).1 ∙ r.bound v p })
+      (gathered xs) q in
       subst (λ ys. PlacedSymbols N ys v) (sym (gathered_rewritten own xs)) ((each_stays N N heads S leaves (gathered xs) (rewritten_symbols own (gathered xs)) each).placed v p)
 
   pub same_keeps : Keeps (λ x. x)

@@ -1,7 +1,7 @@
 -- What rewriting the parts of a symbol does to tokens: nothing.
-use Rattle.std.proofs.Common.{◌≡◌, ◌∙◌, ℕ, List, Bool, true, false, refl, sym, ap}
+use Rattle.std.proofs.Common.{◌≡◌, List, true, refl, sym, ap}
 use Rattle.ig_grammar.specs.Binding.{Binding}
-use Rattle.ig_grammar.specs.Symbol.{Symbol, Literal, OneOf, Call, Label, Guard, Let, Filtered}
+use Rattle.ig_grammar.specs.Symbol.{Symbol, Label, Filtered}
 use Rattle.ig_grammar.specs.declared.declaration.Decl.{Decl}
 use Rattle.ig_lexical.proofs.Alike.{IsLeaf, Alike, leaf, label_alike, opt_alike, star_alike, plus_alike, sep_star_alike, sep_plus_alike, group_alike, offside_alike, ignore_alike, align_alike, filtered_alike, seq_alike, entry_alike}
 use Rattle.ig_lexical.specs.Layout.{is_token}

@@ -1,18 +1,16 @@
 -- The layout pass's own rule in a syntax declaration derives the same, from the grammar to the one with layout in the open.
-use Rattle.std.proofs.Common.{◌≡◌, ◌∙◌, ℕ, zero, suc, ◌+◌, ◌≤◌, max, List, [], ◌∷◌, ◌++◌, Bool, true, false, refl, sym, ap, subst, arith}
-use Rattle.std.specs.Prelude.{◌≢◌, Some, None, if◌then◌else◌}
-use Rattle.ig_text.specs.Tree.{Tree, Trees, Leaf, Node, none, more, one, join, height, greatest_height}
-use Rattle.ig_expr.specs.Expression.{Expression}
+use Rattle.std.proofs.Common.{◌≡◌, ◌∙◌, ℕ, List, [], ◌∷◌, ◌++◌, Bool, true, false, refl, sym, ap, subst}
+use Rattle.std.specs.Prelude.{◌≢◌, Some, if◌then◌else◌}
+use Rattle.ig_text.specs.Tree.{Tree, none}
 use Rattle.ig_expr.specs.declared.value.Value.{Value}
 use Rattle.ig_expr.specs.declared.value.Value.TheVariants as value
 use Rattle.ig_grammar.specs.Binding.{Binding}
-use Rattle.ig_grammar.specs.Symbol.{Symbol, Literal, OneOf, Call, Label, Guard, Let, Opt, Star, Plus, SepStar, SepPlus, Group, Offside, Ignore, Align, Filtered, Seq, Entry, no_symbols, next_symbol}
-use Rattle.ig_meaning.specs.Environment.{Environment, HasValue, HaveValues}
+use Rattle.ig_grammar.specs.Symbol.{Symbol, Literal, OneOf, Call, Label, Guard, Let, Opt, Star, Plus, SepStar, SepPlus, Group, Offside, Ignore, Align, Filtered, Seq, Entry}
+use Rattle.ig_meaning.specs.Environment.{HasValue, HaveValues}
 use Rattle.ig_grammar.specs.Numbering.{layout_among}
 use Rattle.ig_grammar.specs.Condition.{declaration_of}
-use Rattle.ig_meaning.specs.Derivation.{Covers, Derives, Instance, Trails}
-use Rattle.ig_meaning.specs.Derivation.{literal, one_of, token, call, guard, let_be, outside}
-use Rattle.ig_grammar.specs.declared.filter.Filter.{Filter}
+use Rattle.ig_meaning.specs.Derivation.{Derives, Instance}
+use Rattle.ig_meaning.specs.Derivation.{literal, one_of, token, call, guard, let_be}
 use Rattle.ig_grammar.specs.declared.declaration.DeclKind.{DeclKind}
 use Rattle.ig_grammar.specs.declared.declaration.DeclKind.TheVariants.{Syntax, Lexical, Plain}
 use Rattle.ig_grammar.specs.declared.grammar.Grammar.{Grammar}
@@ -80,27 +78,44 @@ module _ (g : Grammar) (shapes : List Shape) (h : Grammar) (forms : List Shape) 
   leaf_laid x l k env other after i e j ts starts m low (call _ kind name arguments vs _ _ _ t _ have instance differs) =
       let r = known name vs kind i j t starts tt (first_low n t none ts refl low) instance in
       let q = subst (λ z. Instance h forms text name vs z i j t r.exposes) r.kinds r.derives in
-      record { later = other; exposes = r.exposes; meets = m; gains = tt;
-        derives = call Plain Plain name arguments vs other i j t r.exposes (subst (λ v. HaveValues text v i arguments vs) m have) q (λ e. cc) }
+      record {
+        later = other;
+        exposes = r.exposes;
+        meets = m;
+        gains = tt;
+        derives = call Plain Plain name arguments vs other i j t r.exposes (subst (λ v. HaveValues text v i arguments vs) m have) q (λ e. cc);
+      }
   leaf_laid x l k env other after i e j ts starts m low (guard _ condition _ _ holds) =
       record { later = other; exposes = []; derives = guard Plain condition other i (subst (λ v. HasValue text v i condition (value.Bool true)) m holds); meets = m; gains = tt }
   leaf_laid x l k env other after i e j ts starts m low (let_be _ name expression v _ _ _ has bound) =
-      record { later = other ++ (name, v) ∷ []; exposes = []; derives = let_be Plain name expression v other (other ++ (name, v) ∷ []) i (subst (λ w. HasValue text w i expression v) m has) refl;
-        meets = bound ∙ ap (λ w. w ++ (name, v) ∷ []) m; gains = tt }
+      record {
+        later = other ++ (name, v) ∷ [];
+        exposes = [];
+        derives = let_be Plain name expression v other (other ++ (name, v) ∷ []) i (subst (λ w. HasValue text w i expression v) m has) refl;
+        meets = bound ∙ ap (λ w. w ++ (name, v) ∷ []) m;
+        gains = tt;
+      }
   leaf_laid x l k env other after i e j ts starts m low derived = absurd l
 
   -- a list, an option, a group, a sequence
   headed : (x y : Symbol) → Alike SameLeaf R (⊥) AnyEntry x y → AtLeaf NoLeaf x → F x y
   headed x y a t =
       alike_follows g shapes h forms text SameEnv (Low n) AnyStarts Syntax Plain (⊥) AnyEntry (fits_any text n) F R (λ x y l f. f) (λ x y f. f) x y
-        (releafed SameLeaf F R (⊥) AnyEntry NoLeaf (λ x y e f. absurd f) x y a t)
+      (releafed SameLeaf F R (⊥) AnyEntry NoLeaf (λ x y e f. absurd f) x y a t)
 
   token_laid : (x : Symbol) → is_token g.decls x ≡ true → R x (then_layout w x)
   token_laid x k env other after i e j ts starts m low derived =
       let p = parted g shapes h forms text n known x env after i e j ts starts (tokens g shapes h forms text decides x k) low derived in
-      let s = in_sequence g shapes h forms text n known x w env after i e j ts declared low p in
-      (j, record { later = after; exposes = s.0; meets = refl; gains = tt;
-        derives = subst (λ v. Derives h forms text Plain (then_layout w x) v i j j ts after s.0) m s.1 })
+      let s = in_sequence g shapes h forms text n known x w env after i e j ts declared low p in (
+        j,
+        record {
+          later = after;
+          exposes = s.0;
+          meets = refl;
+          gains = tt;
+          derives = subst (λ v. Derives h forms text Plain (then_layout w x) v i j j ts after s.0) m s.1;
+        },
+      )
 
   leaf_stays : (x : Symbol) → IsLeaf x → x ≡ laid_inside g.decls w x
   leaf_stays (Literal word) l = refl
@@ -117,11 +132,11 @@ module _ (g : Grammar) (shapes : List Shape) (h : Grammar) (forms : List Shape) 
       choose true k =
           let z : is_token g.decls y ≡ true = token_same g.decls R (⊥) AnyEntry x y a ∙ k in
           subst (λ b. R x (if b then then_layout w y else laid_inside g.decls w y)) (sym z)
-            (subst (λ v. R x (then_layout w v)) (token_kept g.decls R (⊥) AnyEntry x y a k) (token_laid x k))
+          (subst (λ v. R x (then_layout w v)) (token_kept g.decls R (⊥) AnyEntry x y a k) (token_laid x k))
       choose false k =
           let z : is_token g.decls y ≡ false = token_same g.decls R (⊥) AnyEntry x y a ∙ k in
           subst (λ b. R x (if b then then_layout w y else laid_inside g.decls w y)) (sym z)
-            (sim.followed g shapes h forms text SameEnv (Low n) AnyStarts Syntax Plain x (laid_inside g.decls w y) (f k))
+          (sim.followed g shapes h forms text SameEnv (Low n) AnyStarts Syntax Plain x (laid_inside g.decls w y) (f k))
 
   laid_follows : (x y : Symbol) → Alike SameLeaf R (⊥) AnyEntry x y → is_token g.decls x ≡ false → F x (laid_inside g.decls w y)
   laid_follows x y (leaf _ _ l q) k = subst (λ z. F x (laid_inside g.decls w z)) q (subst (F x) (leaf_stays x l) (leaf_laid x l k))
@@ -131,7 +146,7 @@ module _ (g : Grammar) (shapes : List Shape) (h : Grammar) (forms : List Shape) 
       sim.filtered_follows g shapes h forms text SameEnv (Low n) AnyStarts Syntax Plain (⊥) AnyEntry (fits_any text n) filters u (laid_inside g.decls w v) (laid_follows u v a k)
   laid_follows x y (entry_alike bs u v q a) k =
       sim.entry_follows g shapes h forms text SameEnv (Low n) AnyStarts Syntax Plain (⊥) AnyEntry (fits_any text n) bs q u (laid g.decls w v)
-        (chosen u v a (λ k. laid_follows u v a k))
+      (chosen u v a (λ k. laid_follows u v a k))
   laid_follows x y (opt_alike u v p) k = headed x y (opt_alike u v p) tt
   laid_follows x y (star_alike u v p) k = headed x y (star_alike u v p) tt
   laid_follows x y (plus_alike u v p) k = headed x y (plus_alike u v p) tt

@@ -1,11 +1,10 @@
 -- The layout pass's own rule in a syntax declaration derives the same, from the grammar with layout in the open.
-use Rattle.std.proofs.Common.{◌≡◌, ◌∙◌, ℕ, zero, suc, ◌+◌, ◌≤◌, max, List, [], ◌∷◌, ◌++◌, Bool, true, false, refl, sym, ap, subst, arith}
-use Rattle.std.specs.Prelude.{◌≢◌, Some, None, if◌then◌else◌}
-use Rattle.ig_text.specs.Tree.{Tree, Trees, Leaf, Node, none, more, one, join, height, greatest_height}
-use Rattle.ig_expr.specs.Expression.{Expression}
+use Rattle.std.proofs.Common.{◌≡◌, ◌∙◌, ℕ, ◌≤◌, List, [], ◌∷◌, ◌++◌, Bool, true, false, refl, sym, ap, subst, arith}
+use Rattle.std.specs.Prelude.{◌≢◌, Some, if◌then◌else◌}
+use Rattle.ig_text.specs.Tree.{Tree, Trees, Leaf, none, more, one, join, greatest_height}
 use Rattle.ig_expr.specs.declared.value.Value.{Value}
 use Rattle.ig_expr.specs.declared.value.Value.TheVariants as value
-use Rattle.ig_grammar.specs.Symbol.{Symbol, Literal, OneOf, Call, Label, Guard, Let, Opt, Star, Plus, SepStar, SepPlus, Group, Filtered, Seq, Entry, no_symbols, next_symbol}
+use Rattle.ig_grammar.specs.Symbol.{Symbol, Literal, OneOf, Call, Label, Guard, Let, Filtered, Seq, no_symbols, next_symbol}
 use Rattle.ig_meaning.specs.Environment.{Environment, HasValue, HaveValues, no_values}
 use Rattle.ig_grammar.specs.Numbering.{layout_among}
 use Rattle.ig_meaning.specs.Derivation.{Covers, Derives, Instance, Trails}
@@ -102,27 +101,47 @@ module _ (g : Grammar) (shapes : List Shape) (h : Grammar) (forms : List Shape) 
       Derives h forms text Plain x env i e j ts after starts → Tokened x env i e j ts after
   token_back x env after i e j ts starts k low (literal _ word _ _ _ _ us _ _ spelled trails trees exposes) =
       let q = there.nothing e j us trails in
-      record { first = Leaf i e; split = trees ∙ ap (more (Leaf i e)) q.1; whole = q.0;
-        derives = λ k vs behind. literal Syntax word env i e k vs (more (Leaf i e) vs) (i ∷ []) spelled behind refl refl }
+      record {
+        first = Leaf i e;
+        split = trees ∙ ap (more (Leaf i e)) q.1;
+        whole = q.0;
+        derives = λ k vs behind. literal Syntax word env i e k vs (more (Leaf i e) vs) (i ∷ []) spelled behind refl refl;
+      }
   token_back x env after i e j ts starts k low (one_of _ class _ _ _ _ us _ _ among trails trees exposes) =
       let q = there.nothing e j us trails in
-      record { first = Leaf i e; split = trees ∙ ap (more (Leaf i e)) q.1; whole = q.0;
-        derives = λ k vs behind. one_of Syntax class env i e k vs (more (Leaf i e) vs) (i ∷ []) among behind refl refl }
+      record {
+        first = Leaf i e;
+        split = trees ∙ ap (more (Leaf i e)) q.1;
+        whole = q.0;
+        derives = λ k vs behind. one_of Syntax class env i e k vs (more (Leaf i e) vs) (i ∷ []) among behind refl refl;
+      }
   token_back x env after i e j ts starts k low (token _ name arguments vs _ _ _ _ t us _ ks _ have instance trails trees exposes) =
       absurd (lexical_is_other (plain name vs Lexical i e t ks instance))
   token_back x env after i e j ts starts (call_token _ _ lexical) low (call _ kind name arguments vs _ _ _ t _ have instance differs) =
       let r = known name vs kind i j t starts tt (first_low n t none ts refl low) instance in
       let q = subst (λ z. Instance g shapes text name vs z i j t r.exposes) (lexical vs r.other i j t r.exposes r.derives) r.derives in
-      record { first = t; split = refl; whole = refl;
-        derives = λ k us behind. token Syntax name arguments vs env i j k t us (more t us) r.exposes (i ∷ []) have q behind refl refl }
+      record {
+        first = t;
+        split = refl;
+        whole = refl;
+        derives = λ k us behind. token Syntax name arguments vs env i j k t us (more t us) r.exposes (i ∷ []) have q behind refl refl;
+      }
   token_back x env after i e j ts starts (label_token name y k) low (label _ _ _ _ between _ _ _ _ _ _ inner bound) =
       let r = token_back y env between i e j ts starts k low inner in
-      record { first = r.first; split = r.split; whole = r.whole;
-        derives = λ k us behind. label Syntax name y env between after i e k (more r.first us) (i ∷ []) (r.derives k us behind) bound }
+      record {
+        first = r.first;
+        split = r.split;
+        whole = r.whole;
+        derives = λ k us behind. label Syntax name y env between after i e k (more r.first us) (i ∷ []) (r.derives k us behind) bound;
+      }
   token_back x env after i e j ts starts (filtered_token y fs k) low (filtered _ _ _ _ _ _ _ _ _ _ inner passes) =
       let r = token_back y env after i e j ts starts k low inner in
-      record { first = r.first; split = r.split; whole = r.whole;
-        derives = λ k us behind. filtered Syntax y fs env after i e k (more r.first us) (i ∷ []) (r.derives k us behind) passes }
+      record {
+        first = r.first;
+        split = r.split;
+        whole = r.whole;
+        derives = λ k us behind. filtered Syntax y fs env after i e k (more r.first us) (i ∷ []) (r.derives k us behind) passes;
+      }
   token_back x env after i e j ts starts k low other = absurd (token_shape k)
 
   -- the call behind it is what stands behind a token
@@ -146,10 +165,17 @@ module _ (g : Grammar) (shapes : List Shape) (h : Grammar) (forms : List Shape) 
       let a = token_back x env p.between i p.own p.middle p.us p.ks (tokens g shapes h forms text decides x k) (omega (arith, all, both)) p.first in
       let b = behind p.between after p.middle p.later j p.vs p.ls (omega (arith, all, both)) p.second in
       let trees : ts ≡ more a.first p.vs = p.split ∙ ap (λ z. join z p.vs) a.split in
-      let d = a.derives j p.vs (subst (λ z. Trails g shapes text Syntax z j p.vs) (sym a.whole) b.trails) in
-      (p.own, record { later = p.between; exposes = i ∷ []; meets = b.same; gains = tt;
-        derives = subst (λ z. Derives g shapes text Syntax x z i p.own j ts p.between (i ∷ [])) m
-          (subst (λ z. Derives g shapes text Syntax x env i p.own j z p.between (i ∷ [])) (sym trees) d) })
+      let d = a.derives j p.vs (subst (λ z. Trails g shapes text Syntax z j p.vs) (sym a.whole) b.trails) in (
+        p.own,
+        record {
+          later = p.between;
+          exposes = i ∷ [];
+          meets = b.same;
+          gains = tt;
+          derives = subst (λ z. Derives g shapes text Syntax x z i p.own j ts p.between (i ∷ [])) m
+              (subst (λ z. Derives g shapes text Syntax x env i p.own j z p.between (i ∷ [])) (sym trees) d);
+        },
+      )
 
   leaf_back : (x : Symbol) → IsLeaf x → is_token g.decls x ≡ false → F x x
   leaf_back x l k env other after i e j ts starts m low (literal _ word _ _ _ _ us _ _ spelled trails trees exposes) = absurd (cc)
@@ -158,14 +184,24 @@ module _ (g : Grammar) (shapes : List Shape) (h : Grammar) (forms : List Shape) 
       absurd (lexical_is_other (plain name vs Lexical i e t ks instance))
   leaf_back x l k env other after i e j ts starts m low (call _ kind name arguments vs _ _ _ t _ have instance differs) =
       let r = known name vs kind i j t starts tt (first_low n t none ts refl low) instance in
-      record { later = other; exposes = r.exposes; meets = m; gains = tt;
+      record {
+        later = other;
+        exposes = r.exposes;
+        meets = m;
+        gains = tt;
         derives = call Syntax r.other name arguments vs other i j t r.exposes (subst (λ v. HaveValues text v i arguments vs) m have) r.derives
-          (decides.other name k vs r.other i j t r.exposes r.derives) }
+            (decides.other name k vs r.other i j t r.exposes r.derives);
+      }
   leaf_back x l k env other after i e j ts starts m low (guard _ condition _ _ holds) =
       record { later = other; exposes = []; derives = guard Syntax condition other i (subst (λ v. HasValue text v i condition (value.Bool true)) m holds); meets = m; gains = tt }
   leaf_back x l k env other after i e j ts starts m low (let_be _ name expression v _ _ _ has bound) =
-      record { later = other ++ (name, v) ∷ []; exposes = []; derives = let_be Syntax name expression v other (other ++ (name, v) ∷ []) i (subst (λ w. HasValue text w i expression v) m has) refl;
-        meets = bound ∙ ap (λ w. w ++ (name, v) ∷ []) m; gains = tt }
+      record {
+        later = other ++ (name, v) ∷ [];
+        exposes = [];
+        derives = let_be Syntax name expression v other (other ++ (name, v) ∷ []) i (subst (λ w. HasValue text w i expression v) m has) refl;
+        meets = bound ∙ ap (λ w. w ++ (name, v) ∷ []) m;
+        gains = tt;
+      }
   leaf_back x l k env other after i e j ts starts m low derived = absurd l
 
   abbrev pub Q : Symbol → Symbol → Type 0
@@ -177,8 +213,8 @@ module _ (g : Grammar) (shapes : List Shape) (h : Grammar) (forms : List Shape) 
   headed : (x y : Symbol) → Alike SameLeaf Q (⊥) AnyEntry x y → AtLeaf NoLeaf x → F y x
   headed x y a t =
       alike_follows h forms g shapes text SameEnv (Low n) AnyStarts Plain Syntax (⊥) AnyEntry (fits_any text n) F R (λ x y l f. f) (λ x y f. f) y x
-        (turned K Q F R (⊥) AnyEntry (λ x y l. l.1) (λ x y l. l.0) (λ x y f. f) x y
-          (releafed SameLeaf K Q (⊥) AnyEntry NoLeaf (λ x y e f. absurd f) x y a t))
+      (turned K Q F R (⊥) AnyEntry (λ x y l. l.1) (λ x y l. l.0) (λ x y f. f) x y
+      (releafed SameLeaf K Q (⊥) AnyEntry NoLeaf (λ x y e f. absurd f) x y a t))
 
   leaf_stays : (x : Symbol) → IsLeaf x → x ≡ laid_inside g.decls w x
   leaf_stays (Literal word) l = refl
@@ -195,11 +231,11 @@ module _ (g : Grammar) (shapes : List Shape) (h : Grammar) (forms : List Shape) 
       choose true k =
           let z : is_token g.decls y ≡ true = token_same g.decls Q (⊥) AnyEntry x y a ∙ k in
           subst (λ b. R (if b then then_layout w y else laid_inside g.decls w y) x) (sym z)
-            (subst (λ v. R (then_layout w v) x) (token_kept g.decls Q (⊥) AnyEntry x y a k) (token_replaced x k))
+          (subst (λ v. R (then_layout w v) x) (token_kept g.decls Q (⊥) AnyEntry x y a k) (token_replaced x k))
       choose false k =
           let z : is_token g.decls y ≡ false = token_same g.decls Q (⊥) AnyEntry x y a ∙ k in
           subst (λ b. R (if b then then_layout w y else laid_inside g.decls w y) x) (sym z)
-            (sim.followed h forms g shapes text SameEnv (Low n) AnyStarts Plain Syntax (laid_inside g.decls w y) x (f k))
+          (sim.followed h forms g shapes text SameEnv (Low n) AnyStarts Plain Syntax (laid_inside g.decls w y) x (f k))
 
   back_follows : (x y : Symbol) → Alike SameLeaf Q (⊥) AnyEntry x y → is_token g.decls x ≡ false → F (laid_inside g.decls w y) x
   back_follows x y (leaf _ _ l q) k = subst (λ z. F (laid_inside g.decls w z) x) q (subst (λ z. F z x) (leaf_stays x l) (leaf_back x l k))
@@ -209,7 +245,7 @@ module _ (g : Grammar) (shapes : List Shape) (h : Grammar) (forms : List Shape) 
       sim.filtered_follows h forms g shapes text SameEnv (Low n) AnyStarts Plain Syntax (⊥) AnyEntry (fits_any text n) filters (laid_inside g.decls w v) u (back_follows u v a k)
   back_follows x y (entry_alike bs u v q a) k =
       sim.entry_follows h forms g shapes text SameEnv (Low n) AnyStarts Plain Syntax (⊥) AnyEntry (fits_any text n) bs q (laid g.decls w v) u
-        (chosen u v a (λ k. back_follows u v a k))
+      (chosen u v a (λ k. back_follows u v a k))
   back_follows x y (opt_alike u v p) k = headed x y (opt_alike u v p) tt
   back_follows x y (star_alike u v p) k = headed x y (star_alike u v p) tt
   back_follows x y (plus_alike u v p) k = headed x y (plus_alike u v p) tt

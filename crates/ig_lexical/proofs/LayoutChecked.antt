@@ -1,10 +1,10 @@
 -- The layout pass keeps a checked grammar checked.
-use Rattle.std.proofs.Common.{◌≡◌, ◌∙◌, ℕ, ◌<◌, List, [], ◌∷◌, ◌++◌, Option, Some, None, Bool, true, false, refl, sym, ap, subst, arith, length, inl, inr}
+use Rattle.std.proofs.Common.{◌≡◌, ◌∙◌, ℕ, List, [], ◌∷◌, Option, Some, None, Bool, true, false, refl, sym, ap, subst, arith, length, inl, inr}
 use Rattle.std.specs.Prelude.{◌⊎◌, All, Contains, slice_get, if◌then◌else◌}
 use Rattle.std.proofs.lemmas.List.Elements.{All-nil, All-cons}
 use Rattle.std.proofs.lemmas.Option.{slice_get_within}
-use Rattle.ig_text.proofs.Lists.{contains_one, contains_from_at, place_cases}
-use Rattle.ig_grammar.specs.Symbol.{Symbol, Call}
+use Rattle.ig_text.proofs.Lists.{contains_one, place_cases}
+use Rattle.ig_grammar.specs.Symbol.{Call}
 use Rattle.ig_grammar.specs.Numbering.{alternatives, layout_among}
 use Rattle.ig_grammar.specs.Checked.{CheckedGrammar, FitShapes, IsCall}
 use Rattle.ig_grammar.specs.WellScoped.{IsWellScoped}
@@ -43,6 +43,7 @@ root_of_calls c rootless fit before decl a at shaped syntactic m =
   where
     r : Decl
     r = root_declaration Syntax c.grammar
+
     go : (slice_get c.grammar.decls before ≡ Some decl) ⊎ ((before ≡ length c.grammar.decls) × (r ≡ decl)) →
         (slice_get c.shapes before ≡ Some shape.Root) ⊎ ((before ≡ length c.shapes) × (shape.Root ≡ shape.Root)) → All IsCall a.symbols
     go x (inl e) = absurd (no_root_shape c.shapes before rootless e)
@@ -60,9 +61,10 @@ layout_checked given c scoped fit none alone fresh = go (has_root c.shapes) refl
     go : (b : Bool) → has_root c.shapes ≡ b → IsChecked (LayoutOf c)
     go true e =
         subst (λ d. IsChecked (laid_of d)) (sym (ap (λ b. if b then c else with_root Syntax c) e))
-          (laid_is_well_scoped c.grammar given.forms given.found scoped none, laid_fits given.forms given.found c.grammar c.shapes scoped none fit alone)
+        (laid_is_well_scoped given.forms given.found c.grammar scoped none, laid_fits given.forms given.found c.grammar c.shapes scoped none fit alone)
     go false e =
         let r = given.rooting c scoped fit e (λ m. let t : false ≡ true = sym e ∙ fresh m in cc) in
-        subst (λ d. IsChecked (laid_of d)) (sym (ap (λ b. if b then c else with_root Syntax c) e))
-          (laid_is_well_scoped (with_root Syntax c).grammar given.forms given.found r.scoped (r.unmarked none),
-            laid_fits given.forms given.found (with_root Syntax c).grammar (with_root Syntax c).shapes r.scoped (r.unmarked none) r.fit (root_of_calls c e fit))
+        subst (λ d. IsChecked (laid_of d)) (sym (ap (λ b. if b then c else with_root Syntax c) e)) (
+          laid_is_well_scoped given.forms given.found (with_root Syntax c).grammar r.scoped (r.unmarked none),
+          laid_fits given.forms given.found (with_root Syntax c).grammar (with_root Syntax c).shapes r.scoped (r.unmarked none) r.fit (root_of_calls c e fit),
+        )

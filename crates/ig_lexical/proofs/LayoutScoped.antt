@@ -1,197 +1,60 @@
 -- The layout pass keeps a grammar well scoped.
-use Rattle.std.proofs.Common.{◌≡◌, ◌∙◌, ℕ, zero, suc, ◌+◌, ◌<◌, List, [], ◌∷◌, ◌++◌, Option, Some, None, Bool, cond, map, take, length, refl, sym, ap, subst, arith}
-use Rattle.std.specs.Prelude.{◌≢◌, Contains, slice_get, option_map, option_and_then, count_by}
-use Rattle.std.proofs.lemmas.List.{take-map}
-use Rattle.std.proofs.lemmas.List.Sums.{sum_by-cons}
-use Rattle.std.proofs.lemmas.Option.{slice_get-map}
-use Rattle.ig_expr.specs.Names.{place_of}
-use Rattle.ig_grammar.specs.Symbol.{Symbol, Symbols, Call, Seq, gathered}
-use Rattle.ig_grammar.specs.Name.{is_name}
-use Rattle.ig_grammar.specs.Names.{names}
-use Rattle.ig_grammar.specs.Visible.{Visible, Occurrence, inside_sequence, parameters}
+use Rattle.std.proofs.Common.{◌≡◌, ℕ, suc, List, [], Option, Some, None, refl, subst}
+use Rattle.ig_text.proofs.Lists.{none_in_nil}
+use Rattle.ig_grammar.specs.Symbol.{Symbol, Symbols, Call, Seq}
+use Rattle.ig_grammar.specs.Visible.{Visible}
+use Rattle.ig_grammar.specs.Laws.{RegularityByForm}
 use Rattle.ig_grammar.specs.Regular.{AlternativesHaveNoMark, OfEachLevel}
-use Rattle.ig_grammar.specs.Condition.{Condition, SymbolMeets, AlternativeMeets, HeadMeets, StartMeets, IsInLexical, declaration_of, symbols_of, binds_name, named_parameters, most_variables}
+use Rattle.ig_grammar.specs.Condition.{declaration_of}
 use Rattle.ig_grammar.specs.Condition as meets
-use Rattle.ig_grammar.specs.Numbering.{Levelled, by_level, IsAlternative, alternatives, layout_among}
-use Rattle.ig_grammar.specs.WellScoped.{IsWellScoped, GrammarHas, DeclarationHas, AlternativeHas}
-use Rattle.ig_grammar.specs.declared.symbol.Alt.{Alt}
+use Rattle.ig_grammar.specs.Numbering.{layout_among}
+use Rattle.ig_grammar.specs.WellScoped.{IsWellScoped}
 use Rattle.ig_grammar.specs.declared.declaration.DeclKind.{DeclKind}
 use Rattle.ig_grammar.specs.declared.declaration.DeclKind.TheVariants.{Syntax, Lexical, Layout, Plain}
-use Rattle.ig_grammar.specs.declared.declaration.Level.{Level}
 use Rattle.ig_grammar.specs.declared.declaration.Decl.{Decl}
 use Rattle.ig_grammar.specs.declared.grammar.Grammar.{Grammar}
-use Rattle.ig_rewrite.specs.Rewriting.{rewritten, rewritten_alternative, rewritten_level}
-use Rattle.ig_lexical.proofs.Meeting.{Fine, SameDeclared, head_meets, none_met, alternatives_by_level, alternative_at, layout_there, no_parameters, call_fine}
-use Rattle.ig_text.proofs.Lists.{contains_from_at}
-use Rattle.ig_lexical.proofs.Occurrences.{placed_symbols, of_placed_symbols}
-use Rattle.ig_lexical.proofs.Pass.{taken_back, rewritten_by_level, levels_rewritten}
-use Rattle.ig_lexical.proofs.Placing.{SameHead}
 use Rattle.ig_rewrite.specs.Found.{DeclarationsAreFound}
-use Rattle.ig_grammar.specs.Laws.{RegularityByForm}
-use Rattle.ig_lexical.specs.Layout.{laid_in, laid_declaration, laid_grammar}
-use Rattle.ig_lexical.proofs.Unmarked.{everywhere}
-use Rattle.ig_lexical.proofs.Keeping.{Keeps, symbols_kept, same_keeps, laid_keeps}
-use Rattle.ig_lexical.proofs.Counting.{binders, same_count, laid_binders}
-
-none_in : {X : Type 0} (x : X) → Contains [] x → ⊥
-none_in x m = let l = m.1 in absurd (omega (arith, l))
-
-same_declared : (ds : List Decl) → SameDeclared ds ds
-same_declared ds = record { undeclared = λ name e. e; declared = λ name d e. (d, e, refl, refl) }
+use Rattle.ig_lexical.specs.Layout.{laid_in, laid_grammar}
+use Rattle.ig_lexical.proofs.Meeting.{Fine, layout_there, no_parameters, call_fine}
+use Rattle.ig_lexical.proofs.Keeping.{Keeps, same_keeps, laid_keeps}
+use Rattle.ig_lexical.proofs.Counting.{binders, laid_binders}
+use Rattle.ig_lexical.proofs.RewrittenScoped.{KeepsKinds, heads, turned_is_well_scoped}
 
 seq_fine : (decls : List Decl) (kind : DeclKind) (v : Visible) (xs : Symbols) → Fine decls kind v (Seq xs)
-seq_fine decls kind v xs c (meets.unknown_variable _ e m u) = none_in e m
-seq_fine decls kind v xs c (meets.no_kind _ e m k) = none_in e m
+seq_fine decls kind v xs c (meets.unknown_variable _ e m u) = none_in_nil e m
+seq_fine decls kind v xs c (meets.no_kind _ e m k) = none_in_nil e m
 
--- the alternative that was rewritten
-pub alternative_before : (own : Symbol → Symbol) (levels : List Level) (k : ℕ) (b : Alt) → slice_get (alternatives (map (rewritten_level own) levels)) k ≡ Some b →
-    (a : Levelled) × (slice_get (by_level levels) k ≡ Some a) × (b ≡ rewritten_alternative own a.alternative)
-alternative_before own levels k b e =
-    let r = taken_back (λ a. a.alternative) (by_level (map (rewritten_level own) levels)) k b (ap (λ xs. slice_get xs k) (alternatives_by_level (map (rewritten_level own) levels)) ∙ e) in
-    let s = taken_back (rewritten_by_level own) (by_level levels) k r.0 (ap (λ xs. slice_get xs k) (sym (levels_rewritten own levels)) ∙ r.1) in
-    (s.0, s.1, r.2 ∙ ap (λ z. z.alternative) s.2)
+pub plain_kinds : KeepsKinds (λ kind. Plain)
+plain_kinds = record { lexical = λ k i. absurd i; syntax = λ k e. cc; layout = λ k e. cc }
 
-module _ (g : Grammar) where
-  names_kept : (decls : List Decl) → names (map (laid_declaration g) decls) ≡ names decls
-  names_kept [] = refl
-  names_kept (d ∷ ds) = ap (λ ns. d.name ∷ ns) (names_kept ds)
+module _ (forms : RegularityByForm) (found : DeclarationsAreFound) (g : Grammar) (scoped : IsWellScoped g) (none : OfEachLevel AlternativesHaveNoMark g) where
+  layout_fine : (w : List ℕ) → layout_among g.decls ≡ Some w → (v : Visible) → Fine g.decls Syntax v (Call w [])
+  layout_fine w e v =
+      let l = layout_there g.decls w e in
+      call_fine g.decls Syntax v w l.1 (λ i. i) (subst (λ n. declaration_of g.decls n ≡ Some l.1) l.3 (found.itself g l.0 l.1 scoped l.2))
+      (no_parameters l.1.params (λ some. scoped (record { decl = suc l.0; alt = 0; symbol = 0 }) meets.LayoutNotPlain (l.1, l.2, meets.layout_not_plain l.4 (meets.parametrized some))))
 
-  count_kept : (decls : List Decl) → count_by (λ d. is_name d.name) (map (laid_declaration g) decls) ≡ count_by (λ d. is_name d.name) decls
-  count_kept [] = refl
-  count_kept (d ∷ ds) =
-      sum_by-cons (λ e. cond (is_name e.name) 1 0) (laid_declaration g d) (map (laid_declaration g) ds) ∙ ap (λ n. cond (is_name d.name) 1 0 + n) (count_kept ds) ∙
-      sym (sum_by-cons (λ e. cond (is_name e.name) 1 0) d ds)
-
-  found_along : (decls : List Decl) (p : Option ℕ) →
-      option_and_then (slice_get (map (laid_declaration g) decls)) p ≡ option_map (laid_declaration g) (option_and_then (slice_get decls) p)
-  found_along decls None = refl
-  found_along decls (Some k) = slice_get-map (laid_declaration g) decls k
-
-  pub declaration_along : (decls : List Decl) (name : List ℕ) →
-      declaration_of (map (laid_declaration g) decls) name ≡ option_map (laid_declaration g) (declaration_of decls name)
-  declaration_along decls name =
-      ap (λ ns. option_and_then (slice_get (map (laid_declaration g) decls)) (place_of ns name)) (names_kept decls) ∙ found_along decls (place_of (names decls) name)
-
-  abbrev Before : List ℕ → Decl → Type 0
-  Before name e = (d : Decl) × (declaration_of g.decls name ≡ Some d) × (e ≡ laid_declaration g d)
-
-  declared_before : (name : List ℕ) (e : Decl) → declaration_of (laid_grammar g).decls name ≡ Some e → Before name e
-  declared_before name e f = go (declaration_of g.decls name) refl (sym (declaration_along g.decls name) ∙ f)
+  keeps_in : (kind : DeclKind) → Keeps (Fine g.decls kind) (heads g kind) (laid_in (layout_among g.decls) g.decls kind)
+  keeps_in kind = go (layout_among g.decls) refl kind
     where
-      go : (o : Option Decl) → declaration_of g.decls name ≡ o → option_map (laid_declaration g) o ≡ Some e → Before name e
-      go None q f = absurd (cc)
-      go (Some d) q f = (d, q, cc)
+      go : (o : Option (List ℕ)) → layout_among g.decls ≡ o → (kind : DeclKind) → Keeps (Fine g.decls kind) (heads g kind) (laid_in o g.decls kind)
+      go (Some w) e Syntax = laid_keeps (Fine g.decls Syntax) (heads g Syntax) g.decls w (seq_fine g.decls Syntax) (layout_fine w e)
+      go (Some w) e Lexical = same_keeps (Fine g.decls Lexical) (heads g Lexical)
+      go (Some w) e Layout = same_keeps (Fine g.decls Layout) (heads g Layout)
+      go (Some w) e Plain = same_keeps (Fine g.decls Plain) (heads g Plain)
+      go None e kind = same_keeps (Fine g.decls kind) (heads g kind)
 
-  undeclared_before : (name : List ℕ) → declaration_of (laid_grammar g).decls name ≡ None → declaration_of g.decls name ≡ None
-  undeclared_before name f = go (declaration_of g.decls name) refl (sym (declaration_along g.decls name) ∙ f)
+  binders_in : (kind : DeclKind) (x : Symbol) → binders (laid_in (layout_among g.decls) g.decls kind x) ≡ binders x
+  binders_in kind x = go (layout_among g.decls) kind
     where
-      go : (o : Option Decl) → declaration_of g.decls name ≡ o → option_map (laid_declaration g) o ≡ None → declaration_of g.decls name ≡ None
-      go None q f = q
-      go (Some d) q f = absurd (cc)
+      go : (o : Option (List ℕ)) (kind : DeclKind) → binders (laid_in o g.decls kind x) ≡ binders x
+      go (Some w) Syntax = laid_binders g.decls w x
+      go (Some w) Lexical = refl
+      go (Some w) Layout = refl
+      go (Some w) Plain = refl
+      go None kind = refl
 
-  params_before : (name : List ℕ) (e : Decl) (b : Before name e) → e.params ≡ b.0.params
-  params_before name e b = ap (λ z. z.params) b.2
-
-  -- what holds at a symbol of a plain declaration held there
-  meets_before : (kind : DeclKind) (v : Visible) (x : Symbol) (c : Condition) → SymbolMeets (laid_grammar g).decls Plain v x c → SymbolMeets g.decls kind v x c
-  meets_before kind v x c (meets.unknown_name name arguments none) = meets.unknown_name name arguments (undeclared_before name none)
-  meets_before kind v x c (meets.wrong_arity name arguments callee found differs) =
-      let b = declared_before name callee found in meets.wrong_arity name arguments b.0 b.1 (λ e. differs (e ∙ ap length (sym (params_before name callee b))))
-  meets_before kind v x c (meets.unknown_variable _ e m u) = meets.unknown_variable x e m u
-  meets_before kind v x c (meets.duplicate_label name y m) = meets.duplicate_label name y m
-  meets_before kind v x c (meets.duplicate_let name e m) = meets.duplicate_let name e m
-  meets_before kind v x c (meets.no_kind _ e m k) = meets.no_kind x e m k
-  meets_before kind v x c (meets.guard_kind e k) = meets.guard_kind e k
-  meets_before kind v x c (meets.argument_kind name arguments callee k e p found a b differs) =
-      let r = declared_before name callee found in
-      meets.argument_kind name arguments r.0 k e p r.1 a (ap (λ ps. slice_get ps k) (sym (params_before name callee r)) ∙ b) differs
-  meets_before kind v x c (meets.align_not_list y f) = meets.align_not_list y f
-  meets_before kind v x c (meets.offside_in_lexical y i) = absurd i
-  meets_before kind v x c (meets.ignore_in_lexical y i) = absurd i
-  meets_before kind v x c (meets.align_in_lexical y i) = absurd i
-  meets_before kind v x c (meets.syntax_in_lexical name arguments callee i found s) = absurd i
-
-  start_before : (c : Condition) → StartMeets (laid_grammar g) c → StartMeets g c
-  start_before c (meets.unknown_start name started none) = meets.unknown_start name started (undeclared_before name none)
-  start_before c (meets.no_start none) = meets.no_start none
-  start_before c (meets.start_has_parameters name decl started found some) =
-      let b = declared_before name decl found in meets.start_has_parameters name b.0 started b.1 (λ e. some (params_before name decl b ∙ e))
-
-  head_before : (b : ℕ) (decl : Decl) (c : Condition) → HeadMeets (laid_grammar g).decls b (laid_declaration g decl) c → HeadMeets g.decls b decl c
-  head_before b decl c (meets.duplicate_name m) =
-      meets.duplicate_name (subst (λ ns. Contains ns decl.name) (ap names (take-map (laid_declaration g) b g.decls) ∙ names_kept (take b g.decls)) m)
-  head_before b decl c (meets.duplicate_parameter k p e m) = meets.duplicate_parameter k p e m
-  head_before b decl c (meets.layout_not_plain k n) = absurd (cc)
-  head_before b decl c (meets.too_many_nonterminals n e) =
-      meets.too_many_nonterminals n (sym (ap (count_by (λ d. is_name d.name)) (take-map (laid_declaration g) b g.decls) ∙ count_kept (take b g.decls)) ∙ e)
-  head_before b decl c (meets.too_many_parameters n l) = meets.too_many_parameters n l
-
-  module _ (forms : RegularityByForm) (found : DeclarationsAreFound) (scoped : IsWellScoped g) (none : OfEachLevel AlternativesHaveNoMark g) where
-    heads : (kind : DeclKind) (v : Visible) (x y : Symbol) → SameHead x y → Fine g.decls kind v x → Fine g.decls kind v y
-    heads kind v x y same fine c m = fine c (head_meets g.decls g.decls kind v x y (same_declared g.decls) same c m)
-
-    layout_fine : (w : List ℕ) → layout_among g.decls ≡ Some w → (v : Visible) → Fine g.decls Syntax v (Call w [])
-    layout_fine w e v =
-        let l = layout_there g.decls w e in
-        call_fine g.decls Syntax v w l.1 (λ i. i) (subst (λ n. declaration_of g.decls n ≡ Some l.1) l.3 (found.itself g l.0 l.1 scoped l.2))
-          (no_parameters l.1.params (λ some. scoped (record { decl = suc l.0; alt = 0; symbol = 0 }) meets.LayoutNotPlain (l.1, l.2, meets.layout_not_plain l.4 (meets.parametrized some))))
-
-    keeps_in : (kind : DeclKind) → Keeps (Fine g.decls kind) (heads kind) (laid_in (layout_among g.decls) g.decls kind)
-    keeps_in kind = go (layout_among g.decls) refl kind
-      where
-        go : (o : Option (List ℕ)) → layout_among g.decls ≡ o → (kind : DeclKind) → Keeps (Fine g.decls kind) (heads kind) (laid_in o g.decls kind)
-        go (Some w) e Syntax = laid_keeps (Fine g.decls Syntax) (heads Syntax) g.decls w (seq_fine g.decls Syntax) (layout_fine w e)
-        go (Some w) e Lexical = same_keeps (Fine g.decls Lexical) (heads Lexical)
-        go (Some w) e Layout = same_keeps (Fine g.decls Layout) (heads Layout)
-        go (Some w) e Plain = same_keeps (Fine g.decls Plain) (heads Plain)
-        go None e kind = same_keeps (Fine g.decls kind) (heads kind)
-
-    binders_in : (kind : DeclKind) (x : Symbol) → binders (laid_in (layout_among g.decls) g.decls kind x) ≡ binders x
-    binders_in kind x = go (layout_among g.decls) kind
-      where
-        go : (o : Option (List ℕ)) (kind : DeclKind) → binders (laid_in o g.decls kind x) ≡ binders x
-        go (Some w) Syntax = laid_binders g.decls w x
-        go (Some w) Lexical = refl
-        go (Some w) Layout = refl
-        go (Some w) Plain = refl
-        go None kind = refl
-
-    abbrev own : Decl → Symbol → Symbol
-    own decl = laid_in (layout_among g.decls) g.decls decl.kind
-
-    -- at no symbol of a rewritten alternative a condition holds
-    none_met_there : (b k : ℕ) (decl : Decl) (a : Levelled) → slice_get g.decls b ≡ Some decl → IsAlternative decl k a →
-        (o : Occurrence) → Contains (symbols_of (laid_declaration g decl) (rewritten_alternative (own decl) a.alternative)) o → Fine g.decls decl.kind o.visible o.symbol
-    none_met_there b k decl a declared numbered =
-        of_placed_symbols (Fine g.decls decl.kind) (gathered (map (rewritten (own decl)) a.alternative.symbols)) (parameters decl.params)
-          (symbols_kept (Fine g.decls decl.kind) (heads decl.kind) (own decl) (keeps_in decl.kind) a.alternative.symbols
-            (everywhere forms g none decl k a (contains_from_at g.decls b decl declared) numbered) (parameters decl.params)
-            (placed_symbols (Fine g.decls decl.kind) (gathered a.alternative.symbols) (parameters decl.params)
-              (λ o m c met. none_met g scoped b k decl a declared numbered o m c met)))
-
-    symbol_there : (b k s : ℕ) (decl : Decl) (a : Levelled) (c : Condition) → slice_get g.decls b ≡ Some decl → slice_get (by_level decl.levels) k ≡ Some a →
-        AlternativeHas (laid_grammar g).decls (laid_declaration g decl) (rewritten_alternative (own decl) a.alternative) s c → ⊥
-    symbol_there b k zero decl a c e f (meets.too_many_variables n l) =
-        scoped (record { decl = suc b; alt = suc k; symbol = 0 }) (meets.TooMany meets.Variables) (decl, e, (a.alternative, alternative_at decl.levels k a f,
-          meets.too_many_variables n (subst (λ m. most_variables < named_parameters decl + m) (same_count (own decl) (binders_in decl.kind) a.alternative.symbols (parameters decl.params)) l)))
-    symbol_there b k (suc s) decl a c e f m =
-        none_met_there b (suc k) decl a e (k, refl, f) m.0
-          (contains_from_at (symbols_of (laid_declaration g decl) (rewritten_alternative (own decl) a.alternative)) s m.0 m.1) c (meets_before decl.kind m.0.visible m.0.symbol c m.2)
-
-    declaration_there : (b a s : ℕ) (decl : Decl) (c : Condition) → slice_get g.decls b ≡ Some decl → DeclarationHas (laid_grammar g).decls b (laid_declaration g decl) a s c → ⊥
-    declaration_there b zero zero decl c e m = scoped (record { decl = suc b; alt = 0; symbol = 0 }) c (decl, e, head_before b decl c m)
-    declaration_there b zero (suc s) decl c e m = m
-    declaration_there b (suc k) s decl c e m =
-        let r = alternative_before (own decl) decl.levels k m.0 m.1 in
-        symbol_there b k s decl r.0 c e r.1 (subst (λ z. AlternativeHas (laid_grammar g).decls (laid_declaration g decl) z s c) r.2 m.2)
-
-    pub laid_is_well_scoped : IsWellScoped (laid_grammar g)
-    laid_is_well_scoped place c has = go place.decl place.alt place.symbol has
-      where
-        go : (d a s : ℕ) → GrammarHas (laid_grammar g) d a s c → ⊥
-        go zero zero zero m = scoped (record { decl = 0; alt = 0; symbol = 0 }) c (start_before c m)
-        go zero zero (suc s) m = m
-        go zero (suc a) s m = m
-        go (suc b) a s m =
-            let r = taken_back (laid_declaration g) g.decls b m.0 m.1 in
-            declaration_there b a s r.0 c r.1 (subst (λ z. DeclarationHas (laid_grammar g).decls b z a s c) r.2 m.2)
+  pub laid_is_well_scoped : IsWellScoped (laid_grammar g)
+  laid_is_well_scoped =
+      turned_is_well_scoped (λ kind. Plain) (λ decl. laid_in (layout_among g.decls) g.decls decl.kind) plain_kinds g forms scoped none
+      (λ decl. keeps_in decl.kind) (λ decl x. binders_in decl.kind x)

@@ -97,18 +97,33 @@ module _ (g : Grammar) (shapes : List Shape) (h : Grammar) (forms : List Shape) 
       record { later = other; exposes = starts; derives = one_of c class other i e j us ts starts among (trails_too c e j us (under (Leaf i e) us ts trees low) trails) trees exposes; meets = m; gains = kept starts ts }
   leaf_follows c x l q env other after i e j ts starts m low (token _ name arguments vs _ _ _ _ t us _ ks _ have instance trails trees exposes) =
       let r = known name vs Lexical i e t ks q (first_under t us ts trees low) instance in
-      record { later = other; exposes = starts;
+      record {
+        later = other;
+        exposes = starts;
         derives = token c name arguments vs other i e j t us ts r.exposes starts (subst (λ v. HaveValues text v i arguments vs) m have)
-          (subst (λ k. Instance h forms text name vs k i e t r.exposes) (sym r.kinds) r.derives)
-          (trails_too c e j us (under t us ts trees low) trails) trees exposes; meets = m; gains = kept starts ts }
+            (subst (λ k. Instance h forms text name vs k i e t r.exposes) (sym r.kinds) r.derives)
+            (trails_too c e j us (under t us ts trees low) trails) trees exposes;
+        meets = m;
+        gains = kept starts ts;
+      }
   leaf_follows c x l q env other after i e j ts starts m low (call _ kind name arguments vs _ _ _ t _ have instance differs) =
       let r = known name vs kind i j t starts q (first_under t none ts refl low) instance in
-      record { later = other; exposes = r.exposes;
+      record {
+        later = other;
+        exposes = r.exposes;
         derives = call c kind name arguments vs other i j t r.exposes (subst (λ v. HaveValues text v i arguments vs) m have)
-          (subst (λ k. Instance h forms text name vs k i j t r.exposes) (sym r.kinds) r.derives) differs; meets = m; gains = r.gains }
+            (subst (λ k. Instance h forms text name vs k i j t r.exposes) (sym r.kinds) r.derives) differs;
+        meets = m;
+        gains = r.gains;
+      }
   leaf_follows c x l q env other after i e j ts starts m low (guard _ condition _ _ holds) =
       record { later = other; exposes = []; derives = guard c condition other i (subst (λ v. HasValue text v i condition (value.Bool true)) m holds); meets = m; gains = kept [] none }
   leaf_follows c x l q env other after i e j ts starts m low (let_be _ name expression v _ _ _ has bound) =
-      record { later = other ++ (name, v) ∷ []; exposes = []; derives = let_be c name expression v other (other ++ (name, v) ∷ []) i (subst (λ w. HasValue text w i expression v) m has) refl;
-        meets = bound ∙ ap (λ w. w ++ (name, v) ∷ []) m; gains = kept [] none }
+      record {
+        later = other ++ (name, v) ∷ [];
+        exposes = [];
+        derives = let_be c name expression v other (other ++ (name, v) ∷ []) i (subst (λ w. HasValue text w i expression v) m has) refl;
+        meets = bound ∙ ap (λ w. w ++ (name, v) ∷ []) m;
+        gains = kept [] none;
+      }
   leaf_follows c x l q env other after i e j ts starts m low derived = absurd l

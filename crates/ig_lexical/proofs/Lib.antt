@@ -26,3 +26,9 @@ pub mod Counting
 pub mod LayoutScoped
 pub mod LayoutShaped
 pub mod LayoutChecked
+pub mod RewrittenScoped
+pub mod AttachingPlaced
+pub mod FiltersScoped
+pub mod RewrittenShaped
+pub mod FiltersShaped
+pub mod FiltersChecked

@@ -1,11 +1,9 @@
 -- Which conditions hold of symbols, and where none does.
-use Rattle.std.proofs.Common.{◌≡◌, ◌∙◌, ℕ, zero, suc, ◌+◌, ◌<◌, get_or, List, [], ◌∷◌, ◌++◌, map, flat_map, refl, sym, ap, subst, Some, None, Option, length, arith}
+use Rattle.std.proofs.Common.{◌≡◌, ◌∙◌, ℕ, zero, suc, ◌+◌, List, [], ◌∷◌, ◌++◌, map, refl, sym, ap, subst, Some, None, length, arith}
 use Rattle.std.specs.Prelude.{◌≢◌, Contains, slice_get, option_map}
 use Rattle.std.proofs.lemmas.Option.{slice_get-map}
 use Rattle.ig_text.proofs.Lists.{at_from_contains}
-use Rattle.ig_expr.specs.Expression.{Expression}
-use Rattle.ig_grammar.specs.Binding.{Binding}
-use Rattle.ig_grammar.specs.Symbol.{Symbol, Literal, OneOf, Call, Label, Guard, Let, Opt, Star, Plus, SepStar, SepPlus, Group, Offside, Ignore, Align, Filtered, Seq, Entry}
+use Rattle.ig_grammar.specs.Symbol.{Symbol, Call, Entry}
 use Rattle.ig_grammar.specs.Visible.{Visible, Occurrence}
 use Rattle.ig_grammar.specs.Condition.{Condition, SymbolMeets, declaration_of, symbols_of}
 use Rattle.ig_grammar.specs.Condition as meets
@@ -18,7 +16,7 @@ use Rattle.ig_grammar.specs.declared.declaration.DeclKind.TheVariants.{Syntax, L
 use Rattle.ig_grammar.specs.declared.declaration.Decl.{Decl}
 use Rattle.ig_grammar.specs.declared.declaration.Param.{Param}
 use Rattle.ig_grammar.specs.declared.grammar.Grammar.{Grammar}
-use Rattle.ig_lexical.proofs.Placing.{Placed, SameHead, label_head, opt_head, star_head, plus_head, sep_star_head, sep_plus_head, group_head, offside_head, ignore_head, filtered_head, seq_head, entry_head}
+use Rattle.ig_lexical.proofs.Placing.{SameHead, label_head, opt_head, star_head, plus_head, sep_star_head, sep_plus_head, group_head, offside_head, ignore_head, filtered_head, seq_head, entry_head}
 
 none_in : {X : Type 0} (x : X) → Contains [] x → ⊥
 none_in x m = let l = m.1 in absurd (omega (arith, l))
@@ -89,7 +87,7 @@ pub none_met : (g : Grammar) → IsWellScoped g → (b k : ℕ) (decl : Decl) (a
 none_met g scoped b k decl a declared numbered o m c meets =
     let there = at_from_contains (symbols_of decl a.alternative) o m in
     scoped (record { decl = suc b; alt = suc numbered.0; symbol = suc there.0 }) c
-      (decl, declared, (a.alternative, alternative_at decl.levels numbered.0 a numbered.2, (o, there.1, meets)))
+    (decl, declared, (a.alternative, alternative_at decl.levels numbered.0 a numbered.2, (o, there.1, meets)))
 
 -- the layout nonterminal is declared, as one
 abbrev pub HasLayout : List Decl → List ℕ → Type 0
@@ -119,4 +117,3 @@ call_fine decls kind v name d apart e p c (meets.syntax_in_lexical _ _ callee i 
 pub no_parameters : (ps : List Param) → (ps ≢ [] → ⊥) → ps ≡ []
 no_parameters [] f = refl
 no_parameters (p ∷ ps) f = absurd (f (λ e. cc))
-

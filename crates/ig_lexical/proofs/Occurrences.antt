@@ -1,5 +1,5 @@
 -- What holds of each occurrence is placed, and what is placed holds of each occurrence.
-use Rattle.std.proofs.Common.{◌≡◌, ℕ, zero, suc, List, [], ◌∷◌, ◌++◌, refl, subst, inl, inr, arith}
+use Rattle.std.proofs.Common.{◌≡◌, List, [], ◌∷◌, ◌++◌, subst, inl, inr, arith}
 use Rattle.std.specs.Prelude.{Contains, ◌⊎◌}
 use Rattle.std.proofs.lemmas.List.Elements.{Contains-append_left, Contains-append_right, Contains-append_cases, Contains-push_cases}
 use Rattle.ig_grammar.specs.Symbol.{Symbol, Literal, OneOf, Call, Label, Guard, Let, Opt, Star, Plus, SepStar, SepPlus, Group, Offside, Ignore, Align, Filtered, Seq, Entry}
@@ -53,9 +53,10 @@ module _ (N : Visible → Symbol → Type 0) where
     pub placed_symbols : (xs : Symbols) (v : Visible) → Every (inside_sequence v xs) → PlacedSymbols N xs v
     placed_symbols no_symbols v f = tt
     placed_symbols (next_symbol x xs) v f =
-        let a = first_every (at v x ∷ inside v x) (inside_sequence (v ++ binds v x) xs) f in
-        (placed x v (head_every (at v x) (inside v x) a) (tail_every (at v x) (inside v x) a),
-          placed_symbols xs (v ++ binds v x) (others_every (at v x ∷ inside v x) (inside_sequence (v ++ binds v x) xs) f))
+        let a = first_every (at v x ∷ inside v x) (inside_sequence (v ++ binds v x) xs) f in (
+          placed x v (head_every (at v x) (inside v x) a) (tail_every (at v x) (inside v x) a),
+          placed_symbols xs (v ++ binds v x) (others_every (at v x ∷ inside v x) (inside_sequence (v ++ binds v x) xs) f),
+        )
 
     pub placed_choices : (xs : Alternatives) (v : Visible) → Every (inside_choices v xs) → PlacedChoices N xs v
     placed_choices no_alternatives v f = tt
@@ -71,6 +72,7 @@ module _ (N : Visible → Symbol → Type 0) where
       here : Contains [] p ⊎ (o ≡ p) → N p.visible p.symbol
       here (inl c) = no_occurrence p c
       here (inr e) = subst (λ q. N q.visible q.symbol) e n
+
       go : Contains (o ∷ []) p ⊎ Contains os p → N p.visible p.symbol
       go (inl c) = here (Contains-push_cases [] o p c)
       go (inr c) = f p c

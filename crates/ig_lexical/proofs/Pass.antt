@@ -55,8 +55,11 @@ module _ (own : Symbol → Symbol) where
   levels_rewritten [] = refl
   levels_rewritten (level ∷ others) =
       let f : Alt → Levelled = λ a. record { alternative = a; level = length others + 1; assoc = level.assoc } in
-      (rw (length-map others (rewritten_level own), levels_rewritten others,
-        map_crossed (rewritten_alternative own) f f rewritten_by_level (λ a. refl) level.alts) refl) ∙
+      (rw (
+        length-map others (rewritten_level own),
+        levels_rewritten others,
+        map_crossed (rewritten_alternative own) f f rewritten_by_level (λ a. refl) level.alts,
+      ) refl) ∙
       sym (map_joined rewritten_by_level (map f level.alts) (by_level others))
 
   pub free_rewritten : (levels : List Level) → HasNoOperators levels → HasNoOperators (map (rewritten_level own) levels)
@@ -108,14 +111,14 @@ module _ (own : Decl → Symbol → Symbol) (g : Grammar) (shapes : List Shape) 
           let leaves : (x y : Symbol) → IsLeaf x → L x y → L x y = λ x y l f. f in
           let parts : (x y : Symbol) → P x y → P x y = λ x y f. f in
           let each = symbols_alike (own decl) N (Unit {0}) (λ bs. Unit {0}) L P admits
-                (λ x l q. leaf_follows g shapes h shapes text SameStarts (λ ks ts. refl) (λ ks ms ts us e. e) (λ name. Unit {0}) (layout_rewritten own g.decls) (λ name e. tt) n known decl.kind x l (called x))
-                (λ x q a. along x q (alike_follows g shapes h shapes text SameEnv (Low n) SameStarts decl.kind decl.kind (Unit {0}) (λ bs. Unit {0}) (fits_same text n) L P leaves parts x (within (own decl) x) a))
-                (gathered xs) q in
+          (λ x l q. leaf_follows g shapes h shapes text SameStarts (λ ks ts. refl) (λ ks ms ts us e. e) (λ name. Unit {0}) (layout_rewritten own g.decls) (λ name e. tt) n known decl.kind x l (called x))
+          (λ x q a. along x q (alike_follows g shapes h shapes text SameEnv (Low n) SameStarts decl.kind decl.kind (Unit {0}) (λ bs. Unit {0}) (fits_same text n) L P leaves parts x (within (own decl) x) a))
+          (gathered xs) q in
           let too = each_too g shapes h shapes text SameEnv (Low n) SameStarts decl.kind decl.kind (Unit {0}) (λ bs. Unit {0}) (fits_same text n) L P leaves parts
-                (gathered xs) (rewritten_symbols (own decl) (gathered xs)) each in
+          (gathered xs) (rewritten_symbols (own decl) (gathered xs)) each in
           let C : List Symbol → List Symbol → Type 0 = sim.CoversToo g shapes h shapes text SameEnv (Low n) SameStarts decl.kind decl.kind in
           subst (λ ys. C ys (map (rewritten (own decl)) xs)) (listed_gathered xs)
-            (subst (λ ys. C (listed (gathered xs)) ys) (ap listed (sym (gathered_rewritten (own decl) xs)) ∙ listed_gathered (map (rewritten (own decl)) xs)) too)
+          (subst (λ ys. C (listed (gathered xs)) ys) (ap listed (sym (gathered_rewritten (own decl) xs)) ∙ listed_gathered (map (rewritten (own decl)) xs)) too)
 
     -- and back
     module _ (n : ℕ) (known : LowInstances h shapes g shapes text SameEnv SameStarts SameKind (λ name. Unit {0}) n) (decl : Decl) (among : Contains g.decls decl) where
@@ -138,15 +141,15 @@ module _ (own : Decl → Symbol → Symbol) (g : Grammar) (shapes : List Shape) 
           let on_leaf : (x y : Symbol) → L2 x y → IsLeaf x → IsLeaf y = λ x y l. l.0 in
           let turns : (x y : Symbol) → P2 x y → P y x = λ x y f. f in
           let each = symbols_alike (own decl) N (Unit {0}) (λ bs. Unit {0}) L2 P2 admits
-                (λ x l q. ((λ i. i), leaf_follows h shapes g shapes text SameStarts (λ ks ts. refl) (λ ks ms ts us e. e) (λ name. Unit {0}) (sym (layout_rewritten own g.decls)) (λ name e. tt) n known decl.kind x l (called x)))
-                (λ x q a. against x q (alike_follows h shapes g shapes text SameEnv (Low n) SameStarts decl.kind decl.kind (Unit {0}) (λ bs. Unit {0}) (fits_same text n) L P leaves parts (within (own decl) x) x
-                  (turned L2 P2 L P (Unit {0}) (λ bs. Unit {0}) weaker on_leaf turns x (within (own decl) x) a)))
-                (gathered xs) q in
+          (λ x l q. ((λ i. i), leaf_follows h shapes g shapes text SameStarts (λ ks ts. refl) (λ ks ms ts us e. e) (λ name. Unit {0}) (sym (layout_rewritten own g.decls)) (λ name e. tt) n known decl.kind x l (called x)))
+          (λ x q a. against x q (alike_follows h shapes g shapes text SameEnv (Low n) SameStarts decl.kind decl.kind (Unit {0}) (λ bs. Unit {0}) (fits_same text n) L P leaves parts (within (own decl) x) x
+          (turned L2 P2 L P (Unit {0}) (λ bs. Unit {0}) weaker on_leaf turns x (within (own decl) x) a)))
+          (gathered xs) q in
           let too = each_too h shapes g shapes text SameEnv (Low n) SameStarts decl.kind decl.kind (Unit {0}) (λ bs. Unit {0}) (fits_same text n) L P leaves parts
-                (rewritten_symbols (own decl) (gathered xs)) (gathered xs) (turned_each L2 P2 L P (Unit {0}) (λ bs. Unit {0}) weaker on_leaf turns (gathered xs) (rewritten_symbols (own decl) (gathered xs)) each) in
+          (rewritten_symbols (own decl) (gathered xs)) (gathered xs) (turned_each L2 P2 L P (Unit {0}) (λ bs. Unit {0}) weaker on_leaf turns (gathered xs) (rewritten_symbols (own decl) (gathered xs)) each) in
           let C : List Symbol → List Symbol → Type 0 = sim.CoversToo h shapes g shapes text SameEnv (Low n) SameStarts decl.kind decl.kind in
           subst (λ ys. C (map (rewritten (own decl)) xs) ys) (listed_gathered xs)
-            (subst (λ ys. C ys (listed (gathered xs))) (ap listed (sym (gathered_rewritten (own decl) xs)) ∙ listed_gathered (map (rewritten (own decl)) xs)) too)
+          (subst (λ ys. C ys (listed (gathered xs))) (ap listed (sym (gathered_rewritten (own decl) xs)) ∙ listed_gathered (map (rewritten (own decl)) xs)) too)
 
     there : (name : List ℕ) (d : ℕ) (decl : Decl) (s : Shape) → Declares g shapes name d decl s → Declares h shapes name d (rewritten_declaration own decl) s
     there name d decl s a =
@@ -164,9 +167,16 @@ module _ (own : Decl → Symbol → Symbol) (g : Grammar) (shapes : List Shape) 
     forward : (n : ℕ) → LowInstances g shapes h shapes text SameEnv SameStarts SameKind (λ name. Unit {0}) n
     forward = low_instances g shapes h shapes text SameEnv SameStarts SameKind (λ name. Unit {0}) (λ t i j ks ms ts e. e)
         (λ n known name d decl s k a named declares numbered.
-          let among = contains_from_at g.decls declares.numbered.0 decl declares.numbered.2 in
-          record { other = rewritten_declaration own decl; by = rewritten_by_level (own decl) a; declares = there name d decl s declares; numbered = numbered_there decl k a numbered; kinds = refl;
-            binds = λ vs env bound. (env, bound, refl); covers = forward_covers n known decl among a.alternative.symbols (everywhere decl k a among numbered) })
+        let among = contains_from_at g.decls declares.numbered.0 decl declares.numbered.2 in
+        record {
+          other = rewritten_declaration own decl;
+          by = rewritten_by_level (own decl) a;
+          declares = there name d decl s declares;
+          numbered = numbered_there decl k a numbered;
+          kinds = refl;
+          binds = λ vs env bound. (env, bound, refl);
+          covers = forward_covers n known decl among a.alternative.symbols (everywhere decl k a among numbered);
+        })
 
     -- the alternative of a rewritten declaration is a rewritten alternative
     backward_one : (n : ℕ) → LowInstances h shapes g shapes text SameEnv SameStarts SameKind (λ name. Unit {0}) n →
@@ -177,11 +187,16 @@ module _ (own : Decl → Symbol → Symbol) (g : Grammar) (shapes : List Shape) 
         let among = contains_from_at g.decls declares.numbered.0 r.0 r.1 in
         let p = numbered_here r.0 k b (subst (λ z. IsAlternative z k b) r.2 numbered) in
         subst (λ z. AlternativeToo h shapes g shapes text SameEnv SameStarts SameKind (λ name. Unit {0}) n name d z s k b) (sym r.2)
-          (subst (λ z. AlternativeToo h shapes g shapes text SameEnv SameStarts SameKind (λ name. Unit {0}) n name d (rewritten_declaration own r.0) s k z) (sym p.2)
-            (record { other = r.0; by = p.0;
-              declares = record { numbered = (declares.numbered.0, declares.numbered.1, r.1); shaped = declares.shaped; named = ap (λ z. z.name) (sym r.2) ∙ declares.named };
-              numbered = p.1; kinds = refl; binds = λ vs env bound. (env, bound, refl);
-              covers = backward_covers n known r.0 among p.0.alternative.symbols (everywhere r.0 k p.0 among p.1) }))
+        (subst (λ z. AlternativeToo h shapes g shapes text SameEnv SameStarts SameKind (λ name. Unit {0}) n name d (rewritten_declaration own r.0) s k z) (sym p.2)
+        (record {
+          other = r.0;
+          by = p.0;
+          declares = record { numbered = (declares.numbered.0, declares.numbered.1, r.1); shaped = declares.shaped; named = ap (λ z. z.name) (sym r.2) ∙ declares.named };
+          numbered = p.1;
+          kinds = refl;
+          binds = λ vs env bound. (env, bound, refl);
+          covers = backward_covers n known r.0 among p.0.alternative.symbols (everywhere r.0 k p.0 among p.1);
+        }))
 
     backward : (n : ℕ) → LowInstances h shapes g shapes text SameEnv SameStarts SameKind (λ name. Unit {0}) n
     backward = low_instances h shapes g shapes text SameEnv SameStarts SameKind (λ name. Unit {0}) (λ t i j ks ms ts e. e)
@@ -205,14 +220,20 @@ module _ (own : Decl → Symbol → Symbol) (g : Grammar) (shapes : List Shape) 
               let low : greatest_height p.children ≤ n = omega arith in
               let among = contains_from_at g.decls declares.numbered.0 decl declares.numbered.2 in
               let r = forward_covers n (forward n) decl among a.alternative.symbols (everywhere decl 1 a among numbered)
-                    [] [] p.after 0 (length text) p.children p.starts refl low
-                    (subst (λ c. Covers g shapes text c a.alternative.symbols [] 0 (length text) p.children p.after p.starts) same
-                      (subst (λ ys. Covers g shapes text kind ys [] 0 (length text) p.children p.after p.starts) symbols covered)) in
+              [] [] p.after 0 (length text) p.children p.starts refl low
+              (subst (λ c. Covers g shapes text c a.alternative.symbols [] 0 (length text) p.children p.after p.starts) same
+              (subst (λ ys. Covers g shapes text kind ys [] 0 (length text) p.children p.after p.starts) symbols covered)) in
               record {
-                kind = decl.kind; symbols = map (rewritten (own decl)) a.alternative.symbols; children = p.children; after = r.later; starts = r.exposes;
+                kind = decl.kind;
+                symbols = map (rewritten (own decl)) a.alternative.symbols;
+                children = p.children;
+                after = r.later;
+                starts = r.exposes;
                 root = declared start d (rewritten_declaration own decl) (rewritten_by_level (own decl) a) decl.kind (map (rewritten (own decl)) a.alternative.symbols) started
-                  (there start d decl shape.Root declares) (numbered_there decl 1 a numbered) refl refl;
-                covered = r.covers; whole = p.whole; clean = cleans h free_there t
+                    (there start d decl shape.Root declares) (numbered_there decl 1 a numbered) refl refl;
+                covered = r.covers;
+                whole = p.whole;
+                clean = cleans h free_there t;
               }
 
       permitted_here : (t : Tree) → Permitted h shapes text t → Permitted g shapes text t
@@ -226,12 +247,18 @@ module _ (own : Decl → Symbol → Symbol) (g : Grammar) (shapes : List Shape) 
               let low : greatest_height p.children ≤ n = omega arith in
               let too = backward_one n (backward n) start d other shape.Root 1 b declares numbered in
               let r = too.covers [] [] p.after 0 (length text) p.children p.starts refl low
-                    (subst (λ c. Covers h shapes text c b.alternative.symbols [] 0 (length text) p.children p.after p.starts) same
-                      (subst (λ ys. Covers h shapes text kind ys [] 0 (length text) p.children p.after p.starts) symbols covered)) in
+              (subst (λ c. Covers h shapes text c b.alternative.symbols [] 0 (length text) p.children p.after p.starts) same
+              (subst (λ ys. Covers h shapes text kind ys [] 0 (length text) p.children p.after p.starts) symbols covered)) in
               record {
-                kind = too.other.kind; symbols = too.by.alternative.symbols; children = p.children; after = r.later; starts = r.exposes;
+                kind = too.other.kind;
+                symbols = too.by.alternative.symbols;
+                children = p.children;
+                after = r.later;
+                starts = r.exposes;
                 root = declared start d too.other too.by too.other.kind too.by.alternative.symbols started too.declares too.numbered refl refl;
-                covered = r.covers; whole = p.whole; clean = cleans g free t
+                covered = r.covers;
+                whole = p.whole;
+                clean = cleans g free t;
               }
 
       pub rewritten_permits : (t : Tree) → Permitted g shapes text t ↔ Permitted h shapes text t

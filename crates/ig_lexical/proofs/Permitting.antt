@@ -24,8 +24,8 @@ module _ (g : Grammar) (shapes : List Shape) (h : Grammar) (forms : List Shape) 
     (Kinds : DeclKind → DeclKind → Type 0) (Named : List ℕ → Type 0)
     (gains_node : (t : Tag) (i j : ℕ) (ks ms : List ℕ) (ts : Trees) → Gains ks ms ts → Gains ks ms (one (Node t i j ts)))
     (alternatives_too : (n : ℕ) → LowInstances g shapes h forms text Meets Gains Kinds Named n →
-      (name : List ℕ) (d : ℕ) (decl : Decl) (s : Shape) (k : ℕ) (a : Levelled) → Named name → Declares g shapes name d decl s → IsAlternative decl k a →
-      AlternativeToo g shapes h forms text Meets Gains Kinds Named n name d decl s k a) where
+    (name : List ℕ) (d : ℕ) (decl : Decl) (s : Shape) (k : ℕ) (a : Levelled) → Named name → Declares g shapes name d decl s → IsAlternative decl k a →
+    AlternativeToo g shapes h forms text Meets Gains Kinds Named n name d decl s k a) where
   pub permitted_along : Meets [] [] → g.start ≡ h.start → ((start : List ℕ) → g.start ≡ Some start → Named start) → HasRoot g shapes →
       (t : Tree) → (Clean g t → Clean h t) → Permitted g shapes text t → Permitted h forms text t
   permitted_along met same_start named root t cleaned p = go p.kind p.symbols p.root p.covered
@@ -38,10 +38,16 @@ module _ (g : Grammar) (shapes : List Shape) (h : Grammar) (forms : List Shape) 
           let known = low_instances g shapes h forms text Meets Gains Kinds Named gains_node alternatives_too n in
           let too = alternatives_too n known start d decl shape.Root 1 a (named start started) declares numbered in
           let r = too.covers [] [] p.after 0 (length text) p.children p.starts met low
-                (subst (λ c. Covers g shapes text c a.alternative.symbols [] 0 (length text) p.children p.after p.starts) same
-                  (subst (λ ys. Covers g shapes text kind ys [] 0 (length text) p.children p.after p.starts) symbols covered)) in
+          (subst (λ c. Covers g shapes text c a.alternative.symbols [] 0 (length text) p.children p.after p.starts) same
+          (subst (λ ys. Covers g shapes text kind ys [] 0 (length text) p.children p.after p.starts) symbols covered)) in
           record {
-            kind = too.other.kind; symbols = too.by.alternative.symbols; children = p.children; after = r.later; starts = r.exposes;
+            kind = too.other.kind;
+            symbols = too.by.alternative.symbols;
+            children = p.children;
+            after = r.later;
+            starts = r.exposes;
             root = declared start d too.other too.by too.other.kind too.by.alternative.symbols (sym same_start ∙ started) too.declares too.numbered refl refl;
-            covered = r.covers; whole = p.whole; clean = cleaned p.clean
+            covered = r.covers;
+            whole = p.whole;
+            clean = cleaned p.clean;
           }

@@ -72,7 +72,7 @@ module _ (N M : Visible → Symbol → Type 0) (heads : (v : Visible) (x y : Sym
         let r = each_stays others rest ps in
         record {
           placed = λ v q. (p.placed v q.0, subst (λ b. PlacedSymbols M rest (v ++ b)) (sym (p.bound v q.0)) (r.placed (v ++ binds v x) q.1));
-          bound = λ v q. ap (λ b. b ++ all_bind (v ++ b) rest) (p.bound v q.0) ∙ ap (λ b. binds v x ++ b) (r.bound (v ++ binds v x) q.1)
+          bound = λ v q. ap (λ b. b ++ all_bind (v ++ b) rest) (p.bound v q.0) ∙ ap (λ b. binds v x ++ b) (r.bound (v ++ binds v x) q.1);
         }
 
     pub choices_stay : (xs ys : Alternatives) → EachChoice L Stays (⊥) (λ bs. Unit {0}) xs ys → (v : Visible) → PlacedChoices N xs v → PlacedChoices M ys v
@@ -105,4 +105,3 @@ module _ (N M : Visible → Symbol → Type 0) (heads : (v : Visible) (x y : Sym
     alike_stays x y (entry_alike bs u w n a) =
         let r = alike_stays u w a in
         record { placed = λ v q. (heads v (Entry bs u) (Entry bs w) (entry_head bs u w) q.0, r.placed (replaced v v bs) q.1); bound = λ v q. refl }
-

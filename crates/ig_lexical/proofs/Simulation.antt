@@ -122,7 +122,7 @@ module _ (g : Grammar) (shapes : List Shape) (h : Grammar) (forms : List Shape) 
             exposes = first.exposes ++ others.exposes;
             covers = symbol d y ys other first.later others.later i e t j ts us (join ts us) first.exposes others.exposes (first.exposes ++ others.exposes) first.derives others.covers refl refl;
             meets = others.meets;
-            gains = fits.gains_join ks ls first.exposes others.exposes ts us first.gains others.gains
+            gains = fits.gains_join ks ls first.exposes others.exposes ts us first.gains others.gains;
           }
 
       pub next_symbol_too : (x y : Symbol) (xs ys : List Symbol) → Replaces x y → CoversToo xs ys → CoversToo (x ∷ xs) (y ∷ ys)
@@ -130,7 +130,7 @@ module _ (g : Grammar) (shapes : List Shape) (h : Grammar) (forms : List Shape) 
           let all : Given (ks ++ ls) (join ts us) = rw (sym trees, sym exposes) given in
           let head = f env other between i e t ts ks m (fits.given_first ks ls ts us all) first in
           rw (trees, exposes) (joined_too y ys other between after i head.0 t j ts us ks ls head.1
-            (λ later n. fs between later after t j us ls n (fits.given_others ks ls ts us all) rest))
+          (λ later n. fs between later after t j us ls n (fits.given_others ks ls ts us all) rest))
 
       pub label_follows : (name : List ℕ) (x y : Symbol) → Follows x y → Follows (Label name x) (Label name y)
       label_follows name x y f env other after i e j ts starts m given (label _ _ _ _ between _ _ _ _ _ _ inner bound) =
@@ -140,7 +140,7 @@ module _ (g : Grammar) (shapes : List Shape) (h : Grammar) (forms : List Shape) 
             exposes = r.exposes;
             derives = label d name y other r.later (r.later ++ (name, span_value i e) ∷ []) i e j ts r.exposes r.derives refl;
             meets = rw bound (fits.grows between r.later name (span_value i e) r.meets);
-            gains = r.gains
+            gains = r.gains;
           }
 
       pub opt_follows : (x y : Symbol) → Replaces x y → Follows (Opt x) (Opt y)
@@ -148,8 +148,13 @@ module _ (g : Grammar) (shapes : List Shape) (h : Grammar) (forms : List Shape) 
           record { later = other; exposes = []; derives = absent d y other i; meets = m; gains = fits.gains_node tag.Absent i i [] [] none tt fits.gains_none }
       opt_follows x y f env other after i e j ts starts m given (present _ _ _ between _ o _ us _ inner) =
           let r = f env other between i o j us starts m (fits.given_inside tag.Present i j starts us tt given) inner in
-          record { later = other; exposes = r.1.exposes; derives = present d y other r.1.later i r.0 j us r.1.exposes r.1.derives; meets = m;
-            gains = fits.gains_node tag.Present i j starts r.1.exposes us tt r.1.gains }
+          record {
+            later = other;
+            exposes = r.1.exposes;
+            derives = present d y other r.1.later i r.0 j us r.1.exposes r.1.derives;
+            meets = m;
+            gains = fits.gains_node tag.Present i j starts r.1.exposes us tt r.1.gains;
+          }
 
       pub filtered_follows : (filters : List Filter) (x y : Symbol) → Follows x y → Follows (Filtered x filters) (Filtered y filters)
       filtered_follows filters x y f env other after i e j ts starts m given (filtered _ _ _ _ _ _ _ _ _ _ inner passes) =
@@ -178,7 +183,7 @@ module _ (g : Grammar) (shapes : List Shape) (h : Grammar) (forms : List Shape) 
           record {
             exposes = r.exposes ++ s.1.exposes;
             lists = snoc d y other s.1.later i b s.0 j u ts r.exposes s.1.exposes (r.exposes ++ s.1.exposes) ps items r.lists s.1.derives refl begins;
-            gains = node_gains tag.Snoc i j starts (ks ++ ls) (r.exposes ++ s.1.exposes) (more u ts) (more u ts) exposes refl tt joined
+            gains = node_gains tag.Snoc i j starts (ks ++ ls) (r.exposes ++ s.1.exposes) (more u ts) (more u ts) exposes refl tt joined;
           }
 
       pub plus_too : (x y : Symbol) → Replaces x y → ListsToo (Plus x) (Plus y)
@@ -193,7 +198,7 @@ module _ (g : Grammar) (shapes : List Shape) (h : Grammar) (forms : List Shape) 
           record {
             exposes = r.exposes ++ s.1.exposes;
             lists = more_items d y other s.1.later i b s.0 j u ts r.exposes s.1.exposes (r.exposes ++ s.1.exposes) ps items r.lists s.1.derives refl begins;
-            gains = node_gains tag.More i j starts (ks ++ ls) (r.exposes ++ s.1.exposes) (more u ts) (more u ts) exposes refl tt joined
+            gains = node_gains tag.More i j starts (ks ++ ls) (r.exposes ++ s.1.exposes) (more u ts) (more u ts) exposes refl tt joined;
           }
 
       pub sep_plus_too : (x y p q : Symbol) → Replaces x y → Replaces p q → ListsToo (SepPlus x p) (SepPlus y q)
@@ -211,7 +216,7 @@ module _ (g : Grammar) (shapes : List Shape) (h : Grammar) (forms : List Shape) 
           record {
             exposes = r.exposes ++ w.1.exposes ++ s.1.exposes;
             lists = further_item d y q other w.1.later s.1.later i b w.0 n s.0 j u us ts vs r.exposes w.1.exposes s.1.exposes (r.exposes ++ w.1.exposes ++ s.1.exposes) ps items r.lists w.1.derives s.1.derives trees refl begins;
-            gains = node_gains tag.More i j starts (ks ++ ms ++ ls) (r.exposes ++ w.1.exposes ++ s.1.exposes) (more u (join us ts)) (more u vs) exposes (ap (more u) trees) tt joined
+            gains = node_gains tag.More i j starts (ks ++ ms ++ ls) (r.exposes ++ w.1.exposes ++ s.1.exposes) (more u (join us ts)) (more u vs) exposes (ap (more u) trees) tt joined;
           }
 
       pub sep_star_too : (x y p q : Symbol) → Replaces x y → Replaces p q → ListsToo (SepStar x p) (SepStar y q)
@@ -249,8 +254,13 @@ module _ (g : Grammar) (shapes : List Shape) (h : Grammar) (forms : List Shape) 
       group_follows xs ys f env other after i e j ts starts m given (group _ _ k zs _ between _ _ us _ chosen inner) =
           let found = f k zs chosen in
           let r = found.2 env other between i j us starts m (fits.given_inside (tag.GroupAlt k) i j starts us tt given) inner in
-          record { later = other; exposes = r.exposes; derives = group d ys k found.0 other r.later i j us r.exposes found.1 r.covers; meets = m;
-            gains = fits.gains_node (tag.GroupAlt k) i j starts r.exposes us tt r.gains }
+          record {
+            later = other;
+            exposes = r.exposes;
+            derives = group d ys k found.0 other r.later i j us r.exposes found.1 r.covers;
+            meets = m;
+            gains = fits.gains_node (tag.GroupAlt k) i j starts r.exposes us tt r.gains;
+          }
 
       pub offside_follows : Marks → (x y : Symbol) → Follows x y → Follows (Offside x) (Offside y)
       offside_follows mark x y f env other after i e j ts starts m given (offside _ _ _ _ _ _ _ _ _ inner right) =
@@ -282,4 +292,3 @@ module _ (g : Grammar) (shapes : List Shape) (h : Grammar) (forms : List Shape) 
           no_list : {c : DeclKind} {x : Symbol} {filters : List Filter} {env : Environment} {i j : ℕ} {t : Tree} {starts items : List ℕ} →
               Lists g shapes text c (Filtered x filters) env i j t starts items → ⊥
           no_list list = elim list [ ]
-

@@ -1,16 +1,15 @@
 -- The kinds of declarations, before the layout pass and after it.
-use Rattle.std.proofs.Common.{◌≡◌, ◌∙◌, ℕ, zero, suc, List, [], ◌∷◌, Bool, true, false, Option, Some, None, refl, sym, ap, subst, map}
-use Rattle.std.specs.Prelude.{◌≢◌, slice_get}
+use Rattle.std.proofs.Common.{◌≡◌, ◌∙◌, ℕ, List, true, false, Option, Some, None, refl, sym, ap, subst}
+use Rattle.std.specs.Prelude.{◌≢◌}
 use Rattle.ig_text.specs.Tree.{Tree, Trees, none}
 use Rattle.ig_expr.specs.declared.value.Value.{Value}
 use Rattle.ig_grammar.specs.Symbol.{Symbol}
-use Rattle.ig_grammar.specs.Numbering.{layout_among, name_of_layout, Declares}
+use Rattle.ig_grammar.specs.Numbering.{layout_among}
 use Rattle.ig_grammar.specs.Condition.{declaration_of}
 use Rattle.ig_grammar.specs.WellScoped.{IsWellScoped}
 use Rattle.ig_meaning.specs.Derivation.{Instance, Trails, alternative, layout, no_layout, outside}
 use Rattle.ig_grammar.specs.declared.declaration.DeclKind.{DeclKind}
 use Rattle.ig_grammar.specs.declared.declaration.DeclKind.TheVariants.{Syntax, Lexical, Layout, Plain}
-use Rattle.ig_grammar.specs.declared.declaration.Decl.{Decl}
 use Rattle.ig_grammar.specs.declared.grammar.Grammar.{Grammar}
 use Rattle.ig_grammar.specs.declared.place.Shape.{Shape}
 use Rattle.ig_lexical.proofs.Pass.{taken_back}
@@ -42,7 +41,7 @@ module _ (found : DeclarationsAreFound) (g : Grammar) (scoped : IsWellScoped g) 
   decided h forms =
       record {
         lexical = λ name q vs kind i e t ks instance. lexical_kind kind (sym (instance_kind name vs kind i e t ks instance) ∙ q);
-        other = λ name q vs kind i e t ks instance. other_kind kind (sym (instance_kind name vs kind i e t ks instance) ∙ q)
+        other = λ name q vs kind i e t ks instance. other_kind kind (sym (instance_kind name vs kind i e t ks instance) ∙ q);
       }
 
 pub all_plain : (g : Grammar) (forms : List Shape) (text : List ℕ) → AllPlain (laid_grammar g) forms text

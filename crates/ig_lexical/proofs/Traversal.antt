@@ -150,6 +150,7 @@ releafed L K P Marks Enters T f x y (group_alike us vs q) t = group_alike us vs 
     same_each : (us vs : Symbols) → EachSymbol L P Marks Enters us vs → EachSymbol K P Marks Enters us vs
     same_each us vs no_pair = no_pair
     same_each us vs (next_pair a b cs ds r e) = next_pair a b cs ds r (same_each cs ds e)
+
     same_choices : (us vs : Alternatives) → EachChoice L P Marks Enters us vs → EachChoice K P Marks Enters us vs
     same_choices us vs no_choices = no_choices
     same_choices us vs (next_choices cs ds os ps e es) = next_choices cs ds os ps (same_each cs ds e) (same_choices os ps es)

@@ -1,8 +1,6 @@
 -- Where no mark is in an alternative, none stands at a symbol of it.
-use Rattle.std.proofs.Common.{◌≡◌, ◌∙◌, ℕ, zero, suc, ◌+◌, List, [], ◌∷◌, ◌++◌, Some, None, refl, sym, ap, subst, inl, inr, length, map}
+use Rattle.std.proofs.Common.{◌≡◌, ◌∙◌, ℕ, zero, suc, ◌+◌, List, [], ◌∷◌, ◌++◌, Some, refl, sym, ap, subst, inl, inr, length, map}
 use Rattle.std.specs.Prelude.{◌⊎◌, Contains, slice_get}
-use Rattle.std.proofs.lemmas.List.Elements.{Contains-push_cases}
-use Rattle.ig_grammar.specs.Binding.{Binding}
 use Rattle.ig_grammar.specs.Symbol.{Symbol, Literal, OneOf, Call, Label, Guard, Let, Opt, Star, Plus, SepStar, SepPlus, Group, Offside, Ignore, Align, Filtered, Seq, Entry}
 use Rattle.ig_grammar.specs.Symbol.{Symbols, no_symbols, next_symbol, Alternatives, no_alternatives, next_alternative, gathered}
 use Rattle.ig_grammar.specs.Alternative.{gathered_alternatives}
@@ -71,7 +69,7 @@ at_level : RegularityByForm → (levels : List Level) (k : ℕ) (a : Levelled) �
 at_level forms [] k a f h = absurd (cc)
 at_level forms (level ∷ others) k a f h =
     go (get_appended (map (λ b. record { alternative = b; level = length others + 1; assoc = level.assoc }) level.alts) (by_level others) k a h)
-      (λ j e. at_level forms others j a (λ l m. f l (contains_later level others l m)) e)
+    (λ j e. at_level forms others j a (λ l m. f l (contains_later level others l m)) e)
   where
     go : (slice_get (map (λ b. record { alternative = b; level = length others + 1; assoc = level.assoc }) level.alts) k ≡ Some a) ⊎ ((j : ℕ) × (slice_get (by_level others) j ≡ Some a)) →
         ((j : ℕ) → slice_get (by_level others) j ≡ Some a → SymbolsHaveNoMark (gathered a.alternative.symbols)) → SymbolsHaveNoMark (gathered a.alternative.symbols)

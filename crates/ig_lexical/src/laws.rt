@@ -1,7 +1,7 @@
 //! What the passes keep. The functions compute nothing: their contracts are the laws.
 
 ghost use Rattle.ig_lexical.specs.LayoutLaws.{LayoutPermitsSame, LayoutStaysChecked};
-ghost use Rattle.ig_lexical.specs.Laws.{FiltersPermitSame};
+ghost use Rattle.ig_lexical.specs.Laws.{FiltersPermitSame, FiltersStayChecked};
 
 /// With its follow and precede filters as guards, a checked grammar permits the same trees. This
 /// law, proved of all such grammars without layout and operators, computes nothing.
@@ -36,4 +36,13 @@ pub fn layout_stays_checked()
     ig_rewrite::declarations_are_found();
     ig_rewrite::rooted_is_the_same();
     ig_rewrite::same_trees_is_an_equivalence();
+}
+
+/// With its follow and precede filters as guards, a checked grammar without marks stays checked.
+/// This law, proved of all such grammars, computes nothing.
+pub fn filters_stay_checked()
+    ensures { FiltersStayChecked }
+{
+    ig_grammar::regularity_by_form();
+    ig_rewrite::rooted_is_the_same();
 }

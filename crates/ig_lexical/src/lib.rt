@@ -6,4 +6,6 @@
 
 mod laws;
 
-pub use laws::{filters_permit_the_same, layout_permits_the_same, layout_stays_checked};
+pub use laws::{
+    filters_permit_the_same, filters_stay_checked, layout_permits_the_same, layout_stays_checked,
+};

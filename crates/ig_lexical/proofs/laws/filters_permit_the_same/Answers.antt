@@ -7,5 +7,5 @@ returns c =
       looks = c.tests_look_for_matches.ensures;
       cleans = c.trees_without_operators_are_clean.ensures;
       rooting = c.rooted_is_the_same.ensures;
-      equivalence = c.same_trees_is_an_equivalence.ensures
+      equivalence = c.same_trees_is_an_equivalence.ensures;
     })

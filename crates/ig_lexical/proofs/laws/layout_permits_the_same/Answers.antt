@@ -1,4 +1,4 @@
-use Rattle.ig_lexical.proofs.LayoutSame.{Given, layout_same}
+use Rattle.ig_lexical.proofs.LayoutSame.{layout_same}
 use Rattle.ig_lexical.proofs.laws.layout_permits_the_same.Goals as goal
 
 pub returns : goal.returns
@@ -8,5 +8,5 @@ returns c =
       forms = c.regularity_by_form.ensures;
       found = c.declarations_are_found.ensures;
       rooting = c.rooted_is_the_same.ensures;
-      equivalence = c.same_trees_is_an_equivalence.ensures
+      equivalence = c.same_trees_is_an_equivalence.ensures;
     })

@@ -1,4 +1,3 @@
-use Rattle.ig_lexical.proofs.LayoutSame.{Given}
 use Rattle.ig_lexical.proofs.LayoutChecked.{layout_checked}
 use Rattle.ig_lexical.proofs.laws.layout_stays_checked.Goals as goal
 
@@ -9,5 +8,5 @@ returns c =
       forms = c.regularity_by_form.ensures;
       found = c.declarations_are_found.ensures;
       rooting = c.rooted_is_the_same.ensures;
-      equivalence = c.same_trees_is_an_equivalence.ensures
+      equivalence = c.same_trees_is_an_equivalence.ensures;
     })
