@@ -17,4 +17,4 @@ pub use laws::{
     added_names_are_new, declarations_are_found, rooted_is_the_same, same_trees_is_an_equivalence,
 };
 pub use rewriting::{OwnRule, rewrite_grammar, rewrite_levels};
-pub use rooting::{has_root, root};
+pub use rooting::{copy_of_shapes, has_root, root};

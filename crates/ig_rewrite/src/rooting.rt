@@ -66,8 +66,8 @@ fn count_of_shapes(checked: &Checked) -> usize
     checked.grammar().decls.len()
 }
 
-/// The shapes of the declarations.
-fn copy_of_shapes(alloc: Global, checked: &Checked) -> Result<Shapes, AllocError>
+/// The shapes of the declarations, in order. Refused for want of memory alone.
+pub fn copy_of_shapes(alloc: Global, checked: &Checked) -> Result<Shapes, AllocError>
     ensures { IfOk result (λ r. r ≡ checked.now.shapes) }
 {
     let mut shapes = Shapes::new(alloc);

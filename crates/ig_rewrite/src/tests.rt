@@ -83,5 +83,6 @@ fn writes_the_root(rt: HostRuntime) -> Result<(), Fail> {
     let rooted = root(alloc, &checked)?;
     assert!(rt; !has_root(&checked) && has_root(&rooted));
     assert_eq!(rt; rooted.grammar().decls.len(), 2);
+    assert_eq!(rt; copy_of_shapes(alloc, &rooted)?.len(), 2);
     Ok(())
 }
