@@ -21,7 +21,7 @@ use Rattle.ig_rewrite.specs.SameTrees.{PermitSame, SameTreesIsAnEquivalence}
 use Rattle.ig_rewrite.specs.Rewriting.{within, rewritten_grammar}
 use Rattle.ig_rewrite.specs.Rooted.{root_declaration, has_root, is_root, with_root, rooted_grammar, RootedIsTheSame}
 use Rattle.ig_lexical.specs.Laws.{FiltersPermitSame}
-use Rattle.ig_lexical.specs.Filters.{attached, FiltersOf}
+use Rattle.ig_lexical.specs.Filters.{attached, attached_of, FiltersOf}
 use Rattle.ig_lexical.proofs.Always.{always_symbols}
 use Rattle.ig_lexical.proofs.Attaching.{attached_to, attached_from}
 use Rattle.ig_lexical.proofs.Pass.{rewritten_permits, layout_rewritten}
@@ -98,19 +98,16 @@ pub record Given : Type 0 where
   pub rooting : RootedIsTheSame
   pub equivalence : SameTreesIsAnEquivalence
 
-abbrev pub of : CheckedGrammar → CheckedGrammar
-of b = record { grammar = rewritten_grammar (λ decl. attached) b.grammar; shapes = b.shapes }
-
 pub filters_same : Given → FiltersPermitSame
 filters_same given c scoped fit none free fresh = go (has_root c.shapes) refl
   where
     go : (b : Bool) → has_root c.shapes ≡ b → PermitSame c (FiltersOf c)
     go true e =
-        subst (λ d. PermitSame c (of d)) (sym (ap (λ b. if b then c else with_root Syntax c) e))
+        subst (λ d. PermitSame c (attached_of d)) (sym (ap (λ b. if b then c else with_root Syntax c) e))
         (with_root_same given.looks given.cleans c none free (root_start c fit e))
     go false e =
         let r = given.rooting c scoped fit e (λ m. let t : false ≡ true = sym e ∙ fresh m in cc) in
-        subst (λ d. PermitSame c (of d)) (sym (ap (λ b. if b then c else with_root Syntax c) e))
-        (given.equivalence.chained c (with_root Syntax c) (of (with_root Syntax c)) r.same
+        subst (λ d. PermitSame c (attached_of d)) (sym (ap (λ b. if b then c else with_root Syntax c) e))
+        (given.equivalence.chained c (with_root Syntax c) (attached_of (with_root Syntax c)) r.same
         (with_root_same given.looks given.cleans (with_root Syntax c) (layout_kept c.grammar.decls (root_declaration Syntax c.grammar) refl ∙ none) (free_rooted c.grammar free)
         (root_start (with_root Syntax c) r.fit (root_added c.shapes))))

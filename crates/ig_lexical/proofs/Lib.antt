@@ -32,3 +32,4 @@ pub mod FiltersScoped
 pub mod RewrittenShaped
 pub mod FiltersShaped
 pub mod FiltersChecked
+pub mod FiltersCode

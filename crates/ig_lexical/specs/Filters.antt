@@ -40,6 +40,10 @@ attached (Label name (Filtered x fs)) = guarded (befores fs) (afters fs) (Label 
 attached (Filtered x fs) = guarded (befores fs) (afters fs) (with_filters x (exclusions fs))
 attached x = x
 
+-- with filters as guards at each symbol
+abbrev pub attached_of : CheckedGrammar → CheckedGrammar
+attached_of c = record { grammar = rewritten_grammar (λ decl. attached) c.grammar; shapes = c.shapes }
+
 -- the filters pass
 abbrev pub FiltersOf : CheckedGrammar → CheckedGrammar
-FiltersOf c = record { grammar = rewritten_grammar (λ decl. attached) (rooted Syntax c).grammar; shapes = (rooted Syntax c).shapes }
+FiltersOf c = attached_of (rooted Syntax c)

@@ -4,8 +4,10 @@
 //! and behind their symbol, and exclusions stay on the symbol itself.
 #![tactic(auto)]
 
+mod filters;
 mod laws;
 
+pub use filters::attach_filters;
 pub use laws::{
     filters_permit_the_same, filters_stay_checked, layout_permits_the_same, layout_stays_checked,
 };
