@@ -114,7 +114,8 @@ fn exclusions(alloc: Global, filters: &[Filter]) -> Result<Filters, AllocError>
     Ok(kept)
 }
 
-/// The symbol behind and before the guards that the filters make, in a sequence where there are any.
+/// The symbol behind and before the guards that the filters make, in a sequence where there are
+/// any.
 fn guard(alloc: Global, filters: &Filters, symbol: Symbol) -> Result<Symbol, AllocError>
     ensures { IfOk result (λ r.
         symbol_of r ≡ guarded (befores filters.now) (afters filters.now) (symbol_of symbol)) }

@@ -27,7 +27,8 @@ pub fn layout_permits_the_same()
 }
 
 /// With layout called in the open, a checked grammar without marks stays checked, where a root that
-/// is a syntax declaration has calls alone. This law, proved of all such grammars, computes nothing.
+/// is a syntax declaration has calls alone. This law, proved of all such grammars, computes
+/// nothing.
 pub fn layout_stays_checked()
     ensures { LayoutStaysChecked }
 {

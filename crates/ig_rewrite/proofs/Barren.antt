@@ -66,4 +66,4 @@ barren_is_fresh name root apart among = apart (sym (contains_one name root among
 pub named_s_is_fresh : (g : Grammar) (name : List ℕ) → g ≡ barren_grammar name → name ≡ chars (codes "S") → IsFresh g root_name
 named_s_is_fresh g name e is =
     subst (λ (z : Grammar). IsFresh z root_name) (sym e) (barren_is_fresh name root_name (λ s.
-      let first : 83 ≡ 36 = ap (λ z. get_or z 0 0) (sym (is ∙ ascii_chars (codes "S") refl) ∙ s) in omega (arith, first)))
+    let first : 83 ≡ 36 = ap (λ z. get_or z 0 0) (sym (is ∙ ascii_chars (codes "S") refl) ∙ s) in omega (arith, first)))
