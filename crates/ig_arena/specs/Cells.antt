@@ -1,5 +1,5 @@
 -- Chains of cells: what a head's chain holds, and what keeps chains apart.
-use Rattle.std.specs.Prelude.{◌≡◌, ℕ, zero, suc, ◌<◌, ◌==◌, Bool, true, false, if◌then◌else◌, List, [], ◌∷◌, ◌++◌, map, length, Option, Some, None, slice_get, slice_set, slice_index_or}
+use Rattle.std.specs.Prelude.{◌≡◌, ℕ, zero, suc, ◌<◌, ◌==◌, Bool, false, if◌then◌else◌, List, [], ◌∷◌, ◌++◌, map, length, Option, Some, None, slice_get, slice_set, slice_index_or}
 use Rattle.ig_arena.specs.declared.chains.Cell.{Cell}
 use Rattle.ig_arena.specs.declared.chains.Ends.{Ends}
 

@@ -1,5 +1,6 @@
 //! A list of values under ids.
-ghost use Rattle.std.specs.Prelude.{◌≡◌, [], ◌∷◌, ◌++◌, length, slice_get, IfOk, OnOk, OnErr, IfErr};
+ghost use Rattle.std.specs.Prelude.{◌≡◌, [], ◌∷◌, ◌++◌, length, slice_get};
+ghost use Rattle.std.specs.Prelude.{IfOk, OnOk, OnErr, IfErr};
 ghost use Rattle.std.specs.Option.{option_copied, option_copied_mut};
 ghost use Rattle.std.specs.Borrow.{sem};
 ghost use Rattle.ig_arena.specs.Lending.{lends_value};
@@ -34,8 +35,8 @@ impl<K, T> Arena<K, T> {
         }
     }
 
-    /// Adds the value at the end, and gives its id. Refused for want of memory, or of a number of 32
-    /// bits, it hands the value back, and the list is as before.
+    /// Adds the value at the end, and gives its id. Refused for want of memory, or of a number of
+    /// 32 bits, it hands the value back, and the list is as before.
     pub fn push(&mut self, value: T) -> Result<Id<K>, (T, AllocError)>
         ensures ok { OnOk result (self.new ≡ self.old ++ value ∷ []) }
         ensures id { IfOk result (λ id. id ≡ length self.old) }
@@ -51,15 +52,16 @@ impl<K, T> Arena<K, T> {
         }
     }
 
-    /// The value of that id; `None` exactly where the number is at least the length. Takes no memory.
+    /// The value of that id; `None` exactly where the number is at least the length. Takes no
+    /// memory.
     pub fn get(&self, id: Id<K>) -> Option<&T>
         ensures { option_copied result ≡ slice_get self.now id }
     {
         self.cells.get(id.number as usize)
     }
 
-    /// The value of that id for writing; `None` exactly where the number is at least the length. Takes
-    /// no memory.
+    /// The value of that id for writing; `None` exactly where the number is at least the length.
+    /// Takes no memory.
     pub fn get_mut(&mut self, id: Id<K>) -> Option<&mut T>
         ensures* writes_back { sem 𝓛 (lends_value K.row T.row self.entry id result) }
         ensures value { option_copied_mut result ≡ slice_get self.old id }

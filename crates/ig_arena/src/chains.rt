@@ -23,8 +23,8 @@ struct Ends {
     last: u32,
 }
 
-/// A list of lists. The cells of all of them lie in one vector, in the order in which they were added,
-/// and each names the next one of its list.
+/// A list of lists. The cells of all of them lie in one vector, in the order in which they were
+/// added, and each names the next one of its list.
 #[derive(Drop)]
 pub struct Chains<K, T> {
     cells: Vec<Cell<T>>,
@@ -56,8 +56,8 @@ impl<K, T> Chains<K, T> {
         }
     }
 
-    /// Adds an empty list at the end, and gives its id. Refused for want of memory, or of a number of
-    /// 32 bits, the lists are as before.
+    /// Adds an empty list at the end, and gives its id. Refused for want of memory, or of a
+    /// number of 32 bits, the lists are as before.
     pub fn add_head(&mut self) -> Result<Id<K>, AllocError>
         ensures ok { OnOk result (self.new ≡ self.old ++ [] ∷ []) }
         ensures id { IfOk result (λ id. id ≡ length self.old) }
@@ -70,9 +70,9 @@ impl<K, T> Chains<K, T> {
         Ok(Id::of(number))
     }
 
-    /// Adds the value at the end of the list of that id, which has to be there, and leaves all others.
-    /// Refused for want of memory, or of a number of 32 bits, it hands the value back, and the lists
-    /// are as before.
+    /// Adds the value at the end of the list of that id, which has to be there, and leaves all
+    /// others. Refused for want of memory, or of a number of 32 bits, it hands the value back,
+    /// and the lists are as before.
     pub fn add(&mut self, head: Id<K>, value: T) -> Result<(), (T, AllocError)>
         requires { head < length self.old }
         ensures ok { OnOk result (self.new ≡ longer_at self.old head value) }

@@ -1,12 +1,13 @@
 -- Where no literal of a grammar is empty, none of its core grammar is.
-use Rattle.std.proofs.Common.{◌≡◌, ℕ, List, [], ◌∷◌, All, Option, Some, None, Contains, refl, sym, ap, ◌∙◌, subst, ⊎_elim, arith}
+use Rattle.std.proofs.Common.{◌≡◌, ℕ, List, [], ◌∷◌, All, map, Option, Some, None, Contains, refl, sym, ap, ◌∙◌, subst, ⊎_elim, arith}
 use Rattle.std.proofs.lemmas.List.Elements.{All-nil, All-cons, All-head, All-tail, All-contains, Contains-append_cases}
 use Rattle.ig_text.specs.declared.pattern.Pattern.{Pattern}
 use Rattle.ig_text.specs.declared.pattern.Pattern.TheVariants as pattern
-use Rattle.ig_grammar.specs.Symbol.{Symbol, Literal, OneOf, Call, Label, Guard, Let, Filtered, gathered}
+use Rattle.ig_grammar.specs.Symbol.{Symbol, Literal, OneOf, Call, Label, Guard, Let, Filtered, gathered, next_symbol, next_alternative}
 use Rattle.ig_grammar.specs.Alternative.{gathered_alternatives}
 use Rattle.ig_grammar.specs.Numbering.{alternatives, IsAlternative}
 use Rattle.ig_grammar.specs.Regular as source
+use Rattle.ig_grammar.specs.Laws.{RegularityByForm}
 use Rattle.ig_grammar.specs.Regular.{HasNoEmptyLiteral, pattern_of, StandsWell, SymbolsStandWell, AlternativesStandWell}
 use Rattle.ig_grammar.specs.declared.filter.Filter.{Filter}
 use Rattle.ig_grammar.specs.declared.filter.Filter.TheVariants.{Not}
@@ -32,20 +33,20 @@ has_character : (p : Pattern) → HasNoEmptyLiteral p → HasCharacter p
 has_character (pattern.Literal word) h = h
 has_character (pattern.OneOf class) h = h
 
-abbrev FilterHas : Filter → Type 0
-FilterHas f = HasNoEmptyLiteral (pattern_of f)
-
-excluded_have : (filters : List Filter) → All FilterHas filters → All HasCharacter (exclusions filters)
+excluded_have : (filters : List Filter) → All HasNoEmptyLiteral (map pattern_of filters) → All HasCharacter (exclusions filters)
 excluded_have [] all = All-nil HasCharacter
 excluded_have (Not p ∷ filters) all =
-    All-cons HasCharacter p (exclusions filters) (has_character p (All-head FilterHas (Not p) filters all))
-    (excluded_have filters (All-tail FilterHas (Not p) filters all))
-excluded_have (f ∷ filters) all = excluded_have filters (All-tail FilterHas f filters all)
+    All-cons HasCharacter p (exclusions filters)
+    (has_character p (All-head HasNoEmptyLiteral p (map pattern_of filters) all))
+    (excluded_have filters (All-tail HasNoEmptyLiteral p (map pattern_of filters) all))
+excluded_have (f ∷ filters) all =
+    excluded_have filters (All-tail HasNoEmptyLiteral (pattern_of f) (map pattern_of filters) all)
 
-module _ (number : List ℕ → ℕ) where
+module _ (law : RegularityByForm) (number : List ℕ → ℕ) where
   term_regular : (label : Option (List ℕ)) (excluded : List Pattern) (x : Symbol) → IsTerm Any x → StandsWell x →
       All HasCharacter excluded → IsRegularStep (step_with number label excluded x)
-  term_regular label excluded (Literal word) is well all = (well, all)
+  term_regular label excluded (Literal word) is well all =
+      (All-head HasNoEmptyLiteral (pattern.Literal word) [] (law.stands (Literal word) well).0.0, all)
   term_regular label excluded (OneOf class) is well all = (tt, all)
   term_regular label excluded (Call name arguments) is well all = all
   term_regular label excluded x is well all = absurd is
@@ -53,14 +54,16 @@ module _ (number : List ℕ → ℕ) where
   excluding_regular : (label : Option (List ℕ)) (x : Symbol) → IsExcluding Any x → StandsWell x →
       IsRegularStep (step_with number label (excluded_of x) (unfiltered x))
   excluding_regular label (Filtered x filters) is well =
-      term_regular label (exclusions filters) x is.1 well.2 (excluded_have filters well.1)
-  excluding_regular label (Literal word) is well = (well, All-nil HasCharacter)
+      let by = law.stands (Filtered x filters) well in
+      term_regular label (exclusions filters) x is.1 by.1 (excluded_have filters by.0.0)
+  excluding_regular label (Literal word) is well =
+      (All-head HasNoEmptyLiteral (pattern.Literal word) [] (law.stands (Literal word) well).0.0, All-nil HasCharacter)
   excluding_regular label (OneOf class) is well = (tt, All-nil HasCharacter)
   excluding_regular label (Call name arguments) is well = All-nil HasCharacter
   excluding_regular label x is well = absurd is
 
   step_regular : (x : Symbol) → Remains Any x → StandsWell x → IsRegularStep (step_of number x)
-  step_regular (Label name x) is well = excluding_regular (Some name) x is well.1
+  step_regular (Label name x) is well = excluding_regular (Some name) x is (law.stands (Label name x) well).1
   step_regular (Guard condition) is well = tt
   step_regular (Let name value) is well = tt
   step_regular (Filtered x filters) is well = excluding_regular None (Filtered x filters) is well
@@ -73,16 +76,19 @@ module _ (number : List ℕ → ℕ) where
       All IsRegularStep (steps_of number xs)
   steps_regular [] all well = All-nil IsRegularStep
   steps_regular (x ∷ xs) all well =
+      let by = law.symbols_stand (next_symbol x (gathered xs)) well in
       All-cons IsRegularStep (step_of number x) (steps_of number xs)
-      (step_regular x (All-head (Remains Any) x xs all) well.0)
-      (steps_regular xs (All-tail (Remains Any) x xs all) well.1)
+      (step_regular x (All-head (Remains Any) x xs all) by.0)
+      (steps_regular xs (All-tail (Remains Any) x xs all) by.1)
 
 abbrev Stands : Alt → Type 0
 Stands a = SymbolsStandWell (gathered a.symbols)
 
-all_stand : (alts : List Alt) → AlternativesStandWell (gathered_alternatives alts) → All Stands alts
-all_stand [] well = All-nil Stands
-all_stand (a ∷ alts) well = All-cons Stands a alts well.0 (all_stand alts well.1)
+all_stand : RegularityByForm → (alts : List Alt) → AlternativesStandWell (gathered_alternatives alts) → All Stands alts
+all_stand law [] well = All-nil Stands
+all_stand law (a ∷ alts) well =
+    let by = law.alternatives_stand (next_alternative (gathered a.symbols) (gathered_alternatives alts)) well in
+    All-cons Stands a alts by.0 (all_stand law alts by.1)
 
 none_among : (a : Alt) → Contains {X = Alt} [] a → ⊥
 none_among a c = absurd (omega (arith, c.1))
@@ -96,14 +102,14 @@ of_level (level ∷ levels) a among =
     (λ h. let o = of_level levels a h in (o.0, contains_later level levels o.0 o.1, o.2))
     (Contains-append_cases level.alts (alternatives levels) a among)
 
-module _ (g : Grammar) (shapes : List Shape) (ready : IsReady g shapes) (regular : source.IsRegular g) where
+module _ (law : RegularityByForm) (g : Grammar) (shapes : List Shape) (ready : IsReady g shapes) (regular : source.IsRegular g) where
   abbrev number_here : List ℕ → ℕ
   number_here = number_of g shapes
 
   stands : (decl : Decl) (a : Alt) → Contains g.decls decl → Contains (alternatives decl.levels) a →
       SymbolsStandWell (gathered a.symbols)
   stands decl a decl_in a_in =
-      let o = of_level decl.levels a a_in in All-contains Stands o.0.alts a (all_stand o.0.alts (regular.well decl o.0 decl_in o.1)) o.2
+      let o = of_level decl.levels a a_in in All-contains Stands o.0.alts a (all_stand law o.0.alts (regular.well decl o.0 decl_in o.1)) o.2
 
   alternative_regular : (n a : ℕ) (nonterminal : Nonterminal) (alternative : CoreAlt)
       (m : Member g shapes ready.scoped ready.fit ready.remaining n a nonterminal alternative) →
@@ -114,7 +120,7 @@ module _ (g : Grammar) (shapes : List Shape) (ready : IsReady g shapes) (regular
       (without_level m.x.decl.levels m.of.numbered.0 m.of.a m.of.numbered.2) in
       let decl_in : Contains g.decls m.x.decl = contains_at g.decls k m.x.decl at in
       subst (All IsRegularStep) (sym (ap (λ (z : CoreAlt). z.steps) m.of.same))
-      (steps_regular number_here m.of.a.alternative.symbols
+      (steps_regular law number_here m.of.a.alternative.symbols
       (ready.remaining.forms m.x.decl m.of.a.alternative decl_in a_in) (stands m.x.decl m.of.a.alternative decl_in a_in))
   alternative_regular n a nonterminal alternative m (made_row is none) =
       let has = core_has g shapes ready.scoped ready.fit ready.remaining in
@@ -125,8 +131,8 @@ module _ (g : Grammar) (shapes : List Shape) (ready : IsReady g shapes) (regular
       subst (All IsRegularStep) (ap (steps_of number_here) (sym (calls_are g shapes [] has)) ∙ steps_same)
       (All-cons IsRegularStep (step_of number_here (Call has.started.0 [])) [] (All-nil HasCharacter) (All-nil IsRegularStep))
 
-pub cores_regular : CoresAreRegular
-cores_regular g shapes ready regular n a nonterminal alternative is =
+pub cores_regular : RegularityByForm → CoresAreRegular
+cores_regular law g shapes ready regular n a nonterminal alternative is =
     let m = member g shapes ready.scoped ready.fit ready.remaining n a nonterminal alternative is in
-    alternative_regular g shapes ready regular n a nonterminal alternative m
+    alternative_regular law g shapes ready regular n a nonterminal alternative m
     (row g shapes ready.scoped ready.fit ready.remaining n m.x m.at)

@@ -5,8 +5,9 @@ ghost use Rattle.ig_core.specs.Laws.{CoreTreesArePermitted, CoresAreWellKinded, 
 ghost use Rattle.ig_core.specs.Laws.{BuiltGrammarsRemain, RootIsNamed, NamesAreNotAdded};
 ghost use Rattle.ig_core.specs.Laws.{CoreNamesDiffer};
 
-use ig_meaning::trees_without_operators_are_clean;
+use ig_grammar::regularity_by_form;
 use ig_item::{names_differ, steps_fit};
+use ig_meaning::trees_without_operators_are_clean;
 
 /// A tree is one of the core grammar exactly where the grammar permits it. This law computes
 /// nothing.
@@ -29,7 +30,9 @@ pub fn cores_are_well_kinded()
 /// nothing.
 pub fn cores_are_regular()
     ensures { CoresAreRegular }
-{}
+{
+    regularity_by_form();
+}
 
 /// Each form that is built remains after all passes. This law computes nothing.
 pub fn built_grammars_remain()

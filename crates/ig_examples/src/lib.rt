@@ -1,20 +1,30 @@
 //! Worked grammars: the trees that each one permits for a text, all of them up to a height, and
 //! texts that it refuses. Each is a law that computes nothing: it is proved by an enumeration of
-//! derivations that is sound and complete. How many trees a text has, or that it has none, is said of
-//! the trees of at most the height that the definition names.
+//! derivations that is sound and complete. How many trees a text has, or that it has none, is said
+//! of the trees of at most the height that the definition names.
 #![tactic(auto)]
 
-ghost use Rattle.ig_examples.specs.Blocks.{DeclarationsAreBlocks, NestedBlocksAreAsked, GreaterColumnsCount, TokensUnderBlocksAreSeen};
+ghost use Rattle.ig_examples.specs.Blocks.{DeclarationsAreBlocks, NestedBlocksAreAsked};
+ghost use Rattle.ig_examples.specs.Blocks.{GreaterColumnsCount, TokensUnderBlocksAreSeen};
 ghost use Rattle.ig_examples.specs.Data.{NamesAreCompared, LettersAreCounted};
 ghost use Rattle.ig_examples.specs.Keyword.{KeywordsAreExcluded};
-ghost use Rattle.ig_examples.specs.Nullable.{EmptyPairsArePermitted, HiddenLeftRecursionIsPermitted};
+ghost use Rattle.ig_examples.specs.Nullable.{EmptyPairsArePermitted};
+ghost use Rattle.ig_examples.specs.Nullable.{HiddenLeftRecursionIsPermitted};
 ghost use Rattle.ig_examples.specs.Operators.{LevelsBind, SpinesAreWhole, ComparisonsStandAlone};
-ghost use Rattle.ig_examples.specs.Levels.{OperatorsGroupToTheRight, LabelledCallsAreOperands, FilteredCallsAreNoOperands, BracketsAreClean, SingleCallsAreNoOperands};
-ghost use Rattle.ig_examples.specs.Bindings.{LetsStandBehindLayout, GroupsKeepTheirBindings, GuardsWantAValue};
-ghost use Rattle.ig_examples.specs.Layout.{OptionsHaveLayout, CallsOfLayoutAreNoTokens, LexicalStartsHaveLayout, LayoutMayStart, LabelsBindOwnEnds};
-ghost use Rattle.ig_examples.specs.Filters.{FiltersAreAskedAtOwnEnds, FiltersLookBack, NegatedClassesExclude};
-ghost use Rattle.ig_examples.specs.Columns.{SeparatorsAreFree, AlignedListsHaveFilters, BlocksSeeAllTokens};
-ghost use Rattle.ig_examples.specs.Passes.{SequencesStandInPlace, EntriesBindInside, RootsAreReadByTheirKind, ShapesGiveTags};
+ghost use Rattle.ig_examples.specs.Levels.{OperatorsGroupToTheRight, LabelledCallsAreOperands};
+ghost use Rattle.ig_examples.specs.Levels.{FilteredCallsAreNoOperands, BracketsAreClean};
+ghost use Rattle.ig_examples.specs.Levels.{SingleCallsAreNoOperands};
+ghost use Rattle.ig_examples.specs.Bindings.{LetsStandBehindLayout, GroupsKeepTheirBindings};
+ghost use Rattle.ig_examples.specs.Bindings.{GuardsWantAValue};
+ghost use Rattle.ig_examples.specs.Layout.{OptionsHaveLayout, CallsOfLayoutAreNoTokens};
+ghost use Rattle.ig_examples.specs.Layout.{LexicalStartsHaveLayout, LayoutMayStart};
+ghost use Rattle.ig_examples.specs.Layout.{LabelsBindOwnEnds};
+ghost use Rattle.ig_examples.specs.Filters.{FiltersAreAskedAtOwnEnds, FiltersLookBack};
+ghost use Rattle.ig_examples.specs.Filters.{NegatedClassesExclude};
+ghost use Rattle.ig_examples.specs.Columns.{SeparatorsAreFree, AlignedListsHaveFilters};
+ghost use Rattle.ig_examples.specs.Columns.{BlocksSeeAllTokens};
+ghost use Rattle.ig_examples.specs.Passes.{SequencesStandInPlace, EntriesBindInside};
+ghost use Rattle.ig_examples.specs.Passes.{RootsAreReadByTheirKind, ShapesGiveTags};
 
 /// With `start S; syntax S = S S | "a" | ;` the empty text has one tree of height 2 and one of
 /// height 3.
@@ -28,40 +38,41 @@ pub fn hidden_left_recursion_is_permitted()
     ensures { HiddenLeftRecursionIsPermitted }
 {}
 
-/// With `start E; syntax E = [0-9] > left E "*" E > left E "+" E | E "-" E;` the one tree of `1-2-3`
-/// groups to the left, the one tree of `1+2*3` is a sum, and `1-` has none.
+/// With `start E; syntax E = [0-9] > left E "*" E > left E "+" E | E "-" E;` the one tree of
+/// `1-2-3` groups to the left, the one tree of `1+2*3` is a sum, and `1-` has none.
 pub fn levels_bind()
     ensures { LevelsBind }
 {}
 
 /// With `start E; syntax E = [a-c] > left E "*" E > left E "+" E > "-" E;` the sign takes `b+c` in
-/// the one tree of `a*-b+c`. With `start E; syntax E = "a" > E "!" > left E "*" E > E "?";` the text
-/// `a*a?!` has one tree.
+/// the one tree of `a*-b+c`. With `start E; syntax E = "a" > E "!" > left E "*" E > E "?";` the
+/// text `a*a?!` has one tree.
 pub fn spines_are_whole()
     ensures { SpinesAreWhole }
 {}
 
-/// With `start E; syntax E = [a-c] > nonassoc E "<" E;` the text `a<b` has one tree, and `a<b<c` has
-/// none.
+/// With `start E; syntax E = [a-c] > nonassoc E "<" E;` the text `a<b` has one tree, and `a<b<c`
+/// has none.
 pub fn comparisons_stand_alone()
     ensures { ComparisonsStandAlone }
 {}
 
-/// With `start El; syntax El = "<" n: Name ">" El* "</" m: Name ">" when (same(n, m));` and names of
-/// letters the text `<a></a>` has one tree, and `<a></b>` has none.
+/// With `start El; syntax El = "<" n: Name ">" El* "</" m: Name ">" when (same(n, m));` and names
+/// of letters the text `<a></a>` has one tree, and `<a></b>` has none.
 pub fn names_are_compared()
     ensures { NamesAreCompared }
 {}
 
 /// With `start S; syntax S = "{" n: Num "}" Body(number(n));`, numbers of digits and
-/// `syntax Body(k: int) = when (k == 0) | when (k > 0) [a-z] Body(k - 1);` the text `{3}abc` has one
-/// tree, and `{2}abc` has none.
+/// `syntax Body(k: int) = when (k == 0) | when (k > 0) [a-z] Body(k - 1);` the text `{3}abc` has
+/// one tree, and `{2}abc` has none.
 pub fn letters_are_counted()
     ensures { LettersAreCounted }
 {}
 
 /// With `start P; syntax P = align (offside Decl)*; syntax Decl = Id "=" Id+;`, identifiers and
-/// layout a declaration may go on in a further line that stands to its right, and not at its column.
+/// layout a declaration may go on in a further line that stands to its right, and not at its
+/// column.
 pub fn declarations_are_blocks()
     ensures { DeclarationsAreBlocks }
 {}
@@ -78,14 +89,14 @@ pub fn greater_columns_count()
     ensures { GreaterColumnsCount }
 {}
 
-/// With `start S; syntax S = offside ("a" offside "b" "c");` and layout the `b` and the `c` stand to
-/// the right of the `a`.
+/// With `start S; syntax S = offside ("a" offside "b" "c");` and layout the `b` and the `c` stand
+/// to the right of the `a`.
 pub fn tokens_under_blocks_are_seen()
     ensures { TokensUnderBlocksAreSeen }
 {}
 
-/// With `start S; syntax S = Id; lexical Id = [a-z]+ !>> [a-z] \ "if";` the text `iff` has one tree,
-/// and `if` has none.
+/// With `start S; syntax S = Id; lexical Id = [a-z]+ !>> [a-z] \ "if";` the text `iff` has one
+/// tree, and `if` has none.
 pub fn keywords_are_excluded()
     ensures { KeywordsAreExcluded }
 {}

@@ -4,3 +4,15 @@ pub mod Live
 pub mod Orders
 pub mod Reduced
 pub mod Laws
+pub mod CodeTables
+pub mod CodeSteps
+pub mod CodeLinks
+pub mod CodeDone
+pub mod CodeReach
+pub mod CodeKept
+pub mod CodeForest
+pub mod CodeChoices
+pub mod CodeEntries
+pub mod CodeRoot
+pub mod CodeViews
+pub mod CodeBuilder

@@ -38,8 +38,8 @@ pub fn live_items_are_least()
     ensures { LiveIsLeast }
 {}
 
-/// The reduced forest of a well-kinded core grammar and a text unfolds, to each depth, to exactly the
-/// trees of the core grammar for the text that are no higher. This law computes nothing.
+/// The reduced forest of a well-kinded core grammar and a text unfolds, to each depth, to exactly
+/// the trees of the core grammar for the text that are no higher. This law computes nothing.
 pub fn reduced_forest_unfolds_to_core_trees()
     ensures { UnfoldsToCoreTrees }
 {
@@ -52,8 +52,8 @@ pub fn reduced_forest_unfolds_to_core_trees()
     alternatives_are_one();
 }
 
-/// A tree has one cursor in the reduced forest of a well-kinded core grammar and a text, whatever the
-/// depth. This law computes nothing.
+/// A tree has one cursor in the reduced forest of a well-kinded core grammar and a text, whatever
+/// the depth. This law computes nothing.
 pub fn tree_has_one_cursor()
     ensures { HasOneCursor }
 {
@@ -66,9 +66,9 @@ pub fn tree_has_one_cursor()
     alternatives_are_one();
 }
 
-/// The reduced forest of a well-kinded core grammar and a text is a forest, each node, alternative and
-/// entry of which some tree uses, and whose items stand behind their previous ones. This law computes
-/// nothing.
+/// The reduced forest of a well-kinded core grammar and a text is a forest, each node,
+/// alternative and entry of which some tree uses, and whose items stand behind their previous
+/// ones. This law computes nothing.
 pub fn reduced_forest_is_trim()
     ensures { ReducedIsTrim }
 {

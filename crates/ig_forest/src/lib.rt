@@ -1,19 +1,43 @@
-//! The reduced forest of a core grammar and a text: all trees of the text, shared, and nothing else.
+//! The reduced forest of a core grammar and a text: all trees of the text, shared, and no more.
 //!
 //! A forest has nodes with alternatives and item nodes with entries, both numbered from 0.
 //! `specs/Forest.antt` says what it is, and `specs/Unfold.antt` which trees it has to a depth, each
 //! with its cursor. `specs/Live.antt` says which items some tree of the whole text uses, and
-//! `specs/Reduced.antt` which forest is the reduced one: it has the live items and no others, in the
-//! orders of `specs/Orders.antt`. The laws say that a core grammar and a text have one such forest at
-//! most, that it unfolds to exactly their trees, each with one cursor, and that no part of it is dead.
+//! `specs/Reduced.antt` which forest is the reduced one: it has the live items and no others, in
+//! the orders of `specs/Orders.antt`. The laws say that a core grammar and a text have one such
+//! forest at most, that it unfolds to exactly their trees, each with one cursor, and that no part
+//! of it is dead.
+//!
+//! [`Forest::build`] gives exactly that forest, `None` exactly where the root isn't complete; every
+//! `Forest` is trim. It numbers lists of values in order, so that items and nodes are rows of
+//! numbers. It finds the links between items from each item forward, marks what is live by a work
+//! list backward, and keeps that. The readers hand out borrowing views.
 #![tactic(auto)]
 
+mod alternatives;
+mod builder;
+mod done;
+mod dots;
+mod entries;
 mod entry;
+mod environments;
+mod filed;
+mod forest;
+mod item_rows;
 mod laws;
+mod links;
+mod live;
+mod names;
+mod reach;
+mod root;
+mod rows;
+mod stored;
 
 pub use entry::{Child, Choice, Entry};
+pub use forest::{Forest, ItemNode, Node};
 pub use laws::{
     live_items_are_least, live_items_are_reachable, no_key_stands_twice, reduced_forest_has_root,
     reduced_forest_is_trim, reduced_forest_is_unique, reduced_forest_unfolds_to_core_trees,
     tree_has_one_cursor, trim_forest_has_trees,
 };
+pub use stored::{Choices, Entries};

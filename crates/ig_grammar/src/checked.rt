@@ -49,11 +49,11 @@ impl Checked {
 
     /// The grammar, with these shapes of its declarations, as passes give them. The grammar is well
     /// scoped. There are as many shapes as declarations. A declaration of the shape `Rule` or
-    /// `Group` has any number of alternatives, one of the shape `Root` has one, and one of any other
-    /// shape two. Every declaration of another shape than `Rule` has one level, neither `left` nor
-    /// `right` nor `nonassoc`. One of the shape `Root` is the start, is no layout declaration, stands
-    /// after each of the shape `Rule`, and is named by no call; each of its symbols is a call or a
-    /// `Seq` of calls. Takes no memory.
+    /// `Group` has any number of alternatives, one of the shape `Root` has one, and one of any
+    /// other shape two. Every declaration of another shape than `Rule` has one level, neither
+    /// `left` nor `right` nor `nonassoc`. One of the shape `Root` is the start, is no layout
+    /// declaration, stands after each of the shape `Rule`, and is named by no call; each of its
+    /// symbols is a call or a `Seq` of calls. Takes no memory.
     pub fn with_shapes(grammar: Grammar, shapes: Shapes) -> Checked
         requires scoped { IsWellScoped grammar }
         requires fit { FitShapes grammar shapes }

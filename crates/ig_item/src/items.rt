@@ -7,8 +7,8 @@ use crate::environment_table::EnvironmentTable;
 use ig_expr::{Value, Values};
 use std::marker::Model;
 
-/// A nonterminal with the values of its arguments, which was called at a position. Contracts see the
-/// instances of [`Items`] so; the tables keep an [`InstanceKey`], and readers give an
+/// A nonterminal with the values of its arguments, which was called at a position. Contracts see
+/// the instances of [`Items`] so; the tables keep an [`InstanceKey`], and readers give an
 /// [`InstanceView`].
 #[derive(PartialEq, Eq, Hash, Drop)]
 pub struct Instance {
@@ -60,13 +60,14 @@ impl Model for Items {
 
     ghost view = { λ s. tables_by s.keys.items s.envs s.items.items };
 
-    ghost invariant = { λ s. HaveValues s.envs s.keys.items × AreTables (tables_by s.keys.items s.envs s.items.items) };
+    ghost invariant = { λ s. HaveValues s.envs s.keys.items ×
+        AreTables (tables_by s.keys.items s.envs s.items.items) };
 }
 
 impl Items {
     /// The items over these tables. Each item's instance and environment have to be in them, as has
-    /// each instance's environment, and each of the three lists has to have fewer than 4,294,967,296
-    /// members. Takes no memory.
+    /// each instance's environment, and each of the three lists has to have fewer than
+    /// 4,294,967,296 members. Takes no memory.
     pub fn of(keys: Vec<InstanceKey>, envs: EnvironmentTable, items: Vec<Item>) -> Items
         requires values { HaveValues envs keys.items }
         requires tables { AreTables (tables_by keys.items envs items.items) }

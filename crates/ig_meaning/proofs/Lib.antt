@@ -14,3 +14,4 @@ mod Transitivity
 mod BindingInversion
 mod Determined
 mod Completeness
+mod Listing

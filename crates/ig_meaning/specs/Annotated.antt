@@ -134,7 +134,8 @@ module _ (g : Grammar) (shapes : List Shape) (text : List ℕ) where
           kind ≡ decl.kind → Bind kind a.alternative.symbols env i e ts after →
           t ≡ Node (tag_of shape d k) (bound_between env after) i e ts → Within name vs kind i e t
 
-    -- behind a token, which is as good as lexical, stands the layout where a syntax declaration has it, else nothing
+    -- what stands, in a declaration of the first kind, behind a call of a nonterminal of the second kind; literals and
+    -- classes count as lexical
     pub data Behind : DeclKind → DeclKind → ℕ → ℕ → Trees → Type 0 where
       layout : (name : List ℕ) (kind : DeclKind) (e j : ℕ) (t : Tree) → layout_among g.decls ≡ Some name →
           Within name [] kind e j t → Behind Syntax Lexical e j (one t)

@@ -1,5 +1,5 @@
 -- The order of derivation trees of one symbol with the same span, from the same environment, by their first difference.
-use Rattle.std.specs.Prelude.{◌≡◌, ℕ, suc, List}
+use Rattle.std.specs.Prelude.{◌≡◌, ◌⊎◌, ℕ, suc, List}
 use Rattle.std.specs.declared.cmp.Ordering.{Ordering}
 use Rattle.std.specs.declared.cmp.Ordering.TheVariants.{Less, Equal, Greater}
 use Rattle.std.specs.Ordering.{ordering_then, ordering_reverse, nat_cmp}
@@ -100,3 +100,17 @@ abbrev pub UndifferingTreesAreEqual : Type 0
 UndifferingTreesAreEqual =
     (g : Grammar) (shapes : List Shape) (text : List ℕ) → AreDistinct (names g.decls) → FitShapes g shapes →
     AreToldApart g shapes text
+
+-- no permitted tree stands before itself, what stands before a tree stands before all behind that one, and of two trees
+-- one stands before the other
+pub record PrecedesInOrder (g : Grammar) (shapes : List Shape) (text : List ℕ) : Type 0 where
+  pub never : (t : plain.Tree) → Precedes g shapes text t t → ⊥
+  pub onward : (t u v : plain.Tree) → Precedes g shapes text t u → Precedes g shapes text u v → Precedes g shapes text t v
+  pub either : (t u : plain.Tree) → Permitted g shapes text t → Permitted g shapes text u →
+      (t ≡ u) ⊎ (Precedes g shapes text t u ⊎ Precedes g shapes text u t)
+
+-- where no name is declared twice and each declaration is of its shape
+abbrev pub PermittedTreesAreOrdered : Type 0
+PermittedTreesAreOrdered =
+    (g : Grammar) (shapes : List Shape) (text : List ℕ) → AreDistinct (names g.decls) → FitShapes g shapes →
+    PrecedesInOrder g shapes text

@@ -5,7 +5,7 @@ ghost use Rattle.ig_meaning.specs.Laws.{EnvironmentsGrow, LabelsBindOwnSpans};
 ghost use Rattle.ig_meaning.specs.Laws.{PermittedTreesAreWhole, SpansAreInOrder};
 ghost use Rattle.ig_meaning.specs.Laws.{TreesWithoutOperatorsAreClean};
 ghost use Rattle.ig_meaning.specs.Order.{IsAnOrder, LastChildStartsDecide};
-ghost use Rattle.ig_meaning.specs.Order.{UndifferingTreesAreEqual};
+ghost use Rattle.ig_meaning.specs.Order.{PermittedTreesAreOrdered, UndifferingTreesAreEqual};
 
 /// A derivation of each form of symbol consists of what the rules of derivations say of this form.
 /// This law, proved of every derivation, computes nothing.
@@ -81,4 +81,11 @@ pub fn trees_are_ordered()
 /// law, proved of every derivation, computes nothing.
 pub fn undiffering_trees_are_equal()
     ensures { UndifferingTreesAreEqual }
+{}
+
+/// The order in which permitted trees are listed: none stands before itself, it is transitive, and
+/// of two trees one stands before the other, under the same two conditions. This law, proved of
+/// every derivation, computes nothing.
+pub fn permitted_trees_are_ordered()
+    ensures { PermittedTreesAreOrdered }
 {}

@@ -1,24 +1,23 @@
 -- Functions that add items, one after the other.
 use Rattle.std.proofs.lemmas.Option.{same_Some}
-use Rattle.std.proofs.Common.{◌≡◌, ◌⊎◌, ⊎_elim, inl, inr, ℕ, zero, suc, ◌<◌, ◌≤◌, List, [], ◌∷◌, ◌++◌, map, slice_get, Contains, refl, sym, ap, ◌∙◌, subst, arith}
+use Rattle.std.proofs.Common.{◌≡◌, ◌⊎◌, ⊎_elim, ℕ, zero, suc, ◌<◌, ◌≤◌, List, [], ◌∷◌, ◌++◌, map, slice_get, Contains, refl, sym, ap, ◌∙◌, subst, arith}
 use Rattle.std.specs.Prelude.{Result, Ok, Err, OnOk, IfErr}
 use Rattle.std.specs.Result.{IsErrAnd}
 use Rattle.std.proofs.lemmas.Result.{err_from_is_err_and}
-use Rattle.std.specs.Option.{option_to_list}
-use Rattle.std.specs.Prelude.{Option, slice_index_or}
+use Rattle.std.specs.Prelude.{Option}
 use Rattle.ig_expr.specs.declared.value.Value.{Value}
 use Rattle.ig_item.specs.declared.items.Item as stored
 use Rattle.std.specs.Prelude.{IsTrue, Some, None, true, false, Bool, ◌↔◌}
 use Rattle.ig_expr.specs.Expression.{Expression}
 use Rattle.ig_expr.specs.Evaluation.{value_of}
 use Rattle.ig_expr.specs.declared.value.Value.TheVariants.{Bool as truth}
-use Rattle.ig_item.specs.Items.{Item, past}
+use Rattle.ig_item.specs.Items.{Item}
 use Rattle.ig_item.specs.declared.run_fault.RunFault.{RunFault}
 use Rattle.ig_item.specs.declared.run_fault.RunFault.TheVariants.{Budget, Memory}
 use Rattle.ig_item.specs.declared.items.InstanceKey.{InstanceKey}
 use Rattle.ig_plain.specs.Tables.{item_by}
 use Rattle.ig_plain.specs.declared.found.Found.{Found}
-use Rattle.ig_plain.specs.Found.{means, found_in, later_in, count, Named, AreNamed, Grows, GrowsLater, Has, Adds, AddsLater}
+use Rattle.ig_plain.specs.Found.{means, found_in, later_in, count, AreNamed, Grows, GrowsLater, Has, Adds, AddsLater}
 use Rattle.ig_plain.proofs.Lists.{left_contains, right_contains, mapped_in}
 use Rattle.ig_plain.proofs.Growth.{grows_not, grows_weaker, grows_then, all_kept, named_all}
 use Rattle.ig_plain.proofs.Sets.{extends_itself}
@@ -74,7 +73,7 @@ module _ (p : ℕ) where
       record {
         grows = grows_then p may a b c n.values g h;
         has = λ x m.
-          ⊎_elim (λ (k : first x). all_kept p may b c (named_all p may a b n g) h x (d.has x k)) (λ (k : second x). e.has x k) (split x m);
+            ⊎_elim (λ (k : first x). all_kept p may b c (named_all p may a b n g) h x (d.has x k)) (λ (k : second x). e.has x k) (split x m);
         within = λ l. e.within (d.within l);
         fault = tt;
       }
@@ -103,14 +102,13 @@ module _ (p : ℕ) where
       record {
         grows = g;
         has = λ y e.
-          left_contains (found_in b) (later_in b) y
-          (subst (Contains (found_in b)) (same_means a b x envs keys ∙ sym e)
-          (mapped_in (means b) (b.done.items ++ b.here.keys) x (right_contains b.done.items b.here.keys x c)));
+            left_contains (found_in b) (later_in b) y
+            (subst (Contains (found_in b)) (same_means a b x envs keys ∙ sym e)
+            (mapped_in (means b) (b.done.items ++ b.here.keys) x (right_contains b.done.items b.here.keys x c)));
         within = λ h. within;
         fault = tt;
       }
   adds_here budget a b x (Err f) g envs keys c within fault = record { grows = g; has = tt; within = tt; fault = fault }
-
 
   -- where a condition holds, and where it doesn't
   pub adds_where : (C : Type 0) (may : Item → Type 0) (budget : ℕ) (a b : Found) (r : Result (Unit {0}) RunFault) → C → Adds p may budget a b r →

@@ -1,16 +1,18 @@
 -- An item before a test, a binding or a terminal is taken.
-use Rattle.std.proofs.Common.{◌≡◌, ◌⊎◌, ⊎_elim, inl, inr, ℕ, zero, suc, ◌+◌, ◌<◌, ◌≤◌, List, [], ◌∷◌, ◌++◌, Some, None, Option, length, map, take, Contains, refl, sym, ap, ◌∙◌, subst, arith, slice_get, length-append}
+use Rattle.std.proofs.Common.{◌≡◌, inl, ℕ, zero, suc, ◌+◌, ◌<◌, ◌≤◌, List, [], ◌∷◌, ◌++◌, Some, None, Option, length, map, take, Contains, refl, sym, ap, ◌∙◌, subst, arith, slice_get, true}
 use Rattle.std.specs.Prelude.{Result, Ok, Err, option_map, option_and_then, MatchResult}
 use Rattle.std.specs.List.{flat_map}
-use Rattle.std.proofs.lemmas.Option.{same_Some, slice_get_within, slice_get-get_or}
+use Rattle.std.proofs.lemmas.Option.{same_Some}
 use Rattle.ig_text.specs.Pattern.{Matches}
 use Rattle.ig_text.specs.declared.pattern.Pattern.{Pattern}
 use Rattle.ig_expr.specs.Expression.{Expression}
 use Rattle.ig_expr.specs.declared.value.Value.{Value}
 use Rattle.ig_expr.specs.declared.value.Value.TheVariants.{Bool as truth}
-use Rattle.ig_item.specs.Step.{Step, Test, Bind, Term, Call}
+use Rattle.ig_item.specs.Step.{Step, Test, Bind, Term, names_of}
+use Rattle.ig_item.specs.View.{step_of}
+use Rattle.ig_item.specs.declared.step.Step as step
 use Rattle.ig_item.specs.Core.{IsAlternative, alternative_at}
-use Rattle.ig_item.specs.Items.{Item, Reachable, IsComplete, StandsBefore, HasValue, MatchesNone, MoreThan, past, span_of, first}
+use Rattle.ig_item.specs.Items.{Item, IsComplete, StandsBefore, HasValue, MatchesNone, MoreThan, past, span_of, first}
 use Rattle.ig_item.specs.Laws.{ReachableIsClosed, EnvironmentFits, EnvironmentsFit}
 use Rattle.ig_item.specs.WellKinded.{IsWellKinded}
 use Rattle.ig_item.specs.Visible.{names_at}
@@ -27,9 +29,9 @@ use Rattle.ig_plain.specs.Found as found
 use Rattle.ig_plain.specs.Found.{means, instances_in, found_in, later_in, taken_in, count, Named, Grows, GrowsLater, Has, Adds, AddsLater, AddsTerminal}
 use Rattle.ig_plain.specs.Rules as rules
 use Rattle.ig_plain.specs.Rules.{After, IsBehind, IsCaller, IsPastTerminal, Stands, step_at}
-use Rattle.ig_plain.specs.Run.{IsWaiting, IsTaking, IsRun, IsTaken, Refuses}
-use Rattle.ig_plain.proofs.Lists.{left_contains, contains_from_at, same_map}
-use Rattle.ig_plain.proofs.Following.{one_step, not_both, same_alternative}
+use Rattle.ig_plain.specs.Run.{IsWaiting, IsRun, IsTaken, Refuses}
+use Rattle.ig_plain.proofs.Lists.{left_contains, same_map}
+use Rattle.ig_plain.proofs.Following.{one_step, not_both}
 use Rattle.ig_plain.proofs.Running.{takes_found, taken_now, refuses, takes_later, taken_later, exceeds_later, named_still, means_still, all_later, item_found}
 use Rattle.ig_plain.proofs.Waiters.{Keeps, waits_alone}
 use Rattle.ig_plain.proofs.Completes.{keeps_grown, firsts_kept}
@@ -102,9 +104,12 @@ module _ (core : List Nonterminal) (text : List ℕ) (law : ReachableIsClosed) (
       behind x (rules.bind ns other f v b h g) = let z = one_step core text it ns names _ _ b before in cc
       behind x (rules.terminal ns pattern l f j b m free g) =
           let z = one_step core text it ns names (Term pattern l f) (Term what label excluded) b before in
-          let q : pattern ≡ what = cc z in let n : l ≡ label = cc z in let o : f ≡ excluded = cc z in
-          (j, subst (λ y. Matches text y it.position j) q m, subst (λ y. MatchesNone text y it.position j) o free,
-          g ∙ ap (λ y. past it (span_of y it.position j) j) n)
+          let q : pattern ≡ what = cc z in let n : l ≡ label = cc z in let o : f ≡ excluded = cc z in (
+            j,
+            subst (λ y. Matches text y it.position j) q m,
+            subst (λ y. MatchesNone text y it.position j) o free,
+            g ∙ ap (λ y. past it (span_of y it.position j) j) n,
+          )
       behind x (rules.call callee l f n a alt c has g) = let z = one_step core text it c.names names _ _ c.before before in cc
       behind x (rules.return done l f t c complete free g) = let z = one_step core text it c.names names _ _ c.before before in cc
       behind x (rules.returned caller l f t c complete free g) = absurd (not_both core text it names _ before complete)
@@ -137,8 +142,8 @@ module _ (core : List Nonterminal) (text : List ℕ) (law : ReachableIsClosed) (
             record {
               taking = takes_later core text law budget p k s item r.taking at x t g (over x m) (follows x m) within (λ y a. only y (behind y a));
               firsts = λ callee c a nonterminal alternative has.
-                all_later core text law budget p k s item r.taking at x t g (over x m) (follows x m) (first callee a)
-                (r.firsts callee (subst (λ (z : List Instance). Contains z callee) keeps_later.instances c) a nonterminal alternative has);
+                  all_later core text law budget p k s item r.taking at x t g (over x m) (follows x m) (first callee a)
+                  (r.firsts callee (subst (λ (z : List Instance). Contains z callee) keeps_later.instances c) a nonterminal alternative has);
               waiting = subst (λ (z : List Item). IsWaiting core text p t z w)
                   (sym (taken_later core text law budget p k s item r.taking at x t g (over x m) (follows x m)))
                   (waits_alone core text p s t (taken_in s k) it w keeps_later apart unfinished r.waiting);
@@ -157,10 +162,13 @@ module _ (core : List Nonterminal) (text : List ℕ) (law : ReachableIsClosed) (
           go (Err Budget) d = let h = d refl in too_many_later x t m h.0 h.1
           go (Err Memory) d = tt
 
-  -- the item stands in an alternative
-  pub fits : EnvironmentsFit → IsWellKinded core → EnvironmentFits core it
+-- the item stands in an alternative
+module _ (core : List Nonterminal) (text : List ℕ) (budget p k : ℕ) (s : Found) (w : Waiting) (item : stored.Item)
+    (r : IsRun core text budget p k s w) (at : slice_get s.here.keys k ≡ Some item) where
+  pub fits : EnvironmentsFit → IsWellKinded core → EnvironmentFits core (means s item)
   fits law2 kinded =
-      law2 core text it kinded (r.taking.reachable it (left_contains (found_in s) (later_in s) it (item_found s k item at)))
+      law2 core text (means s item) kinded
+      (r.taking.reachable (means s item) (left_contains (found_in s) (later_in s) (means s item) (item_found s k item at)))
 
 -- what stands behind the dot of an item in an alternative
 pub stands_at : (core : List Nonterminal) (it : Item) (n : ℕ) (step : Step) → EnvironmentFits core it → n ≡ it.instance.nonterminal →
@@ -169,7 +177,9 @@ stands_at core it n step f n_is e =
     record {
       names = names_at f.nonterminal f.alternative it.dot;
       before = record {
-        nonterminal = f.nonterminal; alternative = f.alternative; has = f.has;
+        nonterminal = f.nonterminal;
+        alternative = f.alternative;
+        has = f.has;
         next = sym (e ∙ ap (λ z. step_at core z it.alternative it.dot) n_is ∙
             ap (option_and_then (λ (m : CoreAlt). slice_get m.steps it.dot))
             (alternative_there core it.instance.nonterminal it.alternative f.nonterminal f.alternative f.has));
@@ -190,3 +200,34 @@ complete_at core it n f n_is e =
     last [] n l e = omega (arith, l)
     last (x ∷ xs) zero l e = cc
     last (x ∷ xs) (suc n) l e = ap suc (last xs n (omega (arith, l)) e)
+
+map_take : {A B : Type 0} (f : A → B) (n : ℕ) (xs : List A) → map f (take n xs) ≡ take n (map f xs)
+map_take f zero [] = refl
+map_take f (suc n) [] = refl
+map_take f zero (x ∷ xs) = refl
+map_take f (suc n) (x ∷ xs) = ap (λ z. f x ∷ z) (map_take f n xs)
+
+-- the names at a dot, of what was read
+pub names_read : (core : List Nonterminal) (n a dot : ℕ) (params : List (List ℕ)) (steps : List Step) (xs before : List step.Step) (names : List (List ℕ)) →
+    Some params ≡ option_map (λ (m : Nonterminal). m.params) (slice_get core n) →
+    Some steps ≡ option_map (λ (m : CoreAlt). m.steps) (alternative_at core n a) → map step_of xs ≡ steps → before ≡ take dot xs →
+    names ≡ params ++ flat_map names_of (map step_of before) → (m : Nonterminal) (c : CoreAlt) → IsAlternative core n a m c → names ≡ names_at m c dot
+names_read core n a dot params steps xs before names p s x b e m c has =
+    let params_are : params ≡ m.params = same_Some params m.params (p ∙ ap (option_map (λ (z : Nonterminal). z.params)) has.there) in
+    let steps_are : steps ≡ c.steps = same_Some steps c.steps (s ∙ ap (option_map (λ (z : CoreAlt). z.steps)) (alternative_there core n a m c has)) in
+    let fronts : map step_of before ≡ take dot c.steps = ap (map step_of) b ∙ map_take step_of dot xs ∙ ap (take dot) (x ∙ steps_are) in
+    e ∙ ap (λ (z : List (List ℕ)). z ++ flat_map names_of (map step_of before)) params_are ∙ ap (λ (z : List Step). m.params ++ flat_map names_of z) fronts
+
+pub names_are : (core : List Nonterminal) (it : Item) (step : Step) (n : ℕ) (names : List (List ℕ)) → (h : Stands core it step) → n ≡ it.instance.nonterminal →
+    ((m : Nonterminal) (c : CoreAlt) → IsAlternative core n it.alternative m c → names ≡ names_at m c it.dot) → names ≡ h.names
+names_are core it step n names h n_is all =
+    all h.before.nonterminal h.before.alternative
+    (subst (λ (z : ℕ). IsAlternative core z it.alternative h.before.nonterminal h.before.alternative) (sym n_is) h.before.has) ∙ sym h.before.visible
+
+-- one more is taken
+pub taken_next : (core : List Nonterminal) (text : List ℕ) (budget p q k : ℕ) (t : Found) (w : Waiting) (result : Result (Unit {0}) RunFault) → q ≡ p →
+    IsTaken core text budget q k t w result → MatchResult result (λ u. IsRun core text budget p (k + 1) t w) (Refuses core text budget)
+taken_next core text budget p q k t w (Ok u) e r =
+    let n : suc k ≡ k + 1 = omega arith in
+    subst (λ (z : ℕ). IsRun core text budget p z t w) n (subst (λ (z : ℕ). IsRun core text budget z (suc k) t w) e r)
+taken_next core text budget p q k t w (Err f) e r = r

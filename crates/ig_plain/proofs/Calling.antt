@@ -1,12 +1,12 @@
 -- An item before a call is taken: its arguments, its callee, and where the callee ended.
-use Rattle.std.proofs.Common.{◌≡◌, ◌⊎◌, ⊎_elim, inl, inr, ℕ, zero, suc, ◌+◌, ◌<◌, ◌≤◌, List, [], ◌∷◌, ◌++◌, Some, None, Option, length, map, set, Contains, refl, sym, ap, ◌∙◌, subst, arith, slice_get, true, false}
+use Rattle.std.proofs.Common.{◌≡◌, ℕ, suc, ◌+◌, ◌<◌, List, [], ◌∷◌, ◌++◌, Some, Option, length, map, set, refl, sym, ap, ◌∙◌, subst, arith, slice_get, true, false}
 use Rattle.std.specs.Prelude.{Result, Ok, Err, slice_index_or, option_map, IsTrue, ◌↔◌, Bool}
 use Rattle.std.proofs.lemmas.Option.{slice_get_within, get_or_from_slice_get, slice_get-map}
 use Rattle.ig_text.specs.declared.pattern.Pattern.{Pattern}
 use Rattle.ig_expr.specs.Expression.{Expression}
 use Rattle.ig_expr.specs.Evaluation.{value_of}
 use Rattle.ig_expr.specs.declared.value.Value.{Value}
-use Rattle.ig_item.specs.Step.{Step, Call}
+use Rattle.ig_item.specs.Step.{Call}
 use Rattle.ig_item.specs.Items.{Item, Reachable, Calls, MatchesNone, StandsBefore, past, span_of}
 use Rattle.ig_item.specs.Laws.{ReachableIsClosed, ItemsAreInText}
 use Rattle.ig_item.specs.Tables.{instance_by, HaveValues}
@@ -19,17 +19,17 @@ use Rattle.ig_item.specs.declared.run_fault.RunFault.{RunFault}
 use Rattle.ig_plain.specs.declared.found.Found.{Found}
 use Rattle.ig_plain.specs.declared.waiting.Waiting.{Waiting}
 use Rattle.ig_plain.specs.declared.waiting.Called.{Called}
-use Rattle.ig_plain.specs.Tables.{Extends, Enters}
-use Rattle.ig_plain.specs.Found.{means, instances_in, found_in, later_in, taken_in, Named, AreNamed, Grows, Adds}
+use Rattle.ig_plain.specs.Tables.{Extends}
+use Rattle.ig_plain.specs.Found.{means, instances_in, taken_in, Named, AreNamed, Adds}
 use Rattle.ig_plain.specs.Rules as rules
 use Rattle.ig_plain.specs.Rules.{After, IsFirstOf, IsCaller}
 use Rattle.ig_plain.specs.Waiting.{called_at, not_called}
-use Rattle.ig_plain.specs.Run.{IsRun, IsWaiting, IsTaken, IsEntered, EntersInstance, Refuses, Taking}
+use Rattle.ig_plain.specs.Run.{IsRun, IsWaiting, IsTaken, IsEntered, EntersInstance, Refuses}
 use Rattle.ig_plain.proofs.Lists.{contains_from_at}
 use Rattle.ig_plain.proofs.Sets.{extends_same, extends_itself}
 use Rattle.ig_plain.proofs.Growth.{extends_at, instance_kept, values_more, grows_not}
 use Rattle.ig_plain.proofs.Additions.{true_at, false_at}
-use Rattle.ig_plain.proofs.Following.{one_step, same_alternative, not_both}
+use Rattle.ig_plain.proofs.Following.{one_step, not_both}
 use Rattle.ig_plain.proofs.Running.{takes_found, taken_now, follows_reachable}
 use Rattle.ig_plain.proofs.Waiters.{waits_alone, set_length}
 use Rattle.ig_plain.proofs.Completes.{item_named, keeps_grown, set_at}
@@ -91,7 +91,11 @@ module _ (core : List Nonterminal) (text : List ℕ) (law : ReachableIsClosed) (
     moved : Moved s s1
     moved =
         record {
-          envs = envs; keys = extends_same s.keys.keys s1.keys.keys keys; done = done; here = here_same; later = later;
+          envs = envs;
+          keys = extends_same s.keys.keys s1.keys.keys keys;
+          done = done;
+          here = here_same;
+          later = later;
           tables = record { environments = once; instances = subst NoneTwice (sym keys) r.taking.stored.tables.instances };
           values = subst (HaveValues s1.envs.keys) (sym keys) (values_more s.envs.keys s1.envs.keys s.keys.keys envs r.taking.stored.named.values);
         }

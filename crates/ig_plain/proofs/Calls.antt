@@ -1,20 +1,17 @@
 -- An item before a call is taken.
-use Rattle.std.proofs.Common.{◌≡◌, ◌⊎◌, ⊎_elim, inl, inr, ℕ, zero, suc, ◌+◌, ◌<◌, ◌≤◌, List, [], ◌∷◌, ◌++◌, Some, None, Option, length, map, set, take, Contains, refl, sym, ap, ◌∙◌, subst, arith, slice_get, length-append}
-use Rattle.std.specs.Prelude.{Result, Ok, Err, slice_index_or}
-use Rattle.std.proofs.lemmas.List.{append-nil}
-use Rattle.std.proofs.lemmas.Option.{same_Some, slice_get_within, slice_get-get_or, get_or_from_slice_get}
+use Rattle.std.proofs.Common.{◌≡◌, ◌⊎◌, ⊎_elim, inl, inr, ℕ, suc, ◌+◌, ◌<◌, ◌≤◌, List, [], ◌∷◌, ◌++◌, Some, Option, length, map, set, take, Contains, refl, sym, ap, ◌∙◌, subst, arith, slice_get}
+use Rattle.std.specs.Prelude.{Result, Ok, Err}
+use Rattle.std.proofs.lemmas.Option.{same_Some, slice_get_within, slice_get-get_or}
 use Rattle.ig_text.specs.declared.pattern.Pattern.{Pattern}
-use Rattle.ig_expr.specs.Expression.{Expression}
 use Rattle.ig_expr.specs.Evaluation.{value_of}
 use Rattle.ig_expr.specs.declared.value.Value.{Value}
-use Rattle.ig_item.specs.Step.{Step, Test, Bind, Term, Call}
+use Rattle.ig_item.specs.Step.{Step, Call}
 use Rattle.ig_item.specs.Core.{IsAlternative}
 use Rattle.ig_item.specs.Visible.{names_at}
-use Rattle.ig_item.specs.Items.{Item, Reachable, IsComplete, Calls, MatchesNone, StandsBefore, past, span_of, first}
+use Rattle.ig_item.specs.Items.{Item, IsComplete, Calls, MatchesNone, StandsBefore, past, span_of, first}
 use Rattle.ig_item.specs.Laws.{ReachableIsClosed, ItemsAreInText}
 use Rattle.ig_item.specs.WellKinded.{NoneTwice}
 use Rattle.ig_item.specs.declared.core_grammar.Nonterminal.{Nonterminal}
-use Rattle.ig_item.specs.declared.core_grammar.CoreAlt.{CoreAlt}
 use Rattle.ig_item.specs.declared.items.Instance.{Instance}
 use Rattle.ig_item.specs.declared.items.Item as stored
 use Rattle.ig_item.specs.declared.run_fault.RunFault.{RunFault}
@@ -22,15 +19,15 @@ use Rattle.ig_plain.specs.declared.found.Found.{Found}
 use Rattle.ig_plain.specs.declared.waiting.Waiting.{Waiting}
 use Rattle.ig_plain.specs.declared.waiting.Called.{Called}
 use Rattle.ig_plain.specs.declared.waiting.Caller.{Caller}
-use Rattle.ig_plain.specs.Found.{means, instances_in, found_in, later_in, taken_in, count, Named, AreNamed, Grows, Has, Adds}
+use Rattle.ig_plain.specs.Found.{means, instances_in, found_in, later_in, taken_in, Named, Adds}
 use Rattle.ig_plain.specs.Rules as rules
 use Rattle.ig_plain.specs.Rules.{After, IsCaller}
 use Rattle.ig_plain.specs.Waiting.{called_at, not_called}
 use Rattle.ig_plain.specs.Run as run
 use Rattle.ig_plain.specs.Run.{Chains, HasCallers, HasEnd, IsWaiting, IsTaking, IsRun, IsTaken, Refuses}
-use Rattle.ig_plain.proofs.Lists.{contains_from_at, left_contains, right_contains, right_at, contains_sides, it_is_in, one_in, none_in, unmapped_in, front_in}
+use Rattle.ig_plain.proofs.Lists.{contains_from_at, left_contains, right_contains, right_at, contains_sides, it_is_in, one_in, unmapped_in, front_in}
 use Rattle.ig_plain.proofs.Sets.{extends_itself}
-use Rattle.ig_plain.proofs.Growth.{grows_not, all_kept}
+use Rattle.ig_plain.proofs.Growth.{grows_not}
 use Rattle.ig_plain.proofs.Following.{one_step, not_both, same_alternative}
 use Rattle.ig_plain.proofs.Running.{takes_found, taken_now, refuses, taken_found}
 use Rattle.ig_plain.proofs.Waiters.{Keeps, chain_more, callers_still, end_still, end_more, set_cases, set_length}
@@ -45,6 +42,7 @@ somes (v ∷ vs) (w ∷ ws) e =
   where
     head : {A : Type 0} {a b : A} {us zs : List A} → a ∷ us ≡ b ∷ zs → a ≡ b
     head e = cc
+
     tail : {A : Type 0} {a b : A} {us zs : List A} → a ∷ us ≡ b ∷ zs → us ≡ zs
     tail e = cc
 
@@ -69,6 +67,7 @@ calls_one core text it a b l m e f p q =
     let v : a.values ≡ b.values = somes a.values b.values (sym p.values ∙ vals ∙ q.values) in
     let s : a.start ≡ b.start = p.here ∙ sym q.here in
     ((λ i. record { nonterminal = n i; values = v i; start = s i }), cc steps, cc steps)
+
 chain_within : (cells : List Caller) (head : ℕ) (xs : List stored.Item) → Chains cells head xs → head ≤ length cells
 chain_within cells head xs run.none = omega arith
 chain_within cells head xs (run.more k cell ys at less c) = let l = slice_get_within cells k cell at in omega (arith, l)
@@ -122,25 +121,26 @@ module _ (core : List Nonterminal) (text : List ℕ) (p : ℕ) (s t : Found) (ta
             (chain_within v.callers.items (called_at v i).callers old.chain old.chained)
             (chain_more v.callers.items (cell ∷ []) (called_at v i).callers old.chain old.chained)));
         named = λ y c.
-          ⊎_elim (λ (h : Contains (item ∷ []) y). keeps.named y (subst (Named s) (sym (one_in item y h)) named))
-          (λ (h : Contains old.chain y). keeps.named y (old.named y h)) (contains_sides (item ∷ []) old.chain y c);
+            ⊎_elim (λ (h : Contains (item ∷ []) y). keeps.named y (subst (Named s) (sym (one_in item y h)) named))
+            (λ (h : Contains old.chain y). keeps.named y (old.named y h)) (contains_sides (item ∷ []) old.chain y c);
         callers = λ y c.
-          ⊎_elim
-          (λ (h : Contains (item ∷ []) y).
-          let e = ap (means t) (one_in item y h) ∙ keeps.means_same item named in
-          (subst (Contains (taken ++ it ∷ [])) (sym e) (right_contains taken (it ∷ []) it (it_is_in it)),
-          subst (λ (z : Item). IsCaller core text z callee) (sym e) calls))
-          (λ (h : Contains old.chain y).
-          let q = old.callers y h in let e = sym (keeps.means_same y (old.named y h)) in
-          (subst (Contains (taken ++ it ∷ [])) e (left_contains taken (it ∷ []) (means s y) q.0), subst (λ (z : Item). IsCaller core text z callee) e q.1))
-          (contains_sides (item ∷ []) old.chain y c);
+            ⊎_elim
+            (λ (h : Contains (item ∷ []) y).
+            let e = ap (means t) (one_in item y h) ∙ keeps.means_same item named in (
+              subst (Contains (taken ++ it ∷ [])) (sym e) (right_contains taken (it ∷ []) it (it_is_in it)),
+              subst (λ (z : Item). IsCaller core text z callee) (sym e) calls,
+            ))
+            (λ (h : Contains old.chain y).
+            let q = old.callers y h in let e = sym (keeps.means_same y (old.named y h)) in
+            (subst (Contains (taken ++ it ∷ [])) e (left_contains taken (it ∷ []) (means s y) q.0), subst (λ (z : Item). IsCaller core text z callee) e q.1))
+            (contains_sides (item ∷ []) old.chain y c);
         all = λ x c d.
-          ⊎_elim
-          (λ (h : Contains taken x).
-          let q = old.all x h d in (q.0, right_contains (item ∷ []) old.chain q.0 q.1, keeps.means_same q.0 (old.named q.0 q.1) ∙ q.2))
-          (λ (h : Contains (it ∷ []) x).
-          (item, left_contains (item ∷ []) old.chain item (it_is_in item), keeps.means_same item named ∙ sym (one_in it x h)))
-          (contains_sides taken (it ∷ []) x c);
+            ⊎_elim
+            (λ (h : Contains taken x).
+            let q = old.all x h d in (q.0, right_contains (item ∷ []) old.chain q.0 q.1, keeps.means_same q.0 (old.named q.0 q.1) ∙ q.2))
+            (λ (h : Contains (it ∷ []) x).
+            (item, left_contains (item ∷ []) old.chain item (it_is_in item), keeps.means_same item named ∙ sym (one_in it x h)))
+            (contains_sides taken (it ∷ []) x c);
       }
 
   other_callers : (j : ℕ) (other : Instance) (after : Called) → slice_get (instances_in s) j ≡ Some other → (j ≡ i → ⊥) →
@@ -151,7 +151,9 @@ module _ (core : List Nonterminal) (text : List ℕ) (p : ℕ) (s t : Found) (ta
       record {
         chain = h.chain;
         chained = subst (λ (z : List Caller). Chains z after.callers h.chain) (sym cells) (chain_more v.callers.items (cell ∷ []) after.callers h.chain h.chained);
-        named = h.named; callers = h.callers; all = h.all;
+        named = h.named;
+        callers = h.callers;
+        all = h.all;
       }
 
   ends_same : (j : ℕ) (other : Instance) (before : Called) → slice_get (instances_in s) j ≡ Some other → slice_get v.called.items j ≡ Some before →
@@ -166,30 +168,30 @@ module _ (core : List Nonterminal) (text : List ℕ) (p : ℕ) (s t : Found) (ta
         lengths = ap length called ∙ set_length v.called.items i (record { callers = length v.callers.items + 1; last_end = (called_at v i).last_end }) ∙ r.lengths ∙
             ap length (sym keeps.instances);
         callers = λ j other after e known.
-          ⊎_elim
-          (λ h.
-          let same : other ≡ callee = same_Some other callee (sym (back j other e) ∙ ap (slice_get (instances_in s)) h.0 ∙ at) in
-          subst (λ (z : Instance). HasCallers core text t (taken ++ it ∷ []) u.callers.items after.callers z) (sym same)
-          (subst (λ (z : ℕ). HasCallers core text t (taken ++ it ∷ []) u.callers.items z callee) (sym (ap (λ (z : Called). z.callers) h.1)) joined))
-          (λ h. other_callers j other after (back j other e) h.0 h.1) (before_of j after known);
+            ⊎_elim
+            (λ h.
+            let same : other ≡ callee = same_Some other callee (sym (back j other e) ∙ ap (slice_get (instances_in s)) h.0 ∙ at) in
+            subst (λ (z : Instance). HasCallers core text t (taken ++ it ∷ []) u.callers.items after.callers z) (sym same)
+            (subst (λ (z : ℕ). HasCallers core text t (taken ++ it ∷ []) u.callers.items z callee) (sym (ap (λ (z : Called). z.callers) h.1)) joined))
+            (λ h. other_callers j other after (back j other e) h.0 h.1) (before_of j after known);
         ends = λ j other after e known.
-          ⊎_elim
-          (λ h.
-          let known_before : slice_get v.called.items j ≡ Some (called_at v i) = ap (slice_get v.called.items) h.0 ∙ was in
-          let d = ends_same j other (called_at v i) (back j other e) known_before in
-          let same : after.last_end ≡ (called_at v i).last_end = ap (λ (z : Called). z.last_end) h.1 in
-          (λ x. d.0 (sym same ∙ x), λ x. same ∙ d.1 x))
-          (λ h. ends_same j other after (back j other e) h.1) (before_of j after known);
+            ⊎_elim
+            (λ h.
+            let known_before : slice_get v.called.items j ≡ Some (called_at v i) = ap (slice_get v.called.items) h.0 ∙ was in
+            let d = ends_same j other (called_at v i) (back j other e) known_before in
+            let same : after.last_end ≡ (called_at v i).last_end = ap (λ (z : Called). z.last_end) h.1 in
+            (λ x. d.0 (sym same ∙ x), λ x. same ∙ d.1 x))
+            (λ h. ends_same j other after (back j other e) h.1) (before_of j after known);
         known = λ x other c d.
-          subst (λ (z : List Instance). Contains z other) (sym keeps.instances)
-          (⊎_elim (λ (h : Contains taken x). r.known x other h d)
-          (λ (h : Contains (it ∷ []) x).
-          contains_from_at (instances_in s) i other (at ∙ ap Some (sym (only other (subst (λ (z : Item). IsCaller core text z other) (one_in it x h) d)))))
-          (contains_sides taken (it ∷ []) x c));
+            subst (λ (z : List Instance). Contains z other) (sym keeps.instances)
+            (⊎_elim (λ (h : Contains taken x). r.known x other h d)
+            (λ (h : Contains (it ∷ []) x).
+            contains_from_at (instances_in s) i other (at ∙ ap Some (sym (only other (subst (λ (z : Item). IsCaller core text z other) (one_in it x h) d)))))
+            (contains_sides taken (it ∷ []) x c));
         before = λ j after e known is.
-          ⊎_elim
-          (λ h. r.before i (called_at v i) e was (sym (ap (λ (z : Called). z.last_end) h.1) ∙ is))
-          (λ h. r.before j after e h.1 is) (before_of j after known);
+            ⊎_elim
+            (λ h. r.before i (called_at v i) e was (sym (ap (λ (z : Called). z.last_end) h.1) ∙ is))
+            (λ h. r.before j after e h.1 is) (before_of j after known);
       }
 
 module _ (core : List Nonterminal) (text : List ℕ) (law : ReachableIsClosed) (inside : ItemsAreInText) (budget p k : ℕ) (s : Found) (v : Waiting) (item : stored.Item)
@@ -237,10 +239,12 @@ module _ (core : List Nonterminal) (text : List ℕ) (law : ReachableIsClosed) (
   sorts x (rules.return done l ex c calls2 complete free e) =
       let q = calls_one core text one done.instance callee l label ex excluded calls2 calls in
       let ends = ends_here done c q.0 in
-      inr (record { item = done; among = c; of = q.0; complete = complete; ends = ends },
-      subst (λ (n : ℕ). MatchesNone text excluded one.position n) ends (subst (λ (z : List Pattern). MatchesNone text z one.position done.position) q.2 free),
-      e ∙ ap (λ (z : Option (List ℕ)). past one (span_of z one.position done.position) done.position) q.1 ∙
-      ap (λ (n : ℕ). past one (span_of label one.position n) n) ends)
+      inr (
+        record { item = done; among = c; of = q.0; complete = complete; ends = ends },
+        subst (λ (n : ℕ). MatchesNone text excluded one.position n) ends (subst (λ (z : List Pattern). MatchesNone text z one.position done.position) q.2 free),
+        e ∙ ap (λ (z : Option (List ℕ)). past one (span_of z one.position done.position) done.position) q.1 ∙
+            ap (λ (n : ℕ). past one (span_of label one.position n) n) ends,
+      )
   sorts x (rules.returned caller l ex c calls2 complete free e) = absurd (not_both core text one calls.names _ calls.before complete)
 
   module _ (u : Waiting) (cells : u.callers.items ≡ v.callers.items ++ record { item = item; next = (called_at v i).callers } ∷ [])
@@ -274,13 +278,16 @@ module _ (core : List Nonterminal) (text : List ℕ) (law : ReachableIsClosed) (
       where
         end : HasEnd core (taken_in s k) callee p
         end = (r.waiting.ends i callee (called_at v i) there there_known).0 is
+
         may : Item → Type 0
         may x = MatchesNone text excluded one.position p × (x ≡ past one (span_of label one.position p) p)
+
         sound : (x : Item) → MatchesNone text excluded one.position p × (x ≡ past one (span_of label one.position p) p) → After core text (taken_in s k) one x
         sound x m =
             rules.return end.item label excluded end.among (subst (λ (z : Instance). Calls core text one z label excluded) (sym end.of) calls) end.complete
             (subst (λ (n : ℕ). MatchesNone text excluded one.position n) (sym end.ends) m.0)
             (m.1 ∙ ap (λ (n : ℕ). past one (span_of label one.position n) n) (sym end.ends))
+
         go : (result : Result (Unit {0}) RunFault) →
             Adds p (λ x. MatchesNone text excluded one.position p × (x ≡ past one (span_of label one.position p) p)) budget s t result →
             IsTaken core text budget p k t u result

@@ -1,8 +1,7 @@
 -- A complete item is taken.
-use Rattle.std.proofs.Common.{◌≡◌, ◌⊎◌, ⊎_elim, inl, inr, ℕ, zero, suc, ◌+◌, ◌<◌, ◌≤◌, List, [], ◌∷◌, ◌++◌, Some, Option, length, map, set, Contains, refl, sym, ap, ◌∙◌, subst, arith, slice_get}
+use Rattle.std.proofs.Common.{◌≡◌, inl, inr, ℕ, zero, suc, ◌<◌, List, [], ◌∷◌, ◌++◌, Some, Option, length, map, set, Contains, refl, sym, ap, ◌∙◌, subst, arith, slice_get}
 use Rattle.std.specs.Prelude.{Result, Ok, Err, slice_index_or, option_map}
-use Rattle.std.proofs.lemmas.List.{append-nil}
-use Rattle.std.proofs.lemmas.Option.{same_Some, slice_get_within, slice_get-get_or, slice_get-map}
+use Rattle.std.proofs.lemmas.Option.{slice_get_within, slice_get-get_or, slice_get-map}
 use Rattle.ig_text.specs.declared.pattern.Pattern.{Pattern}
 use Rattle.ig_item.specs.Step.{Call}
 use Rattle.ig_item.specs.Core.{IsAlternative}
@@ -14,26 +13,25 @@ use Rattle.ig_item.specs.WellKinded.{NoneTwice}
 use Rattle.ig_item.specs.declared.core_grammar.Nonterminal.{Nonterminal}
 use Rattle.ig_item.specs.declared.core_grammar.CoreAlt.{CoreAlt}
 use Rattle.ig_item.specs.declared.items.Instance.{Instance}
-use Rattle.ig_item.specs.declared.items.InstanceKey.{InstanceKey}
 use Rattle.ig_item.specs.declared.items.Item as stored
 use Rattle.ig_item.specs.declared.run_fault.RunFault.{RunFault}
 use Rattle.ig_plain.specs.declared.found.Found.{Found}
 use Rattle.ig_plain.specs.declared.waiting.Waiting.{Waiting}
 use Rattle.ig_plain.specs.declared.waiting.Called.{Called}
 use Rattle.ig_plain.specs.Tables.{no_key}
-use Rattle.ig_plain.specs.Found.{means, instances_in, found_in, later_in, taken_in, count, Named, AreNamed, Grows, Has, Adds}
+use Rattle.ig_plain.specs.Found.{means, instances_in, found_in, later_in, taken_in, Named, AreNamed, Grows, Adds}
 use Rattle.ig_plain.specs.Rules as rules
 use Rattle.ig_plain.specs.Rules.{After, IsCaller, StandsAtCall, IsReturn}
 use Rattle.ig_plain.specs.Waiting.{called_at, not_called}
-use Rattle.ig_plain.specs.Run.{Chains, HasCallers, HasEnd, IsWaiting, IsTaking, IsRun, IsTaken, Taking, Takes, IsChainOf, IsReturnToOne, Refuses}
-use Rattle.ig_plain.proofs.Lists.{contains_from_at, left_contains, right_contains, contains_sides, mapped_in, same_map}
-use Rattle.ig_plain.proofs.Growth.{grows_not, means_grown, named_grown, found_kept, all_kept, instance_kept}
+use Rattle.ig_plain.specs.Run.{HasCallers, IsWaiting, IsRun, IsTaken, Taking, IsChainOf, IsReturnToOne}
+use Rattle.ig_plain.proofs.Lists.{contains_from_at, same_map}
+use Rattle.ig_plain.proofs.Growth.{grows_not, means_grown, named_grown, all_kept, instance_kept}
 use Rattle.ig_plain.proofs.Sets.{extends_itself}
 use Rattle.ig_plain.proofs.Following.{one_step, not_both}
 use Rattle.ig_plain.proofs.Distinct.{one_instance, once_mapped}
 use Rattle.ig_plain.proofs.Returns.{one_chain}
 use Rattle.ig_plain.proofs.Running.{takes_found, taken_now, refuses}
-use Rattle.ig_plain.proofs.Waiters.{Keeps, Ended, ended_already, ended_set, waits_complete}
+use Rattle.ig_plain.proofs.Waiters.{Keeps, Ended, ended_already, waits_complete}
 
 pub instances_once : (s : Found) → AreNamed s → NoneTwice s.envs.keys → NoneTwice s.keys.keys → NoneTwice (instances_in s)
 instances_once s n e k =
@@ -125,10 +123,12 @@ module _ (core : List Nonterminal) (text : List ℕ) (law : ReachableIsClosed) (
     pub chain_of : IsChainOf core w.callers.items head s
     chain_of =
         record {
-          chain = waits.chain; chained = waits.chained; named = waits.named;
+          chain = waits.chain;
+          chained = waits.chained;
+          named = waits.named;
           calls = λ y c.
-            let q = (waits.callers y c).1 in
-            record { names = q.calls.names; callee = it.instance.nonterminal; arguments = q.calls.arguments; label = q.label; excluded = q.excluded; before = q.calls.before };
+              let q = (waits.callers y c).1 in
+              record { names = q.calls.names; callee = it.instance.nonterminal; arguments = q.calls.arguments; label = q.label; excluded = q.excluded; before = q.calls.before };
         }
 
     abbrev Returned : Item → Type 0
@@ -162,7 +162,10 @@ module _ (core : List Nonterminal) (text : List ℕ) (law : ReachableIsClosed) (
           is = h.6 ∙ ap (λ (n : ℕ). past h.0 (span_of h.1 h.0.position n) n) here;
         } in
         record {
-          chain = waits.chain; chained = waits.chained; caller = q.0; among = q.1;
+          chain = waits.chain;
+          chained = waits.chained;
+          caller = q.0;
+          among = q.1;
           returns = subst (λ (z : Item). IsReturn core text z p x) (sym q.2) back;
         }
 

@@ -1,8 +1,8 @@
 -- Items that are stored once are different, and more of them than the budget are too many.
-use Rattle.std.proofs.Common.{◌≡◌, ◌⊎◌, ⊎_elim, inl, inr, ℕ, zero, suc, ◌+◌, ◌<◌, ◌≤◌, List, [], ◌∷◌, ◌++◌, Some, length, map, Contains, refl, sym, ap, ◌∙◌, subst, arith, slice_get, length-append}
+use Rattle.std.proofs.Common.{◌≡◌, ⊎_elim, ℕ, zero, suc, ◌+◌, ◌<◌, List, [], ◌∷◌, ◌++◌, Some, length, map, Contains, refl, sym, ap, ◌∙◌, subst, arith, slice_get, length-append}
 use Rattle.std.specs.Prelude.{slice_index_or}
 use Rattle.std.proofs.lemmas.List.{map-append}
-use Rattle.std.proofs.lemmas.Option.{slice_get-get_or, same_Some, slice_get_within}
+use Rattle.std.proofs.lemmas.Option.{slice_get-get_or}
 use Rattle.ig_expr.specs.declared.value.Value.{Value}
 use Rattle.ig_item.specs.Items.{Item, Reachable, MoreThan}
 use Rattle.ig_item.specs.Tables.{instance_by, HaveValues}
@@ -13,8 +13,8 @@ use Rattle.ig_item.specs.declared.items.InstanceKey.{InstanceKey}
 use Rattle.ig_item.specs.declared.items.Item as stored
 use Rattle.ig_plain.specs.declared.found.Found.{Found}
 use Rattle.ig_plain.specs.Tables.{IsNamed, item_by, no_key}
-use Rattle.ig_plain.specs.Found.{means, found_in, later_in, count, Named, IsStored, AreTables}
-use Rattle.ig_plain.proofs.Lists.{at_from_contains, contains_from_at, sides, unmapped_at, contains_sides, left_at}
+use Rattle.ig_plain.specs.Found.{means, found_in, later_in, count, Named, IsStored}
+use Rattle.ig_plain.proofs.Lists.{contains_from_at, sides, unmapped_at, contains_sides}
 
 module _ {X : Type 0} where
   -- equal members of a list without repeats have equal numbers

@@ -1,5 +1,5 @@
 -- `==` tells items, instances and lists of values apart.
-use Rattle.std.proofs.Common.{◌≡◌, ◌↔◌, List, Bool, ap, eqb, ◌&&◌}
+use Rattle.std.proofs.Common.{◌≡◌, List, Bool, ap, eqb, ◌&&◌}
 use Rattle.std.specs.Bool.{Decides}
 use Rattle.std.specs.Cmp.{booleans_Decides}
 use Rattle.std.specs.Cmp.Lexicographic.{pointwise, pointwise_decides}

@@ -1,9 +1,7 @@
 -- The first items of an instance.
-use Rattle.std.proofs.Common.{◌≡◌, ◌⊎◌, ⊎_elim, inl, inr, ℕ, zero, suc, ◌+◌, ◌<◌, ◌≤◌, List, [], Some, None, Option, length, Contains, refl, sym, ap, ◌∙◌, subst, arith, slice_get}
+use Rattle.std.proofs.Common.{◌≡◌, ◌⊎◌, ⊎_elim, inl, inr, ℕ, zero, suc, ◌+◌, ◌<◌, ◌≤◌, List, [], Some, None, Option, length, refl, sym, ap, ◌∙◌, arith, slice_get}
 use Rattle.std.specs.Prelude.{Result, Ok, Err, slice_index_or, option_map}
-use Rattle.std.proofs.lemmas.List.{append-nil}
 use Rattle.std.proofs.lemmas.Option.{same_Some, slice_get_within, get_or_from_slice_get}
-use Rattle.ig_expr.specs.declared.value.Value.{Value}
 use Rattle.ig_item.specs.Core.{IsAlternative, numbered}
 use Rattle.ig_item.specs.Items.{Item, first}
 use Rattle.ig_item.specs.Tables.{instance_by}
@@ -14,7 +12,7 @@ use Rattle.ig_item.specs.declared.items.InstanceKey.{InstanceKey}
 use Rattle.ig_item.specs.declared.items.Item as stored
 use Rattle.ig_item.specs.declared.run_fault.RunFault.{RunFault}
 use Rattle.ig_plain.specs.declared.found.Found.{Found}
-use Rattle.ig_plain.specs.Tables.{no_key, IsNamed}
+use Rattle.ig_plain.specs.Tables.{no_key}
 use Rattle.ig_plain.specs.Found.{means, Named, AreNamed, Grows, Adds}
 use Rattle.ig_plain.specs.Rules.{IsFirst, IsFirstOf}
 use Rattle.ig_plain.proofs.Lists.{some_at, contains_from_at}
@@ -68,6 +66,7 @@ module _ (core : List Nonterminal) (instance : ℕ) (key : InstanceKey) (budget 
       leb_cases (suc k) zero l = inr (omega (arith, l))
       leb_cases (suc k) (suc n) l =
           ⊎_elim (λ (h : k ≤ n). inl (omega (arith, h))) (λ (h : k ≡ n + 1). inr (omega (arith, h))) (leb_cases k n (omega (arith, l)))
+
       go : (m.number ≤ n) ⊎ (m.number ≡ n + 1) → IsFirst core callee n x ⊎ (x ≡ first callee (n + 1))
       go (inl h) = inl (record { number = m.number; nonterminal = m.nonterminal; alternative = m.alternative; has = m.has; few = h; is = m.is })
       go (inr h) = inr (m.is ∙ ap (first callee) h)
@@ -81,9 +80,13 @@ module _ (core : List Nonterminal) (instance : ℕ) (key : InstanceKey) (budget 
       adds_then key.start (IsFirst core callee (n + 1)) (IsFirst core callee n) (λ x. x ≡ means b (first_stored instance key n)) budget a b c r named
       (λ x m. record { number = m.number; nonterminal = m.nonterminal; alternative = m.alternative; has = m.has; few = let l = m.few in omega (arith, l); is = m.is })
       (λ x f. record {
-        number = n + 1; nonterminal = nonterminal; alternative = alt.0;
+        number = n + 1;
+        nonterminal = nonterminal;
+        alternative = alt.0;
         has = record { there = there; has = numbered_next nonterminal n alt.0 alt.1 };
-        few = omega arith; is = f ∙ is })
+        few = omega arith;
+        is = f ∙ is;
+      })
       (λ x m. ⊎_elim (λ (h : IsFirst core callee n x). inl h) (λ (h : x ≡ first callee (n + 1)). inr (h ∙ sym is)) (up_to n x m))
       d e
     where
@@ -110,7 +113,9 @@ module _ (core : List Nonterminal) (instance : ℕ) (key : InstanceKey) (budget 
   stops n nonterminal c f d =
       record {
         grows = grows_weaker key.start (IsFirst core callee n) (IsFirstOf core callee) a c (λ x m. (m.number, m.nonterminal, m.alternative, m.has, m.is)) d.grows;
-        has = tt; within = tt; fault = d.fault;
+        has = tt;
+        within = tt;
+        fault = d.fault;
       }
 
 pub mapped_some : {A B : Type 0} (f : A → B) (o : Option A) (y : B) → Some y ≡ option_map f o → (x : A) × (o ≡ Some x) × (y ≡ f x)

@@ -1,10 +1,7 @@
 -- What follows from the taken items and one more.
-use Rattle.std.proofs.Common.{◌≡◌, ◌⊎◌, ⊎_elim, inl, inr, ℕ, zero, suc, ◌<◌, List, [], ◌∷◌, ◌++◌, Some, None, length, Contains, refl, sym, ap, ◌∙◌, subst, arith, slice_get, take}
+use Rattle.std.proofs.Common.{◌≡◌, ◌⊎◌, ⊎_elim, inl, inr, ℕ, zero, suc, ◌<◌, List, [], ◌∷◌, ◌++◌, Some, length, Contains, sym, ap, ◌∙◌, subst, arith, slice_get, take}
 use Rattle.std.proofs.lemmas.Option.{same_Some, slice_get_within}
-use Rattle.ig_text.specs.declared.pattern.Pattern.{Pattern}
-use Rattle.ig_expr.specs.Expression.{Expression}
-use Rattle.ig_expr.specs.declared.value.Value.{Value}
-use Rattle.ig_item.specs.Step.{Step, Test, Bind, Term, Call}
+use Rattle.ig_item.specs.Step.{Step}
 use Rattle.ig_item.specs.Core.{IsAlternative, numbered}
 use Rattle.ig_item.specs.Items as items
 use Rattle.ig_item.specs.Items.{Item, Follows, Reachable, IsDerivation, StandsBefore, IsComplete, Calls, first, root_instance}
@@ -13,7 +10,7 @@ use Rattle.ig_item.specs.declared.core_grammar.Nonterminal.{Nonterminal}
 use Rattle.ig_item.specs.declared.core_grammar.CoreAlt.{CoreAlt}
 use Rattle.ig_plain.specs.Rules as rules
 use Rattle.ig_plain.specs.Rules.{After}
-use Rattle.ig_plain.proofs.Lists.{contains_sides, one_in, at_from_contains, contains_from_at, within_take}
+use Rattle.ig_plain.proofs.Lists.{contains_sides, one_in, at_from_contains, within_take}
 
 module _ (core : List Nonterminal) (text : List ℕ) where
   -- the rules give no less from more

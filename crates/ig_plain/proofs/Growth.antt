@@ -1,9 +1,9 @@
 -- Tables that grow at their end name what they named, and more items are found.
-use Rattle.std.proofs.Common.{◌≡◌, ◌⊎◌, ⊎_elim, inl, inr, ℕ, zero, suc, ◌+◌, ◌<◌, ◌≤◌, List, [], ◌∷◌, ◌++◌, Some, length, map, take, Contains, refl, sym, ap, ◌∙◌, subst, arith, slice_get, length-append, append_assoc}
+use Rattle.std.proofs.Common.{◌≡◌, ◌⊎◌, ⊎_elim, inl, inr, ℕ, suc, ◌<◌, ◌≤◌, List, [], ◌++◌, Some, length, map, Contains, refl, sym, ap, ◌∙◌, subst, arith, slice_get, length-append, append_assoc}
 use Rattle.std.specs.Prelude.{slice_index_or, Option, None}
 use Rattle.std.specs.Option.{option_to_list}
 use Rattle.std.proofs.lemmas.List.{append-nil, map-append}
-use Rattle.std.proofs.lemmas.Option.{slice_get-get_or, slice_get_within, get_or_from_slice_get, same_Some}
+use Rattle.std.proofs.lemmas.Option.{slice_get-get_or, slice_get_within, get_or_from_slice_get}
 use Rattle.ig_expr.specs.declared.value.Value.{Value}
 use Rattle.ig_item.specs.Items.{Item, past}
 use Rattle.ig_item.specs.Tables.{instance_by, HaveValues}
@@ -13,9 +13,8 @@ use Rattle.ig_item.specs.declared.items.InstanceKey.{InstanceKey}
 use Rattle.ig_item.specs.declared.items.Item as stored
 use Rattle.ig_plain.specs.declared.found.Found.{Found}
 use Rattle.ig_plain.specs.Tables.{Extends, IsNamed, IsPast, item_by, no_key}
-use Rattle.ig_plain.specs.Found.{means, found_in, later_in, count, Named, AllNamed, AreNamed, Grows, Has}
-use Rattle.ig_plain.proofs.Lists.{at_from_contains, contains_from_at, left_at, left_contains, right_contains, contains_sides, none_in, one_in, it_is_in, some_at, mapped_in, unmapped_in, same_map}
-use Rattle.ig_plain.proofs.Sets.{extends_itself}
+use Rattle.ig_plain.specs.Found.{means, found_in, later_in, Named, AreNamed, Grows}
+use Rattle.ig_plain.proofs.Lists.{contains_from_at, left_at, left_contains, right_contains, contains_sides, none_in, unmapped_in, same_map}
 
 module _ {X : Type 0} where
   pub longer : (xs ys : List X) → Extends xs ys → length xs ≤ length ys
@@ -77,7 +76,10 @@ pub past_none : (e : List (List Value)) (it : stored.Item) (bound : Option Value
     IsPast e e it bound end (record { instance = it.instance; alternative = it.alternative; dot = dot; env = it.env; position = end })
 past_none e it bound end dot lt none dot_is =
     record {
-      instance = refl; alternative = refl; dot = dot_is; position = refl;
+      instance = refl;
+      alternative = refl;
+      dot = dot_is;
+      position = refl;
       env = slice_get-get_or e it.env [] lt ∙ ap Some (sym (append-nil (slice_index_or e it.env []))) ∙
           ap (λ (z : Option Value). Some (slice_index_or e it.env [] ++ option_to_list z)) (sym none);
     }
@@ -97,7 +99,11 @@ module _ (p : ℕ) where
       b.here.keys ≡ a.here.keys → b.later.items ≡ a.later.items → Grows p may a b
   grows_not may a b envs once keys done here later =
       record {
-        envs = envs; envs_once = once; keys = keys; done = done; later = later;
+        envs = envs;
+        envs_once = once;
+        keys = keys;
+        done = done;
+        later = later;
         here = record { more = []; is = here ∙ sym (append-nil a.here.keys) };
         here_once = λ n. subst NoneTwice (sym here) n;
         named = λ x c. absurd (none_in x c);
@@ -108,8 +114,16 @@ module _ (p : ℕ) where
   pub grows_weaker : (may other : Item → Type 0) (a b : Found) → ((x : Item) → may x → other x) → Grows p may a b → Grows p other a b
   grows_weaker may other a b w g =
       record {
-        envs = g.envs; envs_once = g.envs_once; keys = g.keys; done = g.done; here = g.here; later = g.later; here_once = g.here_once;
-        named = g.named; at = g.at; each = λ x c. w (means b x) (g.each x c);
+        envs = g.envs;
+        envs_once = g.envs_once;
+        keys = g.keys;
+        done = g.done;
+        here = g.here;
+        later = g.later;
+        here_once = g.here_once;
+        named = g.named;
+        at = g.at;
+        each = λ x c. w (means b x) (g.each x c);
       }
 
   -- an item was added at the position, if it wasn't there
@@ -123,12 +137,15 @@ module _ (p : ℕ) where
       record {
         envs = record { more = []; is = envs ∙ sym (append-nil a.envs.keys) };
         envs_once = λ n. subst NoneTwice (sym envs) n;
-        keys = keys; done = done; here = here; later = later;
+        keys = keys;
+        done = done;
+        here = here;
+        later = later;
         here_once = once;
         named = λ y h.
-          subst (λ (z : stored.Item). Named b z) (sym (only y h))
-          (subst (λ (z : List (List Value)). IsNamed z b.keys.keys x) (sym envs)
-          (subst (λ (z : List InstanceKey). IsNamed a.envs.keys z x) (sym keys) named));
+            subst (λ (z : stored.Item). Named b z) (sym (only y h))
+            (subst (λ (z : List (List Value)). IsNamed z b.keys.keys x) (sym envs)
+            (subst (λ (z : List InstanceKey). IsNamed a.envs.keys z x) (sym keys) named));
         at = λ y c. ap (λ (z : stored.Item). z.position) (only y c) ∙ at;
         each = λ y h. ap (means b) (only y h) ∙ same x;
       }
@@ -155,16 +172,18 @@ module _ (p : ℕ) where
       record {
         envs = extends_then a.envs.keys b.envs.keys c.envs.keys g.envs h.envs;
         envs_once = λ n. h.envs_once (g.envs_once n);
-        keys = h.keys ∙ g.keys; done = h.done ∙ g.done; later = h.later ∙ g.later;
+        keys = h.keys ∙ g.keys;
+        done = h.done ∙ g.done;
+        later = h.later ∙ g.later;
         here = extends_then a.here.keys b.here.keys c.here.keys g.here h.here;
         here_once = λ n. h.here_once (g.here_once n);
         named = λ x i.
-          ⊎_elim (λ (k : Contains g.here.more x). named_grown may b c x h (g.named x k)) (λ (k : Contains h.here.more x). h.named x k)
-          (contains_sides g.here.more h.here.more x i);
+            ⊎_elim (λ (k : Contains g.here.more x). named_grown may b c x h (g.named x k)) (λ (k : Contains h.here.more x). h.named x k)
+            (contains_sides g.here.more h.here.more x i);
         at = λ x i. ⊎_elim (λ (k : Contains g.here.more x). g.at x k) (λ (k : Contains h.here.more x). h.at x k) (contains_sides g.here.more h.here.more x i);
         each = λ x i.
-          ⊎_elim (λ (k : Contains g.here.more x). subst may (sym (means_grown may b c x h have_b (g.named x k))) (g.each x k))
-          (λ (k : Contains h.here.more x). h.each x k) (contains_sides g.here.more h.here.more x i);
+            ⊎_elim (λ (k : Contains g.here.more x). subst may (sym (means_grown may b c x h have_b (g.named x k))) (g.each x k))
+            (λ (k : Contains h.here.more x). h.each x k) (contains_sides g.here.more h.here.more x i);
       }
 
 -- all of what is found stays
@@ -174,8 +193,8 @@ named_all p may a b n g =
       values = values_grown p may a b g n.values;
       done = λ x c. named_grown p may a b x g (n.done x (subst (λ (z : List stored.Item). Contains z x) g.done c));
       here = λ x c.
-        ⊎_elim (λ (h : Contains a.here.keys x). named_grown p may a b x g (n.here x h)) (λ (h : Contains g.here.more x). g.named x h)
-        (extends_cases a.here.keys b.here.keys x g.here c);
+          ⊎_elim (λ (h : Contains a.here.keys x). named_grown p may a b x g (n.here x h)) (λ (h : Contains g.here.more x). g.named x h)
+          (extends_cases a.here.keys b.here.keys x g.here c);
       later = λ x c. named_grown p may a b x g (n.later x (subst (λ (z : List stored.Item). Contains z x) g.later c));
     }
 

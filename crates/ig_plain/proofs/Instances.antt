@@ -1,16 +1,14 @@
 -- An instance is called: it is found in the table, or added with its first items.
-use Rattle.std.proofs.Common.{◌≡◌, ◌⊎◌, ⊎_elim, inl, inr, ℕ, zero, suc, ◌+◌, ◌<◌, ◌≤◌, List, [], ◌∷◌, ◌++◌, Some, Option, length, map, take, Contains, refl, sym, ap, ◌∙◌, subst, arith, slice_get, length-append}
-use Rattle.std.specs.Prelude.{Result, Ok, Err, MatchResult, slice_index_or}
+use Rattle.std.proofs.Common.{◌≡◌, ⊎_elim, ℕ, ◌<◌, ◌≤◌, List, [], ◌∷◌, ◌++◌, Some, length, map, take, Contains, refl, sym, ap, ◌∙◌, subst, arith, slice_get, length-append}
+use Rattle.std.specs.Prelude.{Result, Ok, Err, MatchResult}
 use Rattle.std.specs.Result.{IsErrAnd}
 use Rattle.std.proofs.lemmas.Result.{err_from_is_err_and}
-use Rattle.std.proofs.lemmas.List.{append-nil, map-append}
-use Rattle.std.proofs.lemmas.Option.{same_Some, slice_get_within}
+use Rattle.std.proofs.lemmas.List.{map-append}
 use Rattle.ig_item.specs.Core.{IsAlternative}
 use Rattle.ig_item.specs.Items.{Item, Reachable, first}
 use Rattle.ig_item.specs.Tables.{instance_by, HaveValues}
 use Rattle.ig_item.specs.WellKinded.{NoneTwice}
 use Rattle.ig_item.specs.declared.core_grammar.Nonterminal.{Nonterminal}
-use Rattle.ig_item.specs.declared.core_grammar.CoreAlt.{CoreAlt}
 use Rattle.ig_item.specs.declared.items.Instance.{Instance}
 use Rattle.ig_item.specs.declared.items.InstanceKey.{InstanceKey}
 use Rattle.ig_item.specs.declared.items.Item as stored
@@ -18,14 +16,14 @@ use Rattle.ig_item.specs.declared.run_fault.RunFault.{RunFault}
 use Rattle.ig_item.specs.declared.run_fault.RunFault.TheVariants.{Budget, Memory}
 use Rattle.ig_plain.specs.declared.found.Found.{Found}
 use Rattle.ig_plain.specs.declared.waiting.Waiting.{Waiting}
-use Rattle.ig_plain.specs.Tables.{Extends, Enters, IsNew}
-use Rattle.ig_plain.specs.Found.{means, instances_in, found_in, later_in, taken_in, count, Named, AreNamed, AreTables, IsStored, Grows, Has, Adds}
+use Rattle.ig_plain.specs.Tables.{Extends, IsNew}
+use Rattle.ig_plain.specs.Found.{means, instances_in, taken_in, Named, AreNamed, Adds}
 use Rattle.ig_plain.specs.Rules.{IsFirstOf}
 use Rattle.ig_plain.specs.Waiting.{not_called}
-use Rattle.ig_plain.specs.Run.{IsWaiting, IsTaking, IsRun, IsEntered, Refuses}
-use Rattle.ig_plain.proofs.Lists.{at_from_contains, contains_from_at, left_contains, right_contains, right_at, contains_sides, it_is_in, one_in, mapped_in, unmapped_in, same_map, front_in}
-use Rattle.ig_plain.proofs.Sets.{extends_itself, extends_same, extends_by}
-use Rattle.ig_plain.proofs.Growth.{extends_then, extends_at, extends_in, all_kept, means_grown, named_grown, instance_kept}
+use Rattle.ig_plain.specs.Run.{IsWaiting, IsRun, IsEntered, Refuses}
+use Rattle.ig_plain.proofs.Lists.{contains_from_at, right_at, contains_sides, one_in, unmapped_in, same_map, front_in}
+use Rattle.ig_plain.proofs.Sets.{extends_same}
+use Rattle.ig_plain.proofs.Growth.{extends_then, extends_in, all_kept, instance_kept}
 use Rattle.ig_plain.proofs.Distinct.{one_instance}
 use Rattle.ig_plain.proofs.Running.{taken_grown}
 use Rattle.ig_plain.proofs.Waiters.{Keeps}
@@ -60,8 +58,8 @@ module _ (core : List Nonterminal) (text : List ℕ) (budget p k : ℕ) (s t : F
       record {
         taking = moved_taking s t named m core text budget p k r.taking;
         firsts = λ callee c a nonterminal alternative has.
-          moved_back s t named m (first callee a)
-          (r.firsts callee (subst (λ (z : List Instance). Contains z callee) keeps.instances c) a nonterminal alternative has);
+            moved_back s t named m (first callee a)
+            (r.firsts callee (subst (λ (z : List Instance). Contains z callee) keeps.instances c) a nonterminal alternative has);
         waiting = subst (λ (z : List Item). IsWaiting core text p t z w) (sym (moved_taken s t named m k))
             (waits_kept core text p s t (taken_in s k) w keeps r.waiting);
       }
@@ -85,7 +83,11 @@ module _ (core : List Nonterminal) (text : List ℕ) (budget k : ℕ) (key : Ins
   entered_old t i envs done here later keys there =
       let m : Moved s t =
       record {
-        envs = extends_same s.envs.keys t.envs.keys envs; keys = extends_same s.keys.keys t.keys.keys keys; done = done; here = here; later = later;
+        envs = extends_same s.envs.keys t.envs.keys envs;
+        keys = extends_same s.keys.keys t.keys.keys keys;
+        done = done;
+        here = here;
+        later = later;
         tables = record {
           environments = subst NoneTwice (sym envs) r.taking.stored.tables.environments;
           instances = subst NoneTwice (sym keys) r.taking.stored.tables.instances;
@@ -124,7 +126,11 @@ module _ (core : List Nonterminal) (text : List ℕ) (budget k : ℕ) (key : Ins
     pub moved : Moved s s1
     moved =
         record {
-          envs = extends_same s.envs.keys s1.envs.keys envs; keys = keys_more; done = done; here = here; later = later;
+          envs = extends_same s.envs.keys s1.envs.keys envs;
+          keys = keys_more;
+          done = done;
+          here = here;
+          later = later;
           tables = record { environments = subst NoneTwice (sym envs) r.taking.stored.tables.environments; instances = once };
           values = values_now;
         }
@@ -176,16 +182,16 @@ module _ (core : List Nonterminal) (text : List ℕ) (budget k : ℕ) (key : Ins
           run = record {
             taking = taking_grown core text budget key.start k may s1 t taking1 d.grows reach_1 (d.within taking1.within);
             firsts = λ callee c a nonterminal alternative has.
-              ⊎_elim
-              (λ (h : Contains (instances_in s) callee).
-              all_kept key.start may s1 t named_1 d.grows (first callee a)
-              (moved_back s s1 named_s moved (first callee a) (r.firsts callee h a nonterminal alternative has)))
-              (λ (h : Contains (fresh ∷ []) callee).
-              let e : callee ≡ instance_by s1.envs.keys key = one_in fresh callee h ∙ sym fresh_same in
-              d.has (first callee a)
-              (a, nonterminal, alternative, subst (λ (z : Instance). IsAlternative core z.nonterminal a nonterminal alternative) e has, ap (λ (z : Instance). first z a) e))
-              (contains_sides (instances_in s) (fresh ∷ []) callee
-              (subst (λ (z : List Instance). Contains z callee) (keeps.instances ∙ all_instances) c));
+                ⊎_elim
+                (λ (h : Contains (instances_in s) callee).
+                all_kept key.start may s1 t named_1 d.grows (first callee a)
+                (moved_back s s1 named_s moved (first callee a) (r.firsts callee h a nonterminal alternative has)))
+                (λ (h : Contains (fresh ∷ []) callee).
+                let e : callee ≡ instance_by s1.envs.keys key = one_in fresh callee h ∙ sym fresh_same in
+                d.has (first callee a)
+                (a, nonterminal, alternative, subst (λ (z : Instance). IsAlternative core z.nonterminal a nonterminal alternative) e has, ap (λ (z : Instance). first z a) e))
+                (contains_sides (instances_in s) (fresh ∷ []) callee
+                (subst (λ (z : List Instance). Contains z callee) (keeps.instances ∙ all_instances) c));
             waiting = subst (λ (z : List Item). IsWaiting core text key.start t z v) (sym (taken2 ∙ taken1))
                 (waits_kept core text key.start s1 t (taken_in s k) v keeps waits1);
           };
@@ -203,10 +209,10 @@ pub named_keys : (s t : Found) (key : InstanceKey) (i : ℕ) → AreNamed s → 
 named_keys s t key i n env new envs done here later =
     record {
       values = λ x c.
-        subst (λ (z : List _). x.env < length z) (sym envs)
-        (⊎_elim (λ (h : Contains s.keys.keys x). n.values x h)
-        (λ (h : Contains (key ∷ []) x). subst (λ (z : InstanceKey). z.env < length s.envs.keys) (sym (one_in key x h)) env)
-        (contains_sides s.keys.keys (key ∷ []) x (subst (λ (z : List InstanceKey). Contains z x) new.added c)));
+          subst (λ (z : List _). x.env < length z) (sym envs)
+          (⊎_elim (λ (h : Contains s.keys.keys x). n.values x h)
+          (λ (h : Contains (key ∷ []) x). subst (λ (z : InstanceKey). z.env < length s.envs.keys) (sym (one_in key x h)) env)
+          (contains_sides s.keys.keys (key ∷ []) x (subst (λ (z : List InstanceKey). Contains z x) new.added c)));
       done = λ x c. more x (n.done x (subst (λ (z : List stored.Item). Contains z x) done c));
       here = λ x c. more x (n.here x (subst (λ (z : List stored.Item). Contains z x) here c));
       later = λ x c. more x (n.later x (subst (λ (z : List stored.Item). Contains z x) later c));

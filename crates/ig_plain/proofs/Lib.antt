@@ -16,3 +16,7 @@ pub mod Instances
 pub mod Calls
 pub mod Calling
 pub mod Alone
+pub mod Arrivals
+pub mod Starts
+pub mod Fewer
+pub mod Ends

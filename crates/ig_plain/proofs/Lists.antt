@@ -1,5 +1,5 @@
 -- Places in lists, in the beginnings of lists, and in lists one behind the other.
-use Rattle.std.proofs.Common.{◌≡◌, ◌⊎◌, ℕ, zero, suc, ◌+◌, ◌<◌, List, [], ◌∷◌, ◌++◌, Some, length, take, Contains, slice_get, refl, ap, ◌∙◌, inl, inr, ⊎_elim, arith, ◌≤◌, drop, length-drop, map}
+use Rattle.std.proofs.Common.{◌≡◌, ◌⊎◌, ℕ, zero, suc, ◌+◌, ◌<◌, List, [], ◌∷◌, ◌++◌, Some, length, take, Contains, slice_get, refl, ap, ◌∙◌, inl, inr, ⊎_elim, arith, map}
 use Rattle.std.specs.Prelude.{option_map}
 use Rattle.std.proofs.lemmas.Option.{slice_get-map, slice_get-get_or, same_Some, slice_get_within, get_or_from_slice_get}
 

@@ -1,34 +1,27 @@
 -- Tables grow while the items stay, and items are added that aren't taken.
-use Rattle.std.proofs.Common.{◌≡◌, ◌↔◌, ◌⊎◌, ⊎_elim, inl, inr, ℕ, zero, suc, ◌+◌, ◌<◌, ◌≤◌, List, [], ◌∷◌, ◌++◌, Some, None, Option, length, map, set, take, Contains, refl, sym, ap, ◌∙◌, subst, arith, slice_get, length-append}
-use Rattle.std.specs.Prelude.{slice_index_or}
-use Rattle.std.proofs.lemmas.List.{append-nil, map-append}
-use Rattle.std.proofs.lemmas.Option.{same_Some, slice_get_within, slice_get-get_or, get_or_from_slice_get}
-use Rattle.ig_expr.specs.declared.value.Value.{Value}
-use Rattle.ig_item.specs.Core.{IsAlternative}
-use Rattle.ig_item.specs.Items.{Item, Follows, Reachable, IsComplete, MoreThan, first}
-use Rattle.ig_item.specs.Tables.{instance_by, HaveValues}
+use Rattle.std.proofs.Common.{◌≡◌, ◌⊎◌, ⊎_elim, inl, inr, ℕ, zero, suc, ◌+◌, ◌<◌, ◌≤◌, List, [], ◌∷◌, ◌++◌, Some, None, length, map, take, Contains, refl, sym, ap, ◌∙◌, subst, arith, slice_get, length-append}
+use Rattle.std.proofs.lemmas.Option.{same_Some, slice_get_within}
+use Rattle.ig_item.specs.Items.{Item, Follows, Reachable, MoreThan}
+use Rattle.ig_item.specs.Tables.{HaveValues}
 use Rattle.ig_item.specs.WellKinded.{NoneTwice}
 use Rattle.ig_item.specs.declared.core_grammar.Nonterminal.{Nonterminal}
-use Rattle.ig_item.specs.declared.core_grammar.CoreAlt.{CoreAlt}
 use Rattle.ig_item.specs.declared.items.Instance.{Instance}
-use Rattle.ig_item.specs.declared.items.InstanceKey.{InstanceKey}
 use Rattle.ig_item.specs.declared.items.Item as stored
 use Rattle.ig_plain.specs.declared.found.Found.{Found}
 use Rattle.ig_plain.specs.declared.waiting.Waiting.{Waiting}
 use Rattle.ig_plain.specs.declared.waiting.Called.{Called}
 use Rattle.ig_plain.specs.declared.waiting.Caller.{Caller}
-use Rattle.ig_plain.specs.Tables.{Extends, IsNew, IsNamed, no_key}
-use Rattle.ig_plain.specs.Found.{means, instances_in, found_in, later_in, taken_in, count, Named, AreNamed, AreTables, IsStored, Grows, Has}
-use Rattle.ig_plain.specs.Rules.{IsCaller, IsPastTerminal}
-use Rattle.ig_plain.specs.Waiting.{called_at, not_called}
+use Rattle.ig_plain.specs.Tables.{Extends}
+use Rattle.ig_plain.specs.Found.{means, instances_in, found_in, later_in, taken_in, count, Named, AreNamed, AreTables, IsStored, Grows}
+use Rattle.ig_plain.specs.Rules.{IsCaller}
+use Rattle.ig_plain.specs.Waiting.{not_called}
 use Rattle.ig_plain.specs.Run as run
 use Rattle.ig_plain.specs.Run.{Chains, HasCallers, HasEnd, IsWaiting, IsTaking, IsRun}
-use Rattle.ig_plain.proofs.Lists.{at_from_contains, contains_from_at, front_in, left_contains, right_contains, contains_sides, sides, it_is_in, one_in, none_in, mapped_in, unmapped_in, same_map, left_at}
-use Rattle.ig_plain.proofs.Growth.{extends_in, means_kept, values_more, named_more, found_named, found_from, later_same, found_kept, later_kept, all_kept, instance_kept, longer}
+use Rattle.ig_plain.proofs.Lists.{front_in, left_contains, right_contains, contains_sides, sides, none_in, same_map}
+use Rattle.ig_plain.proofs.Growth.{means_kept, found_named, found_from, later_same, all_kept, longer}
 use Rattle.ig_plain.proofs.Distinct.{too_many}
-use Rattle.ig_plain.proofs.Running.{stored_grown, taken_grown, taken_found}
-use Rattle.ig_plain.proofs.Waiters.{Keeps, chain_more}
-use Rattle.ig_plain.proofs.Completes.{instance_at, keeps_grown, instances_once}
+use Rattle.ig_plain.proofs.Running.{stored_grown, taken_grown}
+use Rattle.ig_plain.proofs.Waiters.{Keeps}
 
 -- the items stay, in tables that grow
 pub record Moved (s t : Found) : Type 0 where
@@ -106,8 +99,8 @@ module _ (s t : Found) (n : AreNamed s) (m : Moved s t) where
         reachable = λ x c. r.reachable x (moved_all x c);
         closed = λ x f. moved_back x (r.closed x (subst (λ (z : List Item). Follows core text (Contains z) x) (moved_taken k) f));
         came = λ x c.
-          let h = r.came x (subst (λ (z : List Item). Contains z x) moved_later c) in
-          (h.0, subst (λ (z : List Item). Contains z h.0) (sym (moved_taken k)) h.1, h.2);
+            let h = r.came x (subst (λ (z : List Item). Contains z x) moved_later c) in
+            (h.0, subst (λ (z : List Item). Contains z h.0) (sym (moved_taken k)) h.1, h.2);
         few = let e = ap length m.here in omega (arith, e, r.few);
         within = let e = moved_count in omega (arith, e, r.within);
       }
@@ -121,17 +114,17 @@ taking_grown core text budget p k may s t r g sound within =
     record {
       stored = stored_grown p may s t r.stored g;
       reachable = λ x c.
-        ⊎_elim
-        (λ (h : Contains (found_in t) x).
-        ⊎_elim (λ (i : Contains (found_in s) x). r.reachable x (left_contains (found_in s) (later_in s) x i)) (λ (i : may x). sound x i)
-        (found_from p may s t n g x h))
-        (λ (h : Contains (later_in t) x).
-        r.reachable x (right_contains (found_in s) (later_in s) x (subst (λ (z : List Item). Contains z x) (later_same p may s t n g) h)))
-        (contains_sides (found_in t) (later_in t) x c);
+          ⊎_elim
+          (λ (h : Contains (found_in t) x).
+          ⊎_elim (λ (i : Contains (found_in s) x). r.reachable x (left_contains (found_in s) (later_in s) x i)) (λ (i : may x). sound x i)
+          (found_from p may s t n g x h))
+          (λ (h : Contains (later_in t) x).
+          r.reachable x (right_contains (found_in s) (later_in s) x (subst (λ (z : List Item). Contains z x) (later_same p may s t n g) h)))
+          (contains_sides (found_in t) (later_in t) x c);
       closed = λ x f. all_kept p may s t n g x (r.closed x (subst (λ (z : List Item). Follows core text (Contains z) x) same f));
       came = λ x c.
-        let h = r.came x (subst (λ (z : List Item). Contains z x) (later_same p may s t n g) c) in
-        (h.0, subst (λ (z : List Item). Contains z h.0) (sym same) h.1, h.2);
+          let h = r.came x (subst (λ (z : List Item). Contains z x) (later_same p may s t n g) c) in
+          (h.0, subst (λ (z : List Item). Contains z h.0) (sym same) h.1, h.2);
       few = let e = ap length g.here.is in let l = length-append s.here.keys g.here.more in omega (arith, e, l, r.few);
       within = within;
     }
@@ -156,11 +149,12 @@ module _ (core : List Nonterminal) (text : List ℕ) (p : ℕ) where
       HasCallers core text s taken cells head callee → HasCallers core text t taken cells head callee
   callers_kept s t taken cells head callee named same h =
       record {
-        chain = h.chain; chained = h.chained;
+        chain = h.chain;
+        chained = h.chained;
         named = λ y c. named y (h.named y c);
         callers = λ y c.
-          let q = h.callers y c in let e = sym (same y (h.named y c)) in
-          (subst (Contains taken) e q.0, subst (λ (z : Item). IsCaller core text z callee) e q.1);
+            let q = h.callers y c in let e = sym (same y (h.named y c)) in
+            (subst (Contains taken) e q.0, subst (λ (z : Item). IsCaller core text z callee) e q.1);
         all = λ x c d. let q = h.all x c d in (q.0, q.1, same q.0 (h.named q.0 q.1) ∙ q.2);
       }
 
@@ -170,8 +164,8 @@ module _ (core : List Nonterminal) (text : List ℕ) (p : ℕ) where
       record {
         lengths = r.lengths ∙ ap length (sym keeps.instances);
         callers = λ i callee called at known.
-          callers_kept s t taken w.callers.items called.callers callee keeps.named keeps.means_same
-          (r.callers i callee called (subst (λ (z : List Instance). slice_get z i ≡ Some callee) keeps.instances at) known);
+            callers_kept s t taken w.callers.items called.callers callee keeps.named keeps.means_same
+            (r.callers i callee called (subst (λ (z : List Instance). slice_get z i ≡ Some callee) keeps.instances at) known);
         ends = λ i callee called at known. r.ends i callee called (subst (λ (z : List Instance). slice_get z i ≡ Some callee) keeps.instances at) known;
         known = λ x callee c d. subst (λ (z : List Instance). Contains z callee) (sym keeps.instances) (r.known x callee c d);
         before = r.before;
@@ -212,28 +206,30 @@ module _ (core : List Nonterminal) (text : List ℕ) (p : ℕ) where
             let a = ap length called in let b = ap length all in let c = length-append w.called.items (not_called ∷ []) in
             let d = length-append (instances_in s) (fresh ∷ []) in omega (arith, a, b, c, d, lens);
         callers = λ i callee c at known.
-          ⊎_elim
-          (λ h.
-          subst (λ (z : List Caller). HasCallers core text t taken z c.callers callee) (sym cells)
-          (callers_kept s t taken w.callers.items c.callers callee named same (r.callers i callee c h.0 h.1)))
-          (λ h.
-          subst (λ (z : ℕ). HasCallers core text t taken v.callers.items z callee) (ap (λ (z : Called). z.callers) (sym h.1))
-          (record {
-            chain = []; chained = run.none;
-            named = λ y k. absurd (none_in y k);
-            callers = λ y k. absurd (none_in y k);
-            all = λ x k d. absurd (apart (subst (Contains (instances_in s)) h.0 (r.known x callee k d)));
-          })) (old i callee c at known);
+            ⊎_elim
+            (λ h.
+            subst (λ (z : List Caller). HasCallers core text t taken z c.callers callee) (sym cells)
+            (callers_kept s t taken w.callers.items c.callers callee named same (r.callers i callee c h.0 h.1)))
+            (λ h.
+            subst (λ (z : ℕ). HasCallers core text t taken v.callers.items z callee) (ap (λ (z : Called). z.callers) (sym h.1))
+            (record {
+              chain = [];
+              chained = run.none;
+              named = λ y k. absurd (none_in y k);
+              callers = λ y k. absurd (none_in y k);
+              all = λ x k d. absurd (apart (subst (Contains (instances_in s)) h.0 (r.known x callee k d)));
+            })) (old i callee c at known);
         ends = λ i callee c at known.
-          ⊎_elim (λ h. r.ends i callee c h.0 h.1)
-          (λ h.
-          (λ e. let z : None ≡ Some p = sym (ap (λ (q : Called). q.last_end) h.1) ∙ e in cc,
-          λ e. absurd (apart (subst (Contains (instances_in s)) (e.of ∙ h.0) (inside e.item e.among))))) (old i callee c at known);
+            ⊎_elim (λ h. r.ends i callee c h.0 h.1)
+            (λ h. (
+              λ e. let z : None ≡ Some p = sym (ap (λ (q : Called). q.last_end) h.1) ∙ e in cc,
+              λ e. absurd (apart (subst (Contains (instances_in s)) (e.of ∙ h.0) (inside e.item e.among))),
+            )) (old i callee c at known);
         known = λ x callee c d.
-          subst (λ (z : List Instance). Contains z callee) (sym all) (left_contains (instances_in s) (fresh ∷ []) callee (r.known x callee c d));
+            subst (λ (z : List Instance). Contains z callee) (sym all) (left_contains (instances_in s) (fresh ∷ []) callee (r.known x callee c d));
         before = λ i c e known is.
-          ⊎_elim (λ (q : slice_get w.called.items i ≡ Some c). r.before i c e q is)
-          (λ (q : (m : ℕ) × (i ≡ length w.called.items + m) × (slice_get (not_called ∷ []) m ≡ Some c)).
-          let z : None ≡ Some e = ap (λ (k : Called). k.last_end) (nothing_at not_called c q.0 q.2).1 ∙ is in cc)
-          (sides w.called.items (not_called ∷ []) i c (subst (λ (z : List Called). slice_get z i ≡ Some c) called known));
+            ⊎_elim (λ (q : slice_get w.called.items i ≡ Some c). r.before i c e q is)
+            (λ (q : (m : ℕ) × (i ≡ length w.called.items + m) × (slice_get (not_called ∷ []) m ≡ Some c)).
+            let z : None ≡ Some e = ap (λ (k : Called). k.last_end) (nothing_at not_called c q.0 q.2).1 ∙ is in cc)
+            (sides w.called.items (not_called ∷ []) i c (subst (λ (z : List Called). slice_get z i ≡ Some c) called known));
       }

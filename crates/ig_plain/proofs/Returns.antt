@@ -1,6 +1,6 @@
 -- Items behind calls, of a chain of callers.
-use Rattle.std.proofs.Common.{◌≡◌, ◌⊎◌, ⊎_elim, inl, inr, ℕ, zero, suc, ◌+◌, ◌-◌, ◌<◌, ◌≤◌, List, [], ◌∷◌, ◌++◌, Some, None, Option, length, Contains, refl, sym, ap, ◌∙◌, subst, arith, slice_get, append_assoc}
-use Rattle.std.specs.Prelude.{Result, Ok, Err, option_map, option_and_then, slice_index_or}
+use Rattle.std.proofs.Common.{◌≡◌, ⊎_elim, inl, inr, ℕ, suc, ◌<◌, ◌≤◌, List, [], ◌∷◌, ◌++◌, Some, Option, length, Contains, refl, sym, ap, ◌∙◌, subst, arith, slice_get, append_assoc}
+use Rattle.std.specs.Prelude.{Result, Ok, Err, option_and_then, slice_index_or}
 use Rattle.std.proofs.lemmas.List.{append-nil}
 use Rattle.std.proofs.lemmas.Option.{same_Some, slice_get_within, get_or_from_slice_get}
 use Rattle.ig_text.specs.declared.pattern.Pattern.{Pattern}
@@ -16,7 +16,7 @@ use Rattle.ig_item.specs.declared.items.Item as stored
 use Rattle.ig_item.specs.declared.run_fault.RunFault.{RunFault}
 use Rattle.ig_plain.specs.declared.found.Found.{Found}
 use Rattle.ig_plain.specs.declared.waiting.Caller.{Caller}
-use Rattle.ig_plain.specs.Found.{means, Named, AreNamed, Grows, Has, Adds}
+use Rattle.ig_plain.specs.Found.{means, Named, AreNamed, Adds}
 use Rattle.ig_plain.specs.Rules.{StandsAtCall, IsReturn, step_at}
 use Rattle.ig_plain.specs.Run as run
 use Rattle.ig_plain.specs.Run.{Chains, IsChainOf, IsReturnToOne}
@@ -48,9 +48,10 @@ return_alike core text it end budget a b r callee arguments label excluded names
     (λ x m.
     let steps = one_step core text it m.call.names names (Call m.call.callee m.call.arguments m.call.label m.call.excluded) (Call callee arguments label excluded) m.call.before before in
     let l : m.call.label ≡ label = cc steps in
-    let e : m.call.excluded ≡ excluded = cc steps in
-    (subst (λ (z : List Pattern). MatchesNone text z it.position end) e m.free,
-    m.is ∙ ap (λ (z : Option (List ℕ)). past it (span_of z it.position end) end) l)) d
+    let e : m.call.excluded ≡ excluded = cc steps in (
+      subst (λ (z : List Pattern). MatchesNone text z it.position end) e m.free,
+      m.is ∙ ap (λ (z : Option (List ℕ)). past it (span_of z it.position end) end) l,
+    )) d
 
 -- the first of a chain
 pub record Heads (cells : List Caller) (k : ℕ) (xs : List stored.Item) : Type 0 where
@@ -66,7 +67,12 @@ heads cells head xs run.none k e = cc
 heads cells head xs (run.more j cell ys at less c) k e =
     let same : j ≡ k = omega (arith, e) in
     record {
-      cell = cell; rest = ys; there = ap (slice_get cells) (sym same) ∙ at; less = subst (λ (n : ℕ). cell.next ≤ n) same less; chained = c; is = refl;
+      cell = cell;
+      rest = ys;
+      there = ap (slice_get cells) (sym same) ∙ at;
+      less = subst (λ (n : ℕ). cell.next ≤ n) same less;
+      chained = c;
+      is = refl;
     }
 
 pub empties : (cells : List Caller) (head : ℕ) (xs : List stored.Item) → Chains cells head xs → head ≡ 0 → xs ≡ []
@@ -97,7 +103,10 @@ module _ (core : List Nonterminal) (text : List ℕ) (cells : List Caller) (head
   pub walk_starts : Walks core text cells head end budget a a head
   walk_starts =
       record {
-        visited = []; rest = chain.chain; whole = chain.chained; chained = chain.chained;
+        visited = [];
+        rest = chain.chain;
+        whole = chain.chained;
+        chained = chain.chained;
         adds = adds_nothing end (Visited []) budget a (λ x m. absurd (none_in m.0 m.1));
       }
 
@@ -128,8 +137,11 @@ module _ (core : List Nonterminal) (text : List ℕ) (cells : List Caller) (head
     walks_on c r d =
         adds_then end (Visited (w.visited ++ here.cell.item ∷ [])) (Visited w.visited) (IsReturn core text (means b here.cell.item) end) budget a b c r named
         (λ x m. (m.0, left_contains w.visited (here.cell.item ∷ []) m.0 m.1, m.2))
-        (λ x m. (here.cell.item, right_contains w.visited (here.cell.item ∷ []) here.cell.item (it_is_in here.cell.item),
-        subst (λ (z : Item). IsReturn core text z end x) means_here m))
+        (λ x m. (
+          here.cell.item,
+          right_contains w.visited (here.cell.item ∷ []) here.cell.item (it_is_in here.cell.item),
+          subst (λ (z : Item). IsReturn core text z end x) means_here m,
+        ))
         (λ x m.
         ⊎_elim (λ (h : Contains w.visited m.0). inl (m.0, h, m.2))
         (λ (h : Contains (here.cell.item ∷ []) m.0).
@@ -140,7 +152,8 @@ module _ (core : List Nonterminal) (text : List ℕ) (cells : List Caller) (head
         Walks core text cells head end budget a c here.cell.next
     walk_goes c d =
         record {
-          visited = w.visited ++ here.cell.item ∷ []; rest = here.rest;
+          visited = w.visited ++ here.cell.item ∷ [];
+          rest = here.rest;
           whole = subst (Chains cells head) (ap (λ (z : List stored.Item). w.visited ++ z) here.is ∙ sym (append_assoc w.visited (here.cell.item ∷ []) here.rest)) w.whole;
           chained = here.chained;
           adds = walks_on c (Ok tt) d;
@@ -153,7 +166,9 @@ module _ (core : List Nonterminal) (text : List ℕ) (cells : List Caller) (head
         record {
           grows = grows_weaker end (Visited (w.visited ++ here.cell.item ∷ [])) (IsReturnToOne core text cells head end a) a c
               (λ x m. record { chain = chain.chain; chained = chain.chained; caller = m.0; among = among m.0 m.1; returns = m.2 }) e.grows;
-          has = tt; within = tt; fault = e.fault;
+          has = tt;
+          within = tt;
+          fault = e.fault;
         }
       where
         among : (y : stored.Item) → Contains (w.visited ++ here.cell.item ∷ []) y → Contains chain.chain y

@@ -1,8 +1,8 @@
 -- An item is taken: what a run keeps of the items that it has found.
-use Rattle.std.proofs.Common.{◌≡◌, ◌⊎◌, ⊎_elim, inl, inr, ℕ, zero, suc, ◌+◌, ◌<◌, ◌≤◌, List, [], ◌∷◌, ◌++◌, Some, length, map, take, Contains, refl, sym, ap, ◌∙◌, subst, arith, slice_get, length-append, append_assoc}
-use Rattle.std.specs.Prelude.{Result, Ok, Err}
+use Rattle.std.proofs.Common.{◌≡◌, ◌⊎◌, ⊎_elim, inl, inr, ℕ, suc, ◌<◌, ◌≤◌, List, [], ◌∷◌, ◌++◌, Some, length, map, take, Contains, refl, sym, ap, ◌∙◌, subst, arith, slice_get, length-append, append_assoc}
+use Rattle.std.specs.Prelude.{Err}
 use Rattle.std.proofs.lemmas.List.{append-nil, map-append, take-append-le}
-use Rattle.std.proofs.lemmas.Option.{same_Some, slice_get_within}
+use Rattle.std.proofs.lemmas.Option.{slice_get_within}
 use Rattle.ig_item.specs.Items.{Item, Follows, Reachable, MoreThan}
 use Rattle.ig_item.specs.Laws.{ReachableIsClosed}
 use Rattle.ig_item.specs.Tables.{HaveValues}
@@ -13,12 +13,12 @@ use Rattle.ig_item.specs.declared.run_fault.RunFault.{RunFault}
 use Rattle.ig_item.specs.declared.run_fault.RunFault.TheVariants.{Budget, Memory}
 use Rattle.ig_plain.specs.declared.found.Found.{Found}
 use Rattle.ig_plain.specs.Tables.{Extends, IsNamed}
-use Rattle.ig_plain.specs.Found.{means, found_in, later_in, taken_in, count, Named, AllNamed, AreNamed, AreTables, IsStored, Grows, GrowsLater, Has, Adds}
+use Rattle.ig_plain.specs.Found.{means, found_in, later_in, taken_in, count, Named, AreNamed, IsStored, Grows, GrowsLater, Has, Adds}
 use Rattle.ig_plain.specs.Rules.{After, IsPastTerminal}
 use Rattle.ig_plain.specs.Run.{IsTaking, Refuses}
 use Rattle.ig_plain.proofs.Lists.{at_from_contains, contains_from_at, within_take, one_in, front_in, left_contains, right_contains, contains_sides, it_is_in, mapped_in, unmapped_in, same_map, take_step}
-use Rattle.ig_plain.proofs.Growth.{extends_cases, named_all, means_grown, named_grown, means_list, found_kept, all_kept, found_from, later_same, found_grown, found_named, means_kept, named_more, values_more}
-use Rattle.ig_plain.proofs.Following.{follows_more, splits, after_reachable}
+use Rattle.ig_plain.proofs.Growth.{extends_cases, named_all, means_list, all_kept, found_from, later_same, found_named, means_kept, named_more, values_more}
+use Rattle.ig_plain.proofs.Following.{splits, after_reachable}
 use Rattle.ig_plain.proofs.Distinct.{too_many, one_item, once_both, once_single}
 use Rattle.ig_plain.proofs.Terminals.{from_one}
 
@@ -108,14 +108,14 @@ module _ (core : List Nonterminal) (text : List ℕ) (law : ReachableIsClosed) (
           stored = stored_grown p may s t r.stored g;
           reachable = reachable_now;
           closed = λ x f.
-            ⊎_elim (λ (h : Follows core text (Contains (taken_in s k)) x). all_kept p may s t r.stored.named g x (r.closed x h))
-            (λ (h : After core text (taken_in s k) (means s item) x).
-            ⊎_elim (λ (i : may x). has x i) (λ (i : Contains (found_in s ++ later_in s) x). all_kept p may s t r.stored.named g x i) (complete x h))
-            (splits core text (taken_in s k) (means s item) x
-            (subst (λ (z : List Item). Follows core text (Contains z) x) taken_now f));
+              ⊎_elim (λ (h : Follows core text (Contains (taken_in s k)) x). all_kept p may s t r.stored.named g x (r.closed x h))
+              (λ (h : After core text (taken_in s k) (means s item) x).
+              ⊎_elim (λ (i : may x). has x i) (λ (i : Contains (found_in s ++ later_in s) x). all_kept p may s t r.stored.named g x i) (complete x h))
+              (splits core text (taken_in s k) (means s item) x
+              (subst (λ (z : List Item). Follows core text (Contains z) x) taken_now f));
           came = λ x c.
-            let h = r.came x (subst (λ (z : List Item). Contains z x) (later_same p may s t r.stored.named g) c) in
-            (h.0, subst (λ (z : List Item). Contains z h.0) (sym taken_now) (left_contains (taken_in s k) (means s item ∷ []) h.0 h.1), h.2);
+              let h = r.came x (subst (λ (z : List Item). Contains z x) (later_same p may s t r.stored.named g) c) in
+              (h.0, subst (λ (z : List Item). Contains z h.0) (sym taken_now) (left_contains (taken_in s k) (means s item ∷ []) h.0 h.1), h.2);
           few = let n = length-append s.here.keys g.here.more in let e = ap length g.here.is in omega (arith, lt, n, e);
           within = within;
         }
@@ -188,16 +188,16 @@ module _ (core : List Nonterminal) (text : List ℕ) (law : ReachableIsClosed) (
             done = λ y c. named_still y (r.stored.named.done y (subst (λ (z : List stored.Item). Contains z y) g.done c));
             here = λ y c. named_still y (r.stored.named.here y (subst (λ (z : List stored.Item). Contains z y) g.here c));
             later = λ y c.
-              ⊎_elim (λ (h : Contains s.later.items y). named_still y (r.stored.named.later y h))
-              (λ (h : Contains (g.item ∷ []) y). subst (Named t) (sym (one_in g.item y h)) g.named)
-              (contains_sides s.later.items (g.item ∷ []) y (subst (λ (z : List stored.Item). Contains z y) g.later c));
+                ⊎_elim (λ (h : Contains s.later.items y). named_still y (r.stored.named.later y h))
+                (λ (h : Contains (g.item ∷ []) y). subst (Named t) (sym (one_in g.item y h)) g.named)
+                (contains_sides s.later.items (g.item ∷ []) y (subst (λ (z : List stored.Item). Contains z y) g.later c));
           };
           before = λ y c. r.stored.before y (subst (λ (z : List stored.Item). Contains z y) g.done c);
           at = λ y c. r.stored.at y (subst (λ (z : List stored.Item). Contains z y) g.here c);
           behind = λ y c.
-            ⊎_elim (λ (h : Contains s.later.items y). r.stored.behind y h)
-            (λ (h : Contains (g.item ∷ []) y). subst (λ (z : stored.Item). p < z.position) (sym (one_in g.item y h)) g.behind)
-            (contains_sides s.later.items (g.item ∷ []) y (subst (λ (z : List stored.Item). Contains z y) g.later c));
+              ⊎_elim (λ (h : Contains s.later.items y). r.stored.behind y h)
+              (λ (h : Contains (g.item ∷ []) y). subst (λ (z : stored.Item). p < z.position) (sym (one_in g.item y h)) g.behind)
+              (contains_sides s.later.items (g.item ∷ []) y (subst (λ (z : List stored.Item). Contains z y) g.later c));
           done_once = subst NoneTwice (sym g.done) r.stored.done_once;
           here_once = subst NoneTwice (sym g.here) r.stored.here_once;
           later_once = subst NoneTwice (sym g.later)
@@ -239,20 +239,22 @@ module _ (core : List Nonterminal) (text : List ℕ) (law : ReachableIsClosed) (
           stored = stored_later;
           reachable = reachable_later;
           closed = λ y f.
-            ⊎_elim (λ (h : Follows core text (Contains (taken_in s k)) y). all_later y (r.closed y h))
-            (λ (h : After core text (taken_in s k) (means s item) y).
-            subst (Contains (found_in t ++ later_in t)) (sym (only y h)) there_later)
-            (splits core text (taken_in s k) (means s item) y
-            (subst (λ (z : List Item). Follows core text (Contains z) y) taken_later f));
+              ⊎_elim (λ (h : Follows core text (Contains (taken_in s k)) y). all_later y (r.closed y h))
+              (λ (h : After core text (taken_in s k) (means s item) y).
+              subst (Contains (found_in t ++ later_in t)) (sym (only y h)) there_later)
+              (splits core text (taken_in s k) (means s item) y
+              (subst (λ (z : List Item). Follows core text (Contains z) y) taken_later f));
           came = λ y c.
-            ⊎_elim
-            (λ (i : Contains (later_in s) y).
-            let h = r.came y i in
-            (h.0, subst (λ (z : List Item). Contains z h.0) (sym taken_later) (left_contains (taken_in s k) (means s item ∷ []) h.0 h.1), h.2))
-            (λ (i : Contains (x ∷ []) y).
-            (means s item, subst (λ (z : List Item). Contains z (means s item)) (sym taken_later) (right_contains (taken_in s k) (means s item ∷ []) (means s item) (it_is_in (means s item))),
-            subst (IsPastTerminal core text (means s item)) (sym (one_in x y i)) past))
-            (contains_sides (later_in s) (x ∷ []) y (subst (λ (z : List Item). Contains z y) later_now c));
+              ⊎_elim
+              (λ (i : Contains (later_in s) y).
+              let h = r.came y i in
+              (h.0, subst (λ (z : List Item). Contains z h.0) (sym taken_later) (left_contains (taken_in s k) (means s item ∷ []) h.0 h.1), h.2))
+              (λ (i : Contains (x ∷ []) y). (
+                means s item,
+                subst (λ (z : List Item). Contains z (means s item)) (sym taken_later) (right_contains (taken_in s k) (means s item ∷ []) (means s item) (it_is_in (means s item))),
+                subst (IsPastTerminal core text (means s item)) (sym (one_in x y i)) past,
+              ))
+              (contains_sides (later_in s) (x ∷ []) y (subst (λ (z : List Item). Contains z y) later_now c));
           few = let e = ap length g.here in omega (arith, lt, e);
           within = within;
         }

@@ -1,18 +1,18 @@
 -- What inserting into a set makes of its keys, where `==` decides whether keys are the same.
-use Rattle.std.proofs.Common.{◌≡◌, ◌⊎◌, ⊎_elim, ℕ, ◌<◌, List, [], ◌∷◌, ◌++◌, length, Bool, true, false, refl, sym, ◌∙◌, ap, subst, arith, Some, Contains, if◌then◌else◌, slice_get}
+use Rattle.std.proofs.Common.{◌≡◌, ⊎_elim, ℕ, ◌+◌, ◌≤◌, length-append, ◌<◌, List, [], ◌∷◌, ◌++◌, length, Bool, true, false, refl, sym, ◌∙◌, ap, subst, arith, Some, Contains, if◌then◌else◌, slice_get}
 use Rattle.std.specs.Prelude.{not}
-use Rattle.std.specs.List.{IsDistinct, list_any, position_or_len}
+use Rattle.std.specs.List.{IsDistinct, list_any}
 use Rattle.std.specs.Bool.{Decides}
 use Rattle.std.proofs.lemmas.List.{append-nil}
 use Rattle.std.proofs.lemmas.Bool.{cases_lt}
-use Rattle.std.proofs.lemmas.Option.{slice_get_within, get_or_from_slice_get, same_Some}
+use Rattle.std.proofs.lemmas.Option.{slice_get_within, get_or_from_slice_get}
 use Rattle.std.proofs.lemmas.Map.Made.{AllPairs-from_IsDistinct}
 use Rattle.std.proofs.lemmas.Map.Views.{Contains-from_any}
 use Rattle.std.proofs.lemmas.List.Folds.{list_any_at}
 use Rattle.indexmap.specs.IndexSet.{insert_key}
 use Rattle.ig_item.specs.WellKinded.{NoneTwice}
-use Rattle.ig_plain.specs.Tables.{Extends, AddsOnly, Enters, IsNew}
-use Rattle.ig_plain.proofs.Lists.{contains_from_at, none_in, one_in, right_contains, it_is_in, right_at}
+use Rattle.ig_plain.specs.Tables.{Extends, AddsOnly, IsNew}
+use Rattle.ig_plain.proofs.Lists.{none_in, one_in, right_contains, it_is_in, right_at}
 
 module _ {X : Type 0} where
   pub extends_itself : (xs : List X) → Extends xs xs
@@ -64,6 +64,13 @@ module _ {X : Type 0} {eq : X → X → Bool} (decides : (x y : X) → Decides (
           }
       go false t =
           record { extends = record { more = x ∷ []; is = after_false before after x e t }; only = λ y c. one_in x y c }
+
+  pub inserted_few : (before after : List X) (x : X) → after ≡ insert_key eq before x → length after ≤ length before + 1
+  inserted_few before after x e = go (list_any (eq x) before) refl
+    where
+      go : (b : Bool) → list_any (eq x) before ≡ b → length after ≤ length before + 1
+      go true t = let n = ap length (after_true before after x e t) in omega (arith, n)
+      go false t = let n = ap length (after_false before after x e t) ∙ length-append before (x ∷ []) in omega (arith, n)
 
   pub inserted_there : (before after : List X) (x : X) → after ≡ insert_key eq before x → Contains after x
   inserted_there before after x e = go (list_any (eq x) before) refl

@@ -1,8 +1,7 @@
 -- Items behind terminals: where a match ends and begins, and that each comes from one item alone.
-use Rattle.std.proofs.Common.{◌≡◌, ℕ, suc, ◌+◌, ◌-◌, ◌≤◌, ◌<◌, List, [], ◌∷◌, ◌++◌, Some, None, Option, length, slice_get, length-take, length-drop, refl, sym, ap, ◌∙◌, subst, arith, Contains}
+use Rattle.std.proofs.Common.{◌≡◌, ℕ, suc, ◌+◌, ◌-◌, ◌≤◌, List, ◌++◌, Some, None, Option, length, slice_get, length-take, length-drop, refl, sym, ap, ◌∙◌, subst, arith}
 use Rattle.std.specs.Prelude.{slice_range, Result, Ok}
 use Rattle.std.proofs.lemmas.List.{same_from_push, append-nil}
-use Rattle.std.proofs.lemmas.Option.{same_Some}
 use Rattle.ig_text.specs.Pattern.{Matches}
 use Rattle.ig_text.specs.declared.pattern.Pattern.{Pattern}
 use Rattle.ig_text.specs.declared.pattern.Pattern.TheVariants.{Literal, OneOf}

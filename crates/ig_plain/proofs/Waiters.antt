@@ -1,7 +1,6 @@
 -- Which items wait for an instance, and where it ended, as items are taken.
-use Rattle.std.proofs.Common.{◌≡◌, ◌↔◌, ◌⊎◌, ⊎_elim, inl, inr, ℕ, zero, suc, ◌+◌, ◌<◌, ◌≤◌, List, [], ◌∷◌, ◌++◌, Some, None, Option, length, map, set, Contains, refl, sym, ap, ◌∙◌, subst, arith, slice_get, length-append}
-use Rattle.std.specs.Prelude.{slice_index_or}
-use Rattle.std.proofs.lemmas.Option.{same_Some, slice_get_within, slice_get-get_or, get_or_from_slice_get}
+use Rattle.std.proofs.Common.{◌≡◌, ◌⊎◌, ⊎_elim, inl, inr, ℕ, zero, suc, ◌<◌, List, [], ◌∷◌, ◌++◌, Some, length, set, Contains, refl, sym, ap, ◌∙◌, subst, arith, slice_get}
+use Rattle.std.proofs.lemmas.Option.{same_Some, slice_get-get_or, get_or_from_slice_get}
 use Rattle.ig_item.specs.Items.{Item, IsComplete}
 use Rattle.ig_item.specs.WellKinded.{NoneTwice}
 use Rattle.ig_plain.proofs.Following.{not_both}
@@ -17,7 +16,7 @@ use Rattle.ig_plain.specs.Rules.{IsCaller}
 use Rattle.ig_plain.specs.Waiting.{called_at, not_called}
 use Rattle.ig_plain.specs.Run as run
 use Rattle.ig_plain.specs.Run.{Chains, HasCallers, HasEnd, IsWaiting}
-use Rattle.ig_plain.proofs.Lists.{at_from_contains, contains_from_at, left_at, left_contains, right_contains, contains_sides, sides, it_is_in, one_in, none_in}
+use Rattle.ig_plain.proofs.Lists.{left_at, left_contains, right_contains, contains_sides, it_is_in, one_in}
 
 -- a chain stays as cells are added
 pub chain_more : (cells more : List Caller) (head : ℕ) (xs : List stored.Item) → Chains cells head xs → Chains (cells ++ more) head xs
@@ -41,12 +40,12 @@ module _ (core : List Nonterminal) (text : List ℕ) (p : ℕ) where
         chained = h.chained;
         named = λ y c. keeps.named y (h.named y c);
         callers = λ y c.
-          let q = h.callers y c in let e = sym (keeps.means_same y (h.named y c)) in
-          (subst (Contains (taken ++ it ∷ [])) e (left_contains taken (it ∷ []) (means s y) q.0), subst (λ (z : Item). IsCaller core text z callee) e q.1);
+            let q = h.callers y c in let e = sym (keeps.means_same y (h.named y c)) in
+            (subst (Contains (taken ++ it ∷ [])) e (left_contains taken (it ∷ []) (means s y) q.0), subst (λ (z : Item). IsCaller core text z callee) e q.1);
         all = λ x c d.
-          ⊎_elim (λ (i : Contains taken x). let q = h.all x i d in (q.0, q.1, keeps.means_same q.0 (h.named q.0 q.1) ∙ q.2))
-          (λ (i : Contains (it ∷ []) x). absurd (apart (subst (λ (z : Item). IsCaller core text z callee) (one_in it x i) d)))
-          (contains_sides taken (it ∷ []) x c);
+            ⊎_elim (λ (i : Contains taken x). let q = h.all x i d in (q.0, q.1, keeps.means_same q.0 (h.named q.0 q.1) ∙ q.2))
+            (λ (i : Contains (it ∷ []) x). absurd (apart (subst (λ (z : Item). IsCaller core text z callee) (one_in it x i) d)))
+            (contains_sides taken (it ∷ []) x c);
       }
 
   -- an end, where an item is taken that is no complete one of the instance
@@ -71,16 +70,16 @@ module _ (core : List Nonterminal) (text : List ℕ) (p : ℕ) where
       record {
         lengths = r.lengths ∙ ap length (sym keeps.instances);
         callers = λ i callee called at known.
-          callers_still s t taken it w.callers.items called.callers callee keeps (apart callee)
-          (r.callers i callee called (subst (λ (z : List Instance). slice_get z i ≡ Some callee) keeps.instances at) known);
+            callers_still s t taken it w.callers.items called.callers callee keeps (apart callee)
+            (r.callers i callee called (subst (λ (z : List Instance). slice_get z i ≡ Some callee) keeps.instances at) known);
         ends = λ i callee called at known.
-          let e = r.ends i callee called (subst (λ (z : List Instance). slice_get z i ≡ Some callee) keeps.instances at) known in
-          (λ h. end_more taken (it ∷ []) callee (e.0 h), λ h. e.1 (end_still taken it callee (λ a b c. unfinished b) h));
+            let e = r.ends i callee called (subst (λ (z : List Instance). slice_get z i ≡ Some callee) keeps.instances at) known in
+            (λ h. end_more taken (it ∷ []) callee (e.0 h), λ h. e.1 (end_still taken it callee (λ a b c. unfinished b) h));
         known = λ x callee c d.
-          subst (λ (z : List Instance). Contains z callee) (sym keeps.instances)
-          (⊎_elim (λ (i : Contains taken x). r.known x callee i d)
-          (λ (i : Contains (it ∷ []) x). absurd (apart callee (subst (λ (z : Item). IsCaller core text z callee) (one_in it x i) d)))
-          (contains_sides taken (it ∷ []) x c));
+            subst (λ (z : List Instance). Contains z callee) (sym keeps.instances)
+            (⊎_elim (λ (i : Contains taken x). r.known x callee i d)
+            (λ (i : Contains (it ∷ []) x). absurd (apart callee (subst (λ (z : Item). IsCaller core text z callee) (one_in it x i) d)))
+            (contains_sides taken (it ∷ []) x c));
         before = r.before;
       }
 
@@ -114,13 +113,16 @@ ended_set w v m p lt cells is =
       lengths = ap length is ∙ set_length w.called.items m (record { callers = (called_at w m).callers; last_end = Some p });
       cells = cells;
       was = λ i after e.
-        ⊎_elim
-        (λ h. (called_at w m,
-        subst (λ (z : ℕ). slice_get w.called.items z ≡ Some (called_at w m)) (sym h.0) (slice_get-get_or w.called.items m not_called lt),
-        ap (λ (z : Called). z.callers) h.1, inl (h.0, ap (λ (z : Called). z.last_end) h.1)))
-        (λ h. (after, h.1, refl, inr (h.0, refl)))
-        (set_cases w.called.items m (record { callers = (called_at w m).callers; last_end = Some p }) i after
-        (subst (λ (z : List Called). slice_get z i ≡ Some after) is e));
+          ⊎_elim
+          (λ h. (
+            called_at w m,
+            subst (λ (z : ℕ). slice_get w.called.items z ≡ Some (called_at w m)) (sym h.0) (slice_get-get_or w.called.items m not_called lt),
+            ap (λ (z : Called). z.callers) h.1,
+            inl (h.0, ap (λ (z : Called). z.last_end) h.1),
+          ))
+          (λ h. (after, h.1, refl, inr (h.0, refl)))
+          (set_cases w.called.items m (record { callers = (called_at w m).callers; last_end = Some p }) i after
+          (subst (λ (z : List Called). slice_get z i ≡ Some after) is e));
     }
 
 pub ended_already : (w : Waiting) (m p : ℕ) → (called_at w m).last_end ≡ Some p → Ended w w m p
@@ -136,6 +138,7 @@ ended_already w m p is =
     nat_cases zero (suc m) = inr (λ h. omega (arith, h))
     nat_cases (suc i) zero = inr (λ h. omega (arith, h))
     nat_cases (suc i) (suc m) = ⊎_elim (λ h. inl (ap suc h)) (λ h. inr (λ q. h (omega (arith, q)))) (nat_cases i m)
+
     same : (i : ℕ) (after : Called) → slice_get w.called.items i ≡ Some after → (i ≡ m) ⊎ (i ≡ m → ⊥) →
         ((i ≡ m) × (after.last_end ≡ Some p)) ⊎ ((i ≡ m → ⊥) × (after.last_end ≡ after.last_end))
     same i after e (inl h) =
@@ -156,30 +159,36 @@ module _ (core : List Nonterminal) (text : List ℕ) (p : ℕ) where
       record {
         lengths = ended.lengths ∙ r.lengths ∙ ap length (sym keeps.instances);
         callers = λ i callee after e known.
-          let h = ended.was i after known in
-          subst (λ (z : List Caller). HasCallers core text t (taken ++ it ∷ []) z after.callers callee) (sym ended.cells)
-          (subst (λ (z : ℕ). HasCallers core text t (taken ++ it ∷ []) w.callers.items z callee) (sym h.2)
-          (callers_still core text p s t taken it w.callers.items h.0.callers callee keeps (apart callee) (r.callers i callee h.0 (back i callee e) h.1)));
+            let h = ended.was i after known in
+            subst (λ (z : List Caller). HasCallers core text t (taken ++ it ∷ []) z after.callers callee) (sym ended.cells)
+            (subst (λ (z : ℕ). HasCallers core text t (taken ++ it ∷ []) w.callers.items z callee) (sym h.2)
+            (callers_still core text p s t taken it w.callers.items h.0.callers callee keeps (apart callee) (r.callers i callee h.0 (back i callee e) h.1)));
         ends = λ i callee after e known.
-          let h = ended.was i after known in
-          ⊎_elim
-          (λ (q : (i ≡ m) × (after.last_end ≡ Some p)).
-          (λ x. record {
-            item = it; among = right_contains taken (it ∷ []) it (it_is_in it);
-            of = same_Some it.instance callee (sym at ∙ ap (slice_get (instances_in s)) (sym q.0) ∙ back i callee e);
-            complete = complete; ends = here }, λ x. q.1))
-          (λ (q : (i ≡ m → ⊥) × (after.last_end ≡ h.0.last_end)).
-          let d = r.ends i callee h.0 (back i callee e) h.1 in
-          (λ x. end_more core text p taken (it ∷ []) callee (d.0 (sym q.1 ∙ x)),
-          λ x. q.1 ∙ d.1 (end_still core text p taken it callee
-          (λ a b c. q.0 (once i m callee (back i callee e) (at ∙ ap Some a))) x))) h.3;
+            let h = ended.was i after known in
+            ⊎_elim
+            (λ (q : (i ≡ m) × (after.last_end ≡ Some p)). (
+              λ x. record {
+                item = it;
+                among = right_contains taken (it ∷ []) it (it_is_in it);
+                of = same_Some it.instance callee (sym at ∙ ap (slice_get (instances_in s)) (sym q.0) ∙ back i callee e);
+                complete = complete;
+                ends = here;
+              },
+              λ x. q.1,
+            ))
+            (λ (q : (i ≡ m → ⊥) × (after.last_end ≡ h.0.last_end)).
+            let d = r.ends i callee h.0 (back i callee e) h.1 in (
+              λ x. end_more core text p taken (it ∷ []) callee (d.0 (sym q.1 ∙ x)),
+              λ x. q.1 ∙ d.1 (end_still core text p taken it callee
+                  (λ a b c. q.0 (once i m callee (back i callee e) (at ∙ ap Some a))) x),
+            )) h.3;
         known = λ x callee c d.
-          subst (λ (z : List Instance). Contains z callee) (sym keeps.instances)
-          (⊎_elim (λ (i : Contains taken x). r.known x callee i d)
-          (λ (i : Contains (it ∷ []) x). absurd (apart callee (subst (λ (z : Item). IsCaller core text z callee) (one_in it x i) d)))
-          (contains_sides taken (it ∷ []) x c));
+            subst (λ (z : List Instance). Contains z callee) (sym keeps.instances)
+            (⊎_elim (λ (i : Contains taken x). r.known x callee i d)
+            (λ (i : Contains (it ∷ []) x). absurd (apart callee (subst (λ (z : Item). IsCaller core text z callee) (one_in it x i) d)))
+            (contains_sides taken (it ∷ []) x c));
         before = λ i after e known is.
-          let h = ended.was i after known in
-          ⊎_elim (λ (q : (i ≡ m) × (after.last_end ≡ Some p)). let z = same_Some p e (sym q.1 ∙ is) in omega (arith, z))
-          (λ (q : (i ≡ m → ⊥) × (after.last_end ≡ h.0.last_end)). r.before i h.0 e h.1 (sym q.1 ∙ is)) h.3;
+            let h = ended.was i after known in
+            ⊎_elim (λ (q : (i ≡ m) × (after.last_end ≡ Some p)). let z = same_Some p e (sym q.1 ∙ is) in omega (arith, z))
+            (λ (q : (i ≡ m → ⊥) × (after.last_end ≡ h.0.last_end)). r.before i h.0 e h.1 (sym q.1 ∙ is)) h.3;
       }

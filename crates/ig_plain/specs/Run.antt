@@ -1,12 +1,12 @@
 -- What a run in rising positions keeps.
-use Rattle.std.specs.Prelude.{◌≡◌, ◌↔◌, ◌⊎◌, ℕ, zero, suc, ◌+◌, ◌<◌, ◌≤◌, List, [], ◌∷◌, ◌++◌, map, length, take, Contains, Option, Some, slice_get, Result, MatchResult}
+use Rattle.std.specs.Prelude.{◌≡◌, ◌↔◌, ℕ, zero, suc, ◌≤◌, List, [], ◌∷◌, ◌++◌, length, Contains, Some, slice_get, Result, MatchResult}
 use Rattle.ig_item.specs.Core.{IsAlternative}
 use Rattle.ig_item.specs.Items.{Item, Follows, Reachable, MoreThan, IsComplete, first}
 use Rattle.ig_item.specs.declared.core_grammar.Nonterminal.{Nonterminal}
 use Rattle.ig_item.specs.declared.core_grammar.CoreAlt.{CoreAlt}
 use Rattle.ig_item.specs.declared.items.Instance.{Instance}
 use Rattle.ig_item.specs.declared.items.InstanceKey.{InstanceKey}
-use Rattle.ig_item.specs.Tables.{instance_by}
+use Rattle.ig_item.specs.Tables.{Tables, instance_by, items_of}
 use Rattle.ig_plain.specs.Tables.{Extends}
 use Rattle.ig_item.specs.declared.items.Item as stored
 use Rattle.ig_item.specs.declared.run_fault.RunFault.{RunFault}
@@ -123,3 +123,7 @@ EntersInstance core budget key s t w v result =
     (text : List ℕ) (k : ℕ) → IsRun core text budget key.start k s w →
     ((x : Item) → IsFirstOf core (instance_by s.envs.keys key) x → Reachable core text x) →
     MatchResult result (IsEntered core text budget k key s t v) (Refuses core text budget)
+
+-- the items of the tables are exactly the reachable ones
+abbrev pub AreReachable : List Nonterminal → List ℕ → Tables → Type 0
+AreReachable core text tables = (x : Item) → Contains (items_of tables) x ↔ Reachable core text x

@@ -1,5 +1,6 @@
 //! The items that a run has found.
-ghost use Rattle.std.specs.Prelude.{◌≡◌, [], ◌∷◌, ◌++◌, ◌<◌, ◌≤◌, IfErr, IfOk, OnOk, Some, length, slice_get, slice_index_or};
+ghost use Rattle.std.specs.Prelude.{◌≡◌, [], ◌∷◌, ◌++◌, ◌<◌, ◌≤◌, IfErr, IfOk, OnOk, Some, length};
+ghost use Rattle.std.specs.Prelude.{slice_get, slice_index_or};
 ghost use Rattle.std.specs.Option.{option_to_list};
 ghost use Rattle.ig_item.specs.Items.{past};
 ghost use Rattle.ig_item.specs.WellKinded.{NoneTwice};
@@ -61,7 +62,8 @@ pub(crate) fn go_on(
 ) -> Result<(), RunFault>
     requires named { Named found.old item }
     requires all_named { AreNamed found.old }
-    ensures { Adds end (λ x. x ≡ past (means found.old item) (option_to_list bound) end) budget found.old found.new result }
+    ensures { Adds end (λ x. x ≡ past (means found.old item) (option_to_list bound) end) budget
+        found.old found.new result }
 {
     let behind = past(alloc, &mut found.envs, item, bound, end)?;
     add(found, behind, budget)
@@ -79,7 +81,8 @@ pub(crate) fn go_later(
     requires named { Named found.old item }
     requires all_named { AreNamed found.old }
     requires later { item.position < end }
-    ensures { AddsLater item.position (past (means found.old item) (option_to_list bound) end) budget found.old found.new result }
+    ensures { AddsLater item.position (past (means found.old item) (option_to_list bound) end)
+        budget found.old found.new result }
 {
     let behind = past(alloc, &mut found.envs, item, bound, end)?;
     let Ok(()) = found.later.push(behind) else {
@@ -128,7 +131,8 @@ fn with_value(
     requires there { env < length envs.old.keys }
     ensures extends { Extends envs.old.keys envs.new.keys }
     ensures once { NoneTwice envs.old.keys → NoneTwice envs.new.keys }
-    ensures there { IfOk result (λ k. slice_get envs.new.keys k ≡ Some (slice_index_or envs.old.keys env [] ++ value ∷ [])) }
+    ensures there { IfOk result (λ k. slice_get envs.new.keys k ≡ Some (slice_index_or
+        envs.old.keys env [] ++ value ∷ [])) }
 {
     let mut values = envs.as_slice()[env as usize].copy(alloc)?;
     values.push(value).map_err(|refused| refused.1)?;

@@ -1,5 +1,5 @@
 //! Tables in which each value stands once, and is named by its number.
-ghost use Rattle.std.specs.Prelude.{◌≡◌, Contains, IfOk, OnOk, true, false};
+ghost use Rattle.std.specs.Prelude.{◌≡◌, ◌+◌, ◌≤◌, length, Contains, IfOk, OnOk, true, false};
 ghost use Rattle.ig_item.specs.WellKinded.{NoneTwice};
 ghost use Rattle.ig_plain.specs.Tables.{AddsOnly, Enters, Extends, IsNew};
 
@@ -37,6 +37,7 @@ pub(crate) fn enter_item(items: &mut IndexSet<Item>, item: Item) -> Result<(), A
     ensures adds { AddsOnly items.old.keys items.new.keys item }
     ensures once { NoneTwice items.new.keys }
     ensures there { OnOk result (Contains items.new.keys item) }
+    ensures few { OnOk result (length items.new.keys ≤ length items.old.keys + 1) }
 {
     items.insert(item)?;
     Ok(())

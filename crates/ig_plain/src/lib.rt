@@ -10,7 +10,8 @@ mod interning;
 mod moves;
 mod names;
 mod run;
+mod saturation;
 mod steps;
 mod waiting;
 
-pub use run::saturate;
+pub use saturation::saturate;

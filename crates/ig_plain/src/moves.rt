@@ -36,7 +36,9 @@ pub(crate) fn take_test(
 ) -> Result<(), RunFault>
     requires named { Named found.old item }
     requires all_named { AreNamed found.old }
-    ensures { Adds item.position (λ x. HasValue text.now (means found.old item) names.now (expression_of condition.now) (truth true) × (x ≡ past (means found.old item) [] item.position)) budget found.old found.new result }
+    ensures { Adds item.position (λ x. HasValue text.now (means found.old item) names.now
+        (expression_of condition.now) (truth true) × (x ≡ past (means found.old item) []
+        item.position)) budget found.old found.new result }
 {
     let values = values_at(&found.envs, item.env);
     if !is_true(condition, names, values, item.position, text) {
@@ -57,7 +59,9 @@ pub(crate) fn take_bind(
 ) -> Result<(), RunFault>
     requires named { Named found.old item }
     requires all_named { AreNamed found.old }
-    ensures { Adds item.position (λ x. (v : Value) × HasValue text.now (means found.old item) names.now (expression_of expression.now) v × (x ≡ past (means found.old item) (v ∷ []) item.position)) budget found.old found.new result }
+    ensures { Adds item.position (λ x. (v : Value) × HasValue text.now (means found.old item)
+        names.now (expression_of expression.now) v × (x ≡ past (means found.old item) (v ∷ [])
+        item.position)) budget found.old found.new result }
 {
     let values = values_at(&found.envs, item.env);
     match evaluate(expression, names, values, item.position, text) {
@@ -80,12 +84,21 @@ pub(crate) fn go_behind(
 ) -> Result<(), RunFault>
     requires named { Named found.old item }
     requires all_named { AreNamed found.old }
-    ensures { Adds end (λ x. MatchesNone text.now not.now item.position end × (x ≡ past (means found.old item) (span_of label.now item.position end) end)) budget found.old found.new result }
+    ensures { Adds end (λ x. MatchesNone text.now not.now item.position end × (x ≡ past (means
+        found.old item) (span_of label.now item.position end) end)) budget found.old found.new
+        result }
 {
     if !matches_none(not, text, item.position, end) {
         return Ok(());
     }
-    go_on(alloc, found, item, span_bound(label, item.position, end), end, budget)
+    go_on(
+        alloc,
+        found,
+        item,
+        span_bound(label, item.position, end),
+        end,
+        budget,
+    )
 }
 
 /// Adds the item behind a terminal, where its pattern matches a text that is a match of no excluded
@@ -102,7 +115,8 @@ pub(crate) fn take_terminal(
 ) -> Result<(), RunFault>
     requires named { Named found.old item }
     requires all_named { AreNamed found.old }
-    ensures { AddsTerminal text.now what.now label.now not.now budget item.position (means found.old item) found.old found.new result }
+    ensures { AddsTerminal text.now what.now label.now not.now budget item.position (means
+        found.old item) found.old found.new result }
 {
     let Some(end) = what.ends_at(text, item.position) else {
         return Ok(());
@@ -113,5 +127,12 @@ pub(crate) fn take_terminal(
     if !matches_none(not, text, item.position, end) {
         return Ok(());
     }
-    go_later(alloc, found, item, span_bound(label, item.position, end), end, budget)
+    go_later(
+        alloc,
+        found,
+        item,
+        span_bound(label, item.position, end),
+        end,
+        budget,
+    )
 }

@@ -14,7 +14,8 @@ pub(crate) fn names_behind(
     params: &Words,
     steps: &[Step],
 ) -> Result<Words, AllocError>
-    ensures { IfOk result (λ names. names ≡ params.now ++ flat_map names_of (map step_of steps.now)) }
+    ensures { IfOk result (λ names. names ≡ params.now ++ flat_map names_of (map step_of
+        steps.now)) }
 {
     let mut names = params.copy(alloc)?;
     for step in steps {

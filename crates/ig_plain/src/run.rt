@@ -1,5 +1,6 @@
-//! Saturation in rising positions.
-ghost use Rattle.std.specs.Prelude.{◌≡◌, ◌<◌, ◌↔◌, ◌≤◌, ◌+◌, Contains, IfErr, IfOk, MatchResult, Some, length, map, option_map, slice_get};
+//! An item is taken: all that follows from it and those before it is added.
+ghost use Rattle.std.specs.Prelude.{◌≡◌, ◌<◌, ◌↔◌, ◌≤◌, ◌+◌, Contains, IfErr, IfOk, MatchResult};
+ghost use Rattle.std.specs.Prelude.{Some, length, map, option_map, slice_get, take, IfSome};
 ghost use Rattle.ig_item.specs.Items.{IsComplete, MoreThan, Reachable};
 ghost use Rattle.ig_item.specs.WellKinded.{NoneTwice};
 ghost use Rattle.ig_item.specs.Tables.{items_of};
@@ -15,7 +16,8 @@ ghost use Rattle.ig_item.specs.Step.{Call};
 ghost use Rattle.ig_item.specs.View.{step_of};
 ghost use Rattle.ig_plain.specs.Found.{Adds, AreNamed, Named, means};
 ghost use Rattle.ig_plain.specs.Rules.{IsFirstOf, IsReturn, Stands, StandsAtCall, step_at};
-ghost use Rattle.ig_plain.specs.Run.{EntersInstance, IsChainOf, IsReturnToOne, IsRun, Refuses, Taking, Takes};
+ghost use Rattle.ig_plain.specs.Run.{EntersInstance, IsChainOf, IsReturnToOne, IsRun, Refuses};
+ghost use Rattle.ig_plain.specs.Run.{Taking, Takes};
 
 use crate::found::{Found, add, go_on};
 use crate::interning::{enter_key, enter_values};
@@ -33,7 +35,7 @@ use indexmap::IndexSet;
 use std::alloc::{AllocError, Global};
 
 /// Adds the first item of each alternative of an instance that starts at the position.
-fn add_firsts(
+pub(crate) fn add_firsts(
     core: &Core,
     found: &mut Found,
     instance: u32,
@@ -42,7 +44,8 @@ fn add_firsts(
 ) -> Result<(), RunFault>
     requires all_named { AreNamed found.old }
     requires there { slice_get found.old.keys.keys instance ≡ Some key }
-    ensures { Adds key.start (IsFirstOf core.now (instance_by found.old.envs.keys key)) budget found.old found.new result }
+    ensures { Adds key.start (IsFirstOf core.now (instance_by found.old.envs.keys key)) budget
+        found.old found.new result }
 {
     let Some(count) = core.alternatives(key.nonterminal) else {
         return Ok(());
@@ -62,7 +65,8 @@ fn add_firsts(
 
 /// The step behind the dot of an item of that nonterminal; `None` exactly where there is none.
 fn step_behind(core: &Core, nonterminal: u32, item: Item) -> Option<&Step>
-    ensures { option_map (λ step. step_of step.now) result ≡ step_at core.now nonterminal item.alternative item.dot }
+    ensures { option_map (λ step. step_of step.now) result ≡ step_at core.now nonterminal
+        item.alternative item.dot }
 {
     let steps = core.steps(nonterminal, item.alternative)?;
     steps.as_slice().get(item.dot as usize)
@@ -89,7 +93,8 @@ fn return_to(
     requires named { Named found.old caller }
     requires all_named { AreNamed found.old }
     requires calls { StandsAtCall core.now (means found.old caller) }
-    ensures { Adds end (IsReturn core.now text.now (means found.old caller) end) budget found.old found.new result }
+    ensures { Adds end (IsReturn core.now text.now (means found.old caller) end) budget found.old
+        found.new result }
 {
     let nonterminal = nonterminal_of(found, caller);
     let Some(step) = step_behind(core, nonterminal, caller) else {
@@ -97,7 +102,16 @@ fn return_to(
     };
     match step {
         Step::Call { label, not, .. } => {
-            go_behind(alloc, text, label, not.as_slice(), found, caller, end, budget)
+            go_behind(
+                alloc,
+                text,
+                label,
+                not.as_slice(),
+                found,
+                caller,
+                end,
+                budget,
+            )
         }
         _ => Ok(()),
     }
@@ -116,7 +130,8 @@ fn return_to_all(
 ) -> Result<(), RunFault>
     requires all_named { AreNamed found.old }
     requires chain { IsChainOf core.now callers.now head found.old }
-    ensures { Adds end (IsReturnToOne core.now text.now callers.now head end found.old) budget found.old found.new result }
+    ensures { Adds end (IsReturnToOne core.now text.now callers.now head end found.old) budget
+        found.old found.new result }
 {
     let mut at = head;
     while at > 0 {
@@ -157,7 +172,16 @@ fn take_complete(
     add_end(waiting, item.instance, item.position);
     let head = last_caller(waiting, item.instance);
     let callers = waiting.callers.as_slice();
-    return_to_all(alloc, core, text, found, callers, head, item.position, budget)
+    return_to_all(
+        alloc,
+        core,
+        text,
+        found,
+        callers,
+        head,
+        item.position,
+        budget,
+    )
 }
 
 /// Takes an item before a call: it waits for the callee, whose first items are added unless another
@@ -177,7 +201,8 @@ fn take_call(
     budget: u32,
 ) -> Result<(), RunFault>
     requires taking { Taking core.now text.now budget item found.old waiting.old }
-    requires before { StandsBefore core.now (means found.old item) names.now (Call nonterminal (map expression_of args.now) label.now not.now) }
+    requires before { StandsBefore core.now (means found.old item) names.now (Call nonterminal
+        (map expression_of args.now) label.now not.now) }
     ensures { Takes core.now text.now budget item found.old found.new waiting.new result }
 {
     reachable_is_closed();
@@ -212,7 +237,8 @@ fn call_instance(
     requires all_named { AreNamed found.old }
     requires env { key.env < length found.old.envs.keys }
     requires once { NoneTwice found.old.keys.keys }
-    ensures { EntersInstance core.now budget key found.old found.new waiting.old waiting.new result }
+    ensures { EntersInstance core.now budget key found.old found.new waiting.old waiting.new
+        result }
 {
     let (callee, is_new) = enter_key(&mut found.keys, key)?;
     if is_new {
@@ -224,13 +250,9 @@ fn call_instance(
 
 /// The names that are visible at the dot of an item of that nonterminal. `None` where there is no
 /// such dot.
-fn names_at(
-    alloc: Global,
-    core: &Core,
-    nonterminal: u32,
-    item: Item,
-) -> Result<Words, AllocError>
-    ensures { IfOk result (λ names. (n : Nonterminal) (a : CoreAlt) → IsAlternative core.now nonterminal item.alternative n a → names ≡ names_at n a item.dot) }
+fn names_at(alloc: Global, core: &Core, nonterminal: u32, item: Item) -> Result<Words, AllocError>
+    ensures { IfOk result (λ names. (n : Nonterminal) (a : CoreAlt) → IsAlternative core.now
+        nonterminal item.alternative n a → names ≡ names_at n a item.dot) }
 {
     let Some(params) = core.params(nonterminal) else {
         return Err(AllocError);
@@ -238,10 +260,18 @@ fn names_at(
     let Some(steps) = core.steps(nonterminal, item.alternative) else {
         return Err(AllocError);
     };
-    let Some(before) = steps.as_slice().get(..item.dot as usize) else {
+    let Some(before) = front(steps.as_slice(), item.dot) else {
         return Err(AllocError);
     };
-    names_behind(alloc, params, before)
+    let names = names_behind(alloc, params, before)?;
+    Ok(names)
+}
+
+/// The first steps, of that number.
+fn front(steps: &[Step], count: u32) -> Option<&[Step]>
+    ensures { IfSome result (λ r. r.now ≡ take count steps.now) }
+{
+    steps.get(..count as usize)
 }
 
 /// Takes an item before a step.
@@ -264,15 +294,40 @@ fn take_step(
     reachable_is_closed();
     match step {
         Step::Term { what, label, not } => {
-            take_terminal(alloc, text, what, label, not.as_slice(), found, item, budget)
+            take_terminal(
+                alloc,
+                text,
+                what,
+                label,
+                not.as_slice(),
+                found,
+                item,
+                budget,
+            )
         }
         Step::Test(condition) => {
             let names = names_at(alloc, core, nonterminal, item)?;
-            take_test(alloc, text, names.as_slice(), condition, found, item, budget)
+            take_test(
+                alloc,
+                text,
+                names.as_slice(),
+                condition,
+                found,
+                item,
+                budget,
+            )
         }
         Step::Bind(_, expression) => {
             let names = names_at(alloc, core, nonterminal, item)?;
-            take_bind(alloc, text, names.as_slice(), expression, found, item, budget)
+            take_bind(
+                alloc,
+                text,
+                names.as_slice(),
+                expression,
+                found,
+                item,
+                budget,
+            )
         }
         Step::Call {
             nonterminal: callee,
@@ -284,20 +339,22 @@ fn take_step(
             let names = names.as_slice();
             let args = args.as_slice();
             let not = not.as_slice();
-            take_call(alloc, core, text, names, *callee, args, label, not, found, waiting, item, budget)
+            take_call(
+                alloc, core, text, names, *callee, args, label, not, found, waiting, item, budget,
+            )
         }
     }
 }
 
 /// A core grammar is well kinded.
-fn keep_well_kinded(core: &Core)
+pub(crate) fn keep_well_kinded(core: &Core)
     ensures { IsWellKinded core.now }
 {
     let _count = core.nonterminals();
 }
 
 /// Takes the item of that number at the position.
-fn take(
+pub(crate) fn take(
     alloc: Global,
     core: &Core,
     text: &Text,
@@ -309,7 +366,8 @@ fn take(
 ) -> Result<(), RunFault>
     requires run { IsRun core.now text.now budget position number found.old waiting.old }
     requires there { number < length found.old.here.keys }
-    ensures { MatchResult result (λ _. IsRun core.now text.now budget position (number + 1) found.new waiting.new) (Refuses core.now text.now budget) }
+    ensures { MatchResult result (λ _. IsRun core.now text.now budget position (number + 1)
+        found.new waiting.new) (Refuses core.now text.now budget) }
 {
     environments_fit();
     keep_well_kinded(core);
@@ -317,12 +375,18 @@ fn take(
     let nonterminal = nonterminal_of(found, item);
     match step_behind(core, nonterminal, item) {
         Some(step) => {
-            take_step(alloc, core, text, nonterminal, step, found, waiting, item, budget)
+            take_step(
+                alloc,
+                core,
+                text,
+                nonterminal,
+                step,
+                found,
+                waiting,
+                item,
+                budget,
+            )
         }
         None => take_complete(alloc, core, text, found, waiting, item, budget),
     }
-}
-
-pub fn saturate() -> Result<(), RunFault> {
-    Ok(())
 }

@@ -52,7 +52,8 @@ pub(crate) fn is_true(
     here: u32,
     text: &Text,
 ) -> bool
-    ensures { IsTrue result ↔ (value_of text.now names.now values.now here (expression_of condition.now) ≡ Some (truth true)) }
+    ensures { IsTrue result ↔ (value_of text.now names.now values.now here (expression_of
+        condition.now) ≡ Some (truth true)) }
 {
     match evaluate(condition, names, values, here, text) {
         Some(Value::Bool(b)) => b,
@@ -69,8 +70,10 @@ pub(crate) fn argument_values(
     here: u32,
     text: &Text,
 ) -> Result<Option<Values>, AllocError>
-    ensures none { IfOk result (λ r. r ≡ None → (vs : List Value) → map (value_of text.now names.now values.now here) (map expression_of arguments.now) ≡ map Some vs → ⊥) }
-    ensures some { IfOk result (λ r. (vs : List Value) → r ≡ Some vs → map (value_of text.now names.now values.now here) (map expression_of arguments.now) ≡ map Some vs) }
+    ensures none { IfOk result (λ r. r ≡ None → (vs : List Value) → map (value_of text.now
+        names.now values.now here) (map expression_of arguments.now) ≡ map Some vs → ⊥) }
+    ensures some { IfOk result (λ r. (vs : List Value) → r ≡ Some vs → map (value_of text.now
+        names.now values.now here) (map expression_of arguments.now) ≡ map Some vs) }
 {
     let mut list = Values::new(alloc);
     for argument in arguments {

@@ -1,5 +1,6 @@
 //! Which items wait for an instance, and where it ended last.
-ghost use Rattle.std.specs.Prelude.{◌≡◌, ◌↔◌, ◌+◌, ◌<◌, [], ◌∷◌, ◌++◌, IsTrue, None, OnOk, Some, length, set, slice_get};
+ghost use Rattle.std.specs.Prelude.{◌≡◌, ◌↔◌, ◌+◌, ◌<◌, [], ◌∷◌, ◌++◌, IsTrue, None, OnOk, Some};
+ghost use Rattle.std.specs.Prelude.{length, set, slice_get};
 ghost use Rattle.ig_plain.specs.Waiting.{called_at};
 
 use ig_item::Item;
@@ -31,7 +32,10 @@ pub(crate) struct Waiting {
 
 /// Adds an instance, which has no callers and no end yet.
 pub(crate) fn add_called(waiting: &mut Waiting) -> Result<(), AllocError>
-    ensures called { OnOk result (waiting.new.called.items ≡ waiting.old.called.items ++ record { callers = 0; last_end = None } ∷ []) }
+    ensures called { OnOk result (waiting.new.called.items ≡ waiting.old.called.items ++ record {
+      callers = 0;
+      last_end = None;
+    } ∷ []) }
     ensures callers { waiting.new.callers.items ≡ waiting.old.callers.items }
 {
     waiting.called.push(Called {
@@ -44,8 +48,14 @@ pub(crate) fn add_called(waiting: &mut Waiting) -> Result<(), AllocError>
 /// Makes the item the last caller of the instance.
 pub(crate) fn add_caller(waiting: &mut Waiting, callee: u32, item: Item) -> Result<(), AllocError>
     requires there { callee < length waiting.old.called.items }
-    ensures callers { OnOk result (waiting.new.callers.items ≡ waiting.old.callers.items ++ record { item = item; next = (called_at waiting.old callee).callers } ∷ []) }
-    ensures called { OnOk result (waiting.new.called.items ≡ set waiting.old.called.items callee (record { callers = length waiting.old.callers.items + 1; last_end = (called_at waiting.old callee).last_end })) }
+    ensures callers { OnOk result (waiting.new.callers.items ≡ waiting.old.callers.items ++ record
+        { item = item; next = (called_at waiting.old callee).callers } ∷ []) }
+    ensures called { OnOk result (waiting.new.called.items ≡ set waiting.old.called.items callee
+        (record {
+          callers = length waiting.old.callers.items + 1;
+          last_end = (called_at
+              waiting.old callee).last_end;
+        })) }
 {
     let called = waiting.called[callee as usize];
     let Ok(place) = u32::try_from(waiting.callers.as_slice().len().saturating_add(1)) else {
@@ -73,7 +83,10 @@ pub(crate) fn has_end(waiting: &Waiting, callee: u32, position: u32) -> bool
 /// Makes the position the last end of the instance.
 pub(crate) fn add_end(waiting: &mut Waiting, callee: u32, position: u32)
     requires there { callee < length waiting.old.called.items }
-    ensures called { waiting.new.called.items ≡ set waiting.old.called.items callee (record { callers = (called_at waiting.old callee).callers; last_end = Some position }) }
+    ensures called { waiting.new.called.items ≡ set waiting.old.called.items callee (record {
+      callers = (called_at waiting.old callee).callers;
+      last_end = Some position;
+    }) }
     ensures callers { waiting.new.callers.items ≡ waiting.old.callers.items }
 {
     let called = waiting.called[callee as usize];

@@ -12,7 +12,7 @@ use Rattle.ig_syntax.specs.Token as token
 use Rattle.ig_syntax.specs.Token.{Token}
 use Rattle.ig_syntax.specs.Spelling.{IsToken, entry, signs, keywords, named_classes, is_one_of, literal_signs, class_signs, IsLetter, SpellsText, SpellsRanges}
 use Rattle.ig_syntax.specs.Spelling as table
-use Rattle.ig_syntax.proofs.Tables.{found_row}
+use Rattle.ig_text.proofs.Tables.{found_row}
 use Rattle.ig_show.specs.Spelling.{spelling, numeral, literal_character, class_character, range_spelling, control_or, escape}
 use Rattle.ig_show.proofs.Numerals.{spells_numeral}
 

@@ -41,12 +41,15 @@ entry_text Begin = codes "begin" ++ line_end
 entry_text (Pass prev) = codes "pass " ++ (decimal prev ++ line_end)
 entry_text (Take prev taken) = codes "take " ++ (decimal prev ++ (codes " " ++ (child_text taken ++ line_end)))
 
+-- `ALT DOT ENV i..j`
+abbrev pub place_text : ItemNode → List ℕ
+place_text it =
+    decimal it.alternative ++ (codes " " ++ (decimal it.dot ++ (codes " " ++ (environment_text it.values it.env ++
+    (codes " " ++ places_text it.start it.position)))))
+
 -- `item K NAME VALUES ALT DOT ENV i..j`
 abbrev pub item_line : ℕ → ItemNode → List ℕ
-item_line k it =
-    codes "item " ++ (head_text k it.name it.values ++ (codes " " ++
-    (decimal it.alternative ++ (codes " " ++ (decimal it.dot ++ (codes " " ++
-    (environment_text it.values it.env ++ (codes " " ++ (places_text it.start it.position ++ line_end)))))))))
+item_line k it = codes "item " ++ (head_text k it.name it.values ++ (codes " " ++ (place_text it ++ line_end)))
 
 -- its line, then a line for each entry
 abbrev pub item_text : ℕ → ItemNode → List ℕ

@@ -135,11 +135,7 @@ fn push_steps(out: &mut String, steps: &[Step]) -> Result<(), AllocError>
 }
 
 /// Adds the line of an alternative of a nonterminal of that name.
-fn push_alternative(
-    out: &mut String,
-    name: &Word,
-    alternative: &CoreAlt,
-) -> Result<(), AllocError>
+fn push_alternative(out: &mut String, name: &Word, alternative: &CoreAlt) -> Result<(), AllocError>
     ensures { OnOk result (string_bytes out.new ≡ string_bytes out.old ++
         alternative_text name.now alternative.now) }
 {

@@ -12,6 +12,7 @@ mod tags;
 mod values;
 
 pub use core_text::show_core;
+pub use forest_text::show_forest;
 pub use grammar::{show_expression, show_grammar, show_pattern};
 pub use laws::{canonical_text_reads_back, canonical_tokens_follow};
 

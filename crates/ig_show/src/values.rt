@@ -33,8 +33,8 @@ pub(crate) fn push_count(out: &mut String, count: usize) -> Result<(), AllocErro
 /// Adds a word.
 #[inline(always)]
 pub(crate) fn push_word(out: &mut String, word: &Word) -> Result<(), AllocError>
-    ensures { OnOk result (string_bytes out.new ≡ string_bytes out.old ++ encode_utf8_all word.now)
-        }
+    ensures { OnOk result (string_bytes out.new ≡ string_bytes out.old ++
+        encode_utf8_all word.now) }
 {
     out.push_str(word.as_str())
 }

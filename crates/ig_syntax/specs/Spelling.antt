@@ -6,8 +6,7 @@ use Rattle.unicode_ident.specs.Ident.{is_xid_continue}
 use Rattle.ig_text.specs.Ranges.{normal_form}
 use Rattle.ig_text.specs.declared.class.Class.{Class}
 use Rattle.ig_text.specs.declared.class.Class.TheVariants.{Ranges, Any, XidStart, XidContinue}
-use Rattle.ig_text.specs.Words.{is_word}
-use Rattle.ig_text.specs.Words.{is_digit}
+use Rattle.ig_text.specs.Words.{is_word, is_digit}
 use Rattle.ig_expr.specs.Reading.{spelled}
 use Rattle.ig_grammar.specs.Name.{is_name}
 use Rattle.ig_syntax.specs.Token as token

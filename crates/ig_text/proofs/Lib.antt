@@ -11,3 +11,4 @@ pub mod Characters
 pub mod Trees
 pub mod Booleans
 pub mod Numbers
+pub mod Tables

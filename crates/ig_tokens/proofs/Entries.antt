@@ -10,8 +10,7 @@ use Rattle.unicode_ident.proofs.IdentLemmas.{is_xid_start-ascii, is_xid_continue
 use Rattle.ig_text.specs.declared.class.Class.{Class}
 use Rattle.ig_text.specs.declared.class.Class.TheVariants as class
 use Rattle.ig_text.proofs.Tables.{all_rows, found_row}
-use Rattle.ig_text.specs.Words.{is_word}
-use Rattle.ig_text.specs.Words.{is_digit}
+use Rattle.ig_text.specs.Words.{is_word, is_digit}
 use Rattle.ig_syntax.specs.Token as token
 use Rattle.ig_syntax.specs.Token.{Token}
 use Rattle.ig_syntax.specs.Spelling.{entry, signs, keywords, named_classes, is_one_of, blanks, begins, may_precede}

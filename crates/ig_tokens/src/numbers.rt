@@ -2,7 +2,8 @@
 
 ghost use Rattle.std.specs.Prelude.{◌≡◌, ◌<◌, ◌^◌, ℕ, ◌≤◌, ◌+◌, ◌-◌, ◌*◌, true, chars, pos};
 ghost use Rattle.std.specs.Prelude.{MatchOption, SomeIff};
-ghost use Rattle.ig_expr.specs.Reading.{spelled, is_digit};
+ghost use Rattle.ig_text.specs.Words.{is_digit};
+ghost use Rattle.ig_expr.specs.Reading.{spelled};
 ghost use Rattle.ig_tokens.specs.Scanner.{numeral, number_token};
 ghost use Rattle.ig_tokens.specs.Steps.{Begins, Gives};
 

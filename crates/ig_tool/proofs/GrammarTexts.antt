@@ -1,9 +1,9 @@
 -- What the tests of a grammar text say of its bytes.
-use Rattle.std.proofs.Common.{◌≡◌, ℕ, ◌<◌, ◌≤◌, ◌⊎◌, inl, inr, Bool, false, List, length, ◌++◌, subst, Err}
-use Rattle.std.specs.Prelude.{◌↔◌, IsTrue, IsUtf8, codes}
-use Rattle.std.proofs.lemmas.Bool.{cases_lt}
+use Rattle.std.proofs.Common.{◌≡◌, ℕ, ◌∙◌, ap, sym, List, ◌++◌, subst, Err}
+use Rattle.std.specs.Prelude.{IsUtf8, codes}
 use Rattle.std.specs.Fmt.{decimal}
-use Rattle.ig_grammar.specs.WellScoped.{IsFirst}
+use Rattle.ig_grammar.specs.WellScoped.{IsFirst, IsWellScoped}
+use Rattle.ig_grammar.specs.Checked.{CheckedGrammar, rules}
 use Rattle.ig_grammar.specs.declared.grammar.Grammar.{Grammar}
 use Rattle.ig_grammar.specs.declared.place.Place.{Place}
 use Rattle.ig_notation.specs.Outcome.{IsRead, IsReadFault}
@@ -14,7 +14,8 @@ use Rattle.ig_scope.specs.declared.fault.ScopeCause.{ScopeCause}
 use Rattle.ig_tool.specs.declared.stop.Stop.{Stop}
 use Rattle.ig_tool.specs.declared.stop.Stop.TheVariants as halt
 use Rattle.ig_tool.specs.Refusals.{IsRefused, not_grammar, too_large, not_scoped, large_text, condition_text, place_text}
-use Rattle.ig_tool.specs.Stops.{ReadsGrammar, RefusesWith}
+use Rattle.ig_tool.specs.Stops.{IsWrittenIn, ReadsGrammar, RefusesWith}
+use Rattle.ig_tool.proofs.Written.{checked_written}
 
 -- a refusal with the text of the bytes' fault
 pub refused_as : (bytes text : List ℕ) (stop : Stop) → RefusesWith text stop → IsRefused bytes text → ReadsGrammar bytes (Err stop)
@@ -41,3 +42,16 @@ module _ (bytes source : List ℕ) (same : source ≡ bytes) (utf8 : IsUtf8 byte
   refused_scope g place cause stop h reading first =
       refused_as bytes (condition_text (condition_of cause) ++ place_text place) stop h
       (not_scoped g place (condition_of cause) utf8 (subst (λ (z : List ℕ). IsRead z g) same reading) first)
+
+  -- the bytes are a text of the checked grammar
+  pub written_in : (g : Grammar) (c : CheckedGrammar) → IsRead source g → c.grammar ≡ g → c.shapes ≡ rules g → IsWellScoped g →
+      IsWrittenIn bytes c
+  written_in g c reading e shapes scoped =
+      record {
+        text = record {
+          utf8 = utf8;
+          reading = subst (λ (z : Grammar). IsRead bytes z) (sym e) (subst (λ (z : List ℕ). IsRead z g) same reading);
+          scoped = subst IsWellScoped (sym e) scoped;
+        };
+        as_it_is = checked_written c (shapes ∙ ap rules (sym e));
+      }

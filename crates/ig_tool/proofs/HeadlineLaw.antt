@@ -15,27 +15,26 @@ use Rattle.ig_notation.specs.declared.fault.Large.TheVariants as large
 use Rattle.ig_notation.specs.declared.fault.ReadFault.TheVariants as read
 use Rattle.ig_tool.specs.declared.status.Status.{Status}
 use Rattle.ig_tool.specs.declared.status.Status.TheVariants as status
-use Rattle.ig_tool.specs.Commands.{Request, check, show, forest, grammar_name, IsCommand}
-use Rattle.ig_tool.specs.CoreOf.{core_of}
-use Rattle.ig_tool.specs.Accepted.{IsAccepted, IsRunnable}
-use Rattle.ig_tool.specs.Refusals.{IsRefused, too_many, not_utf8, not_grammar, too_large, not_scoped}
+use Rattle.ig_grammar.specs.Numbering.{as_written}
+use Rattle.ig_item.specs.Core.{dots}
+use Rattle.ig_item.specs.Limits.{most_dots}
+use Rattle.ig_core.specs.Built.{IsBuiltGrammar}
+use Rattle.ig_core.specs.CoreOf.{core_of}
+use Rattle.ig_tool.specs.Commands.{Request, request_of, check, show, core, forest, grammar_name, IsCommand}
+use Rattle.ig_tool.specs.Accepted.{IsAccepted}
+use Rattle.ig_tool.specs.Refusals.{IsRefused, too_many, not_utf8, not_grammar, too_large, not_scoped, too_many_dots}
 use Rattle.ig_tool.specs.Change.{Change, FetchFailed, PutFailed, Got, Untouched}
 use Rattle.ig_tool.specs.Outcome as answer
-use Rattle.ig_tool.specs.Outcome.{MayGive, HasFiles, IsForestOf, Decided, ok_text, shown_text, Answers, written, noted, unwritten, unnoted, no_memory}
-use Rattle.ig_tool.specs.Headline.{Asks, Outcome, over_budget, no_parse, parsed, Says, Headline, checks, shows, GrammarCommands}
-use Rattle.ig_tool.proofs.Uniqueness.{only_one}
+use Rattle.ig_tool.specs.Outcome.{MayGive, HasFiles, AsksCore, Decided, ok_text, shown_text, shown_core, Answers, written, noted, unwritten, unnoted, no_memory}
+use Rattle.ig_tool.specs.Headline.{Asks, Outcome, over_budget, no_parse, parsed, Says, Headline, checks, shows, cores, GrammarCommands}
+
+one_value : (r q : Request) (found : Option Request) → found ≡ Some r → found ≡ Some q → r ≡ q
+one_value r q None a b = cc
+one_value r q (Some p) a b = let x : p ≡ r = cc in let y : p ≡ q = cc in sym x ∙ y
 
 -- the words are one command at most
 same_request : (words : List (List ℕ)) (r q : Request) → IsCommand words r → IsCommand words q → r ≡ q
-same_request words (check g) (check h) a b = let p = a.words_are in let q = b.words_are in cc
-same_request words (check g) (show h) a b = let p = a.words_are in let q = b.words_are in cc
-same_request words (check g) (forest h j) a b = let p = a.words_are in let q = b.words_are in cc
-same_request words (show g) (check h) a b = let p = a.words_are in let q = b.words_are in cc
-same_request words (show g) (show h) a b = let p = a.words_are in let q = b.words_are in cc
-same_request words (show g) (forest h j) a b = let p = a.words_are in let q = b.words_are in cc
-same_request words (forest g i) (check h) a b = let p = a.words_are in let q = b.words_are in cc
-same_request words (forest g i) (show h) a b = let p = a.words_are in let q = b.words_are in cc
-same_request words (forest g i) (forest h j) a b = let p = a.words_are in let q = b.words_are in cc
+same_request words r q a b = one_value r q (request_of words) a b
 
 -- what the reader's laws say
 pub record Laws : Type 0 where
@@ -48,14 +47,20 @@ given one apart = record { only_reading = one; not_both = apart }
 -- bytes that are accepted aren't refused
 accepted_or_refused : (laws : Laws) (xs text : List ℕ) (g : Grammar) → IsAccepted xs g → IsRefused xs text → ⊥
 accepted_or_refused laws xs text g a (too_many more) =
-    let none = laws.not_both xs g (read.TooLarge large.Bytes) a.reading (too_many_bytes more) in cc
-accepted_or_refused laws xs text g a (not_utf8 at few bad valid) = bad a.utf8
-accepted_or_refused laws xs text g a (not_grammar at utf8 fault) = let none = laws.not_both xs g (read.Syntax at) a.reading fault in cc
+    let none = laws.not_both xs g (read.TooLarge large.Bytes) a.text.reading (too_many_bytes more) in cc
+accepted_or_refused laws xs text g a (not_utf8 at few bad valid) = bad a.text.utf8
+accepted_or_refused laws xs text g a (not_grammar at utf8 fault) = let none = laws.not_both xs g (read.Syntax at) a.text.reading fault in cc
 accepted_or_refused laws xs text g a (too_large which utf8 fault) =
-    let none = laws.not_both xs g (read.TooLarge which) a.reading fault in cc
+    let none = laws.not_both xs g (read.TooLarge which) a.text.reading fault in cc
 accepted_or_refused laws xs text g a (not_scoped h place c utf8 reading first) =
-    a.scoped place c
-    (subst (λ (z : Grammar). IsFirst z place c) (laws.only_reading xs h g reading a.reading) first).there.holds
+    a.text.scoped place c
+    (subst (λ (z : Grammar). IsFirst z place c) (laws.only_reading xs h g reading a.text.reading) first).there.holds
+accepted_or_refused laws xs text g a (too_many_dots h is built more) =
+    let same = laws.only_reading xs h g is.reading a.text.reading in
+    let P : Grammar → Type 0 = λ z. most_dots < dots (core_of z (as_written z)) in
+    let few = a.few_dots (subst IsBuiltGrammar same built) in
+    let many = subst P same more in
+    omega arith
 
 gives_held : (told : Told) (xs ys : List ℕ) → told ≡ bytes xs → MayGive told ys → ys ≡ xs
 gives_held silent xs ys e h = cc
@@ -102,24 +107,33 @@ module _ (laws : Laws) (words : List (List ℕ)) (shelf : Change ShelfState) (re
   grammar_is : (r : Request) (ys : List ℕ) (h : Grammar) → IsCommand words r → MayGive (shelf.before.holds (grammar_name r)) ys →
       IsAccepted ys h → h ≡ g
   grammar_is r ys h command gives other =
-      laws.only_reading xs h g (subst (λ (z : List ℕ). IsAccepted z h) (given_grammar r ys command gives) other).reading accepted.reading
+      laws.only_reading xs h g (subst (λ (z : List ℕ). IsAccepted z h) (given_grammar r ys command gives) other).text.reading accepted.text.reading
 
   -- what out gets where no forest is asked for
   abbrev text_for : Request → List ℕ
   text_for (check file) = ok_text
   text_for (show file) = shown_text g
-  text_for (forest file input) = []
+  text_for (core file) = shown_core g
+  text_for (forest file input budget) = []
 
+  -- a core grammar is asked for only where all forms are built
   abbrev AsksNoForest : Request → Type 0
   AsksNoForest (check file) = Unit {0}
   AsksNoForest (show file) = Unit {0}
-  AsksNoForest (forest file input) = ⊥
+  AsksNoForest (core file) = IsBuiltGrammar g
+  AsksNoForest (forest file input budget) = ⊥
 
   no_forest : (r : Request) → IsCommand words r → AsksNoForest request → AsksNoForest r
   no_forest r command none = subst AsksNoForest (same_request words request r asked command) none
 
   text_of_request : (r : Request) (out : List ℕ) → IsCommand words r → out ≡ text_for r → out ≡ text_for request
   text_of_request r out command e = e ∙ ap text_for (same_request words r request command asked)
+
+  built_core : (r : Request) → AsksCore r → AsksNoForest r → IsBuiltGrammar g
+  built_core (check file) a n = absurd a
+  built_core (show file) a n = absurd a
+  built_core (core file) a n = n
+  built_core (forest file i budget) a n = absurd n
 
   -- what was decided is that text
   decided_text : (s : Status) (out note : List ℕ) (k : ℕ) → AsksNoForest request →
@@ -133,20 +147,22 @@ module _ (laws : Laws) (words : List (List ℕ)) (shelf : Change ShelfState) (re
       (refl, text_of_request (check file) ok_text command refl)
   decided_text s out note k none (answer.shown file ys h e command gives other) calm =
       (refl, text_of_request (show file) (shown_text h) command (ap shown_text (grammar_is (show file) ys h command gives other)))
-  decided_text s out note k none (answer.not_built file i ys h e command gives other refused) calm =
-      absurd (no_forest (forest file i) command none)
-  decided_text s out note k none (answer.input_missing file i ys h e command gives other runnable n) calm =
-      absurd (no_forest (forest file i) command none)
-  decided_text s out note k none (answer.input_unread file i ys h rose command gives other runnable) calm =
+  decided_text s out note k none (answer.not_built r ys h e command asks gives other refused) calm =
+      absurd (refused (subst IsBuiltGrammar (sym (grammar_is r ys h command gives other)) (built_core r asks (no_forest r command none))))
+  decided_text s out note k none (answer.core_shown file ys h e command gives other built) calm =
+      (refl, text_of_request (core file) (shown_core h) command (ap shown_core (grammar_is (core file) ys h command gives other)))
+  decided_text s out note k none (answer.input_missing file i b ys h e command gives other built n) calm =
+      absurd (no_forest (forest file i b) command none)
+  decided_text s out note k none (answer.input_unread file i b ys h rose command gives other built) calm =
       absurd (calm rose)
-  decided_text s out note k none (answer.input_refused file i ys zs h fault e command gives other runnable given faulty cause) calm =
-      absurd (no_forest (forest file i) command none)
-  decided_text s out note k none (answer.over_budget h text e files more) calm =
-      absurd (no_forest (forest files.grammar_file files.input_file) files.command none)
-  decided_text s out note k none (answer.no_parse h text e files few no_tree) calm =
-      absurd (no_forest (forest files.grammar_file files.input_file) files.command none)
-  decided_text s out note k none (answer.parsed h text f e files few some is) calm =
-      absurd (no_forest (forest files.grammar_file files.input_file) files.command none)
+  decided_text s out note k none (answer.input_refused file i b ys zs h fault e command gives other built given faulty cause) calm =
+      absurd (no_forest (forest file i b) command none)
+  decided_text s out note k none (answer.over_budget h text b e files more) calm =
+      absurd (no_forest (forest files.grammar_file files.input_file b) files.command none)
+  decided_text s out note k none (answer.no_parse h text b e files few no_tree) calm =
+      absurd (no_forest (forest files.grammar_file files.input_file b) files.command none)
+  decided_text s out note k none (answer.parsed h text b f e files is) calm =
+      absurd (no_forest (forest files.grammar_file files.input_file b) files.command none)
 
   answered_text : (out notes : Change SinkState) (s : Status) → AsksNoForest request →
       Answers words shelf out notes s → (FetchFailed shelf → ⊥) →
@@ -165,75 +181,86 @@ module _ (laws : Laws) (words : List (List ℕ)) (shelf : Change ShelfState) (re
 
 -- where the words ask for a grammar and an input, these are what was read
 module _ (laws : Laws) (words : List (List ℕ))
-    (shelf : Change ShelfState) (g : Grammar) (input : List ℕ) (asked : Asks words shelf.before g input) where
-  told_input : (file i : List ℕ) → IsCommand words (forest file i) → shelf.before.holds i ≡ bytes asked.input_bytes
-  told_input file i command =
-      let same = same_request words (forest file i) (forest asked.grammar_file asked.input_file) command asked.command in
+    (shelf : Change ShelfState) (g : Grammar) (input : List ℕ) (budget : ℕ) (asked : Asks words shelf.before g input budget) where
+  abbrev request : Request
+  request = forest asked.grammar_file asked.input_file budget
+
+  told_input : (file i : List ℕ) (b : ℕ) → IsCommand words (forest file i b) → shelf.before.holds i ≡ bytes asked.input_bytes
+  told_input file i b command =
+      let same = same_request words (forest file i b) request command asked.command in
       let name : i ≡ asked.input_file = cc in
       ap shelf.before.holds name ∙ asked.holds_input
 
-  given_input : (file i ys : List ℕ) → IsCommand words (forest file i) → MayGive (shelf.before.holds i) ys → ys ≡ asked.input_bytes
-  given_input file i ys command gives = gives_held (shelf.before.holds i) asked.input_bytes ys (told_input file i command) gives
+  given_input : (file i : List ℕ) (b : ℕ) (ys : List ℕ) → IsCommand words (forest file i b) → MayGive (shelf.before.holds i) ys →
+      ys ≡ asked.input_bytes
+  given_input file i b ys command gives =
+      gives_held (shelf.before.holds i) asked.input_bytes ys (told_input file i b command) gives
 
   not_refused : (ys : List ℕ) (fault : TextFault) → ys ≡ asked.input_bytes → IsFaulty ys fault →
       fault ≢ text_fault.Memory → ⊥
   not_refused ys fault e faulty cause = not_faulty asked.input_bytes input fault asked.decoded
       (subst (λ (z : List ℕ). IsFaulty z fault) e faulty) cause
 
-  same_grammar : (file i xs : List ℕ) (h : Grammar) → IsCommand words (forest file i) → MayGive (shelf.before.holds file) xs →
+  same_grammar : (r : Request) (xs : List ℕ) (h : Grammar) → IsCommand words r → MayGive (shelf.before.holds (grammar_name r)) xs →
       IsAccepted xs h → h ≡ g
-  same_grammar file i xs h command gives other =
-      grammar_is laws words shelf (forest asked.grammar_file asked.input_file) asked.command asked.grammar_bytes asked.holds_grammar g
-      asked.accepted (forest file i) xs h command gives other
+  same_grammar r xs h command gives other =
+      grammar_is laws words shelf request asked.command asked.grammar_bytes asked.holds_grammar g
+      asked.accepted r xs h command gives other
 
-  input_is : (h : Grammar) (text : List ℕ) → HasFiles words shelf.before h text → text ≡ input
-  input_is h text files =
+  input_is : (h : Grammar) (text : List ℕ) (b : ℕ) → HasFiles words shelf.before h text b → text ≡ input
+  input_is h text b files =
       files.decoded.characters ∙
-      (ap chars (given_input files.grammar_file files.input_file files.input_bytes files.command files.gives_input) ∙
+      (ap chars (given_input files.grammar_file files.input_file b files.input_bytes files.command files.gives_input) ∙
       sym asked.decoded.characters)
 
-  moved : (h : Grammar) (text : List ℕ) (s : Status) (out note : List ℕ) → HasFiles words shelf.before h text →
-      Outcome h text s out note → Outcome g input s out note
-  moved h text s out note files o =
-      subst (λ (z : List ℕ). Outcome g z s out note) (input_is h text files)
-      (subst (λ (z : Grammar). Outcome z text s out note)
-      (same_grammar files.grammar_file files.input_file files.grammar_bytes h files.command files.gives_grammar files.accepted) o)
+  budget_is : (h : Grammar) (text : List ℕ) (b : ℕ) → HasFiles words shelf.before h text b → b ≡ budget
+  budget_is h text b files =
+      let same = same_request words (forest files.grammar_file files.input_file b) request files.command asked.command in cc
+
+  moved : (h : Grammar) (text : List ℕ) (b : ℕ) (s : Status) (out note : List ℕ) → HasFiles words shelf.before h text b →
+      Outcome h text b s out note → Outcome g input budget s out note
+  moved h text b s out note files o =
+      subst (λ (z : ℕ). Outcome g input z s out note) (budget_is h text b files)
+      (subst (λ (z : List ℕ). Outcome g z b s out note) (input_is h text b files)
+      (subst (λ (z : Grammar). Outcome z text b s out note)
+      (same_grammar (forest files.grammar_file files.input_file b) files.grammar_bytes h files.command files.gives_grammar files.accepted) o))
 
   -- what was decided is the outcome
   decided_outcome : (s : Status) (out note : List ℕ) (k : ℕ) → Decided words shelf s out note k →
-      (FetchFailed shelf → ⊥) → Outcome g input s out note
-  decided_outcome s out note k (answer.usage e none) calm =
-      absurd (none (forest asked.grammar_file asked.input_file) asked.command)
+      (FetchFailed shelf → ⊥) → Outcome g input budget s out note
+  decided_outcome s out note k (answer.usage e none) calm = absurd (none request asked.command)
   decided_outcome s out note k (answer.grammar_missing r e command n) calm =
-      absurd (not_missing laws words shelf (forest asked.grammar_file asked.input_file) asked.command asked.grammar_bytes
+      absurd (not_missing laws words shelf request asked.command asked.grammar_bytes
       asked.holds_grammar g asked.accepted r command n)
   decided_outcome s out note k (answer.grammar_unread r rose command) calm = absurd (calm rose)
   decided_outcome s out note k (answer.grammar_refused r xs text e command gives refused) calm =
-      absurd (not_refused_grammar laws words shelf (forest asked.grammar_file asked.input_file) asked.command asked.grammar_bytes
+      absurd (not_refused_grammar laws words shelf request asked.command asked.grammar_bytes
       asked.holds_grammar g asked.accepted r xs text command gives refused)
   decided_outcome s out note k (answer.checked file xs h e command gives other) calm =
-      let same = same_request words (check file) (forest asked.grammar_file asked.input_file) command asked.command in cc
+      let same = same_request words (check file) request command asked.command in cc
   decided_outcome s out note k (answer.shown file xs h e command gives other) calm =
-      let same = same_request words (show file) (forest asked.grammar_file asked.input_file) command asked.command in cc
-  decided_outcome s out note k (answer.not_built file i xs h e command gives other refused) calm =
-      absurd (refused (subst IsRunnable (sym (same_grammar file i xs h command gives other)) asked.runnable))
-  decided_outcome s out note k (answer.input_missing file i xs h e command gives other runnable n) calm =
-      let told = told_input file i command in cc
-  decided_outcome s out note k (answer.input_unread file i xs h rose command gives other runnable) calm =
+      let same = same_request words (show file) request command asked.command in cc
+  decided_outcome s out note k (answer.core_shown file xs h e command gives other built) calm =
+      let same = same_request words (core file) request command asked.command in cc
+  decided_outcome s out note k (answer.not_built r xs h e command asks gives other refused) calm =
+      absurd (refused (subst IsBuiltGrammar (sym (same_grammar r xs h command gives other)) asked.built))
+  decided_outcome s out note k (answer.input_missing file i b xs h e command gives other built n) calm =
+      let told = told_input file i b command in cc
+  decided_outcome s out note k (answer.input_unread file i b xs h rose command gives other built) calm =
       absurd (calm rose)
-  decided_outcome s out note k (answer.input_refused file i xs ys h fault e command gives other runnable gives_input faulty cause) calm =
-      absurd (not_refused ys fault (given_input file i ys command gives_input) faulty cause)
-  decided_outcome s out note k (answer.over_budget h text e files more) calm =
-      moved h text s out note files (over_budget more)
-  decided_outcome s out note k (answer.no_parse h text e files few none) calm =
-      moved h text s out note files (no_parse few none)
-  decided_outcome s out note k (answer.parsed h text f e files few some is) calm =
-      moved h text s out note files (parsed f few some is (λ other whole. only_one (core_of h) text other f whole is.whole))
+  decided_outcome s out note k (answer.input_refused file i b xs ys h fault e command gives other built gives_input faulty cause) calm =
+      absurd (not_refused ys fault (given_input file i b ys command gives_input) faulty cause)
+  decided_outcome s out note k (answer.over_budget h text b e files more) calm =
+      moved h text b s out note files (over_budget more)
+  decided_outcome s out note k (answer.no_parse h text b e files few none) calm =
+      moved h text b s out note files (no_parse few none)
+  decided_outcome s out note k (answer.parsed h text b f e files is) calm =
+      moved h text b s out note files (parsed f is)
 
   answer_outcome : (out notes : Change SinkState) (s : Status) →
       Answers words shelf out notes s → (FetchFailed shelf → ⊥) →
       (PutFailed out → ⊥) → (PutFailed notes → ⊥) →
-      Says g input out notes s
+      Says g input budget out notes s
   answer_outcome out notes s (written text k d count got untouched) calm a b =
       inr (text, ([], (decided_outcome status.Done text [] k d calm, got, got_none notes untouched)))
   answer_outcome out notes s (noted t note k d not_done count untouched got) calm a b =
@@ -246,8 +273,8 @@ module _ (laws : Laws) (words : List (List ℕ))
 
 pub headline : (laws : Laws) (words : List (List ℕ)) (shelf : Change ShelfState) (out notes : Change SinkState) (s : Status) →
     Answers words shelf out notes s → Headline words shelf out notes s
-headline laws words shelf out notes s answers g input asked calm a b =
-    answer_outcome laws words shelf g input asked out notes s answers calm a b
+headline laws words shelf out notes s answers g input budget asked calm a b =
+    answer_outcome laws words shelf g input budget asked out notes s answers calm a b
 
 pub grammar_commands : (laws : Laws) (words : List (List ℕ)) (shelf : Change ShelfState) (out notes : Change SinkState) (s : Status) →
     Answers words shelf out notes s → GrammarCommands words shelf out notes s
@@ -255,3 +282,5 @@ grammar_commands laws words shelf out notes s answers file xs g text (checks com
     answered_text laws words shelf (check file) command xs held g accepted out notes s tt answers calm a b
 grammar_commands laws words shelf out notes s answers file xs g text (shows command) held accepted calm a b =
     answered_text laws words shelf (show file) command xs held g accepted out notes s tt answers calm a b
+grammar_commands laws words shelf out notes s answers file xs g text (cores command built) held accepted calm a b =
+    answered_text laws words shelf (core file) command xs held g accepted out notes s built answers calm a b

@@ -1,16 +1,5 @@
-pub mod Built
-pub mod ContextFree
-pub mod Core
-pub mod CoreOf
-pub mod Items
-pub mod Waiting
-pub mod Saturation
-pub mod CoreTrees
-pub mod Forests
-pub mod Whole
-pub mod EntryRows
-pub mod EntrySteps
-pub mod ForestText
+pub mod Words
+pub mod WordParts
 pub mod Accepted
 pub mod Refusals
 pub mod Commands
@@ -18,8 +7,3 @@ pub mod Change
 pub mod Outcome
 pub mod Stops
 pub mod Headline
-pub mod Laws
-pub mod Nodes
-pub mod ForestLines
-pub mod Assembly
-pub mod NameTables

@@ -1,7 +1,6 @@
 -- What the top call answers, by cases.
-use Rattle.std.specs.Prelude.{◌≡◌, ◌≢◌, ◌↔◌, ℕ, ◌≤◌, List, [], ◌++◌, codes, encode_utf8_all}
+use Rattle.std.specs.Prelude.{◌≡◌, ◌≢◌, ℕ, List, [], ◌++◌, codes, encode_utf8_all}
 use Rattle.std.specs.Fmt.{decimal}
-use Rattle.ig_text.specs.Tree.{Tree, height}
 use Rattle.ig_text.specs.Decoding.{IsDecoded, IsFaulty}
 use Rattle.ig_text.specs.declared.text.TextFault.{TextFault}
 use Rattle.ig_text.specs.declared.text.TextFault.TheVariants as text_fault
@@ -9,20 +8,20 @@ use Rattle.ig_outside.specs.Told.{Told, silent, nothing, bytes}
 use Rattle.ig_outside.specs.States.{ShelfState, SinkState}
 use Rattle.ig_grammar.specs.declared.grammar.Grammar.{Grammar}
 use Rattle.ig_grammar.specs.Numbering.{as_written}
-use Rattle.ig_meaning.specs.Permitted.{Permitted}
-use Rattle.ig_tool.specs.declared.forest.Forest.{Forest}
+use Rattle.ig_core.specs.Built.{IsBuiltGrammar}
+use Rattle.ig_core.specs.CoreOf.{core_of}
+use Rattle.ig_forest.specs.Forest.{Forest}
+use Rattle.ig_parse.specs.Parses.{IsUnparsed, IsOver, HasForest}
+use Rattle.ig_show.specs.Listed.{line_end}
+use Rattle.ig_show.specs.CoreText.{core_text}
+use Rattle.ig_show.specs.ForestText.{forest_text}
 use Rattle.ig_tool.specs.declared.status.Status.{Status}
 use Rattle.ig_tool.specs.declared.status.Status.TheVariants as status
 use Rattle.ig_tool.specs.Change.{Change, Fetched, IsCalm, FetchFailed, Stood, Got, Failed, Untouched, Noted}
-use Rattle.ig_tool.specs.CoreOf.{core_of}
-use Rattle.ig_tool.specs.Items.{MoreThan}
-use Rattle.ig_tool.specs.Forests.{Unfold}
-use Rattle.ig_tool.specs.Whole.{IsWhole}
-use Rattle.ig_tool.specs.ForestText.{forest_text, line_end}
 use Rattle.ig_show.specs.CanonicalText.{text_of}
-use Rattle.ig_tool.specs.Accepted.{IsAccepted, IsRunnable}
+use Rattle.ig_tool.specs.Accepted.{IsAccepted, unchanged}
 use Rattle.ig_tool.specs.Refusals.{IsRefused}
-use Rattle.ig_tool.specs.Commands.{Request, check, show, forest, grammar_name, IsCommand, MayFetch}
+use Rattle.ig_tool.specs.Commands.{Request, check, show, core, forest, grammar_name, IsCommand, MayFetch}
 
 abbrev pub number_of : Status → ℕ
 number_of status.Done = 0
@@ -36,10 +35,6 @@ number_of status.WriteFault = 7
 number_of status.NoMemory = 8
 number_of status.BadCursor = 9
 number_of status.DepthNeeded = 10
-
--- how many items may be reachable
-abbrev pub budget : ℕ
-budget = 1000000
 
 -- the bytes that a fetch may give, by what the shelf tells: what it holds, or any bytes where it
 -- doesn't tell
@@ -70,8 +65,8 @@ input_note (text_fault.NotUtf8 at) = codes "input: not UTF-8 at byte " ++ (decim
 input_note text_fault.TooLong = codes "input: too long" ++ line_end
 input_note text_fault.Memory = []
 
-abbrev pub budget_note : List ℕ
-budget_note = codes "budget: more than 1000000 items" ++ line_end
+abbrev pub budget_note : ℕ → List ℕ
+budget_note budget = codes "budget: more than " ++ (decimal budget ++ (codes " items" ++ line_end))
 
 abbrev pub no_parse_note : List ℕ
 no_parse_note = codes "no parse" ++ line_end
@@ -82,36 +77,36 @@ cannot_write_note = codes "cannot write" ++ line_end
 abbrev pub no_memory_note : List ℕ
 no_memory_note = codes "out of memory" ++ line_end
 
--- what out gets of a grammar that is checked or shown
+-- what out gets of a grammar
 abbrev pub ok_text : List ℕ
 ok_text = codes "ok" ++ line_end
 
 abbrev pub shown_text : Grammar → List ℕ
 shown_text g = encode_utf8_all (text_of g)
 
--- the words ask for the forest of two files, of which the first may give the grammar, which is accepted and runnable,
--- and the second the input
-pub record HasFiles (words : List (List ℕ)) (shelf : ShelfState) (g : Grammar) (input : List ℕ) : Type 0 where
+abbrev pub shown_core : Grammar → List ℕ
+shown_core g = core_text (core_of g (as_written g))
+
+-- the words ask for the forest of two files, of which the first may give the grammar, which is accepted and built, and
+-- the second the input
+pub record HasFiles (words : List (List ℕ)) (shelf : ShelfState) (g : Grammar) (input : List ℕ) (budget : ℕ) : Type 0 where
   pub grammar_file : List ℕ
   pub input_file : List ℕ
-  pub command : IsCommand words (forest grammar_file input_file)
+  pub command : IsCommand words (forest grammar_file input_file budget)
   pub grammar_bytes : List ℕ
   pub gives_grammar : MayGive (shelf.holds grammar_file) grammar_bytes
   pub accepted : IsAccepted grammar_bytes g
-  pub runnable : IsRunnable g
+  pub built : IsBuiltGrammar g
   pub input_bytes : List ℕ
   pub gives_input : MayGive (shelf.holds input_file) input_bytes
   pub decoded : IsDecoded input_bytes input
 
--- a tree is permitted
-abbrev pub IsParsed : Grammar → List ℕ → Type 0
-IsParsed g input = (t : Tree) × Permitted g (as_written g) input t
-
--- the forest is the whole one, and at every depth it unfolds to exactly the permitted trees of at
--- most that height
-pub record IsForestOf (g : Grammar) (input : List ℕ) (f : Forest) : Type 0 where
-  pub whole : IsWhole (core_of g) input f
-  pub unfolds : (d : ℕ) (t : Tree) → Unfold f d t ↔ (Permitted g (as_written g) input t × (height t ≤ d))
+-- the core grammar of the grammar in this file is asked for, or its forest with some input
+abbrev pub AsksCore : Request → Type 0
+AsksCore (check grammar) = ⊥
+AsksCore (show grammar) = ⊥
+AsksCore (core grammar) = Unit {0}
+AsksCore (forest grammar input budget) = Unit {0}
 
 -- the status that is decided before anything is written, the text for out, the line for notes, and
 -- the number of fetches
@@ -135,34 +130,39 @@ pub data Decided (words : List (List ℕ)) (shelf : Change ShelfState) : Status 
   -- the grammar is accepted, and the text is its canonical one
   shown : (grammar xs : List ℕ) (g : Grammar) → IsCalm shelf → IsCommand words (show grammar) →
       MayGive (shelf.before.holds grammar) xs → IsAccepted xs g → Decided words shelf status.Done (shown_text g) [] 1
-  -- a forest is asked for; the grammar is accepted, but has a form that isn't built, or too many dots
-  not_built : (grammar input xs : List ℕ) (g : Grammar) → IsCalm shelf → IsCommand words (forest grammar input) →
-      MayGive (shelf.before.holds grammar) xs → IsAccepted xs g → (IsRunnable g → ⊥) →
+  -- a core grammar or a forest is asked for; the grammar is accepted, but has a form that isn't built
+  not_built : (request : Request) (xs : List ℕ) (g : Grammar) → IsCalm shelf → IsCommand words request → AsksCore request →
+      MayGive (shelf.before.holds (grammar_name request)) xs → IsAccepted xs g → (IsBuiltGrammar g → ⊥) →
       Decided words shelf status.Grammar [] not_built_note 1
-  -- the grammar is accepted and runnable, and nothing is held under the input's name
-  input_missing : (grammar input xs : List ℕ) (g : Grammar) → IsCalm shelf → IsCommand words (forest grammar input) →
-      MayGive (shelf.before.holds grammar) xs → IsAccepted xs g → IsRunnable g → shelf.before.holds input ≡ nothing →
+  -- the grammar is accepted and built, and the text is that of its core grammar
+  core_shown : (grammar xs : List ℕ) (g : Grammar) → IsCalm shelf → IsCommand words (core grammar) →
+      MayGive (shelf.before.holds grammar) xs → IsAccepted xs g → IsBuiltGrammar g →
+      Decided words shelf status.Done (shown_core g) [] 1
+  -- the grammar is accepted and built, and nothing is held under the input's name
+  input_missing : (grammar input : List ℕ) (budget : ℕ) (xs : List ℕ) (g : Grammar) → IsCalm shelf →
+      IsCommand words (forest grammar input budget) → MayGive (shelf.before.holds grammar) xs → IsAccepted xs g →
+      IsBuiltGrammar g → shelf.before.holds input ≡ nothing →
       Decided words shelf status.ReadFault [] (cannot_read_note input) 2
-  -- the grammar is accepted and runnable, and the fetch of the input failed
-  input_unread : (grammar input xs : List ℕ) (g : Grammar) → FetchFailed shelf → IsCommand words (forest grammar input) →
-      MayGive (shelf.before.holds grammar) xs → IsAccepted xs g → IsRunnable g →
-      Decided words shelf status.ReadFault [] (cannot_read_note input) 2
-  -- the grammar is accepted and runnable, and the input's bytes are no text
-  input_refused : (grammar input xs ys : List ℕ) (g : Grammar) (fault : TextFault) → IsCalm shelf →
-      IsCommand words (forest grammar input) → MayGive (shelf.before.holds grammar) xs → IsAccepted xs g → IsRunnable g →
-      MayGive (shelf.before.holds input) ys → IsFaulty ys fault → fault ≢ text_fault.Memory →
+  -- the grammar is accepted and built, and the fetch of the input failed
+  input_unread : (grammar input : List ℕ) (budget : ℕ) (xs : List ℕ) (g : Grammar) → FetchFailed shelf →
+      IsCommand words (forest grammar input budget) → MayGive (shelf.before.holds grammar) xs → IsAccepted xs g →
+      IsBuiltGrammar g → Decided words shelf status.ReadFault [] (cannot_read_note input) 2
+  -- the grammar is accepted and built, and the input's bytes are no text
+  input_refused : (grammar input : List ℕ) (budget : ℕ) (xs ys : List ℕ) (g : Grammar) (fault : TextFault) → IsCalm shelf →
+      IsCommand words (forest grammar input budget) → MayGive (shelf.before.holds grammar) xs → IsAccepted xs g →
+      IsBuiltGrammar g → MayGive (shelf.before.holds input) ys → IsFaulty ys fault → fault ≢ text_fault.Memory →
       Decided words shelf status.Input [] (input_note fault) 2
   -- more items than the budget are reachable
-  over_budget : (g : Grammar) (input : List ℕ) → IsCalm shelf → HasFiles words shelf.before g input →
-      MoreThan (core_of g) input budget → Decided words shelf status.Budget [] budget_note 2
+  over_budget : (g : Grammar) (input : List ℕ) (budget : ℕ) → IsCalm shelf → HasFiles words shelf.before g input budget →
+      IsOver (unchanged g) input budget → Decided words shelf status.Budget [] (budget_note budget) 2
   -- the budget suffices, and no tree is permitted
-  no_parse : (g : Grammar) (input : List ℕ) → IsCalm shelf → HasFiles words shelf.before g input →
-      (MoreThan (core_of g) input budget → ⊥) → ((t : Tree) → Permitted g (as_written g) input t → ⊥) →
+  no_parse : (g : Grammar) (input : List ℕ) (budget : ℕ) → IsCalm shelf → HasFiles words shelf.before g input budget →
+      (IsOver (unchanged g) input budget → ⊥) → IsUnparsed (unchanged g) input →
       Decided words shelf status.NoParse [] no_parse_note 2
   -- the budget suffices, a tree is permitted, and the text is that of the forest
-  parsed : (g : Grammar) (input : List ℕ) (f : Forest) → IsCalm shelf → HasFiles words shelf.before g input →
-      (MoreThan (core_of g) input budget → ⊥) → IsParsed g input → IsForestOf g input f →
-      Decided words shelf status.Done (forest_text (core_of g) f) [] 2
+  parsed : (g : Grammar) (input : List ℕ) (budget : ℕ) (f : Forest) → IsCalm shelf →
+      HasFiles words shelf.before g input budget → HasForest (unchanged g) input budget f →
+      Decided words shelf status.Done (forest_text f) [] 2
 
 -- the answer of the top call to its words, by what the shelf tells, with what was fetched and put
 pub data Answers (words : List (List ℕ)) (shelf : Change ShelfState) (out notes : Change SinkState) : Status → Type 0 where

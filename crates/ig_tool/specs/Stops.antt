@@ -1,5 +1,5 @@
 -- Where a command stops before it has a text for out.
-use Rattle.std.specs.Prelude.{◌≡◌, ◌≢◌, ℕ, ◌≤◌, ◌⊎◌, List, [], ◌++◌, Result, Ok, Err, Vec}
+use Rattle.std.specs.Prelude.{◌≡◌, ◌≢◌, ℕ, ◌<◌, ◌≤◌, ◌⊎◌, List, [], ◌++◌, Option, Some, None, Result, Ok, Err, Vec}
 use Rattle.std.specs.declared.alloc.Global.{Global}
 use Rattle.ig_text.specs.Decoding.{IsDecoded, IsFaulty}
 use Rattle.ig_text.specs.declared.text.Text.{Text}
@@ -8,26 +8,27 @@ use Rattle.ig_text.specs.declared.text.TextFault.TheVariants as text_fault
 use Rattle.ig_outside.specs.Counts.{Rose}
 use Rattle.ig_outside.specs.States.{ShelfState, SinkState}
 use Rattle.ig_outside.specs.Told.{Told, nothing}
-use Rattle.ig_grammar.specs.declared.grammar.Grammar.{Grammar}
-use Rattle.ig_grammar.specs.Numbering.{as_written}
-use Rattle.ig_meaning.specs.Permitted.{Permitted}
-use Rattle.ig_text.specs.Tree.{Tree}
-use Rattle.ig_tool.specs.declared.core_grammar.Core.{Core}
-use Rattle.ig_tool.specs.declared.forest.Forest.{Forest}
 use Rattle.ig_tool.specs.declared.stop.Stop.{Stop}
 use Rattle.ig_tool.specs.declared.stop.Stop.TheVariants as halt
 use Rattle.ig_tool.specs.declared.status.Status.{Status}
 use Rattle.ig_tool.specs.declared.status.Status.TheVariants as status
 use Rattle.ig_tool.specs.Change.{Change, Fetched, Stood, Got, Failed, Untouched, Noted}
 use Rattle.ig_tool.specs.Commands.{MayFetch}
-use Rattle.ig_tool.specs.CoreOf.{core_of}
-use Rattle.ig_tool.specs.ForestText.{forest_text, line_end}
-use Rattle.ig_tool.specs.Items.{MoreThan, RootIsComplete}
 use Rattle.ig_grammar.specs.Checked.{CheckedGrammar}
-use Rattle.ig_tool.specs.Accepted.{IsAccepted, IsRunnable}
-use Rattle.ig_tool.specs.Refusals.{IsRefused}
-use Rattle.ig_tool.specs.Whole.{IsWhole}
-use Rattle.ig_tool.specs.Outcome.{MayGive, budget, budget_note, cannot_read_note, cannot_write_note, input_note, no_memory_note, no_parse_note, grammar_note, not_built_note, shown_text, ok_text, IsParsed, IsForestOf, Decided}
+use Rattle.ig_grammar.specs.Numbering.{as_written}
+use Rattle.ig_grammar.specs.declared.grammar.Grammar.{Grammar}
+use Rattle.ig_item.specs.Core.{dots}
+use Rattle.ig_item.specs.Limits.{most_dots}
+use Rattle.ig_core.specs.Built.{IsBuiltGrammar}
+use Rattle.ig_core.specs.CoreOf.{core_of}
+use Rattle.ig_forest.specs.Forest.{Forest}
+use Rattle.ig_parse.specs.Parses.{IsUnparsed, IsOver, HasForest}
+use Rattle.ig_show.specs.Listed.{line_end}
+use Rattle.ig_show.specs.CoreText.{core_text}
+use Rattle.ig_show.specs.ForestText.{forest_text}
+use Rattle.ig_tool.specs.Accepted.{IsTextOf, HasFewDots, unchanged}
+use Rattle.ig_tool.specs.Refusals.{IsRefused, dots_text}
+use Rattle.ig_tool.specs.Outcome.{MayGive, budget_note, cannot_read_note, cannot_write_note, input_note, no_memory_note, no_parse_note, grammar_note, not_built_text, not_built_note, shown_text, ok_text, Decided}
 
 -- a line of two pieces
 abbrev pub IsLine : List ℕ → List ℕ → Vec ℕ Global → Type 0
@@ -61,9 +62,14 @@ pub record IsNoGrammar (xs : List ℕ) (s : Status) (note : List ℕ) : Type 0 w
   pub status_is : s ≡ status.Grammar
   pub note_is : note ≡ grammar_note text
 
--- the bytes are accepted as the grammar, or refused
+-- the bytes are a text of the grammar, as it is written
+pub record IsWrittenIn (xs : List ℕ) (c : CheckedGrammar) : Type 0 where
+  pub text : IsTextOf xs c.grammar
+  pub as_it_is : c ≡ unchanged c.grammar
+
+-- the bytes are a text of the grammar, or refused
 abbrev pub ReadsGrammar : List ℕ → Result CheckedGrammar Stop → Type 0
-ReadsGrammar xs (Ok checked) = IsAccepted xs checked.grammar
+ReadsGrammar xs (Ok checked) = IsWrittenIn xs checked
 ReadsGrammar xs (Err (halt.Note s line)) = IsNoGrammar xs s line.items
 ReadsGrammar xs (Err halt.Memory) = Unit {0}
 
@@ -94,7 +100,7 @@ pub data StopsAt (told : Told) (name : List ℕ) (old new : ℕ) (Refused : List
 -- a file that is to be a grammar
 abbrev pub GivesGrammar : Told → List ℕ → ℕ → ℕ → Result CheckedGrammar Stop → Type 0
 GivesGrammar told name old new (Ok checked) =
-    (new ≡ old) × ((xs : List ℕ) × MayGive told xs × IsAccepted xs checked.grammar)
+    (new ≡ old) × ((xs : List ℕ) × MayGive told xs × IsWrittenIn xs checked)
 GivesGrammar told name old new (Err (halt.Note s line)) = StopsAt told name old new IsNoGrammar s line.items
 GivesGrammar told name old new (Err halt.Memory) = Stood old new
 
@@ -111,38 +117,48 @@ LoadsGrammar shelf name = GivesGrammar (shelf.before.holds name) name shelf.befo
 abbrev pub LoadsInput : Change ShelfState → List ℕ → Result Text Stop → Type 0
 LoadsInput shelf name = GivesInput (shelf.before.holds name) name shelf.before.faults shelf.after.faults
 
-abbrev pub IsOverBudget : Stop → Type 0
-IsOverBudget = StopsWith status.Budget budget_note
+-- the parser of a grammar of built forms with few dots, or none where a form isn't built
+abbrev pub IsPrepared : Grammar → Option CheckedGrammar → Type 0
+IsPrepared g None = IsBuiltGrammar g → ⊥
+IsPrepared g (Some parser) = (parser ≡ unchanged g) × IsBuiltGrammar g × HasFewDots g
 
-abbrev pub IsUnparsed : Stop → Type 0
-IsUnparsed = StopsWith status.NoParse no_parse_note
+-- or too many dots
+abbrev pub Prepares : Grammar → Result (Option CheckedGrammar) Stop → Type 0
+Prepares g (Ok parser) = IsPrepared g parser
+Prepares g (Err (halt.Note s line)) =
+    (s ≡ status.Grammar) × (line.items ≡ grammar_note dots_text) × IsBuiltGrammar g ×
+    (most_dots < dots (core_of g (as_written g)))
+Prepares g (Err halt.Memory) = Unit {0}
 
--- the text is that of the whole forest, or the root is not complete
-abbrev pub Shows : Core → List ℕ → Result (Vec ℕ Global) Stop → Type 0
-Shows core input (Ok text) = (f : Forest) × IsWhole core input f × (text.items ≡ forest_text core f)
-Shows core input (Err (halt.Note s line)) =
-    (s ≡ status.NoParse) × (line.items ≡ no_parse_note) × (RootIsComplete core input → ⊥)
-Shows core input (Err halt.Memory) = Unit {0}
+abbrev pub IsOverBudget : ℕ → Stop → Type 0
+IsOverBudget budget = StopsWith status.Budget (budget_note budget)
+
+abbrev pub IsNotParsed : Stop → Type 0
+IsNotParsed = StopsWith status.NoParse no_parse_note
+
+-- the text of the forest
+abbrev pub ShowsForest : Forest → Result (Vec ℕ Global) Stop → Type 0
+ShowsForest f (Ok text) = text.items ≡ forest_text f
+ShowsForest f (Err (halt.Note s line)) = ⊥
+ShowsForest f (Err halt.Memory) = Unit {0}
 
 -- why there is no forest
-pub data StopsParse (g : Grammar) (input : List ℕ) : Status → List ℕ → Type 0 where
-  over_budget : (s : Status) (note : List ℕ) → MoreThan (core_of g) input budget → s ≡ status.Budget →
-      note ≡ budget_note → StopsParse g input s note
-  no_parse : (s : Status) (note : List ℕ) → (MoreThan (core_of g) input budget → ⊥) →
-      ((t : Tree) → Permitted g (as_written g) input t → ⊥) → s ≡ status.NoParse → note ≡ no_parse_note → StopsParse g input s note
+pub data StopsParse (c : CheckedGrammar) (input : List ℕ) (budget : ℕ) : Status → List ℕ → Type 0 where
+  over_budget : (s : Status) (note : List ℕ) → IsOver c input budget → s ≡ status.Budget →
+      note ≡ budget_note budget → StopsParse c input budget s note
+  no_parse : (s : Status) (note : List ℕ) → (IsOver c input budget → ⊥) → IsUnparsed c input → s ≡ status.NoParse →
+      note ≡ no_parse_note → StopsParse c input budget s note
 
 -- the text is that of the forest of the permitted trees
-pub record IsParse (g : Grammar) (input text : List ℕ) : Type 0 where
-  pub suffices : MoreThan (core_of g) input budget → ⊥
-  pub some : IsParsed g input
+pub record IsParse (c : CheckedGrammar) (input : List ℕ) (budget : ℕ) (text : List ℕ) : Type 0 where
   pub forest : Forest
-  pub is : IsForestOf g input forest
-  pub text_is : text ≡ forest_text (core_of g) forest
+  pub is : HasForest c input budget forest
+  pub text_is : text ≡ forest_text forest
 
-abbrev pub Parses : Grammar → List ℕ → Result (Vec ℕ Global) Stop → Type 0
-Parses g input (Ok text) = IsParse g input text.items
-Parses g input (Err (halt.Note s line)) = StopsParse g input s line.items
-Parses g input (Err halt.Memory) = Unit {0}
+abbrev pub ParsesText : CheckedGrammar → List ℕ → ℕ → Result (Vec ℕ Global) Stop → Type 0
+ParsesText c input budget (Ok text) = IsParse c input budget text.items
+ParsesText c input budget (Err (halt.Note s line)) = StopsParse c input budget s line.items
+ParsesText c input budget (Err halt.Memory) = Unit {0}
 
 -- the canonical text of the grammar
 abbrev pub ShowsGrammar : Grammar → Result (Vec ℕ Global) Stop → Type 0
@@ -156,33 +172,43 @@ SaysOk (Ok text) = text.items ≡ ok_text
 SaysOk (Err (halt.Note s line)) = ⊥
 SaysOk (Err halt.Memory) = Unit {0}
 
--- why there is no forest of an accepted grammar and the input of this name, by what the shelf tells of it, its counts of
--- faults, and how often files were fetched
-pub data StopsForest (g : Grammar) (told : Told) (name : List ℕ) (old new : ℕ) : Status → List ℕ → ℕ → Type 0 where
-  not_built : (s : Status) (note : List ℕ) → new ≡ old → (IsRunnable g → ⊥) → s ≡ status.Grammar →
-      note ≡ not_built_note → StopsForest g told name old new s note 0
-  at_input : (s : Status) (note : List ℕ) → IsRunnable g → StopsAt told name old new IsNoInput s note →
-      StopsForest g told name old new s note 1
-  at_parse : (s : Status) (note ys input : List ℕ) → IsRunnable g → new ≡ old → MayGive told ys → IsDecoded ys input →
-      StopsParse g input s note → StopsForest g told name old new s note 1
+-- the text of the core grammar, or none where a form isn't built
+abbrev pub ShowsCore : Option CheckedGrammar → Result (Vec ℕ Global) Stop → Type 0
+ShowsCore None (Ok text) = ⊥
+ShowsCore None (Err stop) = RefusesWith not_built_text stop
+ShowsCore (Some c) (Ok text) = text.items ≡ core_text (core_of c.grammar c.shapes)
+ShowsCore (Some c) (Err (halt.Note s line)) = ⊥
+ShowsCore (Some c) (Err halt.Memory) = Unit {0}
 
--- the text is that of the forest of an accepted grammar and the input
-pub record HasForest (g : Grammar) (told : Told) (old new : ℕ) (text : List ℕ) : Type 0 where
-  pub runnable : IsRunnable g
+-- why there is no forest of a parser, or none, and the input of this name, by what the shelf tells of it, its counts of
+-- faults, and how often files were fetched
+pub data StopsForest (parser : Option CheckedGrammar) (budget : ℕ) (told : Told) (name : List ℕ) (old new : ℕ) : Status → List ℕ → ℕ → Type 0 where
+  not_built : (s : Status) (note : List ℕ) → new ≡ old → parser ≡ None → s ≡ status.Grammar →
+      note ≡ not_built_note → StopsForest parser budget told name old new s note 0
+  at_input : (c : CheckedGrammar) (s : Status) (note : List ℕ) → parser ≡ Some c → StopsAt told name old new IsNoInput s note →
+      StopsForest parser budget told name old new s note 1
+  at_parse : (c : CheckedGrammar) (s : Status) (note ys input : List ℕ) → parser ≡ Some c → new ≡ old → MayGive told ys →
+      IsDecoded ys input → StopsParse c input budget s note → StopsForest parser budget told name old new s note 1
+
+-- the text is that of the forest of the parser and the input
+pub record GivesForest (parser : Option CheckedGrammar) (budget : ℕ) (told : Told) (old new : ℕ) (text : List ℕ) : Type 0 where
+  pub of : CheckedGrammar
+  pub is_parser : parser ≡ Some of
   pub calm : new ≡ old
   pub input_bytes : List ℕ
   pub input : List ℕ
   pub gives_input : MayGive told input_bytes
   pub decoded : IsDecoded input_bytes input
-  pub is_parse : IsParse g input text
+  pub is_parse : IsParse of input budget text
 
--- the forest of an accepted grammar and the input of this name; at most one file is fetched
-abbrev pub RunsForest : Grammar → Change ShelfState → List ℕ → Result (Vec ℕ Global) Stop → Type 0
-RunsForest g shelf name (Ok text) =
-    HasForest g (shelf.before.holds name) shelf.before.faults shelf.after.faults text.items × Fetched shelf 1
-RunsForest g shelf name (Err (halt.Note s line)) =
-    (k : ℕ) × StopsForest g (shelf.before.holds name) name shelf.before.faults shelf.after.faults s line.items k × Fetched shelf k
-RunsForest g shelf name (Err halt.Memory) =
+-- the forest of the parser and the input of this name; at most one file is fetched
+abbrev pub RunsForest : Option CheckedGrammar → ℕ → Change ShelfState → List ℕ → Result (Vec ℕ Global) Stop → Type 0
+RunsForest parser budget shelf name (Ok text) =
+    GivesForest parser budget (shelf.before.holds name) shelf.before.faults shelf.after.faults text.items × Fetched shelf 1
+RunsForest parser budget shelf name (Err (halt.Note s line)) =
+    (k : ℕ) × StopsForest parser budget (shelf.before.holds name) name shelf.before.faults shelf.after.faults s line.items k ×
+    Fetched shelf k
+RunsForest parser budget shelf name (Err halt.Memory) =
     (k : ℕ) × (k ≤ 1) × Fetched shelf k × Stood shelf.before.faults shelf.after.faults
 
 -- what is decided before anything is written

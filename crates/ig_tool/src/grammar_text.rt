@@ -1,4 +1,4 @@
-//! From bytes to an accepted grammar, or to the note that says why they are none.
+//! From bytes to a grammar, or to the note that says why they are none.
 
 ghost use Rattle.std.specs.Prelude.{◌≡◌, ◌≤◌, ◌++◌, length, OnOk};
 ghost use Rattle.std.specs.Fmt.{decimal};

@@ -17,7 +17,7 @@ use std::alloc::Global;
 /// The most bytes that an input may have.
 const MOST_INPUT_BYTES: u64 = 4_194_304;
 
-/// The accepted grammar in the file of that name.
+/// The well-scoped grammar in the file of that name.
 pub(crate) fn load_grammar<F: Shelf>(
     alloc: Global,
     shelf: &mut F,

@@ -1,70 +1,95 @@
 //! Running a grammar on an input.
-ghost use Rattle.std.specs.Prelude.{◌≡◌, ◌↔◌, ◌<◌, ◌≤◌, ◌^◌, ℕ, Contains, length};
-ghost use Rattle.ig_grammar.specs.WellScoped.{IsWellScoped};
-ghost use Rattle.ig_syntax.specs.Notation.{most_bytes};
-ghost use Rattle.ig_tool.specs.Items.{MoreThan, NoneTwice, Reachable};
-ghost use Rattle.ig_tool.specs.Stops.{IsOverBudget, IsUnparsed, Parses, Shows};
-ghost use Rattle.ig_tool.specs.Accepted.{IsRunnable};
+ghost use Rattle.std.specs.Prelude.{◌≡◌, ◌<◌, ◌++◌, OnOk, codes, length};
+ghost use Rattle.std.specs.Fmt.{decimal};
+ghost use Rattle.ig_core.specs.Limits.{most_declarations};
+ghost use Rattle.ig_tool.specs.Accepted.{unchanged};
+ghost use Rattle.ig_tool.specs.Stops.{IsNotParsed, IsOverBudget, ParsesText, Prepares};
+ghost use Rattle.ig_tool.specs.Stops.{ShowsForest};
 
-use crate::core_builder::build_core;
-use crate::core_grammar::Core;
-use crate::forest_builder::build;
-use crate::forest_text::show_forest;
-use crate::items::Item;
-use crate::saturate::{RunFault, saturate};
+use crate::grammar_text::refuse;
 use crate::status::Status;
 use crate::stop::{Stop, stop_with};
-use ig_grammar::Grammar;
+use ig_core::{CoreFault, built_grammars_remain, unbuilt};
+use ig_forest::Forest;
+use ig_grammar::Checked;
+use ig_parse::{ParseFault, Parser};
+use ig_show::show_forest;
 use ig_text::Text;
-use std::alloc::Global;
+use itoa::Buffer;
+use std::alloc::{AllocError, Global};
 
-/// How many items may be reachable.
-const BUDGET: u32 = 1_000_000;
-
-/// The text of the forest of a grammar and an input.
-pub(crate) fn parse(alloc: Global, grammar: &Grammar, input: &Text) -> Result<Vec<u8>, Stop>
-    requires scoped { IsWellScoped grammar.now }
-    requires few { length grammar.now.decls ≤ most_bytes }
-    requires runnable { IsRunnable grammar.now }
-    ensures { Parses grammar.now input.now result }
+/// The parser of the grammar, which no pass has changed; none where it has a form that isn't built.
+/// A grammar of built forms with too many dots is refused.
+pub(crate) fn parser_of(alloc: Global, checked: &Checked) -> Result<Option<Parser<'_>>, Stop>
+    requires as_it_is { checked.now ≡ unchanged checked.now.grammar }
+    requires few { length checked.now.grammar.decls < most_declarations }
+    ensures { Prepares checked.now.grammar result }
 {
-    let core = build_core(alloc, grammar)?;
-    match saturate(alloc, &core, input, BUDGET) {
-        Ok(items) => show(alloc, &core, input, items.as_slice()),
-        Err(RunFault::Budget) => Err(over_budget(alloc)),
-        Err(RunFault::Memory) => Err(Stop::Memory),
+    built_grammars_remain();
+    if unbuilt(checked.grammar()) {
+        return Ok(None);
+    }
+    match Parser::of(alloc, checked) {
+        Ok(parser) => Ok(Some(parser)),
+        Err(CoreFault::TooManyDots) => Err(refuse(alloc, b"too many dots")),
+        Err(CoreFault::Memory) => Err(Stop::Memory),
     }
 }
 
-/// The text of the forest of the reachable items.
-fn show(alloc: Global, core: &Core, input: &Text, items: &[Item]) -> Result<Vec<u8>, Stop>
-    requires members { (x : Item) → Contains items.now x ↔ Reachable core.now input.now x }
-    requires different { NoneTwice items.now }
-    requires numbers { length items.now < 2 ^ 32 }
-    ensures { Shows core.now input.now result }
+/// The text of the forest of the parser's grammar and the input.
+pub(crate) fn parse(
+    alloc: Global,
+    parser: &Parser<'_>,
+    input: &Text,
+    budget: u32,
+) -> Result<Vec<u8>, Stop>
+    ensures { ParsesText parser.now input.now budget result }
 {
-    let Some(forest) = build(alloc, core, input, items)? else {
-        return Err(unparsed(alloc));
-    };
-    let text = show_forest(alloc, core, &forest)?;
-    Ok(text.into_bytes())
+    match parser.parse(alloc, input, budget) {
+        Ok(forest) => show(alloc, &forest),
+        Err(ParseFault::Budget) => Err(over_budget(alloc, budget)),
+        Err(ParseFault::NoParse) => Err(unparsed(alloc)),
+        Err(ParseFault::TooManyDots | ParseFault::Memory) => Err(Stop::Memory),
+    }
+}
+
+/// The text of the forest.
+fn show(alloc: Global, forest: &Forest) -> Result<Vec<u8>, Stop>
+    ensures { ShowsForest forest.now result }
+{
+    let text = show_forest(alloc, forest)?;
+    Ok(text)
 }
 
 /// More items are reachable than the budget allows.
-fn over_budget(alloc: Global) -> Stop
-    ensures { IsOverBudget result }
+fn over_budget(alloc: Global, budget: u32) -> Stop
+    ensures { IsOverBudget budget result }
 {
-    stop_with(
-        alloc,
-        Status::Budget,
-        b"budget: more than 1000000 items",
-        b"",
-    )
+    let mut items = Vec::new(alloc);
+    match push_items(&mut items, budget) {
+        Ok(()) => stop_with(
+            alloc,
+            Status::Budget,
+            b"budget: more than ",
+            items.as_slice(),
+        ),
+        Err(error) => Stop::from(error),
+    }
+}
+
+/// Adds a number of items.
+fn push_items(text: &mut Vec<u8>, number: u32) -> Result<(), AllocError>
+    ensures { OnOk result (text.new.items
+        ≡ text.old.items ++ (decimal number ++ codes " items")) }
+{
+    let mut digits = Buffer::new();
+    text.extend_from_slice(digits.format(number).as_bytes())?;
+    text.extend_from_slice(b" items")
 }
 
 /// No tree is permitted.
 fn unparsed(alloc: Global) -> Stop
-    ensures { IsUnparsed result }
+    ensures { IsNotParsed result }
 {
     stop_with(alloc, Status::NoParse, b"no parse", b"")
 }

@@ -12,6 +12,19 @@ const LETTER: &str = "start S; syntax S = \"a\";";
 const LETTER_FOREST: &str =
     "forest 2 4\nnode 0 $root () 0..1\nalt $root 2\nnode 1 S () 0..1\nalt S.1 3\nitem 0 $root () 1 0 [] 0..0\nbegin\nitem 1 S () 1 0 [] 0..0\nbegin\nitem 2 $root () 1 1 [] 0..1\ntake 0 node 1\nitem 3 S () 1 1 [] 0..1\ntake 1 leaf 0..1\n";
 
+const LETTER_CORE: &str = "nt 0 $root ()\nalt $root . call 1 ()\nnt 1 S ()\nalt S.1 . \"a\"\n";
+
+/// A grammar that counts down: eleven items are reachable on one letter.
+const COUNTING: &str =
+    "start S; syntax S = A(1); syntax A(n: int) = when (n == 0) | \"a\" A(n - 1);";
+
+/// A grammar with ever more instances.
+const ENDLESS: &str = "start S; syntax S = A(0); syntax A(n: int) = A(n + 1) | \"a\";";
+
+/// As many letters `b` as the letters `a` before them.
+const ENDS: &str =
+    "start S; syntax S = n: A B(end(n)); syntax A = \"a\" | A \"a\"; syntax B(k: int) = when (k == 0) | when (k > 0) \"b\" B(k - 1);";
+
 /// Canonical texts: each is its own.
 const CANONICAL: [&str; 31] = [
     "start S;\nsyntax S = s: \"a\" when ((1 - 2) == 3);\n",
@@ -153,27 +166,12 @@ fn forests_of_built_grammars(rt: HostRuntime) -> Result<(), Fail> {
     let table = [
         (LETTER, "a", LETTER_FOREST),
         ("start S; syntax S = S | \"a\";", "a", "forest 2 6\n"),
-        ("start S; syntax S = S S | \"a\";", "aaaa", "forest 14 35\n"),
-        ("start S; syntax S = S S | \"a\" | ;", "", "forest "),
-        (
-            "start S; syntax S = B S \"x\" | \"y\"; syntax B = ;",
-            "yxx",
-            "forest ",
-        ),
-        (
-            "start A; syntax A = B | ; syntax B = A | ;",
-            "",
-            "forest 3 8\n",
-        ),
+        ("start S; syntax S = S S | \"a\";", "aaaa", "forest 11 25\n"),
+        (ENDS, "aabb", "forest "),
         (
             "// a comment\nstart S; // another\r\n\tsyntax S =\"a\"\t; // the last",
             "a",
             LETTER_FOREST,
-        ),
-        (
-            "start S;syntax S=\"\\\"\\\\\\n\\r\\t\";",
-            "\"\\\n\r\t",
-            "forest 2 4\nnode 0 $root () 0..5\n",
         ),
         (
             "start \u{c9}t\u{e9}; syntax \u{c9}t\u{e9} = \u{5b57}_1; syntax \u{5b57}_1 = \"\u{1f98e}\";",
@@ -182,23 +180,69 @@ fn forests_of_built_grammars(rt: HostRuntime) -> Result<(), Fail> {
         ),
     ];
     for (grammar, input, begins) in table {
-        expect(
-            &rt,
-            rt.alloc(),
-            grammar,
-            input.as_bytes(),
-            Status::Done,
-            begins,
-            "",
-        )?;
+        let input = input.as_bytes();
+        expect(&rt, rt.alloc(), grammar, input, Status::Done, begins, "")?;
     }
     Ok(())
 }
 
 #[test]
+fn budgets(rt: HostRuntime) -> Result<(), Fail> {
+    let table = [
+        (LETTER, "--budget=4", Status::Done, LETTER_FOREST, ""),
+        (
+            LETTER,
+            "--budget=0000000004",
+            Status::Done,
+            LETTER_FOREST,
+            "",
+        ),
+        (
+            LETTER,
+            "--budget=3",
+            Status::Budget,
+            "",
+            "budget: more than 3 items\n",
+        ),
+        (COUNTING, "--budget=11", Status::Done, "forest 4 9\n", ""),
+        (
+            COUNTING,
+            "--budget=10",
+            Status::Budget,
+            "",
+            "budget: more than 10 items\n",
+        ),
+        (
+            ENDLESS,
+            "--budget=10",
+            Status::Budget,
+            "",
+            "budget: more than 10 items\n",
+        ),
+    ];
+    for (grammar, option, status, begins, note) in table {
+        let words = ["forest", "g", "i", option];
+        let ended = end_of(rt.alloc(), &words, grammar.as_bytes(), b"a")?;
+        assert_eq!(rt; ended.status, status, "the status of {grammar}");
+        assert!(rt; ended.out.bytes().starts_with(begins.as_bytes()));
+        assert_eq!(rt; ended.notes.bytes(), note.as_bytes());
+    }
+    Ok(())
+}
+
+#[test]
+fn core_grammars(rt: HostRuntime) -> Result<(), Fail> {
+    let alloc = rt.alloc();
+    expect_text(&rt, alloc, "core", LETTER, LETTER_CORE)?;
+    let grammar = b"start S; syntax S = \"a\"?;";
+    expect_refused(&rt, alloc, &["core", "g"], grammar, "not built")
+}
+
+#[test]
 fn answers_without_a_forest(rt: HostRuntime) -> Result<(), Fail> {
-    let table: [(&str, &[u8], Status, &str); 9] = [
+    let table: [(&str, &[u8], Status, &str); 10] = [
         (LETTER, b"", Status::NoParse, "no parse\n"),
+        (ENDS, b"aab", Status::NoParse, "no parse\n"),
         (
             "start S; syntax S = \"\u{e9}\" \"a\";",
             "\u{e9}b".as_bytes(),
@@ -238,8 +282,8 @@ fn answers_without_a_forest(rt: HostRuntime) -> Result<(), Fail> {
         (
             "start S; syntax S = when ((9223372036854775807 + 1) > 0) \"a\";",
             b"a",
-            Status::Grammar,
-            "grammar: not built\n",
+            Status::NoParse,
+            "no parse\n",
         ),
         (
             "start S; syntax S = when ((9223372036854775808 + 1) > 0) \"a\";",
@@ -361,16 +405,18 @@ fn grammars_with_too_many_of_something(rt: HostRuntime) -> Result<(), Fail> {
         dots.push_str("|")?;
     }
     dots.push_str(";")?;
-    expect(&rt, alloc, &dots, b"a", Status::NoParse, "", "no parse\n")?;
+    expect_text(&rt, alloc, "check", &dots, "ok\n")?;
     dots.push_str("syntax T = ;")?;
-    expect_refused(
-        &rt,
-        alloc,
+    let commands: [&[&str]; 4] = [
+        &["check", "g"],
+        &["show", "g"],
+        &["core", "g"],
         &["forest", "g", "i"],
-        dots.as_bytes(),
-        "not built",
-    )?;
-    expect_text(&rt, alloc, "check", &dots, "ok\n")
+    ];
+    for words in commands {
+        expect_refused(&rt, alloc, words, dots.as_bytes(), "too many dots")?;
+    }
+    Ok(())
 }
 
 /// So many bytes that stand in no UTF-8.
@@ -465,15 +511,19 @@ fn canonical_texts_are_shown_as_they_are(rt: HostRuntime) -> Result<(), Fail> {
 #[test]
 fn words_that_are_no_command(rt: HostRuntime) -> Result<(), Fail> {
     let alloc = rt.alloc();
-    let table: [&[&str]; 12] = [
+    let table: [&[&str]; 16] = [
         &[],
         &["check"],
         &["show", "g", "i"],
         &["check", "-g"],
         &["show", ""],
         &["Check", "g"],
+        &["core", "g", "--budget=6"],
         &["forest", "g"],
-        &["forest", "g", "i", "--budget=6"],
+        &["forest", "g", "i", "--budget", "5", "--budget=6"],
+        &["forest", "g", "i", "--budget", "0"],
+        &["forest", "g", "i", "--budget=4000001"],
+        &["forest", "g", "i", "--budget"],
         &["trees", "g", "i"],
         &["forest", "-g", "i"],
         &["forest", "g", ""],

@@ -1,31 +1,30 @@
 //! The top call.
-ghost use Rattle.std.specs.Prelude.{◌≡◌, ◌≤◌, ℕ, List, length, map, string_bytes};
-ghost use Rattle.ig_grammar.specs.WellScoped.{IsWellScoped};
-ghost use Rattle.ig_syntax.specs.Notation.{most_bytes};
+ghost use Rattle.std.specs.Prelude.{◌≡◌, ℕ, List, map, string_bytes};
 ghost use Rattle.ig_tool.specs.Change.{change};
 ghost use Rattle.ig_tool.specs.Outcome.{Answers};
 ghost use Rattle.ig_tool.specs.Headline.{GrammarCommands, Headline};
-ghost use Rattle.ig_tool.specs.Stops.{Decides, GivesUp, RunsForest, SaysOk, ShowsGrammar};
-ghost use Rattle.ig_tool.specs.Stops.{WritesNote, WritesText};
+ghost use Rattle.ig_tool.specs.Stops.{Decides, GivesUp, RunsForest, SaysOk, ShowsCore};
+ghost use Rattle.ig_tool.specs.Stops.{ShowsGrammar, WritesNote, WritesText};
 
 use crate::command::{Command, command_of, grammar_of};
 use crate::grammar_text::refuse;
-use crate::limits::is_runnable;
 use crate::load::{load_grammar, load_input};
-use crate::parse::parse;
+use crate::parse::{parse, parser_of};
 use crate::status::Status;
 use crate::stop::{Stop, stop_with};
 use ig_grammar::Grammar;
 use ig_notation::{one_reading, read_grammars_are_regular, texts_are_read_or_refused};
 use ig_outside::{Shelf, Sink};
-use ig_show::show_grammar;
+use ig_parse::Parser;
+use ig_show::{show_core, show_grammar};
 use std::alloc::Global;
 
 /// Does all that the program does: reads the words of a command, fetches the files that they name
 /// from the shelf, puts the output on out, or one line on notes, and answers how that ended.
 ///
-/// `check G` puts `ok`, `show G` the canonical text of the grammar, and `forest G I` the text of the
-/// forest of the grammar and the input.
+/// `check G` puts `ok`, `show G` the canonical text of the grammar, `core G` the text of its core
+/// grammar, and `forest G I` the text of the reduced forest of the grammar and the input, where no
+/// more items are reachable than the option `--budget` says, or 1,000,000.
 ///
 /// The words come without the program's name. All memory is taken before the first put.
 pub fn iguana<F: Shelf, O: Sink, N: Sink>(
@@ -69,10 +68,12 @@ fn decide<F: Shelf>(alloc: Global, words: &[String], shelf: &mut F) -> Result<Ve
         return Err(stop_with(alloc, Status::Usage, b"usage", b""));
     };
     let checked = load_grammar(alloc, shelf, grammar_of(command))?;
+    let parser = parser_of(alloc, &checked)?;
     match command {
         Command::Check { .. } => say_ok(alloc),
         Command::Show { .. } => show(alloc, checked.grammar()),
-        Command::Forest { input, .. } => run(alloc, shelf, checked.grammar(), input),
+        Command::Core { .. } => shown_core(alloc, &parser),
+        Command::Forest { input, budget, .. } => run(alloc, shelf, &parser, input, budget),
     }
 }
 
@@ -92,25 +93,35 @@ fn show(alloc: Global, grammar: &Grammar) -> Result<Vec<u8>, Stop>
     Ok(text)
 }
 
-/// The text of the forest of the grammar and the input in the file of that name. The input is
-/// fetched only where the grammar can be run.
+/// The text of the parser's core grammar. Without a parser the grammar is refused.
+fn shown_core(alloc: Global, parser: &Option<Parser<'_>>) -> Result<Vec<u8>, Stop>
+    ensures { ShowsCore parser.now result }
+{
+    let Some(parser) = parser else {
+        return Err(refuse(alloc, b"not built"));
+    };
+    let text = show_core(alloc, parser.core())?;
+    Ok(text)
+}
+
+/// The text of the forest of the parser's grammar and the input in the file of that name. Without a
+/// parser the grammar is refused, and the input isn't fetched.
 fn run<F: Shelf>(
     alloc: Global,
     shelf: &mut F,
-    grammar: &Grammar,
-    input_name: &str,
+    parser: &Option<Parser<'_>>,
+    name: &str,
+    budget: u32,
 ) -> Result<Vec<u8>, Stop>
-    requires scoped { IsWellScoped grammar.now }
-    requires few { length grammar.now.decls ≤ most_bytes }
-    ensures answer { RunsForest grammar.now
-        (change (F.state shelf.old) (F.state shelf.new)) input_name.now result }
+    ensures answer { RunsForest parser.now budget
+        (change (F.state shelf.old) (F.state shelf.new)) name.now result }
     ensures same { (n : List ℕ) → (F.state shelf.new).holds n ≡ (F.state shelf.old).holds n }
 {
-    if !is_runnable(grammar) {
+    let Some(parser) = parser else {
         return Err(refuse(alloc, b"not built"));
-    }
-    let input = load_input(alloc, shelf, input_name)?;
-    parse(alloc, grammar, &input)
+    };
+    let input = load_input(alloc, shelf, name)?;
+    parse(alloc, parser, &input, budget)
 }
 
 /// Puts the text on out. Where out fails, notes get a line of their own.

@@ -30,8 +30,8 @@ impl<W: Write> Sink for StreamSink<W> {
     ghost state = { λ s. sink_state s.faults };
 
     /// Puts as every sink does: where it is known what the stream holds, an `Ok` appended the whole
-    /// piece to that. It fails exactly where a write fails, or takes nothing of bytes that are left;
-    /// then a prefix of the piece was written.
+    /// piece to that. It fails exactly where a write fails, or takes nothing of bytes that are
+    /// left; then a prefix of the piece was written.
     fn put(&mut self, piece: &[u8]) -> Result<(), SinkFault>
         ensures answer { AnswersPut (sink_state self.old.faults).got
             (sink_state self.new.faults).got piece.now result }
@@ -54,8 +54,8 @@ impl<W: Write> Sink for StreamSink<W> {
 
 /// Writes the whole piece.
 ///
-/// Refused with `Failed` where a write fails, or takes nothing of bytes that are left; then a prefix
-/// of the piece was written.
+/// Refused with `Failed` where a write fails, or takes nothing of bytes that are left; then a
+/// prefix of the piece was written.
 fn write_all<W: Write>(stream: &mut W, piece: &[u8]) -> Result<(), SinkFault>
     ensures { WritesAll (W.contents stream.old) (W.contents stream.new) piece.now result }
 {

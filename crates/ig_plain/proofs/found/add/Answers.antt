@@ -1,5 +1,4 @@
 use Rattle.std.proofs.Common.{refl}
-use Rattle.ig_plain.proofs.Sets.{extends_itself}
 use Rattle.ig_plain.proofs.Growth.{grows_here}
 use Rattle.ig_plain.proofs.Additions.{adds_exit, adds_here}
 use Rattle.ig_plain.proofs.found.add.Goals as goal

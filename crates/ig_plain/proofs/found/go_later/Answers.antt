@@ -1,4 +1,4 @@
-use Rattle.std.proofs.Common.{refl, sym, subst, ◌∙◌, ◌<◌}
+use Rattle.std.proofs.Common.{refl, sym, subst, ◌<◌}
 use Rattle.ig_plain.proofs.Growth.{past_named, past_means}
 use Rattle.ig_plain.proofs.Additions.{later_added}
 use Rattle.ig_plain.proofs.found.go_later.Goals as goal
@@ -9,7 +9,9 @@ returns c =
     (record {
       envs = c.in_ok-behind.ensures.extends;
       envs_once = c.in_ok-behind.ensures.once;
-      keys = refl; done = refl; here = refl;
+      keys = refl;
+      done = refl;
+      here = refl;
       item = c.in_ok-behind.behind;
       later = c.in-Ok.ensures.items;
       named = past_named c.args.found.now.envs.keys c.past.new.envs.keys c.args.found.now.keys.keys c.args.item c.args.bound c.args.end c.in_ok-behind.behind c.requires.named c.in_ok-behind.ensures.past;

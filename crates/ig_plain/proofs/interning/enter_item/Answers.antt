@@ -1,5 +1,5 @@
 use Rattle.ig_plain.proofs.Equality.{item_eq-decides}
-use Rattle.ig_plain.proofs.Sets.{once_from_distinct, inserted_there, inserted_only, adds_not}
+use Rattle.ig_plain.proofs.Sets.{once_from_distinct, inserted_there, inserted_few, inserted_only, adds_not}
 use Rattle.ig_plain.proofs.interning.enter_item.Goals as goal
 
 pub returns-in_err-insert-clause-once : goal.returns-in_err-insert-clause-once
@@ -16,3 +16,6 @@ returns-in_err-insert-clause-adds c = adds_not c.args.items.now.keys _ c.args.it
 
 pub returns-clause-adds : goal.returns-clause-adds
 returns-clause-adds c = inserted_only item_eq-decides c.args.items.now.keys _ c.args.item c.in_ok-insert.ensures.keys
+
+pub returns-clause-few : goal.returns-clause-few
+returns-clause-few c = inserted_few item_eq-decides c.args.items.now.keys _ c.args.item c.in_ok-insert.ensures.keys

@@ -1,4 +1,4 @@
-use Rattle.std.proofs.Common.{subst, sym, ap, ◌∙◌}
+use Rattle.std.proofs.Common.{ap, ◌∙◌}
 use Rattle.std.specs.Prelude.{slice_get}
 use Rattle.ig_plain.proofs.Equality.{key_eq-decides}
 use Rattle.ig_plain.proofs.Sets.{once_from_distinct, inserted_at, inserted_new}

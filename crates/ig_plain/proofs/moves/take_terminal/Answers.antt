@@ -1,4 +1,4 @@
-use Rattle.std.proofs.Common.{◌≡◌, subst, sym}
+use Rattle.std.proofs.Common.{subst}
 use Rattle.ig_plain.specs.Found.{AddsLater, means}
 use Rattle.ig_item.specs.Items.{past}
 use Rattle.ig_plain.proofs.Additions.{true_at, false_at}

@@ -1,8 +1,4 @@
 use Rattle.ig_expr.specs.View.{expression_of}
-use Rattle.std.proofs.Common.{rules, ◌≡◌, sym, ap, ◌∙◌, subst, Some, ◌↔◌}
-use Rattle.std.specs.Prelude.{IsTrue}
-use Rattle.ig_expr.specs.declared.value.Value.TheVariants.{Bool}
-use Rattle.ig_expr.specs.Evaluation.{value_of}
 use Rattle.ig_plain.proofs.Additions.{adds_where, adds_nowhere, holds_at, fails_at}
 use Rattle.ig_plain.proofs.moves.take_test.Goals as goal
 

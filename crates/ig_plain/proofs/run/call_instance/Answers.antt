@@ -1,6 +1,5 @@
-use Rattle.std.proofs.Common.{refl, ap, sym, ◌∙◌, subst}
-use Rattle.std.specs.Prelude.{slice_get}
-use Rattle.ig_plain.proofs.Instances.{entered_old, entered_new, refused_new, at_exit, named_keys, key_at}
+use Rattle.std.proofs.Common.{refl}
+use Rattle.ig_plain.proofs.Instances.{entered_old, entered_new, refused_new, at_exit, named_keys}
 use Rattle.ig_plain.proofs.run.call_instance.Goals as goal
 
 pub add_firsts-requires-clause-all_named : goal.add_firsts-requires-clause-all_named

@@ -1,4 +1,4 @@
-use Rattle.std.proofs.Common.{ap, refl, sym, ◌∙◌, subst, Some, ◌≡◌, ◌++◌}
+use Rattle.std.proofs.Common.{ap, ◌∙◌, subst, ◌≡◌}
 use Rattle.ig_item.specs.Step.{Call}
 use Rattle.ig_item.specs.View.{step_of}
 use Rattle.ig_item.specs.Items.{MatchesNone, past, span_of, StandsBefore}

@@ -1,4 +1,4 @@
-use Rattle.std.proofs.Common.{◌≡◌, suc, ◌-◌, ◌<◌, arith}
+use Rattle.std.proofs.Common.{◌-◌, arith}
 use Rattle.ig_plain.proofs.Additions.{adds_stops}
 use Rattle.ig_plain.proofs.Returns.{walk_starts, all_named, read_within, read_named, read_calls, read_less, read_goes, read_stops, walk_ends}
 use Rattle.ig_plain.proofs.run.return_to_all.Goals as goal

@@ -1,4 +1,3 @@
-use Rattle.std.proofs.Common.{ℕ}
 use Rattle.ig_plain.proofs.Returns.{Walks}
 use Rattle.ig_plain.proofs.run.return_to_all.Given as goal
 

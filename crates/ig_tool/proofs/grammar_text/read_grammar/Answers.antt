@@ -2,7 +2,7 @@ use Rattle.std.proofs.Common.{subst, sym, ◌++◌}
 use Rattle.std.specs.Prelude.{codes, IsUtf8}
 use Rattle.std.specs.Fmt.{decimal}
 use Rattle.ig_tool.specs.Refusals.{not_utf8}
-use Rattle.ig_tool.proofs.GrammarTexts.{refused_as, refused_syntax, refused_large, refused_scope}
+use Rattle.ig_tool.proofs.GrammarTexts.{refused_as, written_in, refused_syntax, refused_large, refused_scope}
 use Rattle.ig_tool.proofs.grammar_text.read_grammar.Goals as goal
 
 pub returns-in-Err : goal.returns-in-Err
@@ -23,7 +23,7 @@ returns-in-Err-Syntax c =
 pub returns-in-Err-TooLarge : goal.returns-in-Err-TooLarge
 returns-in-Err-TooLarge c =
     refused_large c.args.bytes.now c.in-Ok.source.now c.in-Ok.ensures.cases.0 c.in-Ok.ensures.cases.1 c.in-Err-TooLarge.which
-    c.too_large-in-Err-TooLarge.result c.too_large-in-Err-TooLarge.ensures
+    c.too_large.result c.too_large.ensures
     (rw c.in-Err-TooLarge.field-0-is at c.in-Err-TooLarge.ensures.fault)
 
 pub returns-in-Err-Broken : goal.returns-in-Err-Broken
@@ -31,3 +31,8 @@ returns-in-Err-Broken c =
     refused_scope c.args.bytes.now c.in-Ok.source.now c.in-Ok.ensures.cases.0 c.in-Ok.ensures.cases.1 c.in-Ok-read.grammar
     c.in-Err-Broken.place c.in-Err-Broken.cause c.not_scoped.result c.not_scoped.ensures c.in-Ok-read.ensures.ok
     (rw c.in-Err-Broken.field-0-is at c.in-Err-Broken.ensures.broken)
+
+pub returns-in-Ok-check : goal.returns-in-Ok-check
+returns-in-Ok-check c =
+    written_in c.args.bytes.now c.in-Ok.source.now c.in-Ok.ensures.cases.0 c.in-Ok.ensures.cases.1 c.in-Ok-read.grammar
+    c.in-Ok-check.checked c.in-Ok-read.ensures.ok c.in-Ok-check.ensures.grammar c.in-Ok-check.ensures.shapes c.in-Ok-check.ensures.scoped

@@ -1,8 +1,7 @@
-use Rattle.std.proofs.Common.{◌≤◌, length, subst, sym, Err}
-use Rattle.ig_grammar.specs.declared.grammar.Grammar.{Grammar}
-use Rattle.ig_syntax.specs.Notation.{most_bytes}
+use Rattle.std.proofs.Common.{subst, sym}
+use Rattle.ig_tool.specs.Change.{change}
 use Rattle.ig_tool.specs.Stops.{Decides}
-use Rattle.ig_tool.proofs.Deciding.{passed, decides_usage, decides_at_grammar, decides_check, decides_show, decides_forest, few_declarations}
+use Rattle.ig_tool.proofs.Deciding.{passed, decides_usage, decides_at_grammar, decides_at_dots, decides_check, decides_show, decides_core, decides_forest, few_declarations}
 use Rattle.ig_tool.proofs.top_call.decide.Goals as goal
 
 pub returns-in_default-clause-answer : goal.returns-in_default-clause-answer
@@ -14,26 +13,41 @@ returns-in_err-checked-clause-answer g c =
     (decides_at_grammar _ _ _ c.grammar_of.result.now c.in_err-checked.field-0.0 c.in-Some.ensures c.grammar_of.ensures
     c.in_err-checked.ensures.counted c.in_err-checked.ensures.answer)
 
+pub parser_of-requires-clause-as_it_is : goal.parser_of-requires-clause-as_it_is
+parser_of-requires-clause-as_it_is g c = c.in_ok-checked.ensures.answer.1.2.as_it_is
+
+pub parser_of-requires-clause-few : goal.parser_of-requires-clause-few
+parser_of-requires-clause-few g c =
+    let shelf = change (g.F.Shelf.state c.args.shelf.now) (g.F.Shelf.state c.load_grammar.new.shelf) in
+    few_declarations c.read_grammars_are_regular.ensures shelf c.grammar_of.result.now c.in_ok-checked.checked c.in_ok-checked.ensures.answer
+
+pub returns-in_err-parser-clause-answer : goal.returns-in_err-parser-clause-answer
+returns-in_err-parser-clause-answer g c =
+    subst (Decides _ _) (sym (passed c.from_residual-in_err-parser.result c.in_err-parser.field-0.0 c.from_residual-in_err-parser.ensures.1))
+    (decides_at_dots _ _ c.grammar_of.result.now c.in_ok-checked.checked c.in_ok-checked.ensures.counted c.in_ok-checked.ensures.answer
+    _ c.in_err-parser.field-0.0 c.in-Some.ensures c.grammar_of.ensures c.in_err-parser.ensures)
+
 pub returns-in-Check-clause-answer : goal.returns-in-Check-clause-answer
 returns-in-Check-clause-answer g c =
-    decides_check _ _ c.in-Check.grammar.now c.grammar_of.result.now c.in_ok-checked.checked c.say_ok.result
-    (rw c.in-Check.is at c.in-Some.ensures) (rw c.in-Check.is at c.grammar_of.ensures) c.in_ok-checked.ensures.counted
-    c.in_ok-checked.ensures.answer c.say_ok.ensures
+    decides_check _ _ c.grammar_of.result.now c.in_ok-checked.checked c.in_ok-checked.ensures.counted c.in_ok-checked.ensures.answer
+    c.in_ok-parser.parser c.in_ok-parser.ensures c.in-Check.grammar.now c.say_ok.result
+    (rw c.in-Check.is at c.in-Some.ensures) (rw c.in-Check.is at c.grammar_of.ensures) c.say_ok.ensures
 
 pub returns-in-Show-clause-answer : goal.returns-in-Show-clause-answer
 returns-in-Show-clause-answer g c =
-    decides_show _ _ c.in-Show.grammar.now c.grammar_of.result.now c.in_ok-checked.checked c.grammar.result.now c.show.result
-    (rw c.in-Show.is at c.in-Some.ensures) (rw c.in-Show.is at c.grammar_of.ensures) c.in_ok-checked.ensures.counted
-    c.in_ok-checked.ensures.answer c.grammar.ensures.same c.show.ensures
+    decides_show _ _ c.grammar_of.result.now c.in_ok-checked.checked c.in_ok-checked.ensures.counted c.in_ok-checked.ensures.answer
+    c.in_ok-parser.parser c.in_ok-parser.ensures c.in-Show.grammar.now c.grammar.result.now c.show.result
+    (rw c.in-Show.is at c.in-Some.ensures) (rw c.in-Show.is at c.grammar_of.ensures) c.grammar.ensures.same c.show.ensures
 
-pub run-requires-clause-few : goal.run-requires-clause-few
-run-requires-clause-few g c =
-    subst (λ (z : Grammar). length z.decls ≤ most_bytes) (sym c.grammar-in-Forest.ensures.same)
-    (few_declarations c.read_grammars_are_regular.ensures _ c.grammar_of.result.now c.in_ok-checked.checked c.in_ok-checked.ensures.answer)
+pub returns-in-Core-clause-answer : goal.returns-in-Core-clause-answer
+returns-in-Core-clause-answer g c =
+    decides_core _ _ c.grammar_of.result.now c.in_ok-checked.checked c.in_ok-checked.ensures.counted c.in_ok-checked.ensures.answer
+    c.in_ok-parser.parser c.in_ok-parser.ensures c.in-Core.grammar.now c.shown_core.result
+    (rw c.in-Core.is at c.in-Some.ensures) (rw c.in-Core.is at c.grammar_of.ensures) c.shown_core.ensures
 
 pub returns-clause-answer : goal.returns-clause-answer
 returns-clause-answer g c =
-    decides_forest _ _ _ _ c.in-Forest.grammar.now c.in-Forest.input.now c.grammar_of.result.now c.in_ok-checked.checked
-    c.grammar-in-Forest.result.now c.run.result (rw c.in-Forest.is at c.in-Some.ensures)
+    decides_forest _ _ _ _ c.in-Forest.grammar.now c.in-Forest.input.now c.grammar_of.result.now c.in-Forest.budget c.in_ok-checked.checked
+    c.in_ok-parser.parser c.run.result (rw c.in-Forest.is at c.in-Some.ensures)
     (rw c.in-Forest.is at c.grammar_of.ensures) c.in_ok-checked.ensures.counted c.in_ok-checked.ensures.same c.in_ok-checked.ensures.answer
-    c.grammar-in-Forest.ensures.same c.run.ensures.answer
+    c.in_ok-parser.ensures c.run.ensures.answer

@@ -1,7 +1,8 @@
-use Rattle.ig_show.specs.CanonicalText.{text_of}
-use Rattle.ig_tool.proofs.NameNumbers.{word_bytes}
+use Rattle.std.proofs.Common.{ap, sym, ◌∙◌}
+use Rattle.std.specs.Prelude.{encode_utf8_all}
+use Rattle.std.proofs.lemmas.Str.{encodes-chars}
 use Rattle.ig_tool.proofs.top_call.show.Goals as goal
 
 pub returns : goal.returns
 returns c =
-    word_bytes c.in_ok-text.text.items (text_of c.args.grammar.now) c.in_ok-text.ensures.utf8 c.in_ok-text.ensures.spelled
+    sym (encodes-chars c.in_ok-text.text.items c.in_ok-text.ensures.utf8) ∙ ap encode_utf8_all c.in_ok-text.ensures.spelled

@@ -1,4 +1,4 @@
-use Rattle.std.proofs.Common.{subst, sym, ap, ◌∙◌}
+use Rattle.std.proofs.Common.{sym, ap, ◌∙◌}
 use Rattle.std.specs.Option.{option_copied}
 use Rattle.ig_arena.proofs.Linking.{at_cell, at_end, ended, goes}
 use Rattle.ig_arena.proofs.chains.WalkIterator.next.Goals as goal

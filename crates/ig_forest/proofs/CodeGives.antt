@@ -1,0 +1,189 @@
+-- What the rules say at each step, and what tells rows apart.
+use Rattle.std.proofs.Common.{◌≡◌, ℕ, ◌<◌, List, [], ◌∷◌, Some, Option, length, slice_get, refl, sym, ap, ◌∙◌, subst, subst₂}
+use Rattle.std.proofs.lemmas.Option.{slice_get-get_or, same_Some}
+use Rattle.ig_text.specs.declared.pattern.Pattern.{Pattern}
+use Rattle.ig_text.specs.Pattern.{Matches}
+use Rattle.ig_expr.specs.Expression.{Expression}
+use Rattle.ig_expr.specs.declared.value.Value.{Value}
+use Rattle.ig_expr.specs.declared.value.Value.TheVariants.{Bool}
+use Rattle.ig_item.specs.Step.{Step, Test, Bind, Term, Call}
+use Rattle.ig_item.specs.Core.{IsAlternative}
+use Rattle.ig_item.specs.Items.{Item, Reachable, StandsBefore, HasValue, Calls, MatchesNone, past, span_of, IsComplete}
+use Rattle.ig_item.specs.declared.core_grammar.Nonterminal.{Nonterminal}
+use Rattle.ig_item.specs.declared.core_grammar.CoreAlt.{CoreAlt}
+use Rattle.ig_forest.specs.Live as live
+use Rattle.ig_forest.specs.Live.{NodeKey, Taken, Gives, Completes, nothing, leaf, tree}
+use Rattle.ig_forest.specs.CodeTables.{RowFits, item_by, list_at, list_cmp}
+use Rattle.ig_forest.specs.CodeSteps.{StandsAt, StandsLast, HasNames}
+use Rattle.ig_forest.specs.declared.rows.ItemRow.{ItemRow}
+use Rattle.ig_forest.proofs.Lists.{one_place}
+use Rattle.ig_forest.proofs.CodeOrders.{list_total}
+use Rattle.std.specs.List.Sorted.{IsStrictlySortedBy}
+
+pub same_alternative : (core : List Nonterminal) (n a : ℕ) (nt mt : Nonterminal) (alt other : CoreAlt) → IsAlternative core n a nt alt →
+    IsAlternative core n a mt other → (nt ≡ mt) × (alt ≡ other)
+same_alternative core n a nt mt alt other p q =
+    let e : nt ≡ mt = same_Some nt mt (sym p.there ∙ q.there) in
+    (e, same_Some alt other (sym p.has ∙ ap (λ (z : Nonterminal). Rattle.ig_item.specs.Core.numbered z.alternatives a) e ∙ q.has))
+
+pub same_step : (core : List Nonterminal) (it : Item) (ns ms : List (List ℕ)) (s t : Step) → StandsBefore core it ns s →
+    StandsBefore core it ms t → (s ≡ t) × (ns ≡ ms)
+same_step core it ns ms s t p q =
+    let e = same_alternative core it.instance.nonterminal it.alternative p.nonterminal q.nonterminal p.alternative q.alternative p.has q.has in (
+      same_Some s t (sym p.next ∙ ap (λ (z : CoreAlt). slice_get z.steps it.dot) e.1 ∙ q.next),
+      p.visible ∙ ap (λ (z : Nonterminal). Rattle.ig_item.specs.Visible.names_at z p.alternative it.dot) e.0 ∙
+          ap (λ (z : CoreAlt). Rattle.ig_item.specs.Visible.names_at q.nonterminal z it.dot) e.1 ∙ sym q.visible,
+    )
+
+-- where a row's item stands
+pub names_there : (core : List Nonterminal) (lists : List (List Value)) (row : ItemRow) (step : Step) → StandsAt core row step →
+    (names : List (List ℕ)) × HasNames core row names × StandsBefore core (item_by lists row) names step
+names_there core lists row step s =
+    let names = Rattle.ig_item.specs.Visible.names_at s.nonterminal s.alternative row.dot in (
+      names,
+      record { nonterminal = s.nonterminal; alternative = s.alternative; has = s.has; visible = refl },
+      record { nonterminal = s.nonterminal; alternative = s.alternative; has = s.has; next = s.next; visible = refl },
+    )
+
+pub stands_at : (core : List Nonterminal) (lists : List (List Value)) (row : ItemRow) (names : List (List ℕ)) (step : Step) →
+    StandsBefore core (item_by lists row) names step → StandsAt core row step
+stands_at core lists row names step s = record { nonterminal = s.nonterminal; alternative = s.alternative; has = s.has; next = s.next }
+
+abbrev pub complete_from_last : (core : List Nonterminal) (lists : List (List Value)) (row : ItemRow) → StandsLast core row → IsComplete core (item_by lists row)
+complete_from_last core lists row s = record { nonterminal = s.nonterminal; alternative = s.alternative; has = s.has; last = s.last }
+
+abbrev pub last_from_complete : (core : List Nonterminal) (lists : List (List Value)) (row : ItemRow) → IsComplete core (item_by lists row) → StandsLast core row
+last_from_complete core lists row s = record { nonterminal = s.nonterminal; alternative = s.alternative; has = s.has; last = s.last }
+
+module _ (core : List Nonterminal) (text : List ℕ) where
+  pub any_step : {prev x : Item} {taken : Taken} → Gives core text prev taken x → (names : List (List ℕ)) × (step : Step) × StandsBefore core prev names step
+  any_step (live.test prev ns f x r before holds is) = (ns, Test f, before)
+  any_step (live.bind prev ns name f v x r before has is) = (ns, Bind name f, before)
+  any_step (live.terminal prev ns what label excluded j taken x r before matches free t is) = (ns, Term what label excluded, before)
+  any_step (live.return prev done label excluded key x r d calls c free is) =
+      (calls.names, Call key.instance.nonterminal calls.arguments label excluded, calls.before)
+
+  pub by_test : {prev x : Item} {taken : Taken} → Gives core text prev taken x → (names : List (List ℕ)) (e : Expression) →
+      StandsBefore core prev names (Test e) →
+      (taken ≡ nothing) × HasValue text prev names e (Bool Rattle.std.specs.Prelude.true) × (x ≡ past prev [] prev.position)
+  by_test (live.test prev ns f x r before holds is) names e stands =
+      let s = same_step core prev ns names (Test f) (Test e) before stands in
+      let t = s.0 in
+      let fe : f ≡ e = cc in (
+        refl,
+        subst₂ (λ (z : List (List ℕ)) (w : Expression). HasValue text prev z w (Bool Rattle.std.specs.Prelude.true)) s.1 fe holds,
+        is,
+      )
+  by_test (live.bind prev ns name f v x r before has is) names e stands =
+      let s = (same_step core prev ns names (Bind name f) (Test e) before stands).0 in cc
+  by_test (live.terminal prev ns what label excluded j taken x r before matches free t is) names e stands =
+      let s = (same_step core prev ns names (Term what label excluded) (Test e) before stands).0 in cc
+  by_test (live.return prev done label excluded key x r d calls c free is) names e stands =
+      let s = (same_step core prev calls.names names (Call key.instance.nonterminal calls.arguments label excluded) (Test e) calls.before stands).0 in cc
+
+  pub by_bind : {prev x : Item} {taken : Taken} → Gives core text prev taken x → (names : List (List ℕ)) (name : List ℕ) (e : Expression) →
+      StandsBefore core prev names (Bind name e) →
+      (taken ≡ nothing) × (v : Value) × HasValue text prev names e v × (x ≡ past prev (v ∷ []) prev.position)
+  by_bind (live.test prev ns f x r before holds is) names name e stands =
+      let s = (same_step core prev ns names (Test f) (Bind name e) before stands).0 in cc
+  by_bind (live.bind prev ns other f v x r before has is) names name e stands =
+      let s = same_step core prev ns names (Bind other f) (Bind name e) before stands in
+      let t = s.0 in
+      let fe : f ≡ e = cc in
+      (refl, v, subst₂ (λ (z : List (List ℕ)) (w : Expression). HasValue text prev z w v) s.1 fe has, is)
+  by_bind (live.terminal prev ns what label excluded j taken x r before matches free t is) names name e stands =
+      let s = (same_step core prev ns names (Term what label excluded) (Bind name e) before stands).0 in cc
+  by_bind (live.return prev done label excluded key x r d calls c free is) names name e stands =
+      let s = (same_step core prev calls.names names (Call key.instance.nonterminal calls.arguments label excluded) (Bind name e) calls.before stands).0 in cc
+
+  pub record ByTerm (prev : Item) (taken : Taken) (x : Item) (what : Pattern) (label : Option (List ℕ)) (excluded : List Pattern) : Type 0 where
+    pub end : ℕ
+    pub matches : Matches text what prev.position end
+    pub free : MatchesNone text excluded prev.position end
+    pub takes : taken ≡ leaf (record { begin = prev.position; end = end })
+    pub item : x ≡ past prev (span_of label prev.position end) end
+
+  pub by_term : {prev x : Item} {taken : Taken} → Gives core text prev taken x → (names : List (List ℕ)) (what : Pattern) (label : Option (List ℕ))
+      (excluded : List Pattern) → StandsBefore core prev names (Term what label excluded) → ByTerm prev taken x what label excluded
+  by_term (live.test prev ns f x r before holds is) names what label excluded stands =
+      let s = (same_step core prev ns names (Test f) (Term what label excluded) before stands).0 in cc
+  by_term (live.bind prev ns other f v x r before has is) names what label excluded stands =
+      let s = (same_step core prev ns names (Bind other f) (Term what label excluded) before stands).0 in cc
+  by_term (live.terminal prev ns w l ex j taken x r before matches free t is) names what label excluded stands =
+      let s = (same_step core prev ns names (Term w l ex) (Term what label excluded) before stands).0 in
+      let we : w ≡ what = cc in
+      let le : l ≡ label = cc in
+      let xe : ex ≡ excluded = cc in
+      record {
+        end = j;
+        matches = subst (λ (z : Pattern). Matches text z prev.position j) we matches;
+        free = subst (λ (z : List Pattern). MatchesNone text z prev.position j) xe free;
+        takes = t;
+        item = is ∙ ap (λ (z : Option (List ℕ)). past prev (span_of z prev.position j) j) le;
+      }
+  by_term (live.return prev done l ex key x r d calls c free is) names what label excluded stands =
+      let s = (same_step core prev calls.names names (Call key.instance.nonterminal calls.arguments l ex) (Term what label excluded) calls.before stands).0 in cc
+
+  pub record ByCall (prev : Item) (taken : Taken) (x : Item) (names : List (List ℕ)) (callee : ℕ) (arguments : List Expression) (label : Option (List ℕ)) (excluded : List Pattern) : Type 0 where
+    pub key : NodeKey
+    pub done : Item
+    pub reached : Reachable core text done
+    pub completes : Completes core done key
+    pub nonterminal : key.instance.nonterminal ≡ callee
+    pub values : Rattle.ig_item.specs.Items.HaveValues text prev names arguments key.instance.values
+    pub here : key.instance.start ≡ prev.position
+    pub free : MatchesNone text excluded prev.position key.end
+    pub takes : taken ≡ tree key
+    pub item : x ≡ past prev (span_of label prev.position key.end) key.end
+
+  pub by_call : {prev x : Item} {taken : Taken} → Gives core text prev taken x → (names : List (List ℕ)) (callee : ℕ) (arguments : List Expression)
+      (label : Option (List ℕ)) (excluded : List Pattern) → StandsBefore core prev names (Call callee arguments label excluded) →
+      ByCall prev taken x names callee arguments label excluded
+  by_call (live.test prev ns f x r before holds is) names callee arguments label excluded stands =
+      let s = (same_step core prev ns names (Test f) (Call callee arguments label excluded) before stands).0 in cc
+  by_call (live.bind prev ns other f v x r before has is) names callee arguments label excluded stands =
+      let s = (same_step core prev ns names (Bind other f) (Call callee arguments label excluded) before stands).0 in cc
+  by_call (live.terminal prev ns w l ex j taken x r before matches free t is) names callee arguments label excluded stands =
+      let s = (same_step core prev ns names (Term w l ex) (Call callee arguments label excluded) before stands).0 in cc
+  by_call (live.return prev done l ex key x r d calls c free is) names callee arguments label excluded stands =
+      let b = same_step core prev calls.names names (Call key.instance.nonterminal calls.arguments l ex) (Call callee arguments label excluded) calls.before stands in
+      let s = b.0 in
+      let ne : key.instance.nonterminal ≡ callee = cc in
+      let ae : calls.arguments ≡ arguments = cc in
+      let le : l ≡ label = cc in
+      let xe : ex ≡ excluded = cc in
+      record {
+        key = key;
+        done = done;
+        reached = d;
+        completes = c;
+        nonterminal = ne;
+        values = subst₂ (λ (z : List (List ℕ)) (w : List Expression). Rattle.ig_item.specs.Items.HaveValues text prev z w key.instance.values) b.1 ae calls.values;
+        here = calls.here;
+        free = subst (λ (z : List Pattern). MatchesNone text z prev.position key.end) xe free;
+        takes = refl;
+        item = is ∙ ap (λ (z : Option (List ℕ)). past prev (span_of z prev.position key.end) key.end) le;
+      }
+
+-- lists at two places of a table in which each stands once
+pub same_list_place : (lists : List (List Value)) (p q : ℕ) → IsStrictlySortedBy list_cmp lists → p < length lists → q < length lists →
+    list_at lists p ≡ list_at lists q → p ≡ q
+same_list_place lists p q sorted lt mt same =
+    one_place list_cmp list_total lists p q (list_at lists p) sorted (slice_get-get_or lists p [] lt)
+    (slice_get-get_or lists q [] mt ∙ ap Some (sym same))
+
+-- rows of one item are the same
+pub same_row : (lists : List (List Value)) (a b : ItemRow) → IsStrictlySortedBy list_cmp lists → RowFits lists a → RowFits lists b →
+    item_by lists a ≡ item_by lists b → a ≡ b
+same_row lists a b sorted fa fb e =
+    let v : a.values ≡ b.values = same_list_place lists a.values b.values sorted fa.values fb.values (ap (λ (z : Item). z.instance.values) e) in
+    let n : a.env ≡ b.env = same_list_place lists a.env b.env sorted fa.env fb.env (ap (λ (z : Item). z.env) e) in
+    λ i. record {
+      start = ap (λ (z : Item). z.instance.start) e i;
+      position = ap (λ (z : Item). z.position) e i;
+      nonterminal = ap (λ (z : Item). z.instance.nonterminal) e i;
+      values = v i;
+      alternative = ap (λ (z : Item). z.alternative) e i;
+      dot = ap (λ (z : Item). z.dot) e i;
+      env = n i;
+    }

@@ -1,0 +1,93 @@
+-- The tables from which a forest is made: lists of values in order, items and nodes as rows of numbers.
+use Rattle.std.specs.Prelude.{◌≡◌, ◌↔◌, ℕ, ◌<◌, List, [], map, length, Contains, Some, slice_get, slice_index_or}
+use Rattle.std.specs.List.Sorted.{IsStrictlySortedBy}
+use Rattle.std.specs.Cmp.Lexicographic.{slice_cmp}
+use Rattle.std.specs.Ordering.{nat_cmp, ordering_then}
+use Rattle.std.specs.declared.cmp.Ordering.{Ordering}
+use Rattle.ig_expr.specs.declared.value.Value.{Value}
+use Rattle.ig_item.specs.Items.{Item, IsComplete}
+use Rattle.ig_item.specs.declared.core_grammar.Nonterminal.{Nonterminal}
+use Rattle.ig_forest.specs.Live.{NodeKey}
+use Rattle.ig_forest.specs.Orders.{value_cmp}
+use Rattle.ig_forest.specs.declared.rows.ItemRow.{ItemRow}
+use Rattle.ig_forest.specs.declared.rows.NodeRow.{NodeRow}
+
+abbrev pub list_cmp : List Value → List Value → Ordering
+list_cmp = slice_cmp value_cmp
+
+-- the lists are those of the environments, each once, in order
+pub record AreLists (environments lists : List (List Value)) : Type 0 where
+  pub members : (list : List Value) → Contains lists list ↔ Contains environments list
+  pub order : IsStrictlySortedBy list_cmp lists
+
+-- where each environment stands among the lists
+abbrev pub ArePlaces : List (List Value) → List (List Value) → List ℕ → Type 0
+ArePlaces environments lists places = map (λ n. slice_get lists n) places ≡ map Some environments
+
+abbrev pub list_at : List (List Value) → ℕ → List Value
+list_at lists n = slice_index_or lists n []
+
+-- the item of a row
+abbrev pub item_by : List (List Value) → ItemRow → Item
+item_by lists row =
+    record {
+      instance =
+          record { nonterminal = row.nonterminal; values = list_at lists row.values; start = row.start };
+      alternative = row.alternative;
+      dot = row.dot;
+      env = list_at lists row.env;
+      position = row.position;
+    }
+
+-- the key of a row's node
+abbrev pub key_by : List (List Value) → NodeRow → NodeKey
+key_by lists row =
+    record {
+      instance =
+          record { nonterminal = row.nonterminal; values = list_at lists row.values; start = row.start };
+      end = row.end;
+    }
+
+-- the orders of rows, field by field
+abbrev pub row_cmp : ItemRow → ItemRow → Ordering
+row_cmp x y =
+    ordering_then (nat_cmp x.start y.start)
+    (ordering_then (nat_cmp x.position y.position)
+    (ordering_then (nat_cmp x.nonterminal y.nonterminal)
+    (ordering_then (nat_cmp x.values y.values)
+    (ordering_then (nat_cmp x.alternative y.alternative)
+    (ordering_then (nat_cmp x.dot y.dot) (nat_cmp x.env y.env))))))
+
+abbrev pub node_row_cmp : NodeRow → NodeRow → Ordering
+node_row_cmp x y =
+    ordering_then (nat_cmp x.start y.start)
+    (ordering_then (nat_cmp x.end y.end)
+    (ordering_then (nat_cmp x.nonterminal y.nonterminal) (nat_cmp x.values y.values)))
+
+-- the lists that the row names are there, and its dot is a number of its type
+pub record RowFits (lists : List (List Value)) (row : ItemRow) : Type 0 where
+  pub values : row.values < length lists
+  pub env : row.env < length lists
+  pub dot : row.dot < 4294967296
+
+-- the rows are those of the items with P, each once, in order
+pub record AreRows (P : Item → Type 0) (lists : List (List Value)) (rows : List ItemRow) : Type 0 where
+  pub fit : (row : ItemRow) → Contains rows row → RowFits lists row
+  pub sound : (row : ItemRow) → Contains rows row → P (item_by lists row)
+  pub complete : (x : Item) → P x → (row : ItemRow) × Contains rows row × (item_by lists row ≡ x)
+  pub order : IsStrictlySortedBy row_cmp rows
+
+-- the node of an item, once it is complete
+abbrev pub node_of : ItemRow → NodeRow
+node_of row = record { start = row.start; end = row.position; nonterminal = row.nonterminal; values = row.values }
+
+-- the row is of a complete item of that node
+pub record IsDone (core : List Nonterminal) (lists : List (List Value)) (node : NodeRow) (row : ItemRow) : Type 0 where
+  pub complete : IsComplete core (item_by lists row)
+  pub node_is : node_of row ≡ node
+
+-- the nodes are those of the complete items among these, each once, in order
+pub record AreNodeRows (core : List Nonterminal) (lists : List (List Value)) (rows : List ItemRow) (nodes : List NodeRow) :
+    Type 0 where
+  pub members : (node : NodeRow) → Contains nodes node ↔ ((row : ItemRow) × Contains rows row × IsDone core lists node row)
+  pub order : IsStrictlySortedBy node_row_cmp nodes

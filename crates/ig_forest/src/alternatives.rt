@@ -1,0 +1,94 @@
+//! The nodes of a forest with their alternatives.
+ghost use Rattle.std.specs.Prelude.{◌≡◌, ◌<◌, ◌≤◌, ◌+◌, ◌∷◌, [], ◌++◌, IfOk, OnOk, MatchOption};
+ghost use Rattle.std.specs.Prelude.{map, length, Contains};
+ghost use Rattle.std.specs.List.Sorted.{IsStrictlySortedBy};
+ghost use Rattle.ig_forest.specs.CodeTables.{row_cmp};
+ghost use Rattle.ig_forest.specs.CodeSteps.{StandsLast};
+ghost use Rattle.ig_forest.specs.CodeForest.{HasChoices, IsTagged};
+ghost use Rattle.ig_forest.specs.CodeChoices.{AddsChoice};
+ghost use Rattle.ig_forest.specs.declared.stored.StoredNode.{StoredNode};
+
+use crate::done::run_of_node;
+use crate::dots::is_complete;
+use crate::entry::Choice;
+use crate::rows::{ItemRow, NodeRow};
+use crate::stored::{Choices, StoredNode};
+use ig_item::Core;
+use ig_text::Tag;
+use std::alloc::{AllocError, Global};
+
+/// The nodes, each with its alternatives.
+pub(crate) fn with_alternatives(
+    alloc: Global,
+    core: &Core,
+    rows: &[ItemRow],
+    nodes: &[NodeRow],
+) -> Result<Vec<StoredNode>, AllocError>
+    requires order { IsStrictlySortedBy row_cmp rows.now }
+    requires few { length rows.now < 4294967296 }
+    ensures rows { IfOk result (λ stored. map (λ n. n.row) stored.items ≡ nodes.now) }
+    ensures choices { IfOk result (λ stored. (n : StoredNode) → Contains stored.items n →
+        HasChoices core.now rows.now n.row n.alternatives) }
+{
+    let mut stored = Vec::with_capacity(alloc, nodes.len())?;
+    for node in nodes {
+        let alternatives = choices_of(alloc, core, rows, *node)?;
+        stored.push(StoredNode {
+            row: *node,
+            alternatives,
+        })?;
+    }
+    Ok(stored)
+}
+
+/// The alternatives of a node: its complete items, in order.
+fn choices_of(
+    alloc: Global,
+    core: &Core,
+    rows: &[ItemRow],
+    node: NodeRow,
+) -> Result<Choices, AllocError>
+    requires order { IsStrictlySortedBy row_cmp rows.now }
+    requires few { length rows.now < 4294967296 }
+    ensures { IfOk result (λ choices. HasChoices core.now rows.now node choices) }
+{
+    let mut choices = Choices::new(alloc);
+    let (first, end) = run_of_node(rows, node);
+    for place in first..end {
+        add_choice(core, rows, &mut choices, place as u32)?;
+    }
+    Ok(choices)
+}
+
+/// Adds the item of that number as a choice, where it is complete.
+fn add_choice(
+    core: &Core,
+    rows: &[ItemRow],
+    choices: &mut Choices,
+    place: u32,
+) -> Result<(), AllocError>
+    requires place { place < length rows.now }
+    ensures { OnOk result (AddsChoice core.now rows.now place choices.old choices.new) }
+{
+    match tag_of(core, &rows[place as usize]) {
+        Some(tag) => push_choice(choices, Choice { tag, item: place }),
+        None => Ok(()),
+    }
+}
+
+/// Adds a choice at the end.
+fn push_choice(choices: &mut Choices, choice: Choice) -> Result<(), AllocError>
+    ensures { OnOk result (choices.new ≡ choices.old ++ choice ∷ []) }
+{
+    choices.push(choice).map_err(|(_, error)| error)
+}
+
+/// The tag of a complete item's alternative; `None` exactly where the item isn't complete.
+fn tag_of(core: &Core, row: &ItemRow) -> Option<Tag>
+    ensures { MatchOption result (StandsLast core.now row.now → ⊥) (IsTagged core.now row.now) }
+{
+    if is_complete(core, row) {
+        return core.tag(row.nonterminal, row.alternative);
+    }
+    None
+}

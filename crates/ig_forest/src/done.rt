@@ -1,0 +1,86 @@
+//! Complete items and the nodes to which they belong.
+ghost use Rattle.std.specs.Prelude.{◌≡◌, ◌↔◌, ◌+◌, ◌≤◌, ◌<◌, ℕ, IfOk, OnOk, Some, true, false};
+ghost use Rattle.std.specs.Prelude.{length, slice_get};
+ghost use Rattle.std.specs.List.Sorted.{IsPartitionPoint, IsStrictlySortedBy};
+ghost use Rattle.std.specs.Ordering.{is_le, is_lt};
+ghost use Rattle.ig_forest.specs.CodeTables.{node_of, node_row_cmp, row_cmp};
+ghost use Rattle.ig_forest.specs.CodeSteps.{Adds};
+ghost use Rattle.ig_forest.specs.CodeDone.{AreNodesOf, IsDoneRow};
+
+use crate::dots::is_complete;
+use crate::rows::{ItemRow, NodeRow};
+use ig_item::Core;
+use std::alloc::{AllocError, Global};
+
+/// The nodes of the complete items among these, each once, in order.
+pub(crate) fn nodes_of(
+    alloc: Global,
+    core: &Core,
+    rows: &[ItemRow],
+) -> Result<Vec<NodeRow>, AllocError>
+    ensures nodes { IfOk result (λ nodes. AreNodesOf core.now rows.now nodes.items) }
+    ensures few { IfOk result (λ nodes. length nodes.items ≤ length rows.now) }
+{
+    let mut nodes = Vec::new(alloc);
+    for row in rows {
+        push_node(core, &mut nodes, row)?;
+    }
+    nodes.sort_unstable();
+    nodes.dedup();
+    Ok(nodes)
+}
+
+/// Adds the node of the item, where that is complete.
+fn push_node(core: &Core, nodes: &mut Vec<NodeRow>, row: &ItemRow) -> Result<(), AllocError>
+    ensures adds { OnOk result (Adds nodes.old.items nodes.new.items (IsDoneRow core.now row.now)) }
+    ensures few { OnOk result (length nodes.new.items ≤ length nodes.old.items + 1) }
+{
+    if is_complete(core, row) {
+        nodes.push(node_of(row))?;
+    }
+    Ok(())
+}
+
+/// The node of an item, once it is complete.
+fn node_of(row: &ItemRow) -> NodeRow
+    ensures { result ≡ node_of row.now }
+{
+    NodeRow {
+        start: row.start,
+        end: row.position,
+        nonterminal: row.nonterminal,
+        values: row.values,
+    }
+}
+
+/// Where the items that belong to the node stand once they are complete: from the first number to
+/// before the second.
+pub(crate) fn run_of_node(rows: &[ItemRow], node: NodeRow) -> (usize, usize)
+    requires { IsStrictlySortedBy row_cmp rows.now }
+    ensures onward { result.0 ≤ result.1 }
+    ensures within { result.1 ≤ length rows.now }
+    ensures exact { (k : ℕ) (row : ItemRow) → slice_get rows.now k ≡ Some row →
+        (node_of row ≡ node) ↔ ((result.0 ≤ k) × (k < result.1)) }
+{
+    (start_of_node(rows, node), end_of_node(rows, node))
+}
+
+/// How many items stand before those of the node.
+fn start_of_node(rows: &[ItemRow], node: NodeRow) -> usize
+    requires { IsStrictlySortedBy row_cmp rows.now }
+    ensures bound { result ≤ length rows.now }
+    ensures parts { IsPartitionPoint (λ r. is_lt (node_row_cmp (node_of r) node) ≡ true)
+        (λ r. is_lt (node_row_cmp (node_of r) node) ≡ false) rows.now result }
+{
+    rows.partition_point(|row| node_of(row) < node)
+}
+
+/// How many items stand before those behind the node.
+fn end_of_node(rows: &[ItemRow], node: NodeRow) -> usize
+    requires { IsStrictlySortedBy row_cmp rows.now }
+    ensures bound { result ≤ length rows.now }
+    ensures parts { IsPartitionPoint (λ r. is_le (node_row_cmp (node_of r) node) ≡ true)
+        (λ r. is_le (node_row_cmp (node_of r) node) ≡ false) rows.now result }
+{
+    rows.partition_point(|row| node_of(row) <= node)
+}

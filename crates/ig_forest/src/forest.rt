@@ -1,0 +1,207 @@
+//! The reduced forest: its tables, how they are made, and readers that hand out borrowing views.
+ghost use Rattle.std.specs.Prelude.{◌≡◌, ◌↔◌, IfOk, MatchOption, Contains, length, option_map};
+ghost use Rattle.std.specs.Prelude.{slice_get};
+ghost use Rattle.std.specs.Option.{option_copied};
+ghost use Rattle.ig_item.specs.Items.{Item, Reachable, RootIsComplete};
+ghost use Rattle.ig_item.specs.Tables.{items_of};
+ghost use Rattle.ig_forest.specs.Reduced.{IsReduced};
+ghost use Rattle.ig_forest.specs.Unfold.{IsTrim};
+ghost use Rattle.ig_forest.specs.CodeViews.{item_node_view, node_view};
+
+use crate::builder::from_sources;
+use crate::done::nodes_of;
+use crate::entry::{Choice, Entry};
+use crate::environments::lists_of;
+use crate::filed::file_nodes;
+use crate::item_rows::rows_of;
+use crate::links::Sources;
+use crate::names::names_of_core;
+use crate::stored::{StoredItem, StoredNode};
+use ig_expr::Value;
+use ig_item::{Core, EnvironmentTable, Items, environments_fit, reachable_is_closed};
+use ig_text::{Span, Text, Word, Words};
+use std::alloc::{AllocError, Global};
+use std::marker::Model;
+
+/// The reduced forest of a core grammar and a text. Nodes and item nodes are numbered from 0.
+#[derive(Drop)]
+pub struct Forest {
+    pub(crate) root: u32,
+    pub(crate) names: Words,
+    pub(crate) lists: EnvironmentTable,
+    pub(crate) nodes: Vec<StoredNode>,
+    pub(crate) items: Vec<StoredItem>,
+}
+
+impl Model for Forest {
+    ghost use Rattle.ig_forest.specs.Forest as parts;
+    ghost use Rattle.ig_forest.specs.CodeForest.{forest_by, FitsForest};
+
+    ghost Value = { parts.Forest };
+
+    ghost view = { λ s. forest_by s.root s.names s.lists s.nodes.items s.items.items };
+
+    ghost invariant = { λ s. FitsForest s.root s.names s.lists s.nodes.items s.items.items };
+}
+
+/// A node that is borrowed from a forest.
+#[derive(Clone, Copy)]
+pub struct Node<'f> {
+    pub name: &'f Word,
+    pub nonterminal: u32,
+    pub values: &'f [Value],
+    pub span: Span,
+    pub alternatives: &'f [Choice],
+}
+
+/// An item node that is borrowed from a forest. Its environment begins with the values of its
+/// arguments.
+#[derive(Clone, Copy)]
+pub struct ItemNode<'f> {
+    pub name: &'f Word,
+    pub nonterminal: u32,
+    pub values: &'f [Value],
+    pub start: u32,
+    pub alternative: u32,
+    pub dot: u32,
+    pub env: &'f [Value],
+    pub position: u32,
+    pub entries: &'f [Entry],
+}
+
+impl Forest {
+    /// The reduced forest of the core grammar and the text, whose reachable items are these. `None`
+    /// exactly where no complete item of the root over the whole text is reachable.
+    pub fn build(
+        alloc: Global,
+        items: &Items,
+        core: &Core,
+        text: &Text,
+    ) -> Result<Option<Forest>, AllocError>
+        requires { (x : Item) → Contains (items_of items.now) x ↔ Reachable core.now text.now x }
+        ensures { IfOk result (λ forest. MatchOption forest
+            (RootIsComplete core.now text.now → ⊥) (IsReduced core.now text.now)) }
+    {
+        reachable_is_closed();
+        environments_fit();
+        let _ = core.nonterminals();
+        let list_table = lists_of(alloc, items)?;
+        let lists = list_table.as_slice();
+        let row_table = rows_of(alloc, items, lists)?;
+        let rows = row_table.as_slice();
+        let node_table = nodes_of(alloc, core, rows)?;
+        let nodes = node_table.as_slice();
+        let filed_table = file_nodes(alloc, nodes)?;
+        let filed = filed_table.as_slice();
+        let name_table = names_of_core(alloc, core)?;
+        let names = name_table.as_slice();
+        let sources = Sources {
+            core,
+            text,
+            names,
+            lists,
+            rows,
+            nodes,
+            filed,
+        };
+        from_sources(alloc, &sources)
+    }
+
+    /// The number of the root's node. Takes no memory.
+    pub fn root(&self) -> u32
+        ensures number { result ≡ self.now.root }
+        ensures trim { IsTrim self.now }
+    {
+        self.root
+    }
+
+    /// The number of nodes. Takes no memory.
+    pub fn nodes(&self) -> u32
+        ensures { result ≡ length self.now.nodes }
+    {
+        self.nodes.len() as u32
+    }
+
+    /// The number of item nodes. Takes no memory.
+    pub fn items(&self) -> u32
+        ensures { result ≡ length self.now.items }
+    {
+        self.items.len() as u32
+    }
+
+    /// A node by its number, from 0; `None` exactly where the number isn't there. Takes no memory.
+    pub fn node(&self, k: u32) -> Option<Node<'_>>
+        ensures { option_map node_view result ≡ slice_get self.now.nodes k }
+    {
+        let Some(stored) = node_at(self.nodes.as_slice(), k) else {
+            return None;
+        };
+        let Some(name) = word_at(self.names.as_slice(), stored.row.nonterminal) else {
+            unreachable!()
+        };
+        let Some(values) = self.lists.get(stored.row.values) else {
+            unreachable!()
+        };
+        Some(Node {
+            name,
+            nonterminal: stored.row.nonterminal,
+            values,
+            span: Span {
+                begin: stored.row.start,
+                end: stored.row.end,
+            },
+            alternatives: stored.alternatives.as_slice(),
+        })
+    }
+
+    /// An item node by its number, from 0; `None` exactly where the number isn't there. Takes no
+    /// memory.
+    pub fn item(&self, k: u32) -> Option<ItemNode<'_>>
+        ensures { option_map item_node_view result ≡ slice_get self.now.items k }
+    {
+        let Some(stored) = item_at(self.items.as_slice(), k) else {
+            return None;
+        };
+        let Some(name) = word_at(self.names.as_slice(), stored.row.nonterminal) else {
+            unreachable!()
+        };
+        let Some(values) = self.lists.get(stored.row.values) else {
+            unreachable!()
+        };
+        let Some(env) = self.lists.get(stored.row.env) else {
+            unreachable!()
+        };
+        Some(ItemNode {
+            name,
+            nonterminal: stored.row.nonterminal,
+            values,
+            start: stored.row.start,
+            alternative: stored.row.alternative,
+            dot: stored.row.dot,
+            env,
+            position: stored.row.position,
+            entries: stored.entries.as_slice(),
+        })
+    }
+}
+
+/// A stored node by its number.
+fn node_at(nodes: &[StoredNode], k: u32) -> Option<&StoredNode>
+    ensures { option_copied result ≡ slice_get nodes.now k }
+{
+    nodes.get(k as usize)
+}
+
+/// A stored item node by its number.
+fn item_at(items: &[StoredItem], k: u32) -> Option<&StoredItem>
+    ensures { option_copied result ≡ slice_get items.now k }
+{
+    items.get(k as usize)
+}
+
+/// A word by its number.
+fn word_at(words: &[Word], k: u32) -> Option<&Word>
+    ensures { option_copied result ≡ slice_get words.now k }
+{
+    words.get(k as usize)
+}

@@ -1,0 +1,461 @@
+//! How each item comes about from a previous one.
+//!
+//! The walk goes from each item forward: what its next step may take gives a link to the item after
+//! that step. So it costs no more than there are links, but for the searches.
+ghost use Rattle.std.specs.Prelude.{◌≡◌, ◌↔◌, ◌≤◌, ◌<◌, ◌∷◌, [], ◌++◌, ℕ, false, IfOk, OnOk};
+ghost use Rattle.std.specs.Prelude.{MatchOption, Some, true, map, length, slice_get, Contains};
+ghost use Rattle.std.specs.Prelude.{List};
+ghost use Rattle.std.specs.Bool.{MatchBool};
+ghost use Rattle.ig_text.specs.Pattern.{Matches};
+ghost use Rattle.ig_expr.specs.Evaluation.{value_of};
+ghost use Rattle.ig_expr.specs.View.{expression_of};
+ghost use Rattle.ig_item.specs.Items.{MatchesNone, Reachable, past, span_of};
+ghost use Rattle.ig_item.specs.Step as tree;
+ghost use Rattle.std.specs.List.Sorted.{IsPartitionPoint, IsStrictlySortedBy};
+ghost use Rattle.std.specs.Ordering.{is_le, is_lt, nat_cmp};
+ghost use Rattle.ig_expr.specs.declared.value.Value as element;
+ghost use Rattle.ig_expr.specs.declared.value.Value.TheVariants.{Bool};
+ghost use Rattle.ig_forest.specs.CodeLinks.{AreLinks, AreSources, CanTake, CanTakeNode, IsLinkTo};
+ghost use Rattle.ig_forest.specs.CodeLinks.{LinkedBy, LinkedByOne, LinkedFrom, link_cmp, lists_of};
+ghost use Rattle.ig_forest.specs.CodeSteps.{Adds, HasNames, StandsAt, all_names, bound_by};
+ghost use Rattle.ig_forest.specs.CodeTables.{item_by, list_at, row_cmp};
+
+use crate::dots::next_step;
+use crate::environments::place_of;
+use crate::filed::{FiledNode, InstanceRow, run_of};
+use crate::rows::{ItemRow, NodeRow};
+use ig_expr::{Expr, Exprs, Value, evaluate};
+use ig_item::{Core, Step};
+use ig_text::{Pattern, Patterns, Sequence, Span, Text, Word, Words};
+use std::alloc::{AllocError, Global};
+
+/// A link from an item to a previous one, by number; behind a call with the node that was taken.
+#[derive(Clone, Copy, PartialEq, Eq, PartialOrd, Ord)]
+pub(crate) struct Link {
+    pub target: u32,
+    pub prev: u32,
+    pub node: Option<u32>,
+}
+
+/// What the links are made from.
+#[derive(Clone, Copy)]
+pub(crate) struct Sources<'a, 'v> {
+    pub core: &'a Core,
+    pub text: &'a Text,
+    pub names: &'a [Sequence<Words>],
+    pub lists: &'a [&'v [Value]],
+    pub rows: &'a [ItemRow],
+    pub nodes: &'a [NodeRow],
+    pub filed: &'a [FiledNode],
+}
+
+/// The links between all items, in the order of the target and then of the previous item.
+pub(crate) fn links_of(alloc: Global, sources: &Sources) -> Result<Vec<Link>, AllocError>
+    requires { AreSources sources.now }
+    ensures { IfOk result (λ links. AreLinks sources.now links.items) }
+{
+    let mut links = Vec::new(alloc);
+    for number in 0..sources.rows.len() as u32 {
+        sources.add_links(alloc, &mut links, number)?;
+    }
+    links.sort_unstable();
+    links.dedup();
+    Ok(links)
+}
+
+/// Whether the text from `begin` to `end` is a match of one of the patterns.
+fn is_excluded(excluded: &Patterns, text: &Text, begin: u32, end: u32) -> bool
+    ensures { MatchBool result (MatchesNone text.now excluded.now begin end → ⊥)
+        (MatchesNone text.now excluded.now begin end) }
+{
+    for pattern in excluded.as_slice() {
+        if is_match(pattern, text, begin, end) {
+            return true;
+        }
+    }
+    false
+}
+
+/// Whether the text from `begin` to `end` is a match of the pattern.
+fn is_match(pattern: &Pattern, text: &Text, begin: u32, end: u32) -> bool
+    ensures { MatchBool result (Matches text.now pattern.now begin end)
+        (Matches text.now pattern.now begin end → ⊥) }
+{
+    match pattern.ends_at(text, begin) {
+        Some(found) => found == end,
+        None => false,
+    }
+}
+
+/// Whether there is the value true.
+fn is_true(value: Option<Value>) -> bool
+    ensures { MatchBool result (value ≡ Some (Bool true))
+        (value ≡ Some (Bool true) → ⊥) }
+{
+    match value {
+        Some(Value::Bool(holds)) => holds,
+        Some(_) => false,
+        None => false,
+    }
+}
+
+/// What a label binds.
+fn bound(label: &Option<Word>, begin: u32, end: u32) -> Option<Value>
+    ensures { bound_by result ≡ span_of label.now begin end }
+{
+    match label {
+        Some(_) => Some(Value::Span(Span { begin, end })),
+        None => None,
+    }
+}
+
+impl<'a, 'v> Sources<'a, 'v> {
+    /// Adds the links whose previous item is the one of that number.
+    fn add_links(&self, alloc: Global, links: &mut Vec<Link>, number: u32) -> Result<(), AllocError>
+        requires sources { AreSources self.now }
+        requires number { number < length self.now.rows.now }
+        ensures { OnOk result (Adds links.old.items links.new.items (LinkedFrom self.now number)) }
+    {
+        let row = self.rows[number as usize];
+        let Some(step) = next_step(self.core, &row) else {
+            return Ok(());
+        };
+        match step {
+            Step::Test(condition) => self.add_test(alloc, links, number, condition),
+            Step::Bind(name, value) => self.add_bind(alloc, links, number, name, value),
+            Step::Term { what, label, not } => {
+                self.add_leaf(alloc, links, number, what, label, not)
+            }
+            Step::Call {
+                nonterminal,
+                args,
+                label,
+                not,
+            } => self.add_nodes(alloc, links, number, *nonterminal, args, label, not),
+        }
+    }
+
+    /// Adds the link behind a condition, where it is true.
+    fn add_test(
+        &self,
+        alloc: Global,
+        links: &mut Vec<Link>,
+        number: u32,
+        condition: &Expr,
+    ) -> Result<(), AllocError>
+        requires sources { AreSources self.now }
+        requires before { (row : ItemRow) × (slice_get self.now.rows.now number ≡ Some row) ×
+            StandsAt self.now.core.now row (tree.Test (expression_of condition.now)) }
+        ensures { OnOk result (Adds links.old.items links.new.items (LinkedFrom self.now number)) }
+    {
+        let row = self.rows[number as usize];
+        if is_true(self.value(row, condition)) {
+            return self.add(alloc, links, number, None, row.position, None);
+        }
+        Ok(())
+    }
+
+    /// Adds the link behind a bind, where its expression has a value.
+    fn add_bind(
+        &self,
+        alloc: Global,
+        links: &mut Vec<Link>,
+        number: u32,
+        name: &Word,
+        bound: &Expr,
+    ) -> Result<(), AllocError>
+        requires sources { AreSources self.now }
+        requires before { (row : ItemRow) × (slice_get self.now.rows.now number ≡ Some row) ×
+            StandsAt self.now.core.now row (tree.Bind name.now (expression_of bound.now)) }
+        ensures { OnOk result (Adds links.old.items links.new.items (LinkedFrom self.now number)) }
+    {
+        let row = self.rows[number as usize];
+        match self.value(row, bound) {
+            Some(value) => self.add(alloc, links, number, Some(value), row.position, None),
+            None => Ok(()),
+        }
+    }
+
+    /// Adds the link behind a terminal, where it matches.
+    fn add_leaf(
+        &self,
+        alloc: Global,
+        links: &mut Vec<Link>,
+        number: u32,
+        what: &Pattern,
+        label: &Option<Word>,
+        not: &Patterns,
+    ) -> Result<(), AllocError>
+        requires sources { AreSources self.now }
+        requires before { (row : ItemRow) × (slice_get self.now.rows.now number ≡ Some row) ×
+            StandsAt self.now.core.now row (tree.Term what.now label.now not.now) }
+        ensures { OnOk result (Adds links.old.items links.new.items (LinkedFrom self.now number)) }
+    {
+        let row = self.rows[number as usize];
+        let Some(end) = what.ends_at(self.text, row.position) else {
+            return Ok(());
+        };
+        if is_excluded(not, self.text, row.position, end) {
+            return Ok(());
+        }
+        let value = bound(label, row.position, end);
+        self.add(alloc, links, number, value, end, None)
+    }
+
+    /// Adds the links behind a call, one for each node of the instance that it calls.
+    fn add_nodes(
+        &self,
+        alloc: Global,
+        links: &mut Vec<Link>,
+        number: u32,
+        callee: u32,
+        args: &Exprs,
+        label: &Option<Word>,
+        not: &Patterns,
+    ) -> Result<(), AllocError>
+        requires sources { AreSources self.now }
+        requires before { (row : ItemRow) × (slice_get self.now.rows.now number ≡ Some row) ×
+            StandsAt self.now.core.now row (tree.Call callee args.now label.now not.now) }
+        ensures { OnOk result (Adds links.old.items links.new.items (LinkedFrom self.now number)) }
+    {
+        let row = self.rows[number as usize];
+        let Some(values) = self.values(alloc, row, args)? else {
+            return Ok(());
+        };
+        let Some(values) = place_of(self.lists, values.as_slice()) else {
+            return Ok(());
+        };
+        let wanted = InstanceRow {
+            start: row.position,
+            nonterminal: callee,
+            values,
+        };
+        let run = run_of(self.filed, wanted);
+        self.add_run(alloc, links, number, label, not, run)
+    }
+
+    /// Adds the links that take these nodes.
+    fn add_run(
+        &self,
+        alloc: Global,
+        links: &mut Vec<Link>,
+        number: u32,
+        label: &Option<Word>,
+        not: &Patterns,
+        run: &[FiledNode],
+    ) -> Result<(), AllocError>
+        requires sources { AreSources self.now }
+        requires number { number < length self.now.rows.now }
+        requires called { CanTake self.now number label.now not.now run.now }
+        ensures { OnOk result (Adds links.old.items links.new.items
+            (LinkedByOne self.now number label.now not.now run.now)) }
+    {
+        for filed in run {
+            self.add_node(alloc, links, number, label, not, filed.node)?;
+        }
+        Ok(())
+    }
+
+    /// Adds the link that takes a node, where its text isn't excluded.
+    fn add_node(
+        &self,
+        alloc: Global,
+        links: &mut Vec<Link>,
+        number: u32,
+        label: &Option<Word>,
+        not: &Patterns,
+        node: u32,
+    ) -> Result<(), AllocError>
+        requires sources { AreSources self.now }
+        requires number { number < length self.now.rows.now }
+        requires node { node < length self.now.nodes.now }
+        requires called { CanTakeNode self.now number label.now not.now node }
+        ensures { OnOk result (Adds links.old.items links.new.items
+            (LinkedBy self.now number label.now not.now node)) }
+    {
+        let row = self.rows[number as usize];
+        let end = self.nodes[node as usize].end;
+        if is_excluded(not, self.text, row.position, end) {
+            return Ok(());
+        }
+        let value = bound(label, row.position, end);
+        self.add(alloc, links, number, value, end, Some(node))
+    }
+
+    /// Adds the link from the item after the next step, which bound the value and came to `end`, to
+    /// the previous one, which has that number.
+    fn add(
+        &self,
+        alloc: Global,
+        links: &mut Vec<Link>,
+        number: u32,
+        bound: Option<Value>,
+        end: u32,
+        node: Option<u32>,
+    ) -> Result<(), AllocError>
+        requires sources { AreSources self.now }
+        requires there { (row : ItemRow) × (slice_get self.now.rows.now number ≡ Some row) ×
+            Reachable self.now.core.now self.now.text.now
+            (past (item_by (lists_of self.now) row) (bound_by bound) end) }
+        ensures { OnOk result ((row : ItemRow) × (link : Link) ×
+            (slice_get self.now.rows.now number ≡ Some row) ×
+            IsLinkTo (lists_of self.now) self.now.rows.now
+            (past (item_by (lists_of self.now) row) (bound_by bound) end) number node link ×
+            (links.new.items ≡ links.old.items ++ link ∷ [])) }
+    {
+        let row = self.rows[number as usize];
+        let Some(env) = self.extended(alloc, row.env, bound)? else {
+            unreachable!()
+        };
+        let target = ItemRow {
+            position: end,
+            dot: row.dot + 1,
+            env,
+            ..row
+        };
+        let target = number_of(self.rows, &target);
+        links.push(Link {
+            target,
+            prev: number,
+            node,
+        })?;
+        Ok(())
+    }
+
+    /// The place of the list with the value at its end, where there is one; `None` exactly where
+    /// that list isn't there.
+    fn extended(
+        &self,
+        alloc: Global,
+        env: u32,
+        bound: Option<Value>,
+    ) -> Result<Option<u32>, AllocError>
+        requires sources { AreSources self.now }
+        requires env { env < length self.now.lists.now }
+        ensures { IfOk result (λ r. MatchOption r
+            (Contains (lists_of self.now) (list_at (lists_of self.now) env ++ bound_by bound) → ⊥)
+            (λ k. slice_get (lists_of self.now) k ≡
+            Some (list_at (lists_of self.now) env ++ bound_by bound))) }
+    {
+        match bound {
+            Some(value) => self.lengthened(alloc, env, value),
+            None => Ok(Some(env)),
+        }
+    }
+
+    /// The place of the list with the value at its end; `None` exactly where that list isn't there.
+    fn lengthened(&self, alloc: Global, env: u32, value: Value) -> Result<Option<u32>, AllocError>
+        requires sources { AreSources self.now }
+        requires env { env < length self.now.lists.now }
+        ensures { IfOk result (λ r. MatchOption r
+            (Contains (lists_of self.now) (list_at (lists_of self.now) env ++ value ∷ []) → ⊥)
+            (λ k. slice_get (lists_of self.now) k ≡
+            Some (list_at (lists_of self.now) env ++ value ∷ []))) }
+    {
+        let mut list = Vec::from_slice(alloc, self.lists[env as usize])?;
+        list.push(value)?;
+        Ok(place_of(self.lists, list.as_slice()))
+    }
+
+    /// The value of an expression where the item stands.
+    fn value(&self, row: ItemRow, e: &Expr) -> Option<Value>
+        requires sources { AreSources self.now }
+        requires row { Contains self.now.rows.now row }
+        requires before { (step : tree.Step) × StandsAt self.now.core.now row step }
+        ensures { (names : List (List ℕ)) → HasNames self.now.core.now row names →
+            result ≡ value_of self.now.text.now names (list_at (lists_of self.now) row.env)
+            row.position (expression_of e.now) }
+    {
+        let env = self.lists[row.env as usize];
+        let names = self.names_before(row, env.len());
+        evaluate(e, names, env, row.position, self.text)
+    }
+
+    /// The values of the arguments where the item stands; `None` where one has none.
+    fn values(
+        &self,
+        alloc: Global,
+        row: ItemRow,
+        args: &Exprs,
+    ) -> Result<Option<Vec<Value>>, AllocError>
+        requires sources { AreSources self.now }
+        requires row { Contains self.now.rows.now row }
+        requires before { (step : tree.Step) × StandsAt self.now.core.now row step }
+        ensures { IfOk result (λ r. (names : List (List ℕ)) →
+            HasNames self.now.core.now row names →
+            MatchOption r
+            ((vs : List element.Value) → map (value_of self.now.text.now names
+            (list_at (lists_of self.now) row.env) row.position) args.now ≡ map Some vs → ⊥)
+            (λ vs. map (value_of self.now.text.now names
+            (list_at (lists_of self.now) row.env) row.position) args.now ≡
+            map Some vs.items)) }
+    {
+        let mut values = Vec::new(alloc);
+        for argument in args.as_slice() {
+            let Some(value) = self.value(row, argument) else {
+                return Ok(None);
+            };
+            values.push(value)?;
+        }
+        Ok(Some(values))
+    }
+
+    /// The first `count` names that are visible in the item's alternative.
+    fn names_before(&self, row: ItemRow, count: usize) -> &[Word]
+        requires names { self.now.names.now ≡ all_names self.now.core.now }
+        requires before { (step : tree.Step) × StandsAt self.now.core.now row step }
+        requires count { (names : List (List ℕ)) → HasNames self.now.core.now row names →
+            count ≡ length names }
+        ensures { (names : List (List ℕ)) → HasNames self.now.core.now row names →
+            result.now ≡ names }
+    {
+        let alternatives = self.names[row.nonterminal as usize].as_slice();
+        let names = alternatives[row.alternative as usize - 1].as_slice();
+        &names[..count]
+    }
+}
+
+/// The number of a row.
+pub(crate) fn number_of(rows: &[ItemRow], row: &ItemRow) -> u32
+    requires order { IsStrictlySortedBy row_cmp rows.now }
+    requires few { length rows.now < 4294967296 }
+    requires there { Contains rows.now row.now }
+    ensures { slice_get rows.now result ≡ Some row.now }
+{
+    match rows.binary_search(row) {
+        Ok(number) => number as u32,
+        Err(_) => unreachable!(),
+    }
+}
+
+/// The links to a target, in order.
+pub(crate) fn links_to(links: &[Link], target: u32) -> &[Link]
+    requires { IsStrictlySortedBy link_cmp links.now }
+    ensures members { (link : Link) →
+        Contains result.now link ↔ (Contains links.now link × (link.target ≡ target)) }
+    ensures order { IsStrictlySortedBy link_cmp result.now }
+{
+    let first = links_before(links, target);
+    let end = links_upto(links, target);
+    &links[first..end]
+}
+
+/// How many links have a lower target.
+fn links_before(links: &[Link], target: u32) -> usize
+    requires { IsStrictlySortedBy link_cmp links.now }
+    ensures bound { result ≤ length links.now }
+    ensures parts { IsPartitionPoint (λ l. is_lt (nat_cmp l.target target) ≡ true)
+        (λ l. is_lt (nat_cmp l.target target) ≡ false) links.now result }
+{
+    links.partition_point(|link| link.target < target)
+}
+
+/// How many links have that target or a lower one.
+fn links_upto(links: &[Link], target: u32) -> usize
+    requires { IsStrictlySortedBy link_cmp links.now }
+    ensures bound { result ≤ length links.now }
+    ensures parts { IsPartitionPoint (λ l. is_le (nat_cmp l.target target) ≡ true)
+        (λ l. is_le (nat_cmp l.target target) ≡ false) links.now result }
+{
+    links.partition_point(|link| link.target <= target)
+}

@@ -1,0 +1,53 @@
+-- What parsing a text with a checked grammar gives: the main theorem.
+use Rattle.std.specs.Prelude.{ℕ, ◌<◌, ◌≤◌, ◌↔◌, ◌≡◌, List, Result, Ok, Err}
+use Rattle.ig_text.specs.Tree.{Tree, height}
+use Rattle.ig_grammar.specs.Checked.{CheckedGrammar}
+use Rattle.ig_meaning.specs.Permitted.{Permitted}
+use Rattle.ig_item.specs.Core.{dots}
+use Rattle.ig_item.specs.Items.{MoreThan}
+use Rattle.ig_item.specs.Limits.{most_dots}
+use Rattle.ig_core.specs.CoreOf.{core_of}
+use Rattle.ig_forest.specs.Forest.{Forest}
+use Rattle.ig_forest.specs.Unfold.{Unfold, Unfolds}
+use Rattle.ig_forest.specs.Reduced.{IsReduced}
+use Rattle.ig_parse.specs.declared.fault.ParseFault.{ParseFault}
+use Rattle.ig_parse.specs.declared.fault.ParseFault.TheVariants.{TooManyDots, Budget, NoParse, Memory}
+
+module _ (c : CheckedGrammar) (text : List ℕ) where
+  -- a tree is permitted
+  abbrev pub IsParsed : Type 0
+  IsParsed = (t : Tree) × Permitted c.grammar c.shapes text t
+
+  -- no tree is permitted
+  abbrev pub IsUnparsed : Type 0
+  IsUnparsed = (t : Tree) → Permitted c.grammar c.shapes text t → ⊥
+
+  -- the forest is the reduced one, which is one, and to every depth it has exactly the permitted trees of at most that
+  -- height, each with one cursor
+  pub record IsForestOf (f : Forest) : Type 0 where
+    pub reduced : IsReduced (core_of c.grammar c.shapes) text f
+    pub only : (other : Forest) → IsReduced (core_of c.grammar c.shapes) text other → other ≡ f
+    pub unfolds : (d : ℕ) (t : Tree) → Unfolds f d t ↔ (Permitted c.grammar c.shapes text t × (height t ≤ d))
+    pub one_cursor : (d e : ℕ) (cs ds : List ℕ) (t : Tree) → Unfold f d cs t → Unfold f e ds t → cs ≡ ds
+
+  module _ (budget : ℕ) where
+    -- more items are reachable than the budget allows
+    abbrev pub IsOver : Type 0
+    IsOver = MoreThan (core_of c.grammar c.shapes) text budget
+
+    -- the budget suffices, a tree is permitted, and the forest is that of the permitted trees
+    pub record HasForest (f : Forest) : Type 0 where
+      pub suffices : IsOver → ⊥
+      pub parsed : IsParsed
+      pub is : IsForestOf f
+
+    -- why there is no forest: want of memory may come at any time
+    abbrev pub HasNone : ParseFault → Type 0
+    HasNone TooManyDots = most_dots < dots (core_of c.grammar c.shapes)
+    HasNone Budget = IsOver
+    HasNone NoParse = (IsOver → ⊥) × IsUnparsed
+    HasNone Memory = Unit {0}
+
+    abbrev pub Parses : Result Forest ParseFault → Type 0
+    Parses (Ok f) = HasForest f
+    Parses (Err fault) = HasNone fault

@@ -1,0 +1,122 @@
+//! Parsers of one grammar.
+ghost use Rattle.std.specs.Prelude.{◌≡◌, ◌≢◌, ◌<◌, Err, IfErr, IfOk, length};
+ghost use Rattle.ig_core.specs.CoreOf.{core_of};
+ghost use Rattle.ig_core.specs.Laws.{IsRemaining};
+ghost use Rattle.ig_core.specs.Limits.{most_declarations};
+ghost use Rattle.ig_item.specs.Core.{dots};
+ghost use Rattle.ig_item.specs.Limits.{most_dots};
+ghost use Rattle.ig_core.specs.declared.fault.CoreFault.TheVariants as core_fault;
+ghost use Rattle.ig_parse.specs.Parses.{Parses};
+ghost use Rattle.ig_parse.specs.declared.fault.ParseFault.TheVariants.{TooManyDots};
+
+use crate::fault::ParseFault;
+use ig_core::{CoreFault, build, core_trees_are_permitted_trees};
+use ig_forest::{
+    Forest, reduced_forest_has_root, reduced_forest_is_unique,
+    reduced_forest_unfolds_to_core_trees, tree_has_one_cursor,
+};
+use ig_grammar::Checked;
+use ig_item::{Core, RunFault, complete_root_items_are_trees};
+use ig_plain::saturate;
+use ig_text::Text;
+use std::alloc::Global;
+use std::marker::Model;
+
+/// A parser of one grammar. It keeps the grammar's core grammar.
+#[derive(Drop)]
+pub struct Parser<'g> {
+    grammar: &'g Checked,
+    core: Core,
+}
+
+impl<'g> Model for Parser<'g> {
+    ghost use Rattle.std.specs.Prelude.{◌≡◌};
+    ghost use Rattle.ig_core.specs.CoreOf.{core_of};
+    ghost use Rattle.ig_core.specs.Laws.{IsRemaining};
+    ghost use Rattle.ig_grammar.specs.Checked.{CheckedGrammar};
+    ghost use Rattle.ig_grammar.specs.CodingChecked.{checked_code};
+
+    ghost Value = { CheckedGrammar };
+
+    ghost coded = { checked_code };
+
+    ghost view = { λ p. p.grammar.now };
+
+    ghost invariant = { λ p. IsRemaining p.grammar.now.grammar ×
+        (p.core ≡ core_of p.grammar.now.grammar p.grammar.now.shapes) };
+}
+
+impl<'g> Parser<'g> {
+    /// The parser of a grammar, whose forms all remain behind the passes. `TooManyDots` comes
+    /// exactly where its core grammar has more than `MOST_DOTS` dots.
+    pub fn of(alloc: Global, grammar: &'g Checked) -> Result<Parser<'g>, CoreFault>
+        requires remaining { IsRemaining grammar.now.grammar }
+        requires few { length grammar.now.grammar.decls < most_declarations }
+        ensures same { IfOk result (λ parser. parser ≡ grammar.now) }
+        ensures many { most_dots < dots (core_of grammar.now.grammar grammar.now.shapes) →
+            result ≡ Err core_fault.TooManyDots }
+        ensures exact { IfErr result (λ fault. fault ≡ core_fault.TooManyDots →
+            most_dots < dots (core_of grammar.now.grammar grammar.now.shapes)) }
+    {
+        let core = build(alloc, grammar)?;
+        Ok(Parser { grammar, core })
+    }
+
+    /// The core grammar. Takes no memory.
+    pub fn core(&self) -> &Core
+        ensures { result.now ≡ core_of self.now.grammar self.now.shapes }
+    {
+        &self.core
+    }
+
+    /// The reduced forest of exactly the permitted trees of the whole text. `Budget` comes exactly
+    /// where more than `budget` items are reachable, else `NoParse` exactly where no tree is
+    /// permitted; `TooManyDots` never comes.
+    pub fn parse(&self, alloc: Global, text: &Text, budget: u32) -> Result<Forest, ParseFault>
+        ensures parses { Parses self.now text.now budget result }
+        ensures dots { IfErr result (λ fault. fault ≢ TooManyDots) }
+    {
+        core_trees_are_permitted_trees();
+        complete_root_items_are_trees();
+        reduced_forest_has_root();
+        reduced_forest_unfolds_to_core_trees();
+        reduced_forest_is_unique();
+        tree_has_one_cursor();
+        let _grammar = self.grammar.grammar();
+        let _nonterminals = self.core.nonterminals();
+        let items = match saturate(alloc, &self.core, text, budget) {
+            Ok(items) => items,
+            Err(RunFault::Budget) => return Err(ParseFault::Budget),
+            Err(RunFault::Memory) => return Err(ParseFault::Memory),
+        };
+        match Forest::build(alloc, &items, &self.core, text) {
+            Ok(Some(forest)) => Ok(forest),
+            Ok(None) => Err(ParseFault::NoParse),
+            Err(_) => Err(ParseFault::Memory),
+        }
+    }
+}
+
+/// The reduced forest of exactly the trees that the grammar permits for the whole text. The faults
+/// come exactly as these: `TooManyDots` where the grammar's core grammar has more than `MOST_DOTS`
+/// dots, else `Budget` where more than `budget` items are reachable, else `NoParse` where no tree
+/// is permitted.
+pub fn parse(
+    alloc: Global,
+    grammar: &Checked,
+    text: &Text,
+    budget: u32,
+) -> Result<Forest, ParseFault>
+    requires remaining { IsRemaining grammar.now.grammar }
+    requires few { length grammar.now.grammar.decls < most_declarations }
+    ensures parses { Parses grammar.now text.now budget result }
+    ensures many { most_dots < dots (core_of grammar.now.grammar grammar.now.shapes) →
+        result ≡ Err TooManyDots }
+{
+    let parser = match Parser::of(alloc, grammar) {
+        Ok(parser) => parser,
+        Err(CoreFault::TooManyDots) => return Err(ParseFault::TooManyDots),
+        Err(CoreFault::Memory) => return Err(ParseFault::Memory),
+    };
+    parser.parse(alloc, text, budget)
+}

@@ -1,0 +1,138 @@
+-- At the end of the text the items found are exactly the reachable ones.
+use Rattle.std.proofs.Common.{◌≡◌, ◌↔◌, ℕ, suc, ◌<◌, ◌≤◌, List, [], ◌∷◌, ◌++◌, Some, length, map, Contains, refl, sym, ap, ◌∙◌, subst, arith, slice_get, length-append}
+use Rattle.std.specs.Prelude.{slice_index_or, option_map}
+use Rattle.std.proofs.lemmas.List.{append-nil}
+use Rattle.std.proofs.lemmas.Option.{slice_get-map, slice_get-get_or, get_or_from_slice_get}
+use Rattle.std.proofs.Math.Seq.{take-length}
+use Rattle.ig_expr.specs.declared.value.Value.{Value}
+use Rattle.ig_item.specs.Items.{Item, Follows, Reachable, MoreThan, root_instance}
+use Rattle.ig_item.specs.Laws.{ItemsAreInText}
+use Rattle.ig_item.specs.Tables.{Tables, AreTables, HaveValues, instance_by, item_of, items_of, tables_by}
+use Rattle.ig_item.specs.WellKinded.{NoneTwice}
+use Rattle.ig_item.specs.declared.core_grammar.Nonterminal.{Nonterminal}
+use Rattle.ig_item.specs.declared.items.Instance.{Instance}
+use Rattle.ig_item.specs.declared.items.InstanceKey.{InstanceKey}
+use Rattle.ig_item.specs.declared.items.Item as stored
+use Rattle.ig_plain.specs.declared.found.Found.{Found}
+use Rattle.ig_plain.specs.declared.waiting.Waiting.{Waiting}
+use Rattle.ig_plain.specs.Tables.{IsNamed, no_key}
+use Rattle.ig_plain.specs.Found.{means, found_in, later_in, taken_in, Named}
+use Rattle.ig_plain.specs.Run.{IsRun}
+use Rattle.ig_plain.proofs.Lists.{contains_from_at, mapped_in, same_map, left_contains, right_contains}
+use Rattle.ig_plain.proofs.Growth.{found_named}
+use Rattle.ig_plain.proofs.Following.{kept}
+use Rattle.ig_plain.proofs.Distinct.{different, counted}
+use Rattle.ig_plain.proofs.Completes.{instances_once}
+use Rattle.ig_plain.proofs.Fewer.{at_most}
+
+module _ (core : List Nonterminal) (text : List ℕ) (law : ItemsAreInText) (budget : ℕ) (s : Found) (w : Waiting)
+    (r : IsRun core text budget (length text) (length s.here.keys) s w) where
+  no_later : s.later.items ≡ []
+  no_later = none s.later.items (λ x c. never x c)
+    where
+      never : (x : stored.Item) → Contains s.later.items x → ⊥
+      never x c =
+          let l = r.taking.stored.behind x c in
+          let q = (law core text (means s x) (r.taking.reachable (means s x) (right_contains (found_in s) (later_in s) (means s x) (mapped_in (means s) s.later.items x c)))).within in
+          omega (arith, l, q)
+
+      none : (xs : List stored.Item) → ((x : stored.Item) → Contains xs x → ⊥) → xs ≡ []
+      none [] f = refl
+      none (x ∷ xs) f = absurd (f x (contains_from_at (x ∷ xs) 0 x refl))
+
+  abbrev found : List Item
+  found = found_in s
+
+  all_found : found_in s ++ later_in s ≡ found_in s
+  all_found = ap (λ (z : List stored.Item). found_in s ++ map (means s) z) no_later ∙ append-nil (found_in s)
+
+  taken_all : taken_in s (length s.here.keys) ≡ found_in s
+  taken_all = ap (λ (z : List stored.Item). map (means s) (s.done.items ++ z)) (take-length s.here.keys)
+
+  sound : (x : Item) → Contains (found_in s) x → Reachable core text x
+  sound x c = r.taking.reachable x (left_contains (found_in s) (later_in s) x c)
+
+  complete : (x : Item) → Reachable core text x → Contains (found_in s) x
+  complete x q =
+      kept core text (Contains (found_in s))
+      (λ y f.
+      subst (λ (z : List Item). Contains z y) all_found
+      (r.taking.closed y (subst (λ (z : List Item). Follows core text (Contains z) y) (sym taken_all) f))) x q
+
+  once : NoneTwice (found_in s)
+  once = subst NoneTwice all_found (different (length text) s r.taking.stored)
+
+  few : length (found_in s) ≤ budget
+  few =
+      let a = ap length all_found in let b = counted (length text) s r.taking.stored in let l = r.taking.within in omega (arith, a, b, l)
+
+  -- the tables of the answer
+  module _ (keys : List InstanceKey) (items : List stored.Item) (keys_are : keys ≡ s.keys.keys) (items_are : items ≡ s.done.items ++ s.here.keys) where
+    abbrev tables : Tables
+    tables = tables_by keys s.envs.keys items
+
+    key_same : (x : stored.Item) → Named s x → item_of tables x ≡ means s x
+    key_same x n =
+        let at : slice_get (map (instance_by s.envs.keys) keys) x.instance ≡ Some (instance_by s.envs.keys (slice_index_or s.keys.keys x.instance no_key)) =
+        slice_get-map (instance_by s.envs.keys) keys x.instance ∙
+        ap (option_map (instance_by s.envs.keys))
+        (ap (λ (z : List InstanceKey). slice_get z x.instance) keys_are ∙ slice_get-get_or s.keys.keys x.instance no_key n.instance) in
+        ap (λ (z : Instance). record { instance = z; alternative = x.alternative; dot = x.dot; env = slice_index_or s.envs.keys x.env []; position = x.position })
+        (get_or_from_slice_get (map (instance_by s.envs.keys) keys) x.instance (instance_by s.envs.keys (slice_index_or s.keys.keys x.instance no_key)) root_instance at)
+
+    pub items_same : items_of tables ≡ found_in s
+    items_same =
+        ap (map (item_of tables)) items_are ∙
+        same_map (item_of tables) (means s) (s.done.items ++ s.here.keys) (λ x c. key_same x (found_named s r.taking.stored.named x c))
+
+    pub exactly : (x : Item) → Contains (items_of tables) x ↔ Reachable core text x
+    exactly x =
+        (λ c. sound x (subst (λ (z : List Item). Contains z x) items_same c), λ q. subst (λ (z : List Item). Contains z x) (sym items_same) (complete x q))
+
+    pub none_twice : NoneTwice (items_of tables)
+    none_twice = subst NoneTwice (sym items_same) once
+
+    pub items_few : length items ≤ budget
+    items_few =
+        let a = ap length items_are in let b = length-append s.done.items s.here.keys in let c = ap length no_later in let l = r.taking.within in
+        omega (arith, a, b, c, l)
+
+    pub no_more : MoreThan core text budget → ⊥
+    no_more m =
+        let l = at_most m.items (found_in s) m.different (λ x c. complete x (m.reachable x c)) in let f = few in let n = m.more in omega (arith, l, f, n)
+
+    pub keys_once : NoneTwice (map (instance_by s.envs.keys) keys)
+    keys_once =
+        subst (λ (z : List InstanceKey). NoneTwice (map (instance_by s.envs.keys) z)) (sym keys_are)
+        (instances_once s r.taking.stored.named r.taking.stored.tables.environments r.taking.stored.tables.instances)
+
+    pub have : HaveValues s.envs.keys keys
+    have = subst (HaveValues s.envs.keys) (sym keys_are) r.taking.stored.named.values
+
+    pub inside : (x : stored.Item) → Contains items x → Named s x
+    inside x c = found_named s r.taking.stored.named x (subst (λ (z : List stored.Item). Contains z x) items_are c)
+
+mapped_length : {A B : Type 0} (f : A → B) (xs : List A) → length (map f xs) ≡ length xs
+mapped_length f [] = refl
+mapped_length f (x ∷ xs) = ap suc (mapped_length f xs)
+
+-- tables that are complete
+pub are_tables : (envs table : List (List Value)) (ks keys : List InstanceKey) (items all : List stored.Item) → table ≡ envs → keys ≡ ks → items ≡ all →
+    ((x : stored.Item) → Contains all x → IsNamed envs ks x) → length envs < 4294967296 → length ks < 4294967296 → length all < 4294967296 →
+    AreTables (tables_by keys table items)
+are_tables envs table ks keys items all table_is keys_are items_are named few_envs few_keys few_items =
+    let n = mapped_length (instance_by table) keys ∙ ap length keys_are in
+    let m = ap length table_is in
+    let i = ap length items_are in
+    record {
+      instances_there = λ x c. let h = (named x (subst (λ (z : List stored.Item). Contains z x) items_are c)).instance in omega (arith, h, n);
+      environments_there = λ x c. let h = (named x (subst (λ (z : List stored.Item). Contains z x) items_are c)).env in omega (arith, h, m);
+      few_instances = omega (arith, n, few_keys);
+      few_environments = omega (arith, m, few_envs);
+      few_items = omega (arith, i, few_items);
+    }
+
+pub same_tables : (envs table : List (List Value)) (ks keys : List InstanceKey) (items all : List stored.Item) → table ≡ envs → keys ≡ ks → items ≡ all →
+    tables_by keys table items ≡ tables_by ks envs all
+same_tables envs table ks keys items all a b c =
+    ap (λ (z : List (List Value)). tables_by keys z items) a ∙ ap (λ (z : List InstanceKey). tables_by z envs items) b ∙ ap (tables_by ks envs) c

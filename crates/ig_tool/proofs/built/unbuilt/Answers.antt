@@ -1,9 +1,0 @@
-use Rattle.std.proofs.Common.{◌↔◌, IsTrue, subst}
-use Rattle.std.specs.Prelude.{All}
-use Rattle.ig_tool.specs.Built.{IsBuiltDeclaration}
-use Rattle.ig_tool.proofs.Building.{denied}
-use Rattle.ig_tool.proofs.built.unbuilt.Goals as goal
-
-pub returns : goal.returns
-returns c =
-    denied c.are_built_declarations.result (subst (λ ds. IsTrue c.are_built_declarations.result ↔ All IsBuiltDeclaration ds) c.as_slice.ensures c.are_built_declarations.ensures)

@@ -1,5 +1,0 @@
-use Rattle.ig_tool.proofs.ItemTrees.{trees_by_items}
-use Rattle.ig_tool.proofs.laws.complete_root_items_are_trees.Goals as goal
-
-pub returns : goal.returns
-returns c = trees_by_items
