@@ -1,0 +1,90 @@
+-- The filters pass keeps a grammar well scoped.
+use Rattle.std.proofs.Common.{◌≡◌, ◌∙◌, ℕ, ◌+◌, List, [], ◌∷◌, ◌++◌, map, refl, ap, subst, arith}
+use Rattle.ig_expr.specs.Expression.{Expression}
+use Rattle.ig_grammar.specs.Name.{is_name}
+use Rattle.ig_grammar.specs.Symbol.{Symbol, Symbols, Label, Guard, Filtered, Seq, gathered}
+use Rattle.ig_grammar.specs.Laws.{RegularityByForm}
+use Rattle.ig_grammar.specs.Regular.{AlternativesHaveNoMark, OfEachLevel}
+use Rattle.ig_grammar.specs.WellScoped.{IsWellScoped}
+use Rattle.ig_grammar.specs.declared.filter.Filter.{Filter}
+use Rattle.ig_grammar.specs.declared.grammar.Grammar.{Grammar}
+use Rattle.ig_rewrite.specs.Rewriting.{rewritten_grammar}
+use Rattle.ig_lexical.specs.Filters.{befores, afters, exclusions, with_filters, guarded, attached}
+use Rattle.ig_lexical.proofs.AttachingPlaced.{IsTest, attached_placed}
+use Rattle.ig_lexical.proofs.Meeting.{Fine}
+use Rattle.ig_text.proofs.Lists.{none_in_nil, contains_one}
+use Rattle.std.specs.Prelude.{Contains, Some}
+use Rattle.ig_expr.specs.declared.kind.Kind.TheVariants as kind
+use Rattle.ig_grammar.specs.Condition.{variables}
+use Rattle.ig_grammar.specs.Condition as meets
+use Rattle.ig_grammar.specs.Visible.{Visible, kind_at}
+use Rattle.ig_grammar.specs.declared.declaration.DeclKind.{DeclKind}
+use Rattle.ig_grammar.specs.declared.declaration.Decl.{Decl}
+use Rattle.ig_lexical.proofs.Counting.{binders, binders_of_symbols, one_if}
+use Rattle.ig_lexical.proofs.RewrittenScoped.{KeepsKinds, turned_is_well_scoped}
+
+guards_bind_none : (es : List Expression) → binders_of_symbols (gathered (map Guard es)) ≡ 0
+guards_bind_none [] = refl
+guards_bind_none (e ∷ es) = let h = guards_bind_none es in omega (arith, h)
+
+behind_guards : (es : List Expression) (xs : List Symbol) → binders_of_symbols (gathered (map Guard es ++ xs)) ≡ binders_of_symbols (gathered xs)
+behind_guards [] xs = refl
+behind_guards (e ∷ es) xs = let h = behind_guards es xs in omega (arith, h)
+
+in_sequence : (bs cs : List Expression) (y : Symbol) → binders_of_symbols (gathered (map Guard bs ++ y ∷ map Guard cs)) ≡ binders y
+in_sequence bs cs y =
+    let a = behind_guards bs (y ∷ map Guard cs) in
+    let b = guards_bind_none cs in
+    let c : binders_of_symbols (gathered (y ∷ map Guard cs)) ≡ binders y + binders_of_symbols (gathered (map Guard cs)) = refl in
+    omega (arith, a, b, c)
+
+guarded_binders : (bs cs : List Expression) (y : Symbol) → binders (guarded bs cs y) ≡ binders y
+guarded_binders [] [] y = refl
+guarded_binders [] (c ∷ cs) y = in_sequence [] (c ∷ cs) y
+guarded_binders (b ∷ bs) cs y = in_sequence (b ∷ bs) cs y
+
+excluded_binders : (x : Symbol) (fs : List Filter) → binders (with_filters x fs) ≡ binders x
+excluded_binders x [] = refl
+excluded_binders x (f ∷ fs) = refl
+
+labelled_binders : (name : List ℕ) (x : Symbol) → binders (attached (Label name x)) ≡ binders (Label name x)
+labelled_binders name (Filtered x fs) =
+    guarded_binders (befores fs) (afters fs) (Label name (with_filters x (exclusions fs))) ∙ ap (λ n. one_if (is_name name) + n) (excluded_binders x (exclusions fs))
+labelled_binders name x = refl
+
+attached_binders : (x : Symbol) → binders (attached x) ≡ binders x
+attached_binders (Label name x) = labelled_binders name x
+attached_binders (Filtered x fs) =
+    guarded_binders (befores fs) (afters fs) (with_filters x (exclusions fs)) ∙ excluded_binders x (exclusions fs)
+attached_binders x = refl
+
+module _ (decls : List Decl) (within : DeclKind) where
+  -- sequences and filters meet nothing
+  seq_fine : (v : Visible) (xs : Symbols) → Fine decls within v (Seq xs)
+  seq_fine v xs c (meets.unknown_variable _ e m u) = none_in_nil e m
+  seq_fine v xs c (meets.no_kind _ e m k) = none_in_nil e m
+
+  filtered_fine : (v : Visible) (x : Symbol) (fs : List Filter) → Fine decls within v (Filtered x fs)
+  filtered_fine v x fs c (meets.unknown_variable _ e m u) = none_in_nil e m
+  filtered_fine v x fs c (meets.no_kind _ e m k) = none_in_nil e m
+
+  guard_fine : (v : Visible) (e : Expression) → IsTest v e → Fine decls within v (Guard e)
+  guard_fine v e t c (meets.unknown_variable _ f m u) =
+      none_in_nil u.0 (subst (λ xs. Contains xs u.0) (ap variables (contains_one e f m) ∙ t.closed) u.1)
+  guard_fine v e t c (meets.no_kind _ f m k) = let h : kind_at v f ≡ Some kind.Bool = ap (kind_at v) (contains_one e f m) ∙ t.truth in let n = k.1 in absurd (cc)
+  guard_fine v e t c (meets.guard_kind _ k) = k t.truth
+
+  label_fine : (name : List ℕ) (x y : Symbol) (v : Visible) → Fine decls within v (Label name x) → Fine decls within v (Label name y)
+  label_fine name x y v fine c (meets.duplicate_label _ _ m) = fine c (meets.duplicate_label name x m)
+  label_fine name x y v fine c (meets.unknown_variable _ e m u) = none_in_nil e m
+  label_fine name x y v fine c (meets.no_kind _ e m k) = none_in_nil e m
+
+pub same_kinds : KeepsKinds (λ kind. kind)
+same_kinds = record { lexical = λ k i. i; syntax = λ k e. e; layout = λ k e. e }
+
+pub attached_is_well_scoped : RegularityByForm → (g : Grammar) → IsWellScoped g → OfEachLevel AlternativesHaveNoMark g →
+    IsWellScoped (rewritten_grammar (λ decl. attached) g)
+attached_is_well_scoped forms g scoped none =
+    turned_is_well_scoped (λ kind. kind) (λ decl. attached) same_kinds g forms scoped none
+    (λ decl x v p. attached_placed (Fine g.decls decl.kind) (seq_fine g.decls decl.kind) (filtered_fine g.decls decl.kind)
+    (guard_fine g.decls decl.kind) (label_fine g.decls decl.kind) x v p) (λ decl x. attached_binders x)

@@ -1,0 +1,12 @@
+use Rattle.ig_lexical.proofs.LayoutChecked.{layout_checked}
+use Rattle.ig_lexical.proofs.laws.layout_stays_checked.Goals as goal
+
+pub returns : goal.returns
+returns c =
+    layout_checked (record {
+      cleans = c.trees_without_operators_are_clean.ensures;
+      forms = c.regularity_by_form.ensures;
+      found = c.declarations_are_found.ensures;
+      rooting = c.rooted_is_the_same.ensures;
+      equivalence = c.same_trees_is_an_equivalence.ensures;
+    })

@@ -1,0 +1,193 @@
+//! Follow and precede filters as guards.
+ghost use Rattle.std.specs.Prelude.{◌≡◌, ◌↔◌, [], ◌∷◌, ◌++◌, false, map, IfOk, IsTrue, OnOk};
+ghost use Rattle.ig_grammar.specs.Regular.{AlternativesHaveNoMark, OfEachLevel};
+ghost use Rattle.ig_rewrite.specs.Added.{root_name, IsFresh};
+ghost use Rattle.ig_rewrite.specs.Rooted.{has_root};
+ghost use Rattle.ig_grammar.specs.Symbol.{Guard, Label};
+ghost use Rattle.ig_grammar.specs.View.{symbol_of};
+ghost use Rattle.ig_lexical.specs.Filters.{befores, afters, exclusions, with_filters};
+ghost use Rattle.ig_lexical.specs.Filters.{guarded, attached, attached_of, FiltersOf};
+
+use ig_expr::Expr;
+use ig_grammar::{Checked, Decl, Filter, Filters, Inner, Symbol, Symbols, regularity_by_form};
+use ig_rewrite::{OwnRule, copy_of_shapes, has_root, rewrite_grammar, root, rooted_is_the_same};
+use ig_text::{Copied, Word};
+use std::alloc::{AllocError, Global};
+
+/// The grammar with its follow and precede filters as guards, exactly as `specs/Filters.antt` says;
+/// `$root` is its last declaration where none stood for the root. Refused for want of memory alone.
+/// No mark is left in the grammar, and where none stands for the root, none is named `$root`.
+pub fn attach_filters(alloc: Global, checked: &Checked) -> Result<Checked, AllocError>
+    requires unmarked { OfEachLevel AlternativesHaveNoMark checked.now.grammar }
+    requires fresh { has_root checked.now.shapes ≡ false → IsFresh checked.now.grammar root_name }
+    ensures { IfOk result (λ r. r ≡ FiltersOf checked.now) }
+{
+    if has_root(checked) {
+        return attach_rooted(alloc, checked);
+    }
+    // The law asks what the grammar of a checked one keeps to.
+    rooted_is_the_same();
+    checked.grammar();
+    let rooted = root(alloc, checked)?;
+    attach_rooted(alloc, &rooted)
+}
+
+/// The grammar, in which a declaration stands for the root, with its filters as guards.
+fn attach_rooted(alloc: Global, checked: &Checked) -> Result<Checked, AllocError>
+    requires unmarked { OfEachLevel AlternativesHaveNoMark checked.now.grammar }
+    ensures { IfOk result (λ r. r ≡ attached_of checked.now) }
+{
+    regularity_by_form();
+    let source = checked.grammar();
+    let grammar = rewrite_grammar(&Attached {}, alloc, source)?;
+    let shapes = copy_of_shapes(alloc, checked)?;
+    Ok(Checked::with_shapes(grammar, shapes))
+}
+
+/// The own rule of the filters pass.
+struct Attached {}
+
+impl OwnRule for Attached {
+    ghost use Rattle.ig_lexical.specs.Filters.{attached};
+
+    ghost rule = { λ s decl x. attached x };
+
+    fn apply(&self, alloc: Global, _decl: &Decl, symbol: Symbol) -> Result<Symbol, AllocError> {
+        attach(alloc, symbol)
+    }
+}
+
+/// The symbol, whose follow and precede filters are guards behind and before it.
+fn attach(alloc: Global, symbol: Symbol) -> Result<Symbol, AllocError>
+    ensures { IfOk result (λ r. symbol_of r ≡ attached (symbol_of symbol)) }
+{
+    match symbol {
+        Symbol::Label(name, inner) => attach_labelled(alloc, name, inner.into_symbol()),
+        Symbol::Filtered(inner, filters) => {
+            let excluded = exclude(alloc, inner, &filters)?;
+            guard(alloc, &filters, excluded)
+        }
+        other => Ok(other),
+    }
+}
+
+/// The symbol with a label, whose follow and precede filters are guards behind and before both.
+fn attach_labelled(alloc: Global, name: Word, symbol: Symbol) -> Result<Symbol, AllocError>
+    ensures { IfOk result (λ r. symbol_of r ≡ attached (Label name (symbol_of symbol))) }
+{
+    match symbol {
+        Symbol::Filtered(inner, filters) => {
+            let excluded = exclude(alloc, inner, &filters)?;
+            let labelled = Symbol::Label(name, Inner::new(alloc, excluded)?);
+            guard(alloc, &filters, labelled)
+        }
+        other => Ok(Symbol::Label(name, Inner::new(alloc, other)?)),
+    }
+}
+
+/// The symbol with the exclusions among the filters, where there are any.
+fn exclude(alloc: Global, inner: Inner, filters: &Filters) -> Result<Symbol, AllocError>
+    ensures { IfOk result (λ r. symbol_of r ≡ with_filters inner (exclusions filters.now)) }
+{
+    let kept = exclusions(alloc, filters.as_slice())?;
+    if kept.is_empty() {
+        Ok(inner.into_symbol())
+    } else {
+        Ok(Symbol::Filtered(inner, kept))
+    }
+}
+
+/// The exclusions among the filters.
+fn exclusions(alloc: Global, filters: &[Filter]) -> Result<Filters, AllocError>
+    ensures { IfOk result (λ r. r ≡ exclusions filters.now) }
+{
+    let mut kept = Filters::new(alloc);
+    for filter in filters {
+        match filter {
+            Filter::NotFollowed(_) => {}
+            Filter::NotPreceded(_) => {}
+            Filter::Not(pattern) => {
+                push_filter(&mut kept, Filter::Not(pattern.copy(alloc)?))?;
+            }
+        }
+    }
+    Ok(kept)
+}
+
+/// The symbol behind and before the guards that the filters make, in a sequence where there are
+/// any.
+fn guard(alloc: Global, filters: &Filters, symbol: Symbol) -> Result<Symbol, AllocError>
+    ensures { IfOk result (λ r.
+        symbol_of r ≡ guarded (befores filters.now) (afters filters.now) (symbol_of symbol)) }
+{
+    if excludes_only(filters.as_slice()) {
+        return Ok(symbol);
+    }
+    let mut symbols = Symbols::new(alloc);
+    add_befores(alloc, filters.as_slice(), &mut symbols)?;
+    push_symbol(&mut symbols, symbol)?;
+    add_afters(alloc, filters.as_slice(), &mut symbols)?;
+    Ok(Symbol::Seq(symbols))
+}
+
+/// Whether no filter makes a guard.
+fn excludes_only(filters: &[Filter]) -> bool
+    ensures { IsTrue result ↔ ((befores filters.now ≡ []) × (afters filters.now ≡ [])) }
+{
+    for filter in filters {
+        match filter {
+            Filter::NotFollowed(_) => return false,
+            Filter::NotPreceded(_) => return false,
+            Filter::Not(_) => {}
+        }
+    }
+    true
+}
+
+/// Adds the guards that stand before the symbol.
+fn add_befores(alloc: Global, filters: &[Filter], symbols: &mut Symbols) -> Result<(), AllocError>
+    ensures { OnOk result (symbols.new ≡ symbols.old ++ map Guard (befores filters.now)) }
+{
+    for filter in filters {
+        match filter {
+            Filter::NotFollowed(_) => {}
+            Filter::NotPreceded(pattern) => {
+                let test = Expr::FreeBefore(pattern.copy(alloc)?);
+                push_symbol(symbols, Symbol::Guard(test))?;
+            }
+            Filter::Not(_) => {}
+        }
+    }
+    Ok(())
+}
+
+/// Adds the guards that stand behind the symbol.
+fn add_afters(alloc: Global, filters: &[Filter], symbols: &mut Symbols) -> Result<(), AllocError>
+    ensures { OnOk result (symbols.new ≡ symbols.old ++ map Guard (afters filters.now)) }
+{
+    for filter in filters {
+        match filter {
+            Filter::NotFollowed(pattern) => {
+                let test = Expr::FreeAfter(pattern.copy(alloc)?);
+                push_symbol(symbols, Symbol::Guard(test))?;
+            }
+            Filter::NotPreceded(_) => {}
+            Filter::Not(_) => {}
+        }
+    }
+    Ok(())
+}
+
+/// Adds the symbol at the end.
+fn push_symbol(all: &mut Symbols, symbol: Symbol) -> Result<(), AllocError>
+    ensures { OnOk result (all.new ≡ all.old ++ symbol_of symbol ∷ []) }
+{
+    all.push(symbol).map_err(|refused| refused.1)
+}
+
+/// Adds the filter at the end.
+fn push_filter(all: &mut Filters, filter: Filter) -> Result<(), AllocError>
+    ensures { OnOk result (all.new ≡ all.old ++ filter ∷ []) }
+{
+    all.push(filter).map_err(|refused| refused.1)
+}

@@ -1,0 +1,16 @@
+-- 'Permits the same trees' is an equivalence.
+use Rattle.ig_grammar.specs.Checked.{CheckedGrammar}
+use Rattle.ig_rewrite.specs.SameTrees.{PermitSame, SameTreesIsAnEquivalence}
+
+itself : (a : CheckedGrammar) → PermitSame a a
+itself a = record { same = λ text t. ((λ p. p), (λ p. p)) }
+
+chained : (a b c : CheckedGrammar) → PermitSame a b → PermitSame b c → PermitSame a c
+chained a b c p q =
+    record { same = λ text t. ((λ h. (q.same text t).0 ((p.same text t).0 h)), (λ h. (p.same text t).1 ((q.same text t).1 h))) }
+
+turned : (a b : CheckedGrammar) → PermitSame a b → PermitSame b a
+turned a b p = record { same = λ text t. ((p.same text t).1, (p.same text t).0) }
+
+pub same_trees : SameTreesIsAnEquivalence
+same_trees = record { itself = itself; chained = chained; turned = turned }

@@ -1,0 +1,144 @@
+-- The declaration of a name is the first one with that name.
+use Rattle.std.proofs.Common.{◌≡◌, ◌∙◌, ℕ, zero, suc, ◌<◌, ◌+◌, List, [], ◌∷◌, ◌++◌, Option, Some, None, Bool, cond, true, false, refl, sym, ap, subst, arith, length, take}
+use Rattle.std.specs.Prelude.{nat_lt, not, position, option_map, option_and_then, slice_get, Contains, if◌then◌else◌}
+use Rattle.std.specs.List.{prefix_len}
+use Rattle.std.specs.Cmp.Lexicographic.{bytes_decides}
+use Rattle.std.proofs.lemmas.Bool.Decides.{nat_tests}
+use Rattle.std.proofs.lemmas.Option.{slice_get-map}
+use Rattle.std.proofs.lemmas.List.Elements.{Contains-append_left, Contains-append_right, Contains-push}
+use Rattle.ig_text.specs.Words.{is_word}
+use Rattle.ig_text.proofs.Lists.{contains_from_at, in_take}
+use Rattle.ig_grammar.specs.Condition.{declaration_of}
+use Rattle.ig_grammar.specs.Condition as meets
+use Rattle.ig_grammar.specs.Names.{names}
+use Rattle.ig_grammar.specs.WellScoped.{IsWellScoped}
+use Rattle.ig_grammar.specs.declared.declaration.Decl.{Decl}
+use Rattle.ig_grammar.specs.declared.grammar.Grammar.{Grammar}
+use Rattle.ig_rewrite.specs.Found.{DeclarationsAreFound}
+
+abbrev place_after : {X : Type 0} → (X → Bool) → X → Option ℕ → Option ℕ
+place_after p x others = cond (p x) (Some 0) (option_map (λ k. k + 1) others)
+
+one_further : (k n : ℕ) → cond (nat_lt (1 + k) (suc n)) (Some (1 + k)) None ≡ option_map (λ k. k + 1) (cond (nat_lt k n) (Some k) None)
+one_further k n = go (nat_lt k n) refl
+  where
+    go : (b : Bool) → nat_lt k n ≡ b → cond (nat_lt (1 + k) (suc n)) (Some (1 + k)) None ≡ option_map (λ k. k + 1) (cond b (Some k) None)
+    go true e = let h : nat_lt (1 + k) (suc n) ≡ true = grind (arith, nat_tests) in rw h (ap Some (omega arith))
+    go false e = let h : nat_lt (1 + k) (suc n) ≡ false = grind (arith, nat_tests) in rw h refl
+
+zero_first : (n : ℕ) → cond {A = Option ℕ} (nat_lt 0 (suc n)) (Some 0) None ≡ Some 0
+zero_first n = let h : nat_lt 0 (suc n) ≡ true = grind (arith, nat_tests) in rw h refl
+
+position-cons : {X : Type 0} (p : X → Bool) (x : X) (xs : List X) → position p (x ∷ xs) ≡ place_after p x (position p xs)
+position-cons p x xs = go (p x) refl
+  where
+    go : (b : Bool) → p x ≡ b → position p (x ∷ xs) ≡ cond b (Some 0) (option_map (λ k. k + 1) (position p xs))
+    go true e = rw e (zero_first (length xs))
+    go false e = rw e (one_further (prefix_len (λ y. not (p y)) xs) (length xs))
+
+next_found : (d : Decl) (ds : List Decl) (q : Option ℕ) → option_and_then (slice_get (d ∷ ds)) (option_map (λ k. k + 1) q) ≡ option_and_then (slice_get ds) q
+next_found d ds None = refl
+next_found d ds (Some k) = let e : k + 1 ≡ suc k = omega arith in rw e refl
+
+pub declaration_first : (d : Decl) (ds : List Decl) (name : List ℕ) →
+    declaration_of (d ∷ ds) name ≡ (if is_word d.name name then Some d else declaration_of ds name)
+declaration_first d ds name =
+    ap (option_and_then (slice_get (d ∷ ds))) (position-cons (λ n. is_word n name) d.name (names ds)) ∙ go (is_word d.name name)
+  where
+    go : (b : Bool) →
+        option_and_then (slice_get (d ∷ ds)) (cond b (Some 0) (option_map (λ k. k + 1) (position (λ n. is_word n name) (names ds)))) ≡
+        (if b then Some d else declaration_of ds name)
+    go true = refl
+    go false = next_found d ds (position (λ n. is_word n name) (names ds))
+
+pub itself_named : (d : Decl) → is_word d.name d.name ≡ true
+itself_named d = (bytes_decides d.name d.name).1 refl
+
+abbrev pub or_declared : Option Decl → Option Decl → Option Decl
+or_declared None b = b
+or_declared (Some a) b = Some a
+
+-- with one declaration more at the end
+pub declaration_pushed : (ds : List Decl) (r : Decl) (name : List ℕ) →
+    declaration_of (ds ++ r ∷ []) name ≡ or_declared (declaration_of ds name) (declaration_of (r ∷ []) name)
+declaration_pushed [] r name = refl
+declaration_pushed (d ∷ ds) r name =
+    declaration_first d (ds ++ r ∷ []) name ∙ further (is_word d.name name) (declaration_pushed ds r name) ∙
+    sym (ap (λ o. or_declared o (declaration_of (r ∷ []) name)) (declaration_first d ds name))
+  where
+    further : (b : Bool) → declaration_of (ds ++ r ∷ []) name ≡ or_declared (declaration_of ds name) (declaration_of (r ∷ []) name) →
+        (if b then Some d else declaration_of (ds ++ r ∷ []) name) ≡ or_declared (if b then Some d else declaration_of ds name) (declaration_of (r ∷ []) name)
+    further true e = refl
+    further false e = e
+
+-- what is declared stays declared
+pub declared_still : (ds : List Decl) (r : Decl) (name : List ℕ) (d : Decl) → declaration_of ds name ≡ Some d → declaration_of (ds ++ r ∷ []) name ≡ Some d
+declared_still ds r name d e = declaration_pushed ds r name ∙ ap (λ o. or_declared o (declaration_of (r ∷ []) name)) e
+
+-- a name that wasn't declared is that of the last
+pub declared_last : (ds : List Decl) (r : Decl) → declaration_of ds r.name ≡ None → declaration_of (ds ++ r ∷ []) r.name ≡ Some r
+declared_last ds r none =
+    declaration_pushed ds r r.name ∙ ap (λ o. or_declared o (declaration_of (r ∷ []) r.name)) none ∙ declaration_first r [] r.name ∙ go (is_word r.name r.name) (itself_named r)
+  where
+    go : (b : Bool) → b ≡ true → (if b then Some r else None) ≡ Some r
+    go true e = refl
+    go false e = absurd (cc)
+
+pub undeclared_before : (ds : List Decl) (r : Decl) (name : List ℕ) → declaration_of (ds ++ r ∷ []) name ≡ None → declaration_of ds name ≡ None
+undeclared_before ds r name e = go (declaration_of ds name) (sym (declaration_pushed ds r name) ∙ e)
+  where
+    go : (o : Option Decl) → or_declared o (declaration_of (r ∷ []) name) ≡ None → o ≡ None
+    go None f = refl
+    go (Some d) f = absurd (cc)
+
+-- of a declared name the declaration is the same
+pub declared_before : (ds : List Decl) (r : Decl) (name : List ℕ) (callee : Decl) → (declaration_of ds name ≡ None → ⊥) →
+    declaration_of (ds ++ r ∷ []) name ≡ Some callee → declaration_of ds name ≡ Some callee
+declared_before ds r name callee known e = go (declaration_of ds name) known (sym (declaration_pushed ds r name) ∙ e)
+  where
+    go : (o : Option Decl) → (o ≡ None → ⊥) → or_declared o (declaration_of (r ∷ []) name) ≡ Some callee → o ≡ Some callee
+    go None k f = absurd (k refl)
+    go (Some d) k f = f
+
+-- a fresh name is that of no declaration
+pub not_declared : (ds : List Decl) (name : List ℕ) → (Contains (names ds) name → ⊥) → declaration_of ds name ≡ None
+not_declared [] name fresh = refl
+not_declared (d ∷ ds) name fresh =
+    declaration_first d ds name ∙ go (is_word d.name name) refl
+    (not_declared ds name (λ m. fresh (Contains-append_right (d.name ∷ []) (names ds) name m)))
+  where
+    go : (b : Bool) → is_word d.name name ≡ b → declaration_of ds name ≡ None → (if b then Some d else declaration_of ds name) ≡ None
+    go true e rest = absurd (fresh (subst (λ z. Contains (d.name ∷ names ds) z) ((bytes_decides d.name name).0 e) (Contains-append_left (d.name ∷ []) (names ds) d.name (Contains-push [] d.name))))
+    go false e rest = rest
+
+-- a place of a list is one of the names
+pub named_at : (ds : List Decl) (k : ℕ) (d : Decl) → slice_get ds k ≡ Some d → slice_get (names ds) k ≡ Some d.name
+named_at ds k d e = slice_get-map (λ z. z.name) ds k ∙ ap (option_map (λ z. z.name)) e
+
+first_at : (ds : List Decl) (k : ℕ) (decl : Decl) → slice_get ds k ≡ Some decl →
+    ((j : ℕ) (d : Decl) → j < k → slice_get ds j ≡ Some d → d.name ≡ decl.name → ⊥) → declaration_of ds decl.name ≡ Some decl
+first_at [] k decl e f = absurd (cc)
+first_at (d ∷ ds) zero decl e f = let same : d ≡ decl = cc in subst (λ z. declaration_of (z ∷ ds) decl.name ≡ Some decl) (sym same) (declaration_first decl ds decl.name ∙ go (is_word decl.name decl.name) (itself_named decl))
+  where
+    go : (b : Bool) → b ≡ true → (if b then Some decl else declaration_of ds decl.name) ≡ Some decl
+    go true t = refl
+    go false t = absurd (cc)
+first_at (d ∷ ds) (suc k) decl e f =
+    declaration_first d ds decl.name ∙ go (is_word d.name decl.name) refl (first_at ds k decl e (λ j x l there same. f (suc j) x (omega (arith, l)) there same))
+  where
+    go : (b : Bool) → is_word d.name decl.name ≡ b → declaration_of ds decl.name ≡ Some decl → (if b then Some d else declaration_of ds decl.name) ≡ Some decl
+    go true t h = absurd (f 0 d (omega arith) refl ((bytes_decides d.name decl.name).0 t))
+    go false t h = h
+
+-- in a well-scoped grammar a declaration is the first of its name
+pub itself_declared : (g : Grammar) (k : ℕ) (decl : Decl) → IsWellScoped g → slice_get g.decls k ≡ Some decl → declaration_of g.decls decl.name ≡ Some decl
+itself_declared g k decl scoped e = first_at g.decls k decl e (λ j d l there same.
+    scoped (record { decl = suc k; alt = 0; symbol = 0 }) meets.DuplicateName (
+      decl,
+      e,
+      meets.duplicate_name (subst (Contains (names (take k g.decls))) same
+          (contains_from_at (names (take k g.decls)) j d.name (named_at (take k g.decls) j d (in_take g.decls k j d l there)))),
+    ))
+
+pub found : DeclarationsAreFound
+found = record { first = declaration_first; itself = itself_declared }

@@ -1,0 +1,13 @@
+pub mod Chaining
+pub mod AddedNames
+pub mod FirstNamed
+pub mod CallsOnly
+pub mod Carried
+pub mod Spines
+pub mod RootCalls
+pub mod RootTrees
+pub mod RootScoped
+pub mod RootShaped
+pub mod RootCode
+pub mod Gathering
+pub mod Barren

@@ -1,0 +1,15 @@
+-- Which declaration a name has, by the declarations in order.
+use Rattle.std.specs.Prelude.{◌≡◌, ℕ, List, ◌∷◌, Some, if◌then◌else◌, slice_get}
+use Rattle.ig_text.specs.Words.{is_word}
+use Rattle.ig_grammar.specs.Condition.{declaration_of}
+use Rattle.ig_grammar.specs.WellScoped.{IsWellScoped}
+use Rattle.ig_grammar.specs.declared.declaration.Decl.{Decl}
+use Rattle.ig_grammar.specs.declared.grammar.Grammar.{Grammar}
+
+pub record DeclarationsAreFound : Type 0 where
+  -- the declaration of a name is the first one with that name
+  pub first : (d : Decl) (ds : List Decl) (name : List ℕ) →
+      declaration_of (d ∷ ds) name ≡ (if is_word d.name name then Some d else declaration_of ds name)
+  -- in a well-scoped grammar each declaration is that of its name
+  pub itself : (g : Grammar) (k : ℕ) (decl : Decl) → IsWellScoped g → slice_get g.decls k ≡ Some decl →
+      declaration_of g.decls decl.name ≡ Some decl

@@ -1,0 +1,33 @@
+//! What passes rest on. The functions compute nothing: their contracts are the laws.
+
+ghost use Rattle.ig_rewrite.specs.Added.{AddedNamesAreNew};
+ghost use Rattle.ig_rewrite.specs.Found.{DeclarationsAreFound};
+ghost use Rattle.ig_rewrite.specs.Rooted.{RootedIsTheSame};
+ghost use Rattle.ig_rewrite.specs.SameTrees.{SameTreesIsAnEquivalence};
+
+/// A grammar permits the same trees as itself; where one permits those of another, and that one
+/// those of a third, all three do. This law, proved of all checked grammars, computes nothing.
+pub fn same_trees_is_an_equivalence()
+    ensures { SameTreesIsAnEquivalence }
+{}
+
+/// No name that a pass adds is one of the notation, and the names of added nonterminals tell for
+/// which declaration they were added, and their numbers. This law, proved of all names, computes
+/// nothing.
+pub fn added_names_are_new()
+    ensures { AddedNamesAreNew }
+{}
+
+/// The declaration of a name is the first one with that name, and in a well-scoped grammar each
+/// declaration is that of its name. This law, proved of all declarations, computes nothing.
+pub fn declarations_are_found()
+    ensures { DeclarationsAreFound }
+{}
+
+/// A checked grammar without a declaration that stands for the root permits the same trees with
+/// `$root` as its last declaration, if none has that name, and stays checked; it stays regular
+/// where the counts stay below their bound. This law, proved of all such grammars, computes
+/// nothing.
+pub fn rooted_is_the_same()
+    ensures { RootedIsTheSame }
+{}

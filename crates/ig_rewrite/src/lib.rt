@@ -1,0 +1,20 @@
+//! What the passes share: when two grammars permit the same trees, the declaration that stands for
+//! the root, the names that passes add, and one traversal of symbols.
+//!
+//! The laws say that `$root`, written as the last declaration, changes no tree and keeps a checked
+//! grammar checked, and which names are new; [`root`] writes it, exactly as `specs/Rooted.antt`
+//! says. [`rewrite_grammar`] rewrites each symbol of a grammar by a pass's own rule, exactly as
+//! `specs/Rewriting.antt` says. A call is refused for want of memory alone.
+#![tactic(auto)]
+
+mod laws;
+mod rewriting;
+mod rooting;
+#[cfg(test)]
+mod tests;
+
+pub use laws::{
+    added_names_are_new, declarations_are_found, rooted_is_the_same, same_trees_is_an_equivalence,
+};
+pub use rewriting::{OwnRule, rewrite_grammar, rewrite_levels};
+pub use rooting::{copy_of_shapes, has_root, root};

@@ -1,0 +1,249 @@
+//! A grammar each of whose symbols is rewritten by a pass's own rule.
+ghost use Rattle.std.specs.Prelude.{◌≡◌, [], ◌∷◌, ◌++◌, map, OnOk, IfOk};
+ghost use Rattle.ig_grammar.specs.View.{symbol_of};
+ghost use Rattle.ig_rewrite.specs.Rewriting.{within, rewritten, rewritten_alternative};
+ghost use Rattle.ig_rewrite.specs.Rewriting.{rewritten_level, rewritten_declaration};
+ghost use Rattle.ig_rewrite.specs.Rewriting.{rewritten_grammar};
+
+use ig_grammar::{Alt, Alts, Decl, Decls, Grammar, Inner, Level, Levels, Symbol, Symbols};
+use ig_text::{Copied, Word};
+use std::alloc::{AllocError, Global};
+
+/// A pass's own rule, for a symbol whose parts are rewritten already.
+pub trait OwnRule {
+    ghost use Rattle.ig_grammar.specs.Symbol as tree;
+    ghost use Rattle.ig_grammar.specs.declared.declaration.Decl as declared;
+
+    /// What becomes of a symbol of the declaration.
+    ghost rule: { Self → declared.Decl → tree.Symbol → tree.Symbol };
+
+    /// What becomes of the symbol of the declaration. Refused for want of memory alone.
+    fn apply(&self, alloc: Global, decl: &Decl, symbol: Symbol) -> Result<Symbol, AllocError>
+        ensures { IfOk result (λ r. symbol_of r ≡ rule self.now decl.now (symbol_of symbol)) };
+}
+
+/// The symbol of the declaration, rewritten.
+#[cycle(rewriting)]
+fn rewritten_symbol<O: OwnRule>(
+    own: &O,
+    alloc: Global,
+    decl: &Decl,
+    symbol: &Symbol,
+) -> Result<Symbol, AllocError>
+    ensures { IfOk result (λ r.
+        symbol_of r ≡ rewritten (O.rule own.now decl.now) (symbol_of symbol.now)) }
+{
+    let within = symbol_within(own, alloc, decl, symbol)?;
+    own.apply(alloc, decl, within)
+}
+
+/// The symbol of the declaration, in whose parts each symbol is rewritten.
+#[cycle(rewriting)]
+fn symbol_within<O: OwnRule>(
+    own: &O,
+    alloc: Global,
+    decl: &Decl,
+    symbol: &Symbol,
+) -> Result<Symbol, AllocError>
+    ensures { IfOk result (λ r.
+        symbol_of r ≡ within (O.rule own.now decl.now) (symbol_of symbol.now)) }
+{
+    match symbol {
+        Symbol::Literal(text) => Ok(Symbol::Literal(text.copy(alloc)?)),
+        Symbol::Class(class) => Ok(Symbol::Class(class.copy(alloc)?)),
+        Symbol::Call(name, arguments) => {
+            let name = name.copy(alloc)?;
+            Ok(Symbol::Call(name, arguments.copy(alloc)?))
+        }
+        Symbol::Label(name, inner) => {
+            let name = name.copy(alloc)?;
+            Ok(Symbol::Label(name, inner_within(own, alloc, decl, inner)?))
+        }
+        Symbol::Guard(condition) => Ok(Symbol::Guard(condition.copy(alloc)?)),
+        Symbol::Let(name, value) => {
+            let name = name.copy(alloc)?;
+            Ok(Symbol::Let(name, value.copy(alloc)?))
+        }
+        Symbol::Opt(inner) => Ok(Symbol::Opt(rewritten_inner(own, alloc, decl, inner)?)),
+        Symbol::Star(inner) => Ok(Symbol::Star(rewritten_inner(own, alloc, decl, inner)?)),
+        Symbol::Plus(inner) => Ok(Symbol::Plus(rewritten_inner(own, alloc, decl, inner)?)),
+        Symbol::SepStar(inner, separator) => {
+            let inner = rewritten_inner(own, alloc, decl, inner)?;
+            Ok(Symbol::SepStar(inner, rewritten_inner(own, alloc, decl, separator)?))
+        }
+        Symbol::SepPlus(inner, separator) => {
+            let inner = rewritten_inner(own, alloc, decl, inner)?;
+            Ok(Symbol::SepPlus(inner, rewritten_inner(own, alloc, decl, separator)?))
+        }
+        Symbol::Group(choices) => {
+            Ok(Symbol::Group(rewritten_alternatives(own, alloc, decl, choices)?))
+        }
+        Symbol::Offside(inner) => Ok(Symbol::Offside(inner_within(own, alloc, decl, inner)?)),
+        Symbol::Ignore(inner) => Ok(Symbol::Ignore(inner_within(own, alloc, decl, inner)?)),
+        Symbol::Align(inner) => Ok(Symbol::Align(inner_within(own, alloc, decl, inner)?)),
+        Symbol::Filtered(inner, filters) => {
+            let inner = inner_within(own, alloc, decl, inner)?;
+            Ok(Symbol::Filtered(inner, filters.copy(alloc)?))
+        }
+        Symbol::Seq(symbols) => Ok(Symbol::Seq(rewritten_sequence(own, alloc, decl, symbols)?)),
+        Symbol::Entry(bindings, inner) => {
+            let bindings = bindings.copy(alloc)?;
+            Ok(Symbol::Entry(bindings, inner_within(own, alloc, decl, inner)?))
+        }
+    }
+}
+
+/// A symbol inside another, rewritten.
+#[cycle(rewriting)]
+fn rewritten_inner<O: OwnRule>(
+    own: &O,
+    alloc: Global,
+    decl: &Decl,
+    inner: &Inner,
+) -> Result<Inner, AllocError>
+    ensures { IfOk result (λ r. r ≡ rewritten (O.rule own.now decl.now) inner.now) }
+{
+    Inner::new(
+        alloc,
+        rewritten_symbol(own, alloc, decl, inner.as_symbol())?,
+    )
+}
+
+/// A symbol inside another, in whose parts each symbol is rewritten.
+#[cycle(rewriting)]
+fn inner_within<O: OwnRule>(
+    own: &O,
+    alloc: Global,
+    decl: &Decl,
+    inner: &Inner,
+) -> Result<Inner, AllocError>
+    ensures { IfOk result (λ r. r ≡ within (O.rule own.now decl.now) inner.now) }
+{
+    Inner::new(alloc, symbol_within(own, alloc, decl, inner.as_symbol())?)
+}
+
+/// The symbols, each rewritten.
+#[cycle(rewriting)]
+fn rewritten_sequence<O: OwnRule>(
+    own: &O,
+    alloc: Global,
+    decl: &Decl,
+    symbols: &Symbols,
+) -> Result<Symbols, AllocError>
+    ensures { IfOk result (λ r. r ≡ map (rewritten (O.rule own.now decl.now)) symbols.now) }
+{
+    let mut all = Symbols::new(alloc);
+    for symbol in symbols.as_slice() {
+        push_symbol(&mut all, rewritten_symbol(own, alloc, decl, symbol)?)?;
+    }
+    Ok(all)
+}
+
+/// The alternatives, each symbol of which is rewritten.
+#[cycle(rewriting)]
+fn rewritten_alternatives<O: OwnRule>(
+    own: &O,
+    alloc: Global,
+    decl: &Decl,
+    choices: &Alts,
+) -> Result<Alts, AllocError>
+    ensures { IfOk result (λ r.
+        r ≡ map (rewritten_alternative (O.rule own.now decl.now)) choices.now) }
+{
+    let mut all = Alts::new(alloc);
+    for choice in choices.as_slice() {
+        let symbols = rewritten_sequence(own, alloc, decl, &choice.symbols)?;
+        push_alternative(&mut all, Alt { symbols })?;
+    }
+    Ok(all)
+}
+
+/// The grammar, each symbol of which is rewritten by the pass's own rule. Refused for want of
+/// memory alone.
+pub fn rewrite_grammar<O: OwnRule>(
+    own: &O,
+    alloc: Global,
+    grammar: &Grammar,
+) -> Result<Grammar, AllocError>
+    ensures { IfOk result (λ r. r ≡ rewritten_grammar (O.rule own.now) grammar.now) }
+{
+    let mut decls = Decls::new(alloc);
+    for decl in grammar.decls.as_slice() {
+        push_declaration(&mut decls, rewrite_declaration(own, alloc, decl)?)?;
+    }
+    let start = copy_of_start(alloc, &grammar.start)?;
+    Ok(Grammar { start, decls })
+}
+
+/// The declaration, each symbol of which is rewritten.
+fn rewrite_declaration<O: OwnRule>(own: &O, alloc: Global, decl: &Decl) -> Result<Decl, AllocError>
+    ensures { IfOk result (λ r. r ≡ rewritten_declaration (O.rule own.now) decl.now) }
+{
+    let name = decl.name.copy(alloc)?;
+    let params = decl.params.copy(alloc)?;
+    let levels = rewrite_levels(own, alloc, decl)?;
+    Ok(Decl {
+        kind: decl.kind,
+        name,
+        params,
+        levels,
+    })
+}
+
+/// The levels of the declaration, each symbol of which is rewritten by the pass's own rule, for a
+/// pass that changes more of a declaration than its symbols. Refused for want of memory alone.
+pub fn rewrite_levels<O: OwnRule>(own: &O, alloc: Global, decl: &Decl) -> Result<Levels, AllocError>
+    ensures { IfOk result (λ r.
+        r ≡ map (rewritten_level (O.rule own.now decl.now)) decl.now.levels) }
+{
+    let mut all = Levels::new(alloc);
+    for level in decl.levels.as_slice() {
+        let alts = rewritten_alternatives(own, alloc, decl, &level.alts)?;
+        push_level(
+            &mut all,
+            Level {
+                assoc: level.assoc,
+                alts,
+            },
+        )?;
+    }
+    Ok(all)
+}
+
+/// An equal start line.
+pub fn copy_of_start(alloc: Global, start: &Option<Word>) -> Result<Option<Word>, AllocError>
+    ensures { IfOk result (λ r. r ≡ start.now) }
+{
+    match start {
+        Some(name) => Ok(Some(name.copy(alloc)?)),
+        None => Ok(None),
+    }
+}
+
+/// Adds the symbol at the end.
+pub fn push_symbol(all: &mut Symbols, symbol: Symbol) -> Result<(), AllocError>
+    ensures { OnOk result (all.new ≡ all.old ++ symbol_of symbol ∷ []) }
+{
+    all.push(symbol).map_err(|refused| refused.1)
+}
+
+/// Adds the alternative at the end.
+pub fn push_alternative(all: &mut Alts, alternative: Alt) -> Result<(), AllocError>
+    ensures { OnOk result (all.new ≡ all.old ++ alternative ∷ []) }
+{
+    all.push(alternative).map_err(|refused| refused.1)
+}
+
+/// Adds the level at the end.
+pub fn push_level(all: &mut Levels, level: Level) -> Result<(), AllocError>
+    ensures { OnOk result (all.new ≡ all.old ++ level ∷ []) }
+{
+    all.push(level).map_err(|refused| refused.1)
+}
+
+/// Adds the declaration at the end.
+pub fn push_declaration(all: &mut Decls, decl: Decl) -> Result<(), AllocError>
+    ensures { OnOk result (all.new ≡ all.old ++ decl ∷ []) }
+{
+    all.push(decl).map_err(|refused| refused.1)
+}
