@@ -37,9 +37,9 @@ pub(crate) enum Command<'a> {
     },
 }
 
-/// The command that the words are: `check`, `show` or `core` and the name of a file, or `forest` and
-/// the names of two, with `--budget N` or `--budget=N` anywhere behind it. A name isn't empty and
-/// doesn't begin with `-`; N is 1 to 4,000,000 in ASCII digits. Takes no memory.
+/// The command that the words are: `check`, `show` or `core` and the name of a file, or `forest`
+/// and the names of two, with `--budget N` or `--budget=N` anywhere behind it. A name isn't empty
+/// and doesn't begin with `-`; N is 1 to 4,000,000 in ASCII digits. Takes no memory.
 pub(crate) fn command_of(words: &[String]) -> Option<Command<'_>>
     ensures { Reads (map string_bytes words.now) result }
 {

@@ -10,7 +10,9 @@ use std::test::Fail;
 const LETTER: &str = "start S; syntax S = \"a\";";
 
 const LETTER_FOREST: &str =
-    "forest 2 4\nnode 0 $root () 0..1\nalt $root 2\nnode 1 S () 0..1\nalt S.1 3\nitem 0 $root () 1 0 [] 0..0\nbegin\nitem 1 S () 1 0 [] 0..0\nbegin\nitem 2 $root () 1 1 [] 0..1\ntake 0 node 1\nitem 3 S () 1 1 [] 0..1\ntake 1 leaf 0..1\n";
+    "forest 2 4\nnode 0 $root () 0..1\nalt $root 2\nnode 1 S () 0..1\nalt S.1 3\nitem 0 $root () \
+        1 0 [] 0..0\nbegin\nitem 1 S () 1 0 [] 0..0\nbegin\nitem 2 $root () 1 1 [] 0..1\ntake 0 \
+        node 1\nitem 3 S () 1 1 [] 0..1\ntake 1 leaf 0..1\n";
 
 const LETTER_CORE: &str = "nt 0 $root ()\nalt $root . call 1 ()\nnt 1 S ()\nalt S.1 . \"a\"\n";
 
@@ -23,7 +25,8 @@ const ENDLESS: &str = "start S; syntax S = A(0); syntax A(n: int) = A(n + 1) | \
 
 /// As many letters `b` as the letters `a` before them.
 const ENDS: &str =
-    "start S; syntax S = n: A B(end(n)); syntax A = \"a\" | A \"a\"; syntax B(k: int) = when (k == 0) | when (k > 0) \"b\" B(k - 1);";
+    "start S; syntax S = n: A B(end(n)); syntax A = \"a\" | A \"a\"; syntax B(k: int) = when (k \
+        == 0) | when (k > 0) \"b\" B(k - 1);";
 
 /// Canonical texts: each is its own.
 const CANONICAL: [&str; 31] = [
@@ -43,20 +46,28 @@ const CANONICAL: [&str; 31] = [
     "start S;\nsyntax S = s: \"a\" when (column(here + 1) == line(here));\n",
     "start S;\nsyntax S = s: \"a\" when (same(s, s));\n",
     "start S;\nsyntax S = s: \"a\" when (spells(s, \"a\\\"b\\\\\\n\"));\n",
-    "start S;\nsyntax S = x: offside A;\nsyntax A = \"a\";\nsyntax B(n: int, b: bool, s: span) = ;\n",
+    "start S;\nsyntax S = x: offside A;\nsyntax A = \"a\";\nsyntax B(n: int, b: bool, s: span) = \
+        ;\n",
     "start S;\nsyntax S = ignore A;\nsyntax A = \"a\";\nsyntax B(n: int, b: bool, s: span) = ;\n",
     "start S;\nsyntax S = align A*;\nsyntax A = \"a\";\nsyntax B(n: int, b: bool, s: span) = ;\n",
-    "start S;\nsyntax S = x: align {A \"b\"}+ !>> \"c\";\nsyntax A = \"a\";\nsyntax B(n: int, b: bool, s: span) = ;\n",
+    "start S;\nsyntax S = x: align {A \"b\"}+ !>> \"c\";\nsyntax A = \"a\";\nsyntax B(n: int, b: \
+        bool, s: span) = ;\n",
     "start S;\nsyntax S = A?;\nsyntax A = \"a\";\nsyntax B(n: int, b: bool, s: span) = ;\n",
     "start S;\nsyntax S = A+;\nsyntax A = \"a\";\nsyntax B(n: int, b: bool, s: span) = ;\n",
     "start S;\nsyntax S = {A \"b\"}*;\nsyntax A = \"a\";\nsyntax B(n: int, b: bool, s: span) = ;\n",
-    "start S;\nsyntax S = A !>> $xid_continue !<< $any \\ \"if\";\nsyntax A = \"a\";\nsyntax B(n: int, b: bool, s: span) = ;\n",
-    "start S;\nsyntax S = x: A B(1, true, x);\nsyntax A = \"a\";\nsyntax B(n: int, b: bool, s: span) = ;\n",
-    "start S;\nsyntax S = (A \"b\" | );\nsyntax A = \"a\";\nsyntax B(n: int, b: bool, s: span) = ;\n",
+    "start S;\nsyntax S = A !>> $xid_continue !<< $any \\ \"if\";\nsyntax A = \"a\";\nsyntax \
+        B(n: int, b: bool, s: span) = ;\n",
+    "start S;\nsyntax S = x: A B(1, true, x);\nsyntax A = \"a\";\nsyntax B(n: int, b: bool, s: \
+        span) = ;\n",
+    "start S;\nsyntax S = (A \"b\" | );\nsyntax A = \"a\";\nsyntax B(n: int, b: bool, s: span) = \
+        ;\n",
     "start S;\nsyntax S = [^\\n\"];\nsyntax A = \"a\";\nsyntax B(n: int, b: bool, s: span) = ;\n",
-    "start S;\nsyntax S = [\\-\\[-\\^a-z] $xid_start;\nsyntax A = \"a\";\nsyntax B(n: int, b: bool, s: span) = ;\n",
-    "start S;\nsyntax S = let x = (here) let y = (x + 1);\nsyntax A = \"a\";\nsyntax B(n: int, b: bool, s: span) = ;\n",
-    "start S;\nsyntax S = \"a\" > left S \"+\" S | S \"-\" S > right S \"^\" S > nonassoc \"!\" S;\nlexical L = [a-z]+ !>> [a-z];\nlayout W = \" \"*;\n",
+    "start S;\nsyntax S = [\\-\\[-\\^a-z] $xid_start;\nsyntax A = \"a\";\nsyntax B(n: int, b: \
+        bool, s: span) = ;\n",
+    "start S;\nsyntax S = let x = (here) let y = (x + 1);\nsyntax A = \"a\";\nsyntax B(n: int, \
+        b: bool, s: span) = ;\n",
+    "start S;\nsyntax S = \"a\" > left S \"+\" S | S \"-\" S > right S \"^\" S > nonassoc \"!\" \
+        S;\nlexical L = [a-z]+ !>> [a-z];\nlayout W = \" \"*;\n",
     "start S;\nsyntax S =  | \"a\" >  > left ;\n",
 ];
 
@@ -174,7 +185,8 @@ fn forests_of_built_grammars(rt: HostRuntime) -> Result<(), Fail> {
             LETTER_FOREST,
         ),
         (
-            "start \u{c9}t\u{e9}; syntax \u{c9}t\u{e9} = \u{5b57}_1; syntax \u{5b57}_1 = \"\u{1f98e}\";",
+            "start \u{c9}t\u{e9}; syntax \u{c9}t\u{e9} = \u{5b57}_1; syntax \u{5b57}_1 = \
+                \"\u{1f98e}\";",
             "\u{1f98e}",
             "forest 3 6\nnode 0 $root () 0..1\nalt $root 3\nnode 1 \u{c9}t\u{e9} () 0..1\n",
         ),
@@ -304,10 +316,13 @@ fn grammars_that_are_checked(rt: HostRuntime) -> Result<(), Fail> {
         LETTER,
         "start S; syntax S = | \"a\"*; layout W = [ \\n]* !>> [ \\n];",
         "start S; syntax S = when ((9223372036854775807 + 1) > 0) \"a\";",
-        "start El; syntax El = \"<\" n: Name \">\" El* \"</\" m: Name \">\" when (same(n, m)); lexical Name = [a-z]+ !>> [a-z];",
+        "start El; syntax El = \"<\" n: Name \">\" El* \"</\" m: Name \">\" when (same(n, m)); \
+            lexical Name = [a-z]+ !>> [a-z];",
         "start E; syntax E = [a-c] > left E \"*\" E > left E \"+\" E > \"-\" E;",
         "start P; syntax P = align (offside Decl)*; syntax Decl = \"d\";",
-        "start S; syntax S = \"a\"; syntax A(p1: int, p2: int, p3: int, p4: int, p5: int, p6: int, p7: int, p8: int, p9: int, p10: int, p11: int, p12: int, p13: int, p14: int, p15: int, p16: int) = \"a\";",
+        "start S; syntax S = \"a\"; syntax A(p1: int, p2: int, p3: int, p4: int, p5: int, p6: \
+            int, p7: int, p8: int, p9: int, p10: int, p11: int, p12: int, p13: int, p14: int, \
+            p15: int, p16: int) = \"a\";",
     ];
     for grammar in table {
         expect_text(&rt, rt.alloc(), "check", grammar, "ok\n")?;
@@ -368,7 +383,9 @@ fn grammars_with_broken_scopes(rt: HostRuntime) -> Result<(), Fail> {
             "syntax in lexical at declaration 2, alternative 1, symbol 1",
         ),
         (
-            "start S; syntax S = \"a\"; syntax A(p1: int, p2: int, p3: int, p4: int, p5: int, p6: int, p7: int, p8: int, p9: int, p10: int, p11: int, p12: int, p13: int, p14: int, p15: int, p16: int, p17: int) = \"a\";",
+            "start S; syntax S = \"a\"; syntax A(p1: int, p2: int, p3: int, p4: int, p5: int, \
+                p6: int, p7: int, p8: int, p9: int, p10: int, p11: int, p12: int, p13: int, \
+                p14: int, p15: int, p16: int, p17: int) = \"a\";",
             "too many parameters at declaration 2, alternative 0, symbol 0",
         ),
     ];
@@ -479,8 +496,10 @@ fn grammars_that_are_shown(rt: HostRuntime) -> Result<(), Fail> {
             "start S;\nsyntax S = S S | \"a\" | ;\n",
         ),
         (
-            "start \u{c9}; // a comment\nsyntax \u{c9}=x:offside(\"\\t\u{1f98e}\"|[b-da])* when((1+2)==3);",
-            "start \u{c9};\nsyntax \u{c9} = x: offside (\"\\t\u{1f98e}\" | [a-d])* when ((1 + 2) == 3);\n",
+            "start \u{c9}; // a comment\nsyntax \u{c9}=x:offside(\"\\t\u{1f98e}\"|[b-da])* \
+                when((1+2)==3);",
+            "start \u{c9};\nsyntax \u{c9} = x: offside (\"\\t\u{1f98e}\" | [a-d])* when ((1 + 2) \
+                == 3);\n",
         ),
     ];
     for (grammar, text) in table {

@@ -90,7 +90,8 @@ fn add_file<'a>(name: &'a str, found: Found<'a>) -> Option<Found<'a>>
 
 /// The parts with the value of the option in front.
 fn add_value<'a>(value: &'a [u8], found: Found<'a>) -> Option<Found<'a>>
-    ensures { option_map found_parts result ≡ few (with_budget value.now (found_parts found.entry)) }
+    ensures { option_map found_parts result
+        ≡ few (with_budget value.now (found_parts found.entry)) }
 {
     match found.budget {
         Value::NoValue => Some(Found {

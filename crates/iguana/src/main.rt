@@ -4,7 +4,8 @@
 //! `iguana forest GRAMMAR INPUT` reads the two files that it names. The forest goes to standard
 //! output, a note on why there is none to standard error, and the exit status says which it was.
 //! `--budget N` says how many items may be reachable. `iguana check GRAMMAR` prints `ok`,
-//! `iguana show GRAMMAR` the canonical text, and `iguana core GRAMMAR` the text of its core grammar.
+//! `iguana show GRAMMAR` the canonical text, and `iguana core GRAMMAR` the text of its core
+//! grammar.
 //! What the program does with its words is the top call of `ig_tool`; here are the adapters that it
 //! runs over: a shelf over files and a sink over a stream, each proved against its trait.
 #![tactic(auto)]
