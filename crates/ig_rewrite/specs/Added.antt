@@ -1,5 +1,5 @@
 -- Names that passes add to a grammar: of which form they are, and which of them are new.
-use Rattle.std.specs.Prelude.{◌≡◌, ℕ, ◌<◌, ◌^◌, List, ◌∷◌, ◌++◌, Contains, false, true, codes, decimal}
+use Rattle.std.specs.Prelude.{◌≡◌, ℕ, ◌<◌, ◌^◌, List, [], ◌∷◌, ◌++◌, Contains, false, true, codes, decimal}
 use Rattle.ig_grammar.specs.Name.{is_name}
 use Rattle.ig_grammar.specs.Names.{names}
 use Rattle.ig_grammar.specs.declared.grammar.Grammar.{Grammar}
@@ -13,6 +13,25 @@ dot = 46
 
 abbrev pub number_sign : ℕ
 number_sign = 35
+
+-- `.l` and `.r`, the parameters that stand for the least levels on the left and on the right spine
+abbrev pub left_name : List ℕ
+left_name = dot ∷ 108 ∷ []
+
+abbrev pub right_name : List ℕ
+right_name = dot ∷ 114 ∷ []
+
+-- `.m` and `.f`, the parameters that stand for the enclosing blocks: the margin, behind which tokens stand, and the first
+-- position, which is free
+abbrev pub margin_name : List ℕ
+margin_name = dot ∷ 109 ∷ []
+
+abbrev pub first_name : List ℕ
+first_name = dot ∷ 102 ∷ []
+
+-- `.c`, the column in which the items of an aligned list stand
+abbrev pub column_name : List ℕ
+column_name = dot ∷ 99 ∷ []
 
 -- the name of the k-th nonterminal that is added for a declaration of this name
 abbrev pub added_name : List ℕ → ℕ → List ℕ

@@ -2,5 +2,9 @@ pub mod SameTrees
 pub mod Added
 pub mod Rooted
 pub mod Rewriting
+pub mod Unbound
+pub mod Needs
+pub mod Sound
+pub mod Remaining
 pub mod Found
 pub mod Examples
