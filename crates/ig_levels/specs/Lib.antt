@@ -1,0 +1,5 @@
+pub mod Spines
+pub mod Levels
+pub mod Laws
+pub mod Tables
+pub mod Roles

@@ -1,0 +1,29 @@
+-- The arguments that a role gives, and the place of an alternative.
+use Rattle.std.specs.Prelude.{ℕ, pos, Bool, List, map}
+use Rattle.ig_expr.specs.Expression.{Integer, Variable}
+use Rattle.ig_grammar.specs.Numbering.{Levelled}
+use Rattle.ig_grammar.specs.declared.declaration.Assoc.{Assoc}
+use Rattle.ig_grammar.specs.declared.symbol.Alt.{Alt}
+use Rattle.ig_rewrite.specs.Added.{left_name, right_name}
+use Rattle.ig_levels.specs.Levels.{Pair, no_pair, with_pair, Place}
+use Rattle.ig_levels.specs.declared.symbols.Role.{Role}
+use Rattle.ig_levels.specs.declared.symbols.Role.TheVariants.{Outside, LeftOperand, RightOperand}
+use Rattle.ig_levels.specs.declared.operands.Bounds.{Bounds}
+
+-- the two arguments that a role gives
+abbrev pub pair_of : Role → Pair
+pair_of Outside = no_pair
+pair_of (LeftOperand bound) = record { left = Variable left_name; right = Integer (pos bound) }
+pair_of (RightOperand bound) = record { left = Integer (pos bound); right = Variable right_name }
+
+-- an alternative of a group
+abbrev pub outside : (List ℕ → Bool) → Alt → Alt
+outside levelled a = record { symbols = map (with_pair levelled no_pair) a.symbols }
+
+-- the place of an alternative of the declaration of this name, with these bounds
+abbrev pub place_of : Bounds → List ℕ → Place
+place_of bounds own = record { active = bounds.levelled; own = own; left = bounds.left; right = bounds.right }
+
+-- the alternatives of a level of this number
+abbrev pub numbered : ℕ → Assoc → List Alt → List Levelled
+numbered n assoc alts = map (λ a. record { alternative = a; level = n; assoc = assoc }) alts

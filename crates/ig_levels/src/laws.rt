@@ -1,0 +1,31 @@
+//! What the pass keeps, and what bounds ask. The functions compute nothing: their contracts are
+//! the laws.
+
+ghost use Rattle.ig_levels.specs.Laws.{BoundsAskOfSpines, LevelsKeep};
+
+/// A sound grammar in which nothing binds or reads `.l` and `.r` permits the same trees without
+/// levels, stays sound and has no operators, and what else was unbound in it stays so. This law,
+/// proved of all such grammars, computes nothing.
+pub fn levels_keep()
+    ensures { LevelsKeep }
+{
+    ig_meaning::trees_without_operators_are_clean();
+    ig_rewrite::added_names_are_new();
+    ig_rewrite::declarations_are_found();
+    ig_rewrite::rooted_is_the_same();
+    ig_rewrite::same_trees_is_an_equivalence();
+}
+
+/// Under the bounds l and r a levelled nonterminal has, without levels, exactly those of its trees
+/// that keep to the levels at each node, whose left spine has at least the level l at each node
+/// with a left operand, and whose right spine at least r at each node with a right operand. This
+/// law, proved of all such grammars, computes nothing.
+pub fn bounds_ask_of_spines()
+    ensures { BoundsAskOfSpines }
+{
+    ig_meaning::trees_without_operators_are_clean();
+    ig_rewrite::added_names_are_new();
+    ig_rewrite::declarations_are_found();
+    ig_rewrite::rooted_is_the_same();
+    ig_rewrite::same_trees_is_an_equivalence();
+}

@@ -1,0 +1,17 @@
+//! Operator levels, as a pass from grammars to grammars with the same trees.
+//!
+//! `specs/Levels.antt` says what becomes of a levelled declaration: it has one level, two more
+//! parameters, `.l` and `.r`, and each of its alternatives first tests its level against them;
+//! calls hand the bounds of operands on. The laws say that the pass changes no tree, and keeps a
+//! sound grammar sound.
+#![tactic(auto)]
+
+mod growing;
+mod laws;
+mod lower;
+mod naming;
+mod operands;
+mod symbols;
+
+pub use laws::{bounds_ask_of_spines, levels_keep};
+pub use lower::lower_levels;

@@ -1,0 +1,255 @@
+//! A grammar without levels.
+ghost use Rattle.std.specs.Prelude.{◌≡◌, ◌+◌, ◌-◌, ◌<◌, [], ◌∷◌, ◌++◌, map, true};
+ghost use Rattle.std.specs.Prelude.{IfOk, OnOk};
+ghost use Rattle.ig_expr.specs.declared.kind.Kind.TheVariants as kind;
+ghost use Rattle.ig_grammar.specs.Numbering.{by_level};
+ghost use Rattle.ig_grammar.specs.View.{symbol_of};
+ghost use Rattle.ig_rewrite.specs.Added.{left_name, right_name};
+ghost use Rattle.ig_rewrite.specs.Sound.{IsSound};
+ghost use Rattle.ig_rewrite.specs.Unbound.{IsUnbound};
+ghost use Rattle.ig_levels.specs.Levels.{lowered, test_of, symbols_in, added_parameters};
+ghost use Rattle.ig_levels.specs.Levels.{lowered_alternative, lowered_declaration};
+ghost use Rattle.ig_levels.specs.Levels.{is_levelled, lowered_grammar, one_level, LevelsOf};
+ghost use Rattle.ig_meaning.specs.Operands.{more_on_the_left, more_on_the_right};
+ghost use Rattle.ig_levels.specs.Roles.{numbered, place_of};
+ghost use Rattle.ig_levels.specs.Tables.{levelled_by};
+
+use crate::growing::{push_alternative, push_declaration, push_level, push_parameter, push_symbol};
+use crate::laws::levels_keep;
+use crate::naming::{is_levelled, left_word, levelled_names, right_word};
+use crate::operands::{Bounds, bounds_at, has_left, has_right, is_test, role_at};
+use crate::symbols::lower_symbol;
+use ig_expr::{Expr, Kind, Op, Operand};
+use ig_grammar::{
+    Alt, Alts, Assoc, Checked, Decl, Decls, Grammar, Level, Levels, Param, Params, Symbol, Symbols,
+};
+use ig_rewrite::{copy_of_shapes, root};
+use ig_text::{Copied, Word};
+use std::alloc::{AllocError, Global};
+use std::collections::BTreeMap;
+
+/// The grammar without levels, exactly as `specs/Levels.antt` says; `$root` is its last declaration
+/// where none stood for the root. Refused for want of memory alone; a level whose number 32 bits
+/// don't hold counts as that. The grammar is sound, and nothing in it binds or reads `.l` and `.r`.
+pub fn lower_levels(alloc: Global, checked: &Checked) -> Result<Checked, AllocError>
+    requires sound { IsSound checked.now }
+    requires left_unbound { IsUnbound checked.now.grammar left_name }
+    requires right_unbound { IsUnbound checked.now.grammar right_name }
+    ensures { IfOk result (λ r. r ≡ LevelsOf checked.now) }
+{
+    levels_keep();
+    let rooted = root(alloc, checked)?;
+    let grammar = lower_grammar(alloc, rooted.grammar())?;
+    let shapes = copy_of_shapes(alloc, &rooted)?;
+    Ok(Checked::with_shapes(grammar, shapes))
+}
+
+/// The grammar, each declaration of which has no levels.
+fn lower_grammar(alloc: Global, grammar: &Grammar) -> Result<Grammar, AllocError>
+    ensures { IfOk result (λ r. r ≡ lowered_grammar grammar.now) }
+{
+    let table = levelled_names(alloc, grammar.decls.as_slice())?;
+    let decls = lower_declarations(alloc, &table, grammar.decls.as_slice())?;
+    let start = copy_of_start(alloc, &grammar.start)?;
+    Ok(Grammar { start, decls })
+}
+
+/// An equal start line.
+fn copy_of_start(alloc: Global, start: &Option<Word>) -> Result<Option<Word>, AllocError>
+    ensures { IfOk result (λ r. r ≡ start.now) }
+{
+    match start {
+        Some(name) => Ok(Some(name.copy(alloc)?)),
+        None => Ok(None),
+    }
+}
+
+/// The declarations, without levels.
+fn lower_declarations(
+    alloc: Global,
+    table: &BTreeMap<&str, bool>,
+    decls: &[Decl],
+) -> Result<Decls, AllocError>
+    ensures { IfOk result (λ r. r ≡ map (lowered_declaration (levelled_by table.now)) decls.now) }
+{
+    let mut all = Decls::new(alloc);
+    for decl in decls {
+        push_declaration(&mut all, lower_declaration(alloc, table, decl)?)?;
+    }
+    Ok(all)
+}
+
+/// The declaration, without levels: where it was levelled, the bounds are parameters.
+fn lower_declaration(
+    alloc: Global,
+    table: &BTreeMap<&str, bool>,
+    decl: &Decl,
+) -> Result<Decl, AllocError>
+    ensures { IfOk result (λ r. r ≡ lowered_declaration (levelled_by table.now) decl.now) }
+{
+    let name = decl.name.copy(alloc)?;
+    let levelled = is_levelled(decl.levels.as_slice());
+    let params = lower_parameters(alloc, &decl.params, levelled)?;
+    let levels = lower_levels_of(alloc, table, decl, levelled)?;
+    Ok(Decl {
+        kind: decl.kind,
+        name,
+        params,
+        levels,
+    })
+}
+
+/// The parameters, and the two bounds where the declaration is levelled.
+fn lower_parameters(alloc: Global, params: &Params, levelled: bool) -> Result<Params, AllocError>
+    ensures { IfOk result (λ r. r ≡ params.now ++ added_parameters levelled) }
+{
+    let mut all = params.copy(alloc)?;
+    if levelled {
+        push_bound(&mut all, left_word(alloc)?)?;
+        push_bound(&mut all, right_word(alloc)?)?;
+    }
+    Ok(all)
+}
+
+/// Adds the parameter that stands for a bound.
+fn push_bound(all: &mut Params, name: Word) -> Result<(), AllocError>
+    ensures { OnOk result (all.new ≡ all.old ++ record { name = name; kind = kind.Int } ∷ []) }
+{
+    let param = Param {
+        name,
+        kind: Kind::Int,
+    };
+    push_parameter(all, param)
+}
+
+/// The one level of the declaration, where it has any.
+fn lower_levels_of(
+    alloc: Global,
+    table: &BTreeMap<&str, bool>,
+    decl: &Decl,
+    levelled: bool,
+) -> Result<Levels, AllocError>
+    requires { levelled ≡ is_levelled decl.now.levels }
+    ensures { IfOk result (λ r. r ≡ one_level decl.now.levels
+        (map (lowered_alternative (levelled_by table.now) decl.now) (by_level decl.now.levels))) }
+{
+    let mut levels = Levels::new(alloc);
+    if decl.levels.is_empty() {
+        return Ok(levels);
+    }
+    let alts = lower_alternatives(alloc, table, decl, levelled)?;
+    let assoc = Assoc::Free;
+    push_level(&mut levels, Level { assoc, alts })?;
+    Ok(levels)
+}
+
+/// The alternatives of all levels of the declaration, in order. The last level has the number 1.
+fn lower_alternatives(
+    alloc: Global,
+    table: &BTreeMap<&str, bool>,
+    decl: &Decl,
+    levelled: bool,
+) -> Result<Alts, AllocError>
+    requires { levelled ≡ is_levelled decl.now.levels }
+    ensures { IfOk result (λ r. r ≡
+        map (lowered_alternative (levelled_by table.now) decl.now) (by_level decl.now.levels)) }
+{
+    let levels = decl.levels.as_slice();
+    let mut all = Alts::new(alloc);
+    for (index, level) in levels.iter().enumerate() {
+        let number = level_number(levels.len(), index)?;
+        let bounds = bounds_at(levelled, number, level.assoc)?;
+        add_alternatives(alloc, table, &bounds, decl, level, &mut all)?;
+    }
+    Ok(all)
+}
+
+/// The number of the level at this index of so many levels: the last one has the number 1. A number
+/// that 32 bits don't hold is refused as want of memory.
+fn level_number(levels: usize, index: usize) -> Result<u32, AllocError>
+    requires { index < levels }
+    ensures { IfOk result (λ n. n ≡ levels - index) }
+{
+    u32::try_from(levels - index).map_err(|_| AllocError)
+}
+
+/// Adds the alternatives of a level at the end.
+fn add_alternatives(
+    alloc: Global,
+    table: &BTreeMap<&str, bool>,
+    bounds: &Bounds,
+    decl: &Decl,
+    level: &Level,
+    all: &mut Alts,
+) -> Result<(), AllocError>
+    requires levelled { bounds.now.levelled ≡ is_levelled decl.now.levels }
+    requires left { bounds.now.left ≡ bounds.now.level + more_on_the_left level.now.assoc }
+    requires right { bounds.now.right ≡ bounds.now.level + more_on_the_right level.now.assoc }
+    ensures { OnOk result (all.new ≡ all.old ++
+        map (lowered_alternative (levelled_by table.now) decl.now)
+        (numbered bounds.now.level level.now.assoc level.now.alts)) }
+{
+    for alternative in level.alts.as_slice() {
+        let symbols = lower_alternative(alloc, table, bounds, &decl.name, alternative)?;
+        push_alternative(all, Alt { symbols })?;
+    }
+    Ok(())
+}
+
+/// The symbols of an alternative, behind the tests of its level.
+fn lower_alternative(
+    alloc: Global,
+    table: &BTreeMap<&str, bool>,
+    bounds: &Bounds,
+    own: &Word,
+    alternative: &Alt,
+) -> Result<Symbols, AllocError>
+    ensures { IfOk result (λ r. r ≡ symbols_in (levelled_by table.now)
+        (place_of bounds.now own.now) bounds.now.level alternative.now.symbols) }
+{
+    let symbols = alternative.symbols.as_slice();
+    let mut all = Symbols::new(alloc);
+    if has_left(bounds, own, symbols) {
+        push_test(alloc, &mut all, bounds.level, left_word(alloc)?)?;
+    }
+    if has_right(bounds, own, symbols) {
+        push_test(alloc, &mut all, bounds.level, right_word(alloc)?)?;
+    }
+    add_symbols(alloc, table, bounds, own, symbols, &mut all)?;
+    Ok(all)
+}
+
+/// Adds the test that the level is at least the bound.
+fn push_test(alloc: Global, all: &mut Symbols, level: u32, bound: Word) -> Result<(), AllocError>
+    ensures { OnOk result (all.new ≡ all.old ++ test_of true level bound) }
+{
+    let level = Operand::new(alloc, Expr::Int(level as i64))?;
+    let bound = Operand::new(alloc, Expr::Var(bound))?;
+    push_symbol(
+        all,
+        Symbol::Guard(Expr::Binary(Op::GreaterEqual, level, bound)),
+    )
+}
+
+/// Adds the symbols of an alternative, its operands with the bounds for them.
+fn add_symbols(
+    alloc: Global,
+    table: &BTreeMap<&str, bool>,
+    bounds: &Bounds,
+    own: &Word,
+    symbols: &[Symbol],
+    all: &mut Symbols,
+) -> Result<(), AllocError>
+    ensures { OnOk result (all.new ≡ all.old ++ lowered (levelled_by table.now)
+        (place_of bounds.now own.now) true (map symbol_of symbols.now)) }
+{
+    let mut first = true;
+    let mut rest = symbols;
+    while let [symbol, others @ ..] = rest {
+        let role = role_at(bounds, own, first, symbol, others);
+        push_symbol(all, lower_symbol(alloc, table, symbol, role)?)?;
+        first = first && is_test(symbol);
+        rest = others;
+    }
+    Ok(())
+}
