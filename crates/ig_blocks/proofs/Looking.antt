@@ -1,0 +1,146 @@
+-- Looking up names in tables: environments, and variables with their kinds.
+use Rattle.std.proofs.Common.{◌≡◌, ◌≢◌, ◌⊎◌, ◌<◌, ◌∙◌, ℕ, suc, ◌+◌, Bool, true, false, if◌then◌else◌, List, [], ◌∷◌, ◌++◌, map, length, Option, Some, None, option_and_then, refl, sym, ap, ap₂, subst, inl, inr, arith, nat_lt}
+use Rattle.std.specs.Prelude.{slice_get, position}
+use Rattle.std.specs.Cmp.Lexicographic.{bytes_decides}
+use Rattle.std.specs.List.{position_or_len}
+use Rattle.std.proofs.lemmas.Bool.{lt-ltb}
+use Rattle.std.proofs.lemmas.Bool.Decides.{leb_tells}
+use Rattle.ig_text.specs.Words.{is_word}
+use Rattle.ig_expr.specs.Names.{look_up}
+
+-- names with what stands beside them
+abbrev pub Table : Type 0 → Type 0
+Table A = List (List ℕ × A)
+
+abbrev pub keys : {A : Type 0} → Table A → List (List ℕ)
+keys env = map (λ pair. pair.0) env
+
+abbrev pub members : {A : Type 0} → Table A → List A
+members env = map (λ pair. pair.1) env
+
+-- what stands beside the first place of the name
+abbrev pub find : {A : Type 0} → Table A → List ℕ → Option A
+find env x = look_up (keys env) (members env) x
+
+abbrev pub or_else : {A : Type 0} → Option A → Option A → Option A
+or_else (Some v) other = Some v
+or_else None other = other
+
+pub if_true : {A : Type 0} (b : Bool) (x y : A) → b ≡ true → (if b then x else y) ≡ x
+if_true b x y e = ap (λ z. if z then x else y) e
+
+pub if_false : {A : Type 0} (b : Bool) (x y : A) → b ≡ false → (if b then x else y) ≡ y
+if_false b x y e = ap (λ z. if z then x else y) e
+
+place_first : (x : List ℕ) (xs : List (List ℕ)) (y : List ℕ) → is_word x y ≡ true → position (λ n. is_word n y) (x ∷ xs) ≡ Some 0
+place_first x xs y e =
+    rw e (if_true (nat_lt 0 (suc (length xs))) (Some 0) None (lt-ltb 0 (suc (length xs)) (omega arith)))
+
+place_later : {A : Type 0} (x : List ℕ) (xs : List (List ℕ)) (y : List ℕ) (v : A) (vs : List A) → is_word x y ≡ false →
+    option_and_then (slice_get (v ∷ vs)) (position (λ n. is_word n y) (x ∷ xs)) ≡ option_and_then (slice_get vs) (position (λ n. is_word n y) xs)
+place_later x xs y v vs e = rw e (go (position_or_len (λ n. is_word n y) xs) (leb_tells (suc (position_or_len (λ n. is_word n y) xs)) (length xs)))
+  where
+    next : (k : ℕ) → slice_get (v ∷ vs) (1 + k) ≡ slice_get vs k
+    next k = let n : 1 + k ≡ suc k = omega arith in rw n refl
+
+    go : (k : ℕ) → ((nat_lt k (length xs) ≡ true) × (k < length xs)) ⊎ ((nat_lt k (length xs) ≡ false) × (length xs < suc k)) →
+        option_and_then (slice_get (v ∷ vs)) (if nat_lt (1 + k) (suc (length xs)) then Some (1 + k) else None) ≡
+        option_and_then (slice_get vs) (if nat_lt k (length xs) then Some k else None)
+    go k (inl h) =
+        let above : nat_lt (1 + k) (suc (length xs)) ≡ true = lt-ltb (1 + k) (suc (length xs)) (omega (arith, h.1)) in
+        ap (option_and_then (slice_get (v ∷ vs))) (if_true (nat_lt (1 + k) (suc (length xs))) (Some (1 + k)) None above) ∙ next k ∙
+        sym (ap (option_and_then (slice_get vs)) (if_true (nat_lt k (length xs)) (Some k) None h.0))
+    go k (inr h) =
+        let above : nat_lt (1 + k) (suc (length xs)) ≡ false = grind (arith, leb_tells (suc (1 + k)) (suc (length xs)), h.1) in
+        ap (option_and_then (slice_get (v ∷ vs))) (if_false (nat_lt (1 + k) (suc (length xs))) (Some (1 + k)) None above) ∙
+        sym (ap (option_and_then (slice_get vs)) (if_false (nat_lt k (length xs)) (Some k) None h.0))
+
+pub find_cons : {A : Type 0} (x : List ℕ) (v : A) (env : Table A) (y : List ℕ) →
+    find ((x, v) ∷ env) y ≡ (if is_word x y then Some v else find env y)
+find_cons x v env y = go (is_word x y) refl
+  where
+    go : (b : Bool) → is_word x y ≡ b → find ((x, v) ∷ env) y ≡ (if is_word x y then Some v else find env y)
+    go true e = ap (option_and_then (slice_get (v ∷ members env))) (place_first x (keys env) y e) ∙ sym (if_true (is_word x y) (Some v) (find env y) e)
+    go false e = place_later x (keys env) y v (members env) e ∙ sym (if_false (is_word x y) (Some v) (find env y) e)
+
+pub same_word : (x y : List ℕ) → x ≡ y → is_word x y ≡ true
+same_word x y e = (bytes_decides x y).1 e
+
+pub other_word : (x y : List ℕ) → x ≢ y → is_word x y ≡ false
+other_word x y ne = go (is_word x y) refl
+  where
+    go : (b : Bool) → is_word x y ≡ b → is_word x y ≡ false
+    go true e = absurd (ne ((bytes_decides x y).0 e))
+    go false e = e
+
+pub word_is : (x y : List ℕ) → is_word x y ≡ true → x ≡ y
+word_is x y e = (bytes_decides x y).0 e
+
+-- what is bound last is found where nothing before has the name
+pub find_snoc : {A : Type 0} (env : Table A) (n : List ℕ) (v : A) (y : List ℕ) →
+    find (env ++ (n, v) ∷ []) y ≡ or_else (find env y) (if is_word n y then Some v else None)
+find_snoc [] n v y = find_cons n v [] y
+find_snoc (pair ∷ env) n v y = go (find_snoc env n v y) (is_word pair.0 y) refl
+  where
+    go : find (env ++ (n, v) ∷ []) y ≡ or_else (find env y) (if is_word n y then Some v else None) → (b : Bool) → is_word pair.0 y ≡ b →
+        find (pair ∷ env ++ (n, v) ∷ []) y ≡ or_else (find (pair ∷ env) y) (if is_word n y then Some v else None)
+    go ih true e =
+        find_cons pair.0 pair.1 (env ++ (n, v) ∷ []) y ∙ if_true (is_word pair.0 y) _ _ e ∙
+        sym (ap (λ z. or_else z (if is_word n y then Some v else None)) (find_cons pair.0 pair.1 env y ∙ if_true (is_word pair.0 y) _ _ e))
+    go ih false e =
+        find_cons pair.0 pair.1 (env ++ (n, v) ∷ []) y ∙ if_false (is_word pair.0 y) _ _ e ∙ ih ∙
+        sym (ap (λ z. or_else z (if is_word n y then Some v else None)) (find_cons pair.0 pair.1 env y ∙ if_false (is_word pair.0 y) _ _ e))
+
+-- the table with the member in place of that of the same name, or at the end where the name is new
+abbrev pub put : {A : Type 0} → Table A → List ℕ → A → Table A
+put [] n v = (n, v) ∷ []
+put (pair ∷ others) n v = if is_word pair.0 n then (n, v) ∷ others else pair ∷ put others n v
+
+-- a replaced value is found, and the others stay
+pub find_put : {A : Type 0} (env : Table A) (n : List ℕ) (v : A) (y : List ℕ) →
+    find (put env n v) y ≡ (if is_word n y then Some v else find env y)
+find_put [] n v y = find_cons n v [] y
+find_put (pair ∷ env) n v y = go (find_put env n v y) (is_word pair.0 n) refl
+  where
+    here : is_word pair.0 n ≡ true → (b : Bool) → is_word n y ≡ b → (if is_word n y then Some v else find env y) ≡ (if is_word n y then Some v else find (pair ∷ env) y)
+    here e true t = if_true (is_word n y) _ _ t ∙ sym (if_true (is_word n y) _ _ t)
+    here e false t =
+        let other : is_word pair.0 y ≡ false = subst (λ z. is_word z y ≡ false) (sym (word_is pair.0 n e)) t in
+        if_false (is_word n y) _ _ t ∙ sym (find_cons pair.0 pair.1 env y ∙ if_false (is_word pair.0 y) _ _ other) ∙ sym (if_false (is_word n y) _ _ t)
+
+    later : is_word pair.0 n ≡ false → (b d : Bool) → is_word pair.0 y ≡ b → is_word n y ≡ d →
+        (if is_word pair.0 y then Some pair.1 else (if is_word n y then Some v else find env y)) ≡ (if is_word n y then Some v else find (pair ∷ env) y)
+    later e true true t u =
+        let clash : true ≡ false = sym (same_word pair.0 n (word_is pair.0 y t ∙ sym (word_is n y u))) ∙ e in absurd (cc)
+    later e true false t u =
+        if_true (is_word pair.0 y) _ _ t ∙ sym (if_false (is_word n y) _ _ u ∙ find_cons pair.0 pair.1 env y ∙ if_true (is_word pair.0 y) _ _ t)
+    later e false true t u = if_false (is_word pair.0 y) _ _ t ∙ if_true (is_word n y) _ _ u ∙ sym (if_true (is_word n y) _ _ u)
+    later e false false t u =
+        if_false (is_word pair.0 y) _ _ t ∙ if_false (is_word n y) _ _ u ∙
+        sym (if_false (is_word n y) _ _ u ∙ find_cons pair.0 pair.1 env y ∙ if_false (is_word pair.0 y) _ _ t)
+
+    go : find (put env n v) y ≡ (if is_word n y then Some v else find env y) → (b : Bool) → is_word pair.0 n ≡ b → find (put (pair ∷ env) n v) y ≡ (if is_word n y then Some v else find (pair ∷ env) y)
+    go ih true e =
+        ap (λ z. find z y) (if_true (is_word pair.0 n) ((n, v) ∷ env) (pair ∷ put env n v) e) ∙ find_cons n v env y ∙ here e (is_word n y) refl
+    go ih false e =
+        ap (λ z. find z y) (if_false (is_word pair.0 n) ((n, v) ∷ env) (pair ∷ put env n v) e) ∙
+        find_cons pair.0 pair.1 (put env n v) y ∙ ap (λ z. if is_word pair.0 y then Some pair.1 else z) ih ∙
+        later e (is_word pair.0 y) (is_word n y) refl refl
+
+pub find_same : {A : Type 0} (env : Table A) (n : List ℕ) (v : A) → find (put env n v) n ≡ Some v
+find_same env n v = find_put env n v n ∙ if_true (is_word n n) _ _ (same_word n n refl)
+
+pub find_other : {A : Type 0} (env : Table A) (n : List ℕ) (v : A) (y : List ℕ) → n ≢ y → find (put env n v) y ≡ find env y
+find_other env n v y ne = find_put env n v y ∙ if_false (is_word n y) _ _ (other_word n y ne)
+
+or_none : {A : Type 0} (a : Option A) → or_else a None ≡ a
+or_none None = refl
+or_none (Some v) = refl
+
+pub find_pushed_other : {A : Type 0} (env : Table A) (n : List ℕ) (v : A) (y : List ℕ) → n ≢ y → find (env ++ (n, v) ∷ []) y ≡ find env y
+find_pushed_other env n v y ne =
+    find_snoc env n v y ∙ ap (or_else (find env y)) (if_false (is_word n y) _ _ (other_word n y ne)) ∙ or_none (find env y)
+
+pub find_pushed_new : {A : Type 0} (env : Table A) (n : List ℕ) (v : A) → find env n ≡ None → find (env ++ (n, v) ∷ []) n ≡ Some v
+find_pushed_new env n v e =
+    find_snoc env n v n ∙ ap₂ or_else e (if_true (is_word n n) (Some v) None (same_word n n refl))

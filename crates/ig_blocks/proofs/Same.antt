@@ -1,0 +1,31 @@
+-- Both directions for permitted trees.
+use Rattle.std.proofs.Common.{◌↔◌, ℕ, List, [], None, refl, arith}
+use Rattle.ig_text.specs.Tree.{Tree}
+use Rattle.ig_meaning.specs.Permitted.{Permitted}
+use Rattle.ig_blocks.specs.Setting.{Setting, lacking}
+use Rattle.ig_meaning.specs.Clean.{Clean}
+use Rattle.ig_grammar.specs.declared.grammar.Grammar.{Grammar}
+use Rattle.ig_grammar.specs.declared.place.Shape.{Shape}
+use Rattle.ig_blocks.proofs.Reading.{AreApart}
+use Rattle.ig_blocks.proofs.Takes.{Takes, TakesRoot}
+use Rattle.ig_blocks.proofs.Columns.{all_allowed}
+use Rattle.ig_blocks.proofs.Situations.{Situated}
+use Rattle.ig_blocks.proofs.Forth.{to_covers}
+use Rattle.ig_blocks.proofs.Back.{from_covers}
+
+at_root : (s : Setting) (text : List ℕ) → Situated s text [] [] lacking 0 None 0
+at_root s text =
+    record { agree = record { same = λ x w. refl }; holds = record { column = refl; start = refl }; before = omega arith; within = omega arith }
+
+pub same_trees : (s : Setting) (g h : Grammar) (shapes others : List Shape) (text : List ℕ) (t : Tree) → AreApart s → Takes s g h shapes others →
+    TakesRoot s g h shapes others → (Clean g t ↔ Clean h t) → (Permitted g shapes text t ↔ Permitted h others text t)
+same_trees s g h shapes others text t apart takes root clean = (
+  (λ p.
+      let r = root.forth p.kind p.symbols p.root in
+      let d = to_covers s apart g h shapes others text takes p.covered lacking 0 None [] r.0 tt r.2 (at_root s text) (λ q c. all_allowed text q) in
+      record { kind = p.kind; symbols = r.0; children = p.children; after = d.left; starts = d.exposes; root = r.1; covered = d.covered; whole = p.whole; clean = clean.0 p.clean }),
+  (λ p.
+      let r = root.back p.kind p.symbols p.root in
+      let d = from_covers s apart g h shapes others text takes p.covered lacking 0 None [] r.0 tt r.2 (at_root s text) in
+      record { kind = p.kind; symbols = r.0; children = p.children; after = d.after; starts = d.exposes; root = r.1; covered = d.covered; whole = p.whole; clean = clean.1 p.clean }),
+)

@@ -1,0 +1,169 @@
+-- Each alternative of the lowered grammar is sound.
+use Rattle.std.proofs.Common.{◌≡◌, ◌≢◌, ◌∙◌, ℕ, suc, Bool, true, false, List, [], ◌∷◌, ◌++◌, map, length, Option, Some, None, refl, sym, ap, subst, if◌then◌else◌}
+use Rattle.std.specs.Prelude.{All, Contains, slice_get}
+use Rattle.std.proofs.lemmas.List.{map-append, append-nil}
+use Rattle.ig_text.proofs.Lists.{at_from_contains, contains_from_at}
+use Rattle.ig_text.specs.Words.{is_word}
+use Rattle.ig_expr.specs.declared.kind.Kind.TheVariants as kind
+use Rattle.ig_grammar.specs.Alternative.{gathered_alternatives}
+use Rattle.ig_grammar.specs.Checked.{CheckedGrammar}
+use Rattle.ig_grammar.specs.Condition.{symbols_of}
+use Rattle.ig_grammar.specs.Numbering.{alternatives}
+use Rattle.ig_grammar.specs.Regular.{IsPlaced}
+use Rattle.ig_grammar.specs.Subterms.{subterms_of_symbols, subterms_of_alternatives}
+use Rattle.ig_grammar.specs.Symbol.{Symbol, gathered}
+use Rattle.ig_grammar.specs.Visible.{Visible, Occurrence, parameters}
+use Rattle.ig_grammar.specs.declared.declaration.Decl.{Decl}
+use Rattle.ig_grammar.specs.declared.declaration.Level.{Level}
+use Rattle.ig_grammar.specs.declared.declaration.Param.{Param}
+use Rattle.ig_grammar.specs.declared.grammar.Grammar.{Grammar}
+use Rattle.ig_grammar.specs.declared.place.Shape.{Shape}
+use Rattle.ig_grammar.specs.declared.symbol.Alt.{Alt}
+use Rattle.ig_rewrite.specs.Added.{margin_name, first_name, column_name}
+use Rattle.ig_rewrite.specs.Found.{DeclarationsAreFound}
+use Rattle.ig_rewrite.specs.Needs.{IsEntered}
+use Rattle.ig_rewrite.specs.Rooted.{is_root}
+use Rattle.ig_rewrite.specs.Unbound.{LacksName}
+use Rattle.ig_blocks.specs.Setting.{Setting, lacking, carried, pair_for, pair_by, extra_by}
+use Rattle.ig_blocks.specs.Blocks.{setting_of, int_param, alternative_by, level_by, declaration_by, root_by, lowered_declaration, lowered_declarations}
+use Rattle.ig_blocks.proofs.Reading.{IsWritten, AreApart}
+use Rattle.ig_blocks.proofs.Takes.{AreWritten}
+use Rattle.ig_blocks.proofs.Looking.{find, find_cons, or_else, if_true, if_false, same_word, other_word}
+use Rattle.ig_blocks.proofs.Gathering.{gathered_by}
+use Rattle.ig_blocks.proofs.Placing.{PlacedSymbols}
+use Rattle.ig_blocks.proofs.Occurrences.{placed_symbols}
+use Rattle.ig_blocks.proofs.Suiting.{IsGood}
+use Rattle.ig_blocks.proofs.Sights.{Sight, no_pair, handed_pair, find_join}
+use Rattle.ig_blocks.proofs.Heads.{IsSoundAt}
+use Rattle.ig_blocks.proofs.Sounding.{Info, symbols_sound}
+use Rattle.ig_blocks.proofs.Located.{among_alternatives, in_alternative, of_alternatives, symbols_of_placed, back_from}
+use Rattle.ig_blocks.proofs.Rooting.{IsPrepared}
+use Rattle.ig_blocks.proofs.Readiness.{one_place, root_of, parameters_written}
+use Rattle.ig_blocks.proofs.Permitting.{apart, pair_at, levels_are, made_of}
+
+or_none : {A : Type 0} (o : Option A) → or_else o None ≡ o
+or_none None = refl
+or_none (Some x) = refl
+
+module _ (s : Setting) where
+  unseen : (ps : List Param) (n : List ℕ) → AreWritten s ps → ((y : List ℕ) → IsWritten s y → y ≢ n) → find (parameters ps) n ≡ None
+  unseen [] n w ne = refl
+  unseen (p ∷ ps) n w ne =
+      find_cons p.name p.kind (parameters ps) n ∙ if_false (is_word p.name n) (Some p.kind) (find (parameters ps) n) (other_word p.name n (ne p.name w.0)) ∙ unseen ps n w.1 ne
+
+  abbrev two : Visible
+  two = (s.m, kind.Int) ∷ (s.f, kind.Int) ∷ []
+
+  two_other : (n : List ℕ) → IsWritten s n → find two n ≡ None
+  two_other n w =
+      find_cons s.m kind.Int ((s.f, kind.Int) ∷ []) n ∙ if_false (is_word s.m n) _ _ (other_word s.m n (λ e. w.not_m (sym e))) ∙
+      find_cons s.f kind.Int [] n ∙ if_false (is_word s.f n) _ _ (other_word s.f n (λ e. w.not_f (sym e)))
+
+  two_first : find two s.m ≡ Some kind.Int
+  two_first = find_cons s.m kind.Int ((s.f, kind.Int) ∷ []) s.m ∙ if_true (is_word s.m s.m) _ _ (same_word s.m s.m refl)
+
+  two_second : s.m ≢ s.f → find two s.f ≡ Some kind.Int
+  two_second ne =
+      find_cons s.m kind.Int ((s.f, kind.Int) ∷ []) s.f ∙ if_false (is_word s.m s.f) _ _ (other_word s.m s.f ne) ∙
+      find_cons s.f kind.Int [] s.f ∙ if_true (is_word s.f s.f) _ _ (same_word s.f s.f refl)
+
+  -- at the start of an alternative
+  pub first_sight : AreApart s → (b : Bool) (ps : List Param) → AreWritten s ps →
+      Sight s (pair_by b) (parameters ps) (parameters (ps ++ extra_by b (int_param s.m) (int_param s.f)))
+  first_sight apart false ps w =
+      subst (λ z. Sight s lacking (parameters ps) (parameters z)) (sym (append-nil ps)) (record { seen = record { same = λ n h. refl }; pair = no_pair })
+  first_sight apart true ps w =
+      let v = parameters ps in
+      let there : Sight s carried v (v ++ two) =
+      record {
+        seen = record { same = λ n h. sym (find_join v two n ∙ ap (or_else (find v n)) (two_other n h) ∙ or_none (find v n)) };
+        pair = handed_pair
+            (find_join v two s.m ∙ ap (λ z. or_else z (find two s.m)) (unseen ps s.m w (λ y h. h.not_m)) ∙ two_first)
+            (find_join v two s.f ∙ ap (λ z. or_else z (find two s.f)) (unseen ps s.f w (λ y h. h.not_f)) ∙ two_second apart.m_f);
+      } in
+      subst (λ z. Sight s carried v z) (sym (map-append (λ (p : Param). (p.name, p.kind)) ps (int_param s.m ∷ int_param s.f ∷ []))) there
+
+module _ (found : DeclarationsAreFound) (c : CheckedGrammar) (prepared : IsPrepared c) where
+  abbrev g : Grammar
+  g = c.grammar
+
+  abbrev shapes : List Shape
+  shapes = c.shapes
+
+  abbrev s : Setting
+  s = setting_of g.decls shapes
+
+  abbrev lowered : List Decl
+  lowered = lowered_declarations s shapes g.decls
+
+  abbrev place : (n k : ℕ) (d e : Decl) → slice_get g.decls n ≡ Some d → slice_get g.decls k ≡ Some e → d.name ≡ e.name → n ≡ k
+  place = one_place g prepared.sound.scoped
+
+  abbrev counted : length shapes ≡ length g.decls
+  counted = prepared.sound.fit.counted
+
+  abbrev Sound : Decl → Visible → Symbol → Type 0
+  Sound d = IsSoundAt g shapes lowered d.kind
+
+  good : (n : ℕ) (d : Decl) (a : Alt) → slice_get g.decls n ≡ Some d → Contains (alternatives d.levels) a →
+      PlacedSymbols (IsGood g shapes d.kind) (gathered a.symbols) (parameters d.params)
+  good n d a at m =
+      placed_symbols (IsGood g shapes d.kind) (gathered a.symbols) (parameters d.params) (λ o h. one o h)
+    where
+      one : (o : Occurrence) → Contains (symbols_of d a) o → IsGood g shapes d.kind o.visible o.symbol
+      one o h =
+          let k = at_from_contains (alternatives d.levels) a m in
+          let there = at_from_contains (symbols_of d a) o h in
+          record {
+            fine = λ condition met. prepared.sound.scoped (record { decl = suc n; alt = suc k.0; symbol = suc there.0 }) condition (d, at, (a, k.1, (o, there.1, met)));
+            uncalled = λ j root arguments e f. let r = root_of found c prepared j root e f in r.uncalled d a o arguments (contains_from_at g.decls n d at) m h;
+          }
+
+  info : (n : ℕ) (d : Decl) (level : Level) (a : Alt) → slice_get g.decls n ≡ Some d → Contains d.levels level → Contains level.alts a →
+      All (Info found g shapes counted place (apart g.decls shapes) d.kind) (subterms_of_symbols (gathered a.symbols))
+  info n d level a at l m k e within =
+      let here = contains_from_at g.decls n d at in
+      let margin = in_alternative (LacksName margin_name) level.alts a (prepared.margin.symbols d level here l) m in
+      let first = in_alternative (LacksName first_name) level.alts a (prepared.first.symbols d level here l) m in
+      let column = in_alternative (LacksName column_name) level.alts a (prepared.column.symbols d level here l) m in
+      let well = in_alternative IsPlaced level.alts a (prepared.sound.well d level here l) m in
+      let entered = in_alternative IsEntered level.alts a (prepared.sound.entered d level here l) m in
+      ((margin k e within, first k e within, column k e within), well k e within, entered k e within)
+
+  -- the parameters, and the pair
+  pub sight_at : (n : ℕ) (shape : Shape) (d : Decl) → slice_get g.decls n ≡ Some d →
+      Sight s (pair_at s shape d) (parameters d.params) (parameters (lowered_declaration s shape d).params)
+  sight_at n shape d at = go (is_root shape)
+    where
+      written : AreWritten s d.params
+      written = parameters_written found c prepared n d at
+
+      go : (b : Bool) → Sight s (if b then lacking else pair_for s d.kind) (parameters d.params) (parameters (if b then root_by s d else declaration_by s d).params)
+      go true = record { seen = record { same = λ n h. refl }; pair = no_pair }
+      go false = first_sight s (apart g.decls shapes) (s.paired d.kind) d.params written
+
+  -- the symbols of an alternative are sound
+  pub alternative_sound : (n : ℕ) (shape : Shape) (d : Decl) (level : Level) (a : Alt) → slice_get g.decls n ≡ Some d → Contains d.levels level → Contains level.alts a →
+      PlacedSymbols (Sound d) (gathered (alternative_by s (pair_at s shape d) a).symbols) (parameters (lowered_declaration s shape d).params)
+  alternative_sound n shape d level a at l m =
+      let r = symbols_sound found g shapes counted place (apart g.decls shapes) d.kind (gathered a.symbols) (pair_at s shape d) (parameters d.params)
+      (parameters (lowered_declaration s shape d).params) (sight_at n shape d at) (good n d a at (among_alternatives d.levels level a l m)) (info n d level a at l m) in
+      subst (λ z. PlacedSymbols (Sound d) z (parameters (lowered_declaration s shape d).params)) (sym (gathered_by s (pair_at s shape d) a.symbols)) r.0
+
+  -- what sound symbols have holds in each level
+  pub of_each_level : (P : Symbol → Type 0) → ((d : Decl) (w : Visible) (y : Symbol) → Sound d w y → P y) →
+      (decl : Decl) (level : Level) → Contains lowered decl → Contains decl.levels level → All P (subterms_of_alternatives (gathered_alternatives level.alts))
+  of_each_level P gives decl level m l =
+      let z = made_of s shapes g.decls decl m in
+      let d = z.1 in
+      let p = pair_at s d.shape d.d in
+      let there : Contains (map (level_by s p) d.d.levels) level =
+      subst (λ ls. Contains ls level) (levels_are s d.shape d.d) (subst (λ (q : Decl). Contains q.levels level) (sym d.made) l) in
+      let before = back_from (level_by s p) d.d.levels level there in
+      subst (λ (q : Level). All P (subterms_of_alternatives (gathered_alternatives q.alts))) before.2
+      (of_alternatives P (map (alternative_by s p) before.0.alts)
+      (λ b n.
+      let a = back_from (alternative_by s p) before.0.alts b n in
+      subst (λ (q : Alt). All P (subterms_of_symbols (gathered q.symbols))) a.2
+      (symbols_of_placed (Sound d.d) P (gives d.d) (gathered (alternative_by s p a.0).symbols) (parameters (lowered_declaration s d.shape d.d).params)
+      (alternative_sound z.0 d.shape d.d before.0 a.0 d.has before.1 a.1))))

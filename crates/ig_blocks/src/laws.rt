@@ -1,0 +1,25 @@
+//! What the pass keeps. The functions compute nothing: their contracts are the laws.
+
+ghost use Rattle.ig_blocks.specs.Laws.{BlocksKeep, PairsTellOfBlocks};
+
+/// Without marks a grammar permits the same trees, and is as sound as it was, where levels are
+/// gone, the added names are new, and no plain declaration stands beside a mark. This law, proved
+/// of all such grammars, computes nothing.
+pub fn blocks_keep()
+    ensures { BlocksKeep }
+{
+    ig_grammar::regularity_by_form();
+    ig_meaning::spans_are_in_order();
+    ig_meaning::derivations_invert();
+    ig_meaning::trees_without_operators_are_clean();
+    ig_rewrite::declarations_are_found();
+    ig_rewrite::added_names_are_new();
+    ig_rewrite::rooted_is_the_same();
+    ig_rewrite::same_trees_is_an_equivalence();
+}
+
+/// A pair of a column and a start says of all blocks around a position at once whether each of them
+/// allows a token there. This law, proved of all texts and blocks, computes nothing.
+pub fn pairs_tell_of_blocks()
+    ensures { PairsTellOfBlocks }
+{}
