@@ -7,14 +7,20 @@ use Rattle.ig_grammar.specs.WellScoped.{IsWellScoped}
 use Rattle.ig_grammar.specs.declared.declaration.DeclKind.TheVariants.{Syntax}
 use Rattle.ig_rewrite.specs.Rooted.{has_root, with_root, RootedIsTheSame}
 use Rattle.ig_lexical.specs.Filters.{FiltersOf, attached_of}
-use Rattle.ig_lexical.specs.Laws.{FiltersStayChecked}
+use Rattle.std.specs.Prelude.{Contains}
+use Rattle.ig_grammar.specs.Names.{names}
+use Rattle.ig_grammar.specs.Regular.{AlternativesHaveNoMark, OfEachLevel}
+use Rattle.ig_rewrite.specs.Added.{root_name}
 use Rattle.ig_lexical.proofs.FiltersScoped.{attached_is_well_scoped}
 use Rattle.ig_lexical.proofs.FiltersShaped.{attached_fits}
 
 abbrev IsChecked : CheckedGrammar → Type 0
 IsChecked c = IsWellScoped c.grammar × FitShapes c.grammar c.shapes
 
-pub filters_checked : RegularityByForm → RootedIsTheSame → FiltersStayChecked
+-- where no mark is left
+pub filters_checked : RegularityByForm → RootedIsTheSame → (c : CheckedGrammar) → IsWellScoped c.grammar → FitShapes c.grammar c.shapes →
+    OfEachLevel AlternativesHaveNoMark c.grammar →
+    (Contains (names c.grammar.decls) root_name → has_root c.shapes ≡ true) → IsChecked (FiltersOf c)
 filters_checked forms rooting c scoped fit none fresh = go (has_root c.shapes) refl
   where
     go : (b : Bool) → has_root c.shapes ≡ b → IsChecked (FiltersOf c)

@@ -20,7 +20,9 @@ use Rattle.ig_grammar.specs.Symbol.{gathered}
 use Rattle.ig_rewrite.specs.SameTrees.{PermitSame, SameTreesIsAnEquivalence}
 use Rattle.ig_rewrite.specs.Rewriting.{within, rewritten_grammar}
 use Rattle.ig_rewrite.specs.Rooted.{root_declaration, has_root, is_root, with_root, rooted_grammar, RootedIsTheSame}
-use Rattle.ig_lexical.specs.Laws.{FiltersPermitSame}
+use Rattle.ig_grammar.specs.Names.{names}
+use Rattle.ig_grammar.specs.WellScoped.{IsWellScoped}
+use Rattle.ig_rewrite.specs.Added.{root_name}
 use Rattle.ig_lexical.specs.Filters.{attached, attached_of, FiltersOf}
 use Rattle.ig_lexical.proofs.Always.{always_symbols}
 use Rattle.ig_lexical.proofs.Attaching.{attached_to, attached_from}
@@ -71,7 +73,7 @@ root_start c fit has start started =
     let fits = (fit.each k at.0 shape.Root at.1 r.1).root refl in
     (suc k, at.0, record { numbered = (k, refl, at.1); shaped = (k, refl, r.1); named = let same : Some at.0.name ≡ Some start = sym fits.start ∙ started in cc })
 
-layout_kept : (decls : List Decl) (root : Decl) → root.kind ≡ Syntax → layout_among (decls ++ root ∷ []) ≡ layout_among decls
+pub layout_kept : (decls : List Decl) (root : Decl) → root.kind ≡ Syntax → layout_among (decls ++ root ∷ []) ≡ layout_among decls
 layout_kept [] root k = rw k refl
 layout_kept (d ∷ ds) root k = ap (name_of_layout d.kind d.name) (layout_kept ds root k)
 
@@ -98,7 +100,10 @@ pub record Given : Type 0 where
   pub rooting : RootedIsTheSame
   pub equivalence : SameTreesIsAnEquivalence
 
-pub filters_same : Given → FiltersPermitSame
+-- where layout is called in the open, no declaration has operators, and the name of the root is new or there already
+pub filters_same : Given → (c : CheckedGrammar) → IsWellScoped c.grammar → FitShapes c.grammar c.shapes → layout_among c.grammar.decls ≡ None →
+    ((decl : Decl) → Contains c.grammar.decls decl → HasNoOperators decl.levels) →
+    (Contains (names c.grammar.decls) root_name → has_root c.shapes ≡ true) → PermitSame c (FiltersOf c)
 filters_same given c scoped fit none free fresh = go (has_root c.shapes) refl
   where
     go : (b : Bool) → has_root c.shapes ≡ b → PermitSame c (FiltersOf c)

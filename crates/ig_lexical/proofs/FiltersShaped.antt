@@ -19,7 +19,7 @@ attached_uncalled : (name : List ℕ) → Keeps (IsUncalled name) (heads name) a
 attached_uncalled name =
     attached_placed (IsUncalled name) (λ v xs arguments f. cc) (λ v x fs arguments f. cc) (λ v e t arguments f. cc) (λ l x y v u arguments f. cc)
 
-attached_call : (x : Symbol) → IsCall x → IsCall (rewritten attached x)
+pub attached_call : (x : Symbol) → IsCall x → IsCall (rewritten attached x)
 attached_call (Call name arguments) c = tt
 attached_call x c = absurd c
 

@@ -15,9 +15,12 @@ use Rattle.ig_grammar.specs.declared.place.Shape.{Shape}
 use Rattle.ig_grammar.specs.declared.place.Shape.TheVariants as shape
 use Rattle.ig_meaning.specs.Permitted.{behind_layout}
 use Rattle.ig_rewrite.specs.Rooted.{calls_of_start, root_symbols, root_declaration, has_root, is_root, with_root}
-use Rattle.ig_lexical.specs.Layout.{LayoutOf}
-use Rattle.ig_lexical.specs.LayoutLaws.{RootHasCallsAlone, LayoutStaysChecked}
-use Rattle.ig_lexical.proofs.LayoutSame.{Given, laid_of}
+use Rattle.ig_lexical.specs.Layout.{LayoutOf, laid_of}
+use Rattle.ig_grammar.specs.Names.{names}
+use Rattle.ig_grammar.specs.Regular.{AlternativesHaveNoMark, OfEachLevel}
+use Rattle.ig_rewrite.specs.Added.{root_name}
+use Rattle.ig_rewrite.specs.Sound.{RootHasCallsAlone}
+use Rattle.ig_lexical.proofs.LayoutSame.{Given}
 use Rattle.ig_lexical.proofs.LayoutScoped.{laid_is_well_scoped}
 use Rattle.ig_lexical.proofs.LayoutShaped.{laid_fits}
 
@@ -37,7 +40,7 @@ only_calls None (Some s) = All-cons IsCall (Call s []) [] tt (All-nil IsCall)
 only_calls (Some w) None = All-cons IsCall (Call w []) [] tt (All-nil IsCall)
 only_calls (Some w) (Some s) = All-cons IsCall (Call w []) (Call s [] ∷ []) tt (All-cons IsCall (Call s []) [] tt (All-nil IsCall))
 
-root_of_calls : (c : CheckedGrammar) → has_root c.shapes ≡ false → FitShapes c.grammar c.shapes → RootHasCallsAlone (with_root Syntax c)
+pub root_of_calls : (c : CheckedGrammar) → has_root c.shapes ≡ false → FitShapes c.grammar c.shapes → RootHasCallsAlone (with_root Syntax c)
 root_of_calls c rootless fit before decl a at shaped syntactic m =
     go (place_cases c.grammar.decls r decl before at) (place_cases c.shapes shape.Root shape.Root before shaped)
   where
@@ -55,7 +58,10 @@ root_of_calls c rootless fit before decl a at shaped syntactic m =
 abbrev IsChecked : CheckedGrammar → Type 0
 IsChecked c = IsWellScoped c.grammar × FitShapes c.grammar c.shapes
 
-pub layout_checked : Given → LayoutStaysChecked
+-- where no mark is left
+pub layout_checked : Given → (c : CheckedGrammar) → IsWellScoped c.grammar → FitShapes c.grammar c.shapes →
+    OfEachLevel AlternativesHaveNoMark c.grammar → RootHasCallsAlone c →
+    (Contains (names c.grammar.decls) root_name → has_root c.shapes ≡ true) → IsChecked (LayoutOf c)
 layout_checked given c scoped fit none alone fresh = go (has_root c.shapes) refl
   where
     go : (b : Bool) → has_root c.shapes ≡ b → IsChecked (LayoutOf c)

@@ -6,12 +6,13 @@ use Rattle.ig_grammar.specs.Symbol.{Symbol}
 use Rattle.ig_meaning.specs.Laws.{HasNoOperators, TreesWithoutOperatorsAreClean}
 use Rattle.ig_grammar.specs.Laws.{RegularityByForm}
 use Rattle.ig_rewrite.specs.Found.{DeclarationsAreFound}
-use Rattle.ig_lexical.specs.LayoutLaws.{LayoutPermitsSame}
 use Rattle.ig_grammar.specs.Regular.{AlternativesHaveNoMark, OfEachLevel}
 use Rattle.ig_grammar.specs.Numbering.{Levelled, by_level, Declares, IsAlternative, layout_among}
 use Rattle.ig_meaning.specs.Permitted.{Permitted}
 use Rattle.ig_grammar.specs.WellScoped.{IsWellScoped}
-use Rattle.ig_grammar.specs.Checked.{CheckedGrammar}
+use Rattle.ig_grammar.specs.Checked.{CheckedGrammar, FitShapes}
+use Rattle.ig_grammar.specs.Names.{names}
+use Rattle.ig_rewrite.specs.Added.{root_name}
 use Rattle.ig_grammar.specs.declared.declaration.DeclKind.TheVariants.{Syntax}
 use Rattle.ig_grammar.specs.declared.declaration.Decl.{Decl}
 use Rattle.ig_grammar.specs.declared.grammar.Grammar.{Grammar}
@@ -26,7 +27,7 @@ use Rattle.ig_text.proofs.Lists.{contains_from_at, at_from_contains}
 use Rattle.ig_lexical.proofs.Pass.{taken_back, taken_along, rewritten_by_level, levels_rewritten, free_rewritten}
 use Rattle.ig_lexical.proofs.Permitting.{HasRoot, permitted_along}
 use Rattle.ig_lexical.proofs.FiltersSame.{root_start, root_added, free_rooted}
-use Rattle.ig_lexical.specs.Layout.{laid_in, laid_declaration, laid_grammar, LayoutOf}
+use Rattle.ig_lexical.specs.Layout.{laid_in, laid_declaration, laid_grammar, laid_of, LayoutOf}
 use Rattle.ig_lexical.proofs.Tight.{AnyName}
 use Rattle.ig_lexical.proofs.LayingBack.{AnyKind}
 use Rattle.ig_lexical.proofs.Unmarked.{everywhere}
@@ -48,15 +49,15 @@ module _ (given : Given) (g : Grammar) (shapes : List Shape) (scoped : IsWellSco
   abbrev own : Decl → Symbol → Symbol
   own decl = laid_in (layout_among g.decls) g.decls decl.kind
 
-  there : (name : List ℕ) (d : ℕ) (decl : Decl) (s : Shape) → Declares g shapes name d decl s → Declares h shapes name d (laid_declaration g decl) s
+  there : (name : List ℕ) (d : ℕ) (decl : Decl) (s : Shape) → Declares g shapes name d decl s → Declares h shapes name d (laid_declaration g.decls decl) s
   there name d decl s a =
-      record { numbered = (a.numbered.0, a.numbered.1, taken_along (laid_declaration g) g.decls a.numbered.0 decl a.numbered.2); shaped = a.shaped; named = a.named }
+      record { numbered = (a.numbered.0, a.numbered.1, taken_along (laid_declaration g.decls) g.decls a.numbered.0 decl a.numbered.2); shaped = a.shaped; named = a.named }
 
-  numbered_there : (decl : Decl) (k : ℕ) (a : Levelled) → IsAlternative decl k a → IsAlternative (laid_declaration g decl) k (rewritten_by_level (own decl) a)
+  numbered_there : (decl : Decl) (k : ℕ) (a : Levelled) → IsAlternative decl k a → IsAlternative (laid_declaration g.decls decl) k (rewritten_by_level (own decl) a)
   numbered_there decl k a n =
       (n.0, n.1, ap (λ xs. slice_get xs n.0) (levels_rewritten (own decl) decl.levels) ∙ taken_along (rewritten_by_level (own decl)) (by_level decl.levels) n.0 a n.2)
 
-  numbered_here : (decl : Decl) (k : ℕ) (b : Levelled) → IsAlternative (laid_declaration g decl) k b → (a : Levelled) × IsAlternative decl k a × (b ≡ rewritten_by_level (own decl) a)
+  numbered_here : (decl : Decl) (k : ℕ) (b : Levelled) → IsAlternative (laid_declaration g.decls decl) k b → (a : Levelled) × IsAlternative decl k a × (b ≡ rewritten_by_level (own decl) a)
   numbered_here decl k b n =
       let r = taken_back (rewritten_by_level (own decl)) (by_level decl.levels) n.0 b (ap (λ xs. slice_get xs n.0) (sym (levels_rewritten (own decl) decl.levels)) ∙ n.2) in
       (r.0, (n.0, n.1, r.1), r.2)
@@ -67,7 +68,7 @@ module _ (given : Given) (g : Grammar) (shapes : List Shape) (scoped : IsWellSco
   forward_one n known name d decl s k a named declares numbered =
       let among = contains_from_at g.decls declares.numbered.0 decl declares.numbered.2 in
       record {
-        other = laid_declaration g decl;
+        other = laid_declaration g.decls decl;
         by = rewritten_by_level (own decl) a;
         declares = there name d decl s declares;
         numbered = numbered_there decl k a numbered;
@@ -81,11 +82,11 @@ module _ (given : Given) (g : Grammar) (shapes : List Shape) (scoped : IsWellSco
       (name : List ℕ) (d : ℕ) (other : Decl) (s : Shape) (k : ℕ) (b : Levelled) → AnyName name → Declares h shapes name d other s → IsAlternative other k b →
       AlternativeToo h shapes g shapes text SameEnv AnyStarts AnyKind AnyName n name d other s k b
   backward_one n known name d other s k b named declares numbered =
-      let r = taken_back (laid_declaration g) g.decls declares.numbered.0 other declares.numbered.2 in
+      let r = taken_back (laid_declaration g.decls) g.decls declares.numbered.0 other declares.numbered.2 in
       let among = contains_from_at g.decls declares.numbered.0 r.0 r.1 in
       let p = numbered_here r.0 k b (subst (λ z. IsAlternative z k b) r.2 numbered) in
       subst (λ z. AlternativeToo h shapes g shapes text SameEnv AnyStarts AnyKind AnyName n name d z s k b) (sym r.2)
-      (subst (λ z. AlternativeToo h shapes g shapes text SameEnv AnyStarts AnyKind AnyName n name d (laid_declaration g r.0) s k z) (sym p.2)
+      (subst (λ z. AlternativeToo h shapes g shapes text SameEnv AnyStarts AnyKind AnyName n name d (laid_declaration g.decls r.0) s k z) (sym p.2)
       (record {
         other = r.0;
         by = p.0;
@@ -100,25 +101,25 @@ module _ (given : Given) (g : Grammar) (shapes : List Shape) (scoped : IsWellSco
   module _ (free : (decl : Decl) → Contains g.decls decl → HasNoOperators decl.levels) (root : HasRoot g shapes) where
     free_there : (other : Decl) → Contains h.decls other → HasNoOperators other.levels
     free_there other m =
-        let at = at_from_contains h.decls other m in let r = taken_back (laid_declaration g) g.decls at.0 other at.1 in
+        let at = at_from_contains h.decls other m in let r = taken_back (laid_declaration g.decls) g.decls at.0 other at.1 in
         subst (λ z. HasNoOperators z.levels) (sym r.2) (free_rewritten (own r.0) r.0.levels (free r.0 (contains_from_at g.decls at.0 r.0 r.1)))
 
     pub laid_permits : (t : Tree) → Permitted g shapes text t ↔ Permitted h shapes text t
     laid_permits t = (
       permitted_along g shapes h shapes text SameEnv AnyStarts BecomesPlain AnyName (λ t i j ks ms ts e. tt) forward_one refl refl (λ start e. tt) root t (λ k. given.cleans h free_there t),
       permitted_along h shapes g shapes text SameEnv AnyStarts AnyKind AnyName (λ t i j ks ms ts e. tt) backward_one refl refl (λ start e. tt)
-          (λ start started. let r = root start started in (r.0, laid_declaration g r.1, there start r.0 r.1 shape.Root r.2)) t (λ k. given.cleans g free t),
+          (λ start started. let r = root start started in (r.0, laid_declaration g.decls r.1, there start r.0 r.1 shape.Root r.2)) t (λ k. given.cleans g free t),
     )
-
-abbrev pub laid_of : CheckedGrammar → CheckedGrammar
-laid_of c = record { grammar = laid_grammar c.grammar; shapes = c.shapes }
 
 -- a grammar with a root
 pub with_root_same : Given → (c : CheckedGrammar) → IsWellScoped c.grammar → OfEachLevel AlternativesHaveNoMark c.grammar →
     ((decl : Decl) → Contains c.grammar.decls decl → HasNoOperators decl.levels) → HasRoot c.grammar c.shapes → PermitSame c (laid_of c)
 with_root_same given c scoped none free root = record { same = λ text t. laid_permits given c.grammar c.shapes scoped none text free root t }
 
-pub layout_same : Given → LayoutPermitsSame
+-- where no declaration has operators, no mark is left, and the name of the root is new or there already
+pub layout_same : Given → (c : CheckedGrammar) → IsWellScoped c.grammar → FitShapes c.grammar c.shapes →
+    ((decl : Decl) → Contains c.grammar.decls decl → HasNoOperators decl.levels) → OfEachLevel AlternativesHaveNoMark c.grammar →
+    (Contains (names c.grammar.decls) root_name → has_root c.shapes ≡ true) → PermitSame c (LayoutOf c)
 layout_same given c scoped fit free none fresh = go (has_root c.shapes) refl
   where
     go : (b : Bool) → has_root c.shapes ≡ b → PermitSame c (LayoutOf c)

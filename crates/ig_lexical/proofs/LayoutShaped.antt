@@ -17,7 +17,7 @@ use Rattle.ig_grammar.specs.declared.place.Shape.{Shape}
 use Rattle.ig_rewrite.specs.Rewriting.{rewritten}
 use Rattle.ig_lexical.proofs.Meeting.{layout_there}
 use Rattle.ig_lexical.specs.Layout.{declares_lexical, then_layout, laid, laid_in, laid_grammar}
-use Rattle.ig_lexical.specs.LayoutLaws.{RootHasCallsAlone}
+use Rattle.ig_rewrite.specs.Sound.{RootHasCallsAlone}
 use Rattle.ig_rewrite.specs.Found.{DeclarationsAreFound}
 use Rattle.ig_grammar.specs.Laws.{RegularityByForm}
 use Rattle.ig_lexical.proofs.Keeping.{Keeps, same_keeps, laid_keeps}

@@ -32,4 +32,12 @@ pub mod FiltersScoped
 pub mod RewrittenShaped
 pub mod FiltersShaped
 pub mod FiltersChecked
-pub mod FiltersCode
+pub mod FirstPlaces
+pub mod AttachedKept
+pub mod FiltersKept
+pub mod LaidKept
+pub mod KeptSound
+pub mod LayoutKept
+pub mod Everywhere
+pub mod StandingWell
+pub mod Entering

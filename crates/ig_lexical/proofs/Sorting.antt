@@ -46,7 +46,7 @@ module _ (found : DeclarationsAreFound) (g : Grammar) (scoped : IsWellScoped g) 
 
 pub all_plain : (g : Grammar) (forms : List Shape) (text : List ℕ) → AllPlain (laid_grammar g) forms text
 all_plain g forms text name vs kind i e t ks (alternative _ _ _ d k decl shape a env after _ _ ts _ _ declares numbered bound same covers tree) =
-    let r = taken_back (laid_declaration g) g.decls declares.numbered.0 decl declares.numbered.2 in
+    let r = taken_back (laid_declaration g.decls) g.decls declares.numbered.0 decl declares.numbered.2 in
     same ∙ ap (λ z. z.kind) r.2
 
 outside_tight : (g : Grammar) (shapes : List Shape) (text : List ℕ) (c : DeclKind) → c ≢ Syntax → IsTight g shapes text c

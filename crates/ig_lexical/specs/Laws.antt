@@ -1,28 +1,35 @@
--- What the filters pass keeps.
-use Rattle.std.specs.Prelude.{◌≡◌, Contains, None, true}
-use Rattle.ig_grammar.specs.Names.{names}
-use Rattle.ig_grammar.specs.Regular.{AlternativesHaveNoMark, OfEachLevel}
+-- What the passes for layout and for filters keep.
+use Rattle.std.specs.Prelude.{◌≡◌, None}
 use Rattle.ig_grammar.specs.Numbering.{layout_among}
-use Rattle.ig_grammar.specs.WellScoped.{IsWellScoped}
-use Rattle.ig_grammar.specs.Checked.{CheckedGrammar, FitShapes}
-use Rattle.ig_grammar.specs.declared.declaration.Decl.{Decl}
-use Rattle.ig_meaning.specs.Laws.{HasNoOperators}
+use Rattle.ig_grammar.specs.Checked.{CheckedGrammar}
 use Rattle.ig_rewrite.specs.SameTrees.{PermitSame}
-use Rattle.ig_rewrite.specs.Added.{root_name}
-use Rattle.ig_rewrite.specs.Rooted.{has_root}
+use Rattle.ig_rewrite.specs.Sound.{IsSound, IsFree, IsUnmarked, IsPlain, HasExclusionsAlone}
 use Rattle.ig_lexical.specs.Filters.{FiltersOf}
+use Rattle.ig_lexical.specs.Layout.{LayoutOf}
 
--- where layout is called in the open, no declaration has operators, and the name of the root is new or there already
-abbrev pub FiltersPermitSame : Type 0
-FiltersPermitSame =
-    (c : CheckedGrammar) → IsWellScoped c.grammar → FitShapes c.grammar c.shapes → layout_among c.grammar.decls ≡ None →
-    ((decl : Decl) → Contains c.grammar.decls decl → HasNoOperators decl.levels) →
-    (Contains (names c.grammar.decls) root_name → has_root c.shapes ≡ true) → PermitSame c (FiltersOf c)
+pub record KeptByLayout (c : CheckedGrammar) : Type 0 where
+  pub same : PermitSame c (LayoutOf c)
+  pub sound : IsSound (LayoutOf c)
+  pub free : IsFree (LayoutOf c).grammar
+  pub unmarked : IsUnmarked (LayoutOf c).grammar
+  pub plain : IsPlain (LayoutOf c).grammar
+  pub no_layout : layout_among (LayoutOf c).grammar.decls ≡ None
 
--- where no mark is left, a checked grammar stays checked
-abbrev pub FiltersStayChecked : Type 0
-FiltersStayChecked =
-    (c : CheckedGrammar) → IsWellScoped c.grammar → FitShapes c.grammar c.shapes →
-    OfEachLevel AlternativesHaveNoMark c.grammar →
-    (Contains (names c.grammar.decls) root_name → has_root c.shapes ≡ true) →
-    IsWellScoped (FiltersOf c).grammar × FitShapes (FiltersOf c).grammar (FiltersOf c).shapes
+-- where no declaration has operators and no mark is left
+abbrev pub LayoutKeeps : Type 0
+LayoutKeeps = (c : CheckedGrammar) → IsSound c → IsFree c.grammar → IsUnmarked c.grammar → KeptByLayout c
+
+pub record KeptByFilters (c : CheckedGrammar) : Type 0 where
+  pub same : PermitSame c (FiltersOf c)
+  pub sound : IsSound (FiltersOf c)
+  pub free : IsFree (FiltersOf c).grammar
+  pub unmarked : IsUnmarked (FiltersOf c).grammar
+  pub no_layout : layout_among (FiltersOf c).grammar.decls ≡ None
+  -- of filters only exclusions are left
+  pub excluding : HasExclusionsAlone (FiltersOf c).grammar
+
+-- and no layout is declared, as where it is called in the open
+abbrev pub FiltersKeep : Type 0
+FiltersKeep =
+    (c : CheckedGrammar) → IsSound c → IsFree c.grammar → IsUnmarked c.grammar → layout_among c.grammar.decls ≡ None →
+    KeptByFilters c

@@ -1,4 +1,4 @@
 pub mod Filters
 pub mod Laws
 pub mod Layout
-pub mod LayoutLaws
+pub mod Tables

@@ -1,45 +1,45 @@
 //! Follow and precede filters as guards.
-ghost use Rattle.std.specs.Prelude.{◌≡◌, ◌↔◌, [], ◌∷◌, ◌++◌, false, map, IfOk, IsTrue, OnOk};
-ghost use Rattle.ig_grammar.specs.Regular.{AlternativesHaveNoMark, OfEachLevel};
-ghost use Rattle.ig_rewrite.specs.Added.{root_name, IsFresh};
-ghost use Rattle.ig_rewrite.specs.Rooted.{has_root};
+ghost use Rattle.std.specs.Prelude.{◌≡◌, ◌↔◌, [], ◌∷◌, ◌++◌, map, None, IfOk, IsTrue, OnOk};
+ghost use Rattle.ig_grammar.specs.Checked.{FitShapes};
+ghost use Rattle.ig_grammar.specs.Numbering.{layout_among};
 ghost use Rattle.ig_grammar.specs.Symbol.{Guard, Label};
 ghost use Rattle.ig_grammar.specs.View.{symbol_of};
+ghost use Rattle.ig_grammar.specs.WellScoped.{IsWellScoped};
+ghost use Rattle.ig_rewrite.specs.Sound.{IsSound, IsFree, IsUnmarked};
 ghost use Rattle.ig_lexical.specs.Filters.{befores, afters, exclusions, with_filters};
 ghost use Rattle.ig_lexical.specs.Filters.{guarded, attached, attached_of, FiltersOf};
 
+use crate::laws::filters_keep;
 use ig_expr::Expr;
-use ig_grammar::{Checked, Decl, Filter, Filters, Inner, Symbol, Symbols, regularity_by_form};
-use ig_rewrite::{OwnRule, copy_of_shapes, has_root, rewrite_grammar, root, rooted_is_the_same};
+use ig_grammar::{Checked, Decl, Filter, Filters, Inner, Symbol, Symbols};
+use ig_rewrite::{OwnRule, copy_of_shapes, has_root, rewrite_grammar, root};
 use ig_text::{Copied, Word};
 use std::alloc::{AllocError, Global};
 
 /// The grammar with its follow and precede filters as guards, exactly as `specs/Filters.antt` says;
 /// `$root` is its last declaration where none stood for the root. Refused for want of memory alone.
-/// No mark is left in the grammar, and where none stands for the root, none is named `$root`.
 pub fn attach_filters(alloc: Global, checked: &Checked) -> Result<Checked, AllocError>
-    requires unmarked { OfEachLevel AlternativesHaveNoMark checked.now.grammar }
-    requires fresh { has_root checked.now.shapes ≡ false → IsFresh checked.now.grammar root_name }
+    requires sound { IsSound checked.now }
+    requires free { IsFree checked.now.grammar }
+    requires unmarked { IsUnmarked checked.now.grammar }
+    requires no_layout { layout_among checked.now.grammar.decls ≡ None }
     ensures { IfOk result (λ r. r ≡ FiltersOf checked.now) }
 {
+    filters_keep();
     if has_root(checked) {
         return attach_rooted(alloc, checked);
     }
-    // The law asks what the grammar of a checked one keeps to.
-    rooted_is_the_same();
-    checked.grammar();
     let rooted = root(alloc, checked)?;
     attach_rooted(alloc, &rooted)
 }
 
 /// The grammar, in which a declaration stands for the root, with its filters as guards.
 fn attach_rooted(alloc: Global, checked: &Checked) -> Result<Checked, AllocError>
-    requires unmarked { OfEachLevel AlternativesHaveNoMark checked.now.grammar }
+    requires scoped { IsWellScoped (attached_of checked.now).grammar }
+    requires fit { FitShapes (attached_of checked.now).grammar (attached_of checked.now).shapes }
     ensures { IfOk result (λ r. r ≡ attached_of checked.now) }
 {
-    regularity_by_form();
-    let source = checked.grammar();
-    let grammar = rewrite_grammar(&Attached {}, alloc, source)?;
+    let grammar = rewrite_grammar(&Attached {}, alloc, checked.grammar())?;
     let shapes = copy_of_shapes(alloc, checked)?;
     Ok(Checked::with_shapes(grammar, shapes))
 }
@@ -179,7 +179,7 @@ fn add_afters(alloc: Global, filters: &[Filter], symbols: &mut Symbols) -> Resul
 }
 
 /// Adds the symbol at the end.
-fn push_symbol(all: &mut Symbols, symbol: Symbol) -> Result<(), AllocError>
+pub(crate) fn push_symbol(all: &mut Symbols, symbol: Symbol) -> Result<(), AllocError>
     ensures { OnOk result (all.new ≡ all.old ++ symbol_of symbol ∷ []) }
 {
     all.push(symbol).map_err(|refused| refused.1)

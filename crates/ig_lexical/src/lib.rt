@@ -1,15 +1,18 @@
 //! Lexical filters and layout, as passes from grammars to grammars with the same trees.
 //!
-//! `specs/Filters.antt` says what becomes of filters: follow and precede filters are guards before
-//! and behind their symbol, and exclusions stay on the symbol itself; [`attach_filters`] is exactly
-//! that. `specs/Layout.antt` says how layout is called in the open. The laws say that either pass
-//! changes no tree, and keeps a checked grammar checked.
+//! `specs/Layout.antt` says how layout is called in the open: each declaration becomes plain, and
+//! in what were syntax declarations a call of the layout nonterminal stands behind each token;
+//! [`add_layout`] is exactly that. `specs/Filters.antt` says what becomes of filters: precede and
+//! follow filters are guards before and behind their symbol, and exclusions stay on the symbol
+//! itself; [`attach_filters`] is exactly that. The laws say that either pass changes no tree, and
+//! keeps a sound grammar sound. A call is refused for want of memory alone.
 #![tactic(auto)]
 
+mod declarations;
 mod filters;
 mod laws;
+mod layout;
 
 pub use filters::attach_filters;
-pub use laws::{
-    filters_permit_the_same, filters_stay_checked, layout_permits_the_same, layout_stays_checked,
-};
+pub use laws::{filters_keep, layout_keeps};
+pub use layout::add_layout;

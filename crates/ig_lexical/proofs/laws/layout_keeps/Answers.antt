@@ -1,9 +1,9 @@
-use Rattle.ig_lexical.proofs.LayoutSame.{layout_same}
-use Rattle.ig_lexical.proofs.laws.layout_permits_the_same.Goals as goal
+use Rattle.ig_lexical.proofs.LayoutKept.{layout_kept}
+use Rattle.ig_lexical.proofs.laws.layout_keeps.Goals as goal
 
 pub returns : goal.returns
 returns c =
-    layout_same (record {
+    layout_kept c.added_names_are_new.ensures (record {
       cleans = c.trees_without_operators_are_clean.ensures;
       forms = c.regularity_by_form.ensures;
       found = c.declarations_are_found.ensures;

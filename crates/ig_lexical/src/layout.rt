@@ -1,0 +1,187 @@
+//! Layout called in the open.
+ghost use Rattle.std.specs.Prelude.{◌≡◌, [], ◌∷◌, ◌++◌, map, None, IfOk, OnOk};
+ghost use Rattle.ig_grammar.specs.View.{symbol_of};
+ghost use Rattle.ig_grammar.specs.Checked.{FitShapes};
+ghost use Rattle.ig_grammar.specs.WellScoped.{IsWellScoped};
+ghost use Rattle.ig_rewrite.specs.Sound.{IsSound, IsFree, IsUnmarked};
+ghost use Rattle.ig_lexical.specs.Layout.{is_token, then_layout, laid_inside, laid};
+ghost use Rattle.ig_lexical.specs.Layout.{laid_declaration, laid_grammar, laid_of, LayoutOf};
+
+use crate::declarations::Declarations;
+use crate::filters::push_symbol;
+use crate::laws::layout_keeps;
+use ig_expr::Exprs;
+use ig_grammar::{Checked, Decl, DeclKind, Decls, Grammar, Inner, Symbol, Symbols};
+use ig_rewrite::{OwnRule, copy_of_shapes, has_root, rewrite_levels, root};
+use ig_text::{Copied, Word};
+use std::alloc::{AllocError, Global};
+
+/// The grammar with layout called in the open, exactly as `specs/Layout.antt` says: each
+/// declaration is plain, and in those that were syntax declarations a call of the layout
+/// nonterminal stands behind each token. Where none stood for the root, `$root` is the last
+/// declaration. Refused for want of memory alone.
+pub fn add_layout(alloc: Global, checked: &Checked) -> Result<Checked, AllocError>
+    requires sound { IsSound checked.now }
+    requires free { IsFree checked.now.grammar }
+    requires unmarked { IsUnmarked checked.now.grammar }
+    ensures { IfOk result (λ r. r ≡ LayoutOf checked.now) }
+{
+    layout_keeps();
+    if has_root(checked) {
+        return lay_rooted(alloc, checked);
+    }
+    let rooted = root(alloc, checked)?;
+    lay_rooted(alloc, &rooted)
+}
+
+/// The grammar, in which a declaration stands for the root, with layout called in the open.
+fn lay_rooted(alloc: Global, checked: &Checked) -> Result<Checked, AllocError>
+    requires scoped { IsWellScoped (laid_of checked.now).grammar }
+    requires fit { FitShapes (laid_of checked.now).grammar (laid_of checked.now).shapes }
+    ensures { IfOk result (λ r. r ≡ laid_of checked.now) }
+{
+    let grammar = lay_grammar(alloc, checked.grammar())?;
+    let shapes = copy_of_shapes(alloc, checked)?;
+    Ok(Checked::with_shapes(grammar, shapes))
+}
+
+/// The grammar, each declaration of which is plain, with layout called in the open.
+fn lay_grammar(alloc: Global, grammar: &Grammar) -> Result<Grammar, AllocError>
+    ensures { IfOk result (λ r. r ≡ laid_grammar grammar.now) }
+{
+    let declared = Declarations::new(alloc, grammar.decls.as_slice())?;
+    let mut decls = Decls::new(alloc);
+    for decl in grammar.decls.as_slice() {
+        push_declaration(&mut decls, lay_declaration(alloc, &declared, decl)?)?;
+    }
+    let start = copy_of_start(alloc, &grammar.start)?;
+    Ok(Grammar { start, decls })
+}
+
+/// The declaration, which is plain, with layout called in the open.
+fn lay_declaration(alloc: Global, declared: &Declarations, decl: &Decl) -> Result<Decl, AllocError>
+    ensures { IfOk result (λ r. r ≡ laid_declaration declared.now decl.now) }
+{
+    let name = decl.name.copy(alloc)?;
+    let params = decl.params.copy(alloc)?;
+    let levels = rewrite_levels(&Laid { declared }, alloc, decl)?;
+    Ok(Decl {
+        kind: DeclKind::Plain,
+        name,
+        params,
+        levels,
+    })
+}
+
+/// The own rule of the layout pass.
+#[derive(Drop)]
+struct Laid<'a> {
+    declared: &'a Declarations<'a>,
+}
+
+impl<'a> OwnRule for Laid<'a> {
+    ghost use Rattle.ig_grammar.specs.Numbering.{layout_among};
+    ghost use Rattle.ig_lexical.specs.Layout.{laid_in};
+
+    ghost rule = { λ s decl x.
+        laid_in (layout_among s.declared.now) s.declared.now decl.kind x };
+
+    fn apply(&self, alloc: Global, decl: &Decl, symbol: Symbol) -> Result<Symbol, AllocError> {
+        match self.declared.layout() {
+            None => Ok(symbol),
+            Some(layout) => match decl.kind {
+                DeclKind::Syntax => lay(alloc, self.declared, layout, symbol),
+                DeclKind::Lexical => Ok(symbol),
+                DeclKind::Layout => Ok(symbol),
+                DeclKind::Plain => Ok(symbol),
+            },
+        }
+    }
+}
+
+/// The symbol of a syntax declaration, with layout behind each of its tokens.
+#[cycle(laying)]
+fn lay(
+    alloc: Global,
+    declared: &Declarations,
+    layout: &Word,
+    symbol: Symbol,
+) -> Result<Symbol, AllocError>
+    ensures { IfOk result (λ r. symbol_of r ≡ laid declared.now layout.now (symbol_of symbol)) }
+{
+    if is_token(declared, &symbol) {
+        then_layout(alloc, layout, symbol)
+    } else {
+        lay_inside(alloc, declared, layout, symbol)
+    }
+}
+
+/// The symbol, which is no token, with layout behind the token that an entry of it stands round.
+#[cycle(laying)]
+fn lay_inside(
+    alloc: Global,
+    declared: &Declarations,
+    layout: &Word,
+    symbol: Symbol,
+) -> Result<Symbol, AllocError>
+    ensures { IfOk result (λ r.
+        symbol_of r ≡ laid_inside declared.now layout.now (symbol_of symbol)) }
+{
+    match symbol {
+        Symbol::Label(name, inner) => {
+            let inner = lay_inside(alloc, declared, layout, inner.into_symbol())?;
+            Ok(Symbol::Label(name, Inner::new(alloc, inner)?))
+        }
+        Symbol::Filtered(inner, filters) => {
+            let main = lay_inside(alloc, declared, layout, inner.into_symbol())?;
+            Ok(Symbol::Filtered(Inner::new(alloc, main)?, filters))
+        }
+        Symbol::Entry(bindings, inner) => {
+            let inner = lay(alloc, declared, layout, inner.into_symbol())?;
+            Ok(Symbol::Entry(bindings, Inner::new(alloc, inner)?))
+        }
+        other => Ok(other),
+    }
+}
+
+/// Whether the symbol is a token, with its labels and filters.
+fn is_token(declared: &Declarations, symbol: &Symbol) -> bool
+    ensures { result ≡ is_token declared.now (symbol_of symbol.now) }
+{
+    match symbol {
+        Symbol::Literal(_) => true,
+        Symbol::Class(_) => true,
+        Symbol::Call(name, _) => declared.has_lexical(name),
+        Symbol::Label(_, inner) => is_token(declared, inner.as_symbol()),
+        Symbol::Filtered(inner, _) => is_token(declared, inner.as_symbol()),
+        _ => false,
+    }
+}
+
+/// The symbol, and behind it a call of the layout nonterminal.
+fn then_layout(alloc: Global, layout: &Word, symbol: Symbol) -> Result<Symbol, AllocError>
+    ensures { IfOk result (λ r. symbol_of r ≡ then_layout layout.now (symbol_of symbol)) }
+{
+    let mut both = Symbols::new(alloc);
+    push_symbol(&mut both, symbol)?;
+    let name = layout.copy(alloc)?;
+    push_symbol(&mut both, Symbol::Call(name, Exprs::new(alloc)))?;
+    Ok(Symbol::Seq(both))
+}
+
+/// An equal start line.
+fn copy_of_start(alloc: Global, start: &Option<Word>) -> Result<Option<Word>, AllocError>
+    ensures { IfOk result (λ r. r ≡ start.now) }
+{
+    match start {
+        Some(name) => Ok(Some(name.copy(alloc)?)),
+        None => Ok(None),
+    }
+}
+
+/// Adds the declaration at the end.
+fn push_declaration(all: &mut Decls, decl: Decl) -> Result<(), AllocError>
+    ensures { OnOk result (all.new ≡ all.old ++ decl ∷ []) }
+{
+    all.push(decl).map_err(|refused| refused.1)
+}
