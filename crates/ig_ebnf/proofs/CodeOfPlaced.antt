@@ -1,0 +1,82 @@
+-- What the place of a name says of the names.
+use Rattle.std.proofs.Common.{◌≡◌, ℕ, suc, ◌+◌, List, [], ◌∷◌, ◌++◌, Option, Some, None, Bool, cond, true, false, refl, sym, ◌∙◌, ap, subst, arith, length, set}
+use Rattle.std.specs.Prelude.{option_map}
+use Rattle.std.specs.List.{zip}
+use Rattle.std.specs.Cmp.Lexicographic.{bytes_decides}
+use Rattle.ig_text.specs.Words.{is_word}
+use Rattle.ig_expr.specs.Names.{place_of}
+use Rattle.ig_expr.specs.Expression.{Expression}
+use Rattle.ig_expr.specs.Kinds.{kind_in}
+use Rattle.ig_expr.specs.declared.kind.Kind.{Kind}
+use Rattle.ig_grammar.specs.Visible.{Visible, names, kinds, kind_at, with_kind}
+use Rattle.ig_ebnf.proofs.CodeOfFirst.{position-cons}
+use Rattle.ig_ebnf.proofs.CodeOfZipped.{firsts_zip, seconds_zip}
+
+abbrev pub place_behind : Bool → Option ℕ → Option ℕ
+place_behind b others = cond b (Some 0) (option_map (λ k. k + 1) others)
+
+pub place_of_cons : (n : List ℕ) (ns : List (List ℕ)) (name : List ℕ) → place_of (n ∷ ns) name ≡ place_behind (is_word n name) (place_of ns name)
+place_of_cons n ns name = position-cons (λ z. is_word z name) n ns
+
+-- the names and the kinds of two lists as one
+pub zipped_names : (v : Visible) (ns : List (List ℕ)) (ks : List Kind) → zip ns ks ≡ v → length ns ≡ length ks → names v ≡ ns
+zipped_names v ns ks e l = ap names (sym e) ∙ firsts_zip ns ks l
+
+pub zipped_kinds : (v : Visible) (ns : List (List ℕ)) (ks : List Kind) → zip ns ks ≡ v → length ns ≡ length ks → kinds v ≡ ks
+zipped_kinds v ns ks e l = ap kinds (sym e) ∙ seconds_zip ns ks l
+
+pub zipped_kind : (v : Visible) (ns xs : List (List ℕ)) (ks ys : List Kind) (e : Expression) (r : Option Kind) →
+    zip ns ks ≡ v → length ns ≡ length ks → xs ≡ ns → ys ≡ ks → r ≡ kind_in xs ys e → r ≡ kind_at v e
+zipped_kind v ns xs ks ys e r z l p q h =
+    h ∙ (λ i. kind_in (p i) (q i) e) ∙ (λ i. kind_in (sym (zipped_names v ns ks z l) i) (sym (zipped_kinds v ns ks z l) i) e)
+
+-- what a place says of the place in the rest
+abbrev Behind : Bool → Option ℕ → ℕ → Type 0
+Behind true r p = p ≡ 0
+Behind false r p = (q : ℕ) × (p ≡ suc q) × (r ≡ Some q)
+
+behind : (b : Bool) (r : Option ℕ) (p : ℕ) → place_behind b r ≡ Some p → Behind b r p
+behind true r p e = cc
+behind false None p e = cc
+behind false (Some q) p e = let s : q + 1 ≡ p = cc in (q, omega arith, refl)
+
+-- a new kind where the name has a place
+pub with_kind_placed : (ns : List (List ℕ)) (ks : List Kind) (name : List ℕ) (k : Kind) (p : ℕ) → length ns ≡ length ks →
+    place_of ns name ≡ Some p → zip ns (set ks p k) ≡ with_kind (zip ns ks) name (Some k)
+with_kind_placed [] ks name k p l e = cc
+with_kind_placed (n ∷ ns) [] name k p l e = let f : ⊥ = omega arith in absurd f
+with_kind_placed (n ∷ ns) (m ∷ ks) name k p l e =
+    go (is_word n name) refl (behind (is_word n name) (place_of ns name) p (sym (place_of_cons n ns name) ∙ e))
+    (λ q. with_kind_placed ns ks name k q (omega arith))
+  where
+    go : (b : Bool) → is_word n name ≡ b → Behind (is_word n name) (place_of ns name) p →
+        ((q : ℕ) → place_of ns name ≡ Some q → zip ns (set ks q k) ≡ with_kind (zip ns ks) name (Some k)) →
+        zip (n ∷ ns) (set (m ∷ ks) p k) ≡ with_kind (zip (n ∷ ns) (m ∷ ks)) name (Some k)
+    go true w h r =
+        let z : p ≡ 0 = subst (λ b. Behind b (place_of ns name) p) w h in
+        ap (λ i. zip (n ∷ ns) (set (m ∷ ks) i k)) z ∙ ap (λ x. (x, k) ∷ zip ns ks) ((bytes_decides n name).0 w) ∙
+        sym (ap (λ b. cond b ((name, k) ∷ zip ns ks) ((n, m) ∷ with_kind (zip ns ks) name (Some k))) w)
+    go false w h r =
+        let z : Behind false (place_of ns name) p = subst (λ b. Behind b (place_of ns name) p) w h in
+        ap (λ i. zip (n ∷ ns) (set (m ∷ ks) i k)) z.1 ∙ ap (λ x. (n, m) ∷ x) (r z.0 z.2) ∙
+        sym (ap (λ b. cond b ((name, k) ∷ zip ns ks) ((n, m) ∷ with_kind (zip ns ks) name (Some k))) w)
+
+first_behind : (r : Option ℕ) → place_behind true r ≡ None → ⊥
+first_behind r e = cc
+
+none_behind : (r : Option ℕ) → place_behind false r ≡ None → r ≡ None
+none_behind None e = refl
+none_behind (Some k) e = cc
+
+-- a new name goes to the end
+pub with_kind_new : (v : Visible) (name : List ℕ) (k : Kind) → place_of (names v) name ≡ None → with_kind v name (Some k) ≡ v ++ (name, k) ∷ []
+with_kind_new [] name k e = refl
+with_kind_new (pair ∷ v) name k e = go (is_word pair.0 name) refl (sym (place_of_cons pair.0 (names v) name) ∙ e) (with_kind_new v name k)
+  where
+    go : (b : Bool) → is_word pair.0 name ≡ b → place_behind (is_word pair.0 name) (place_of (names v) name) ≡ None →
+        (place_of (names v) name ≡ None → with_kind v name (Some k) ≡ v ++ (name, k) ∷ []) →
+        with_kind (pair ∷ v) name (Some k) ≡ (pair ∷ v) ++ (name, k) ∷ []
+    go true w h r = absurd (first_behind (place_of (names v) name) (subst (λ z. place_behind z (place_of (names v) name) ≡ None) w h))
+    go false w h r =
+        let f : place_behind false (place_of (names v) name) ≡ None = subst (λ z. place_behind z (place_of (names v) name) ≡ None) w h in
+        ap (λ b. cond b ((name, k) ∷ v) (pair ∷ with_kind v name (Some k))) w ∙ ap (λ z. pair ∷ z) (r (none_behind (place_of (names v) name) f))

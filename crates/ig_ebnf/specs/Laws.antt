@@ -1,0 +1,39 @@
+-- What the lists pass keeps.
+use Rattle.std.specs.Prelude.{◌≡◌, None, true, false}
+use Rattle.ig_grammar.specs.Numbering.{layout_among}
+use Rattle.ig_grammar.specs.Checked.{CheckedGrammar, FitShapes}
+use Rattle.ig_grammar.specs.WellScoped.{IsWellScoped}
+use Rattle.ig_rewrite.specs.SameTrees.{PermitSame}
+use Rattle.ig_rewrite.specs.Added.{root_name, IsFresh}
+use Rattle.ig_rewrite.specs.Rooted.{has_root}
+use Rattle.ig_rewrite.specs.Sound.{IsSound, IsFree, IsUnmarked, HasExclusionsAlone, RootIsNamed}
+use Rattle.ig_rewrite.specs.Remaining.{IsRemaining}
+use Rattle.ig_ebnf.specs.Lists.{HasFewLists, ListsOf, lowered}
+
+-- the same trees, and a checked grammar of the forms that remain, with a declaration that stands for the root
+pub record KeptByLists (c : CheckedGrammar) : Type 0 where
+  pub same : PermitSame c (ListsOf c)
+  pub scoped : IsWellScoped (ListsOf c).grammar
+  pub fit : FitShapes (ListsOf c).grammar (ListsOf c).shapes
+  pub remaining : IsRemaining (ListsOf c).grammar
+  pub root_named : RootIsNamed (ListsOf c)
+  pub rooted : has_root (ListsOf c).shapes ≡ true
+
+-- where no layout is declared, no declaration has operators, no mark is left, of filters only exclusions are, and
+-- numbers tell added names apart
+abbrev pub ListsKeep : Type 0
+ListsKeep =
+    (c : CheckedGrammar) → IsSound c → IsFree c.grammar → IsUnmarked c.grammar → layout_among c.grammar.decls ≡ None →
+    HasExclusionsAlone c.grammar → HasFewLists c.grammar → KeptByLists c
+
+-- before the root is added: the same trees, and a checked grammar, to which the root may be added
+pub record KeptByLowering (c : CheckedGrammar) : Type 0 where
+  pub same : PermitSame c (lowered c)
+  pub scoped : IsWellScoped (lowered c).grammar
+  pub fit : FitShapes (lowered c).grammar (lowered c).shapes
+  pub fresh : has_root (lowered c).shapes ≡ false → IsFresh (lowered c).grammar root_name
+
+abbrev pub LoweringKeeps : Type 0
+LoweringKeeps =
+    (c : CheckedGrammar) → IsSound c → IsFree c.grammar → IsUnmarked c.grammar → layout_among c.grammar.decls ≡ None →
+    HasExclusionsAlone c.grammar → HasFewLists c.grammar → KeptByLowering c
