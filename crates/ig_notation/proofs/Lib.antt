@@ -9,3 +9,4 @@ pub mod LimitParts
 pub mod Outcomes
 pub mod Readings
 pub mod Regularity
+pub mod Forms

@@ -1,11 +1,15 @@
 -- Which texts are read, and why others aren't.
-use Rattle.std.specs.Prelude.{◌≡◌, ℕ, zero, suc, ◌<◌, ◌≤◌, List, [], ◌∷◌, length, map, chars, IsUtf8}
+use Rattle.std.specs.Prelude.{◌≡◌, ◌≢◌, ℕ, zero, suc, ◌<◌, ◌≤◌, List, [], ◌∷◌, All, Contains, length, map, chars, IsUtf8}
 use Rattle.ig_syntax.specs.Token.{Token}
 use Rattle.ig_syntax.specs.Rules.{FollowsRules}
 use Rattle.ig_syntax.specs.Lexing.{Lexes, Breaks}
 use Rattle.ig_syntax.specs.Notation.{most_bytes}
 use Rattle.ig_syntax.specs.Stops.{Stops}
-use Rattle.ig_grammar.specs.Regular.{IsRegular, HasFewerThan}
+use Rattle.ig_grammar.specs.Regular.{IsRegular, HasFewerThan, OfEachLevel}
+use Rattle.ig_grammar.specs.Subterms.{subterms_of_alternatives}
+use Rattle.ig_grammar.specs.Symbol.{Symbol, Seq, Entry}
+use Rattle.ig_grammar.specs.declared.declaration.Decl.{Decl}
+use Rattle.ig_grammar.specs.declared.declaration.DeclKind.TheVariants.{Plain}
 use Rattle.ig_grammar.specs.declared.grammar.Grammar.{Grammar}
 use Rattle.ig_rules.specs.Laws.{AreOfGrammar}
 use Rattle.ig_rules.specs.Names.{HasNames}
@@ -87,3 +91,17 @@ ReadGrammarsAreRegular =
 -- each name in a grammar that is read is a name of the notation
 abbrev pub ReadNamesAreNames : Type 0
 ReadNamesAreNames = (source : List ℕ) (g : Grammar) → IsRead source g → HasNames g
+
+-- the symbol is neither a sequence nor an entry, which come from passes alone
+abbrev pub IsOfText : Symbol → Type 0
+IsOfText (Seq xs) = ⊥
+IsOfText (Entry bindings x) = ⊥
+IsOfText x = Unit {0}
+
+-- in a grammar that is read stands neither a sequence nor an entry, and no declaration is plain
+pub record HasFormsOfText (g : Grammar) : Type 0 where
+  pub within : OfEachLevel (λ choices. All IsOfText (subterms_of_alternatives choices)) g
+  pub kinds : (decl : Decl) → Contains g.decls decl → decl.kind ≢ Plain
+
+abbrev pub ReadGrammarsAreWritten : Type 0
+ReadGrammarsAreWritten = (source : List ℕ) (g : Grammar) → IsRead source g → HasFormsOfText g

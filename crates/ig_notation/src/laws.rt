@@ -1,7 +1,8 @@
 //! Laws of reading: each is the contract of a function that computes nothing.
 
 ghost use Rattle.ig_notation.specs.Outcome.{OneReading, ReadOrRefused};
-ghost use Rattle.ig_notation.specs.Outcome.{ReadGrammarsAreRegular, ReadNamesAreNames};
+ghost use Rattle.ig_notation.specs.Outcome.{ReadGrammarsAreRegular, ReadGrammarsAreWritten};
+ghost use Rattle.ig_notation.specs.Outcome.{ReadNamesAreNames};
 
 /// A text reads as one grammar at most. This law, proved of all texts, computes nothing.
 pub fn one_reading()
@@ -37,4 +38,12 @@ pub fn read_names_are_names()
     ensures { ReadNamesAreNames }
 {
     ig_rules::reads_are_named();
+}
+
+/// In a grammar that is read stands neither a sequence nor an entry, which come from passes alone,
+/// and no declaration is plain. This law, proved of all texts, computes nothing.
+pub fn read_grammars_are_written()
+    ensures { ReadGrammarsAreWritten }
+{
+    ig_rules::reads_are_written();
 }

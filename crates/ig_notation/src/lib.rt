@@ -23,6 +23,7 @@ mod tests;
 pub use fault::{Large, ReadFault};
 pub use ig_tokens::MOST_BYTES;
 pub use laws::{
-    one_reading, read_grammars_are_regular, read_names_are_names, texts_are_read_or_refused,
+    one_reading, read_grammars_are_regular, read_grammars_are_written, read_names_are_names,
+    texts_are_read_or_refused,
 };
 pub use source::read;
