@@ -28,7 +28,7 @@ use Rattle.ig_item.specs.CoreTrees as trees
 use Rattle.ig_item.specs.CoreTrees.{Leads, HasTree}
 use Rattle.ig_item.specs.declared.core_grammar.Nonterminal.{Nonterminal}
 use Rattle.ig_item.specs.declared.core_grammar.CoreAlt.{CoreAlt}
-use Rattle.ig_core.specs.Remaining.{IsTerm, IsExcluding, Remains, label_of, patterns_of, main_of, excluded_of, unfiltered}
+use Rattle.ig_rewrite.specs.Remaining.{IsTerm, IsExcluding, Remains, label_of, patterns_of, main_of, excluded_of, unfiltered}
 use Rattle.ig_core.specs.Steps.{step_with, step_of, steps_of}
 use Rattle.ig_core.proofs.Numbers.{Numbers}
 use Rattle.ig_core.proofs.Environments.{bound, names_bound, values_bound, names_let, values_let, values_from, bound_names, bound_values, passes_from}

@@ -10,7 +10,8 @@ use Rattle.ig_item.specs.Step.{Step}
 use Rattle.ig_item.specs.declared.core_grammar.Nonterminal.{Nonterminal}
 use Rattle.ig_item.specs.declared.core_grammar.CoreAlt.{CoreAlt}
 use Rattle.ig_core.specs.Steps.{steps_of}
-use Rattle.ig_core.specs.CoreOf.{is_root, shaped, unrooted, alternative_of, alternatives_of, nonterminal_of, nonterminals_of}
+use Rattle.ig_core.specs.CoreOf.{shaped, unrooted, alternative_of, alternatives_of, nonterminal_of, nonterminals_of}
+use Rattle.ig_rewrite.specs.Rooted.{is_root}
 
 -- the rest of a list, as its first member and what is behind that
 pub rest_is : {X : Type 0} (xs : List X) (i : ℕ) (x : X) → i < length xs → x ≡ get_or xs i x → drop i xs ≡ x ∷ drop (i + 1) xs

@@ -1,5 +1,5 @@
 -- The names of the nonterminals of a core grammar differ.
-use Rattle.std.proofs.Common.{◌≡◌, ◌⊎◌, ℕ, zero, suc, List, [], ◌∷◌, map, Bool, true, false, if◌then◌else◌, Some, None, slice_get, refl, sym, ap, ◌∙◌, subst, arith, inl, inr}
+use Rattle.std.proofs.Common.{◌≡◌, ◌⊎◌, ℕ, zero, suc, List, [], ◌∷◌, map, Bool, true, false, if◌then◌else◌, Some, None, length, slice_get, refl, sym, ap, ◌∙◌, subst, arith, inl, inr}
 use Rattle.std.specs.Prelude.{◌≢◌}
 use Rattle.std.proofs.lemmas.Option.{same_Some}
 use Rattle.ig_grammar.specs.Names.{names, AreDistinct}
@@ -9,21 +9,15 @@ use Rattle.ig_grammar.specs.declared.place.Shape.{Shape}
 use Rattle.ig_grammar.specs.declared.place.Shape.TheVariants.{Root}
 use Rattle.ig_item.specs.WellKinded.{NoneTwice}
 use Rattle.ig_item.specs.declared.core_grammar.Nonterminal.{Nonterminal}
-use Rattle.ig_core.specs.CoreOf.{Shaped, shaped, is_root, unrooted, root_among, root_of, written_root, or_else, numbered, number_of, nonterminals_of}
-use Rattle.ig_core.specs.Names.{root_name, HasNoAddedName}
-use Rattle.ig_core.specs.Laws.{CoreNamesDiffer}
-use Rattle.ig_core.proofs.Lookups.{contains_at}
+use Rattle.ig_core.specs.CoreOf.{Shaped, shaped, unrooted, root_among, root_of, written_root, or_else, numbered, number_of, nonterminals_of, core_of}
+use Rattle.ig_rewrite.specs.Rooted.{is_root, has_root}
+use Rattle.ig_core.specs.Ready.{IsReady}
 use Rattle.ig_core.proofs.Places.{origin, root_cases, RootAt, NoRoot}
-use Rattle.ig_core.proofs.Scoped.{declared_at, distinct_names}
+use Rattle.ig_core.proofs.Lookups.{mapped_at}
+use Rattle.ig_core.proofs.Scoped.{distinct_names}
 
 abbrev row_name : Shaped → List ℕ
 row_name x = x.decl.name
-
-mapped_at : {X Y : Type 0} (f : X → Y) (xs : List X) (i : ℕ) (y : Y) → slice_get (map f xs) i ≡ Some y →
-    (x : X) × (slice_get xs i ≡ Some x) × (f x ≡ y)
-mapped_at f [] i y e = cc
-mapped_at f (x ∷ xs) zero y e = (x, refl, same_Some (f x) y e)
-mapped_at f (x ∷ xs) (suc i) y e = mapped_at f xs i y e
 
 name_there : (ds : List Decl) (n : ℕ) (decl : Decl) → slice_get ds n ≡ Some decl → slice_get (names ds) n ≡ Some decl.name
 name_there [] n decl e = cc
@@ -84,26 +78,33 @@ core_names : (number : List ℕ → ℕ) (n : ℕ) (rows : List Shaped) →
 core_names number n [] = refl
 core_names number n (x ∷ rows) = ap (λ (ns : List (List ℕ)). x.decl.name ∷ ns) (core_names number (suc n) rows)
 
+-- where a declaration stands for the root, there is one
+some_root : (decls : List Decl) (shapes : List Shape) → length shapes ≡ length decls → has_root shapes ≡ true →
+    root_among decls shapes ≡ None → ⊥
+some_root [] [] same there none = cc
+some_root [] (s ∷ shapes) same there none = absurd (omega (arith, same))
+some_root (d ∷ ds) [] same there none = cc
+some_root (d ∷ ds) (Root ∷ shapes) same there none = cc
+some_root (d ∷ ds) (s ∷ shapes) same there none =
+    let e : length shapes ≡ length ds = omega (arith, same) in some_root ds shapes e there none
+
 -- the name of the root is none of the others
-fresh_root : (g : Grammar) (shapes : List Shape) → AreDistinct (names g.decls) →
-    (root_among g.decls shapes ≡ None → HasNoAddedName g) →
+fresh_root : (g : Grammar) (shapes : List Shape) → AreDistinct (names g.decls) → length shapes ≡ length g.decls →
+    has_root shapes ≡ true →
     ((root_among g.decls shapes ≡ None) × NoRoot g.decls shapes) ⊎ ((decl : Decl) × RootAt g.decls shapes decl) →
     (j : ℕ) → slice_get (map row_name (unrooted g.decls shapes)) j ≡ Some (root_of g shapes).name → ⊥
-fresh_root g shapes distinct no_added (inl none) j e =
-    let root_is : (root_of g shapes).name ≡ root_name = ap (λ o. (or_else o (written_root g)).name) none.0 in
-    let k = kept_at g.decls shapes j root_name (e ∙ ap Some root_is) in
-    let d = declared_at g.decls k.k root_name k.named in
-    no_added none.0 d.0 (contains_at g.decls k.k d.0 d.1) d.2
-fresh_root g shapes distinct no_added (inr there) j e =
-    let at = there.1 in
-    let root_is : (root_of g shapes).name ≡ there.0.name = ap (λ o. (or_else o (written_root g)).name) at.chosen in
-    let k = kept_at g.decls shapes j there.0.name (e ∙ ap Some root_is) in
-    let same : k.k ≡ at.k = distinct k.k at.k there.0.name k.named (name_there g.decls at.k there.0 at.decl_at) in
-    k.other (same_Some k.shape Root (sym k.shape_at ∙ ap (slice_get shapes) same ∙ at.shape_at))
+fresh_root g shapes distinct same there (inl none) j e = some_root g.decls shapes same there none.0
+fresh_root g shapes distinct same there (inr root) j e =
+    let at = root.1 in
+    let root_is : (root_of g shapes).name ≡ root.0.name = ap (λ o. (or_else o (written_root g)).name) at.chosen in
+    let k = kept_at g.decls shapes j root.0.name (e ∙ ap Some root_is) in
+    let same_place : k.k ≡ at.k = distinct k.k at.k root.0.name k.named (name_there g.decls at.k root.0 at.decl_at) in
+    k.other (same_Some k.shape Root (sym k.shape_at ∙ ap (slice_get shapes) same_place ∙ at.shape_at))
 
-pub core_names_differ : CoreNamesDiffer
-core_names_differ g shapes ready no_added =
+pub core_names_differ : (g : Grammar) (shapes : List Shape) → IsReady g shapes → has_root shapes ≡ true →
+    NoneTwice (map (λ nonterminal. nonterminal.name) (core_of g shapes))
+core_names_differ g shapes ready there =
     let distinct = distinct_names g shapes ready.scoped ready.fit ready.remaining in
     subst NoneTwice (sym (core_names (number_of g shapes) 0 (numbered g shapes)))
     (one_more (root_of g shapes).name (map row_name (unrooted g.decls shapes))
-    (fresh_root g shapes distinct no_added (root_cases g.decls shapes)) (others_differ g.decls shapes distinct))
+    (fresh_root g shapes distinct ready.fit.counted there (root_cases g.decls shapes)) (others_differ g.decls shapes distinct))

@@ -15,7 +15,7 @@ use Rattle.ig_grammar.specs.declared.filter.Filter.TheVariants.{NotFollowed, Not
 use Rattle.ig_grammar.specs.declared.declaration.Param.{Param}
 use Rattle.ig_item.specs.Step.{labels}
 use Rattle.ig_item.specs.Items.{span_of, MatchesNone}
-use Rattle.ig_core.specs.Remaining.{IsExclusion, exclusions}
+use Rattle.ig_rewrite.specs.Remaining.{IsExclusion, exclusions}
 
 -- what a label binds
 abbrev pub bound : Option (List ℕ) → ℕ → ℕ → Environment

@@ -20,7 +20,7 @@ use Rattle.ig_item.specs.Items.{span_of, MatchesNone}
 use Rattle.ig_item.specs.CoreTrees as trees
 use Rattle.ig_item.specs.CoreTrees.{Leads, HasTree}
 use Rattle.ig_item.specs.declared.core_grammar.Nonterminal.{Nonterminal}
-use Rattle.ig_core.specs.Remaining.{IsTerm, IsExcluding, Remains, exclusions}
+use Rattle.ig_rewrite.specs.Remaining.{IsTerm, IsExcluding, Remains, exclusions}
 use Rattle.ig_core.specs.Steps.{step_with, step_of, steps_of}
 use Rattle.ig_core.proofs.Numbers.{made, Numbers}
 use Rattle.ig_core.proofs.Environments.{bound, names_bound, values_bound, names_let, values_let, values_to, bound_names, bound_values, passes_to}
@@ -108,7 +108,7 @@ module _ (g : Grammar) (shapes : List Shape) (nonterminals : List Nonterminal) (
     labelled : {c : DeclKind} {x : Symbol} {env between : Environment} {i e h : ℕ} {ts : Trees} {ks : List ℕ} →
         Derives g shapes text c x env i e h ts between ks → IsExcluding May x → (l : Option (List ℕ)) → {after : Environment} → after ≡ between ++ bound l i e →
         (rest : List Step) (j : ℕ) (us : Trees) → LeadsIn after rest h j us →
-        LeadsIn env (step_with number l (Rattle.ig_core.specs.Remaining.excluded_of x) (Rattle.ig_core.specs.Remaining.unfiltered x) ∷ rest) i j (join ts us)
+        LeadsIn env (step_with number l (Rattle.ig_rewrite.specs.Remaining.excluded_of x) (Rattle.ig_rewrite.specs.Remaining.unfiltered x) ∷ rest) i j (join ts us)
     labelled (filtered c x fs env after i e h ts starts head passes) ok l is rest j us others =
         main head ok.1 l is (exclusions fs) (passes_to text i e fs ok.0 passes) rest j us others
     labelled (literal c word env i e h vs ts starts spells trails whole exposes) ok l {after} is rest j us others =

@@ -27,10 +27,10 @@ use Rattle.ig_item.specs.WellKinded.{NoneTwice, ExpressionsFit, CallFits}
 use Rattle.ig_item.specs.declared.core_grammar.Nonterminal.{Nonterminal}
 use Rattle.ig_item.specs.Fitting.{AreFit, no_steps, next_step}
 use Rattle.ig_core.proofs.Lists.{sides}
-use Rattle.ig_core.specs.Remaining.{IsTerm, IsExcluding, Remains, unfiltered, patterns_of}
+use Rattle.ig_rewrite.specs.Remaining.{IsTerm, IsExcluding, Remains, unfiltered, patterns_of}
 use Rattle.ig_core.specs.Steps.{step_with, step_of, steps_of}
 use Rattle.ig_core.specs.CoreOf.{number_of, nonterminal_of, core_of}
-use Rattle.ig_core.specs.Laws.{IsRemaining}
+use Rattle.ig_rewrite.specs.Remaining.{IsRemaining}
 use Rattle.ig_core.proofs.Lookups.{contains_at, contains_first, declared_named}
 use Rattle.ig_core.proofs.Scoped.{Any, main_in, Each, Fine, may_call, has_core, distinct_names, name_at}
 use Rattle.ig_core.proofs.Law.{callee}

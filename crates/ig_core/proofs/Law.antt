@@ -1,6 +1,6 @@
 -- The core grammar of a grammar has the trees that the grammar permits.
 use Rattle.std.proofs.Common.{◌≡◌, ℕ, zero, suc, ◌<◌, List, [], ◌∷◌, map, All, Some, None, length, slice_get, Contains, refl, sym, ap, ◌∙◌, subst, arith, inl, inr}
-use Rattle.std.specs.Prelude.{◌⊎◌, option_map}
+use Rattle.std.specs.Prelude.{◌⊎◌, ◌↔◌, option_map}
 use Rattle.std.proofs.lemmas.Option.{same_Some, slice_get-map, slice_get_within, get_or_from_slice_get}
 use Rattle.std.proofs.lemmas.List.Elements.{All-nil, All-cons}
 use Rattle.ig_text.specs.declared.tag.Tag.TheVariants as tag
@@ -26,12 +26,12 @@ use Rattle.ig_item.specs.CoreTrees as trees
 use Rattle.ig_item.specs.CoreTrees.{Leads, HasTree, CoreTree}
 use Rattle.ig_item.specs.declared.core_grammar.Nonterminal.{Nonterminal}
 use Rattle.ig_item.specs.declared.core_grammar.CoreAlt.{CoreAlt}
-use Rattle.ig_core.specs.Remaining.{Remains}
+use Rattle.ig_rewrite.specs.Remaining.{Remains}
 use Rattle.ig_core.specs.Steps.{steps_of}
 use Rattle.ig_core.specs.CoreOf.{Shaped, shaped, unrooted, root_among, or_else, written_root, start_symbols, root_of, place, number_of, alternatives_of, nonterminal_of, core_of}
 use Rattle.ig_core.proofs.Scoped.{ready_has_core}
 use Rattle.ig_core.proofs.Premises.{IsCalled, HasCore}
-use Rattle.ig_core.specs.Laws.{CoreTreesArePermitted}
+use Rattle.ig_core.specs.Ready.{IsReady}
 use Rattle.ig_core.proofs.Numbers.{Target, Source, Numbers}
 use Rattle.ig_core.proofs.Places.{kept, Origin, origin, root_cases, RootAt, NoRoot, found, there, nonterminal_at, nonterminal_was, alternative_at, alternative_was, only, beside, without_level, with_level, same_tag}
 use Rattle.ig_core.proofs.Forth.{leads}
@@ -351,7 +351,9 @@ module _ (g : Grammar) (shapes : List Shape) (text : List ℕ) (has : HasCore g 
           (all_alternatives decl declares.numbered.0 declares.numbered.2 1 a is) in
           root_to decl a p.children t (rooted_root there.0 at ∙ decl_same) (ap (λ (z : Decl). z.params) (sym decl_same) ∙ rooted.2) is lead p.whole
 
-pub core_trees_permitted : TreesWithoutOperatorsAreClean → CoreTreesArePermitted
+-- the core grammar of what the passes leave has the trees that it permits
+pub core_trees_permitted : TreesWithoutOperatorsAreClean → (g : Grammar) (shapes : List Shape) (text : List ℕ) (t : Tree) →
+    IsReady g shapes → CoreTree (core_of g shapes) text t ↔ Permitted g shapes text t
 core_trees_permitted clean g shapes text t ready =
     let has = ready_has_core g shapes ready in
     (to_permitted g shapes text has clean t, from_permitted g shapes text has t)

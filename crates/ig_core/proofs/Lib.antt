@@ -14,8 +14,8 @@ pub mod Kinded
 pub mod WellKinded
 pub mod Whole
 pub mod NameTexts
-pub mod BuiltForms
 pub mod RootNames
-pub mod RegularCores
 pub mod CoreNames
-pub mod Barren
+pub mod Unmarked
+pub mod Passes
+pub mod Noted

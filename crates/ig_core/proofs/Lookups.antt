@@ -1,10 +1,10 @@
 -- Members of lists, and the first declaration of a name.
-use Rattle.std.proofs.Common.{◌≡◌, ◌∙◌, ℕ, suc, ◌+◌, List, [], ◌∷◌, Option, Some, None, Bool, cond, true, false, refl, ap, arith, length, inl, inr}
+use Rattle.std.proofs.Common.{◌≡◌, ◌∙◌, ℕ, zero, suc, ◌+◌, List, [], ◌∷◌, map, Option, Some, None, Bool, cond, true, false, refl, ap, arith, length, inl, inr}
 use Rattle.std.specs.Prelude.{◌⊎◌, nat_lt, not, position, option_map, option_and_then, slice_get, Contains, if◌then◌else◌}
 use Rattle.std.specs.List.{prefix_len}
 use Rattle.std.specs.Cmp.Lexicographic.{bytes_decides}
 use Rattle.std.proofs.lemmas.Bool.Decides.{nat_tests}
-use Rattle.std.proofs.lemmas.Option.{slice_get-get_or, slice_get_within, get_or_from_slice_get}
+use Rattle.std.proofs.lemmas.Option.{same_Some, slice_get-get_or, slice_get_within, get_or_from_slice_get}
 use Rattle.std.proofs.lemmas.List.Elements.{Contains-append_left, Contains-append_right, Contains-push}
 use Rattle.ig_text.specs.Words.{is_word}
 use Rattle.ig_grammar.specs.Condition.{declaration_of}
@@ -81,3 +81,24 @@ declared_named ds name = go (first ds)
         (declaration_of ds name ≡ None) ⊎ ((k : ℕ) × (d : Decl) × (declaration_of ds name ≡ Some d) × (slice_get ds k ≡ Some d) × (d.name ≡ name))
     go (inl e) = inl (declaration_first ds name ∙ e)
     go (inr h) = inr (h.0, h.1, declaration_first ds name ∙ h.2, h.3, h.4)
+
+pub mapped_at : {X Y : Type 0} (f : X → Y) (xs : List X) (i : ℕ) (y : Y) → slice_get (map f xs) i ≡ Some y →
+    (x : X) × (slice_get xs i ≡ Some x) × (f x ≡ y)
+mapped_at f [] i y e = cc
+mapped_at f (x ∷ xs) zero y e = (x, refl, same_Some (f x) y e)
+mapped_at f (x ∷ xs) (suc i) y e = mapped_at f xs i y e
+
+-- what is found among the images of a list is one of a member
+pub among_images : {X Y : Type 0} (f : X → Y) (xs : List X) (y : Y) → Contains (map f xs) y → (x : X) × Contains xs x × (f x ≡ y)
+among_images f xs y here =
+    let at = at_contained (map f xs) y here in
+    let from = mapped_at f xs at.0 y at.1 in
+    (from.0, contains_at xs at.0 from.0 from.1, from.2)
+
+-- a list of one has no other member
+pub only_member : {X : Type 0} (x y : X) → Contains (x ∷ []) y → x ≡ y
+only_member x y here = let at = at_contained (x ∷ []) y here in first at.0 at.1
+  where
+    first : (k : ℕ) → slice_get (x ∷ []) k ≡ Some y → x ≡ y
+    first zero e = same_Some x y e
+    first (suc k) e = cc

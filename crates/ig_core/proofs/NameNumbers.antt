@@ -19,7 +19,8 @@ use Rattle.ig_grammar.specs.declared.place.Shape.{Shape}
 use Rattle.ig_core.proofs.Lists.{within_take}
 use Rattle.ig_core.proofs.Places.{origin}
 use Rattle.ig_core.proofs.Building.{row_added, row_passed, count_more, count_same}
-use Rattle.ig_core.specs.CoreOf.{Shaped, shaped, unrooted, is_root, place, number_in}
+use Rattle.ig_core.specs.CoreOf.{Shaped, shaped, unrooted, place, number_in}
+use Rattle.ig_rewrite.specs.Rooted.{is_root}
 use Rattle.ig_core.specs.Tables.{lookup, given, number_by, found_from, Numbers}
 
 pub word_bytes : (bytes name : List ℕ) → IsUtf8 bytes → chars bytes ≡ name → bytes ≡ encode_utf8_all name

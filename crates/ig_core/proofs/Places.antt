@@ -13,7 +13,8 @@ use Rattle.ig_grammar.specs.declared.place.Shape.{Shape}
 use Rattle.ig_grammar.specs.declared.place.Shape.TheVariants.{Rule, Opt, Star, Plus, SepPlus, SepStar, Group, Root}
 use Rattle.ig_item.specs.declared.core_grammar.Nonterminal.{Nonterminal}
 use Rattle.ig_item.specs.declared.core_grammar.CoreAlt.{CoreAlt}
-use Rattle.ig_core.specs.CoreOf.{is_root, Shaped, shaped, unrooted, root_among, place, alternative_of, alternatives_of, nonterminal_of, nonterminals_of}
+use Rattle.ig_core.specs.CoreOf.{Shaped, shaped, unrooted, root_among, place, alternative_of, alternatives_of, nonterminal_of, nonterminals_of}
+use Rattle.ig_rewrite.specs.Rooted.{is_root}
 
 -- no declaration before so many stands for the root
 abbrev pub NoneBefore : List Shape → ℕ → Type 0

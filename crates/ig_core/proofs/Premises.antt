@@ -8,7 +8,7 @@ use Rattle.ig_grammar.specs.declared.declaration.Decl.{Decl}
 use Rattle.ig_grammar.specs.declared.symbol.Alt.{Alt}
 use Rattle.ig_grammar.specs.declared.place.Shape.{Shape}
 use Rattle.ig_grammar.specs.declared.place.Shape.TheVariants.{Rule, Root}
-use Rattle.ig_core.specs.Remaining.{Remains}
+use Rattle.ig_rewrite.specs.Remaining.{Remains}
 
 -- a name is that of a declaration that doesn't stand for the root, and has so many parameters
 abbrev pub IsCalled : Grammar → List Shape → List ℕ → ℕ → Type 0

@@ -20,9 +20,10 @@ use Rattle.ig_grammar.specs.declared.symbol.Alt.{Alt}
 use Rattle.ig_grammar.specs.declared.grammar.Grammar.{Grammar}
 use Rattle.ig_grammar.specs.declared.place.Shape.{Shape}
 use Rattle.ig_grammar.specs.declared.place.Shape.TheVariants.{Root}
-use Rattle.ig_core.specs.Remaining.{IsTerm, IsExcluding, Remains, main_of, unfiltered}
+use Rattle.ig_rewrite.specs.Remaining.{IsTerm, IsExcluding, Remains, main_of, unfiltered}
 use Rattle.ig_core.proofs.Premises.{IsCalled, HasCore}
-use Rattle.ig_core.specs.Laws.{IsRemaining, IsReady}
+use Rattle.ig_core.specs.Ready.{IsReady}
+use Rattle.ig_rewrite.specs.Remaining.{IsRemaining}
 use Rattle.ig_core.proofs.Lookups.{contains_at, at_contained, contains_first, contains_later, declared_named}
 
 abbrev pub Any : List ℕ → ℕ → Type 0

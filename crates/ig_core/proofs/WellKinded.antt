@@ -31,11 +31,13 @@ use Rattle.ig_item.specs.Limits.{most_dots}
 use Rattle.ig_core.specs.Limits.{most_declarations}
 use Rattle.ig_item.specs.Fitting.{AreFit, no_steps, next_step}
 use Rattle.ig_item.specs.Laws.{StepsFit, NamesDiffer}
-use Rattle.ig_core.specs.Remaining.{Remains}
+use Rattle.ig_rewrite.specs.Remaining.{Remains}
 use Rattle.ig_core.specs.Steps.{steps_of}
-use Rattle.ig_core.specs.CoreOf.{Shaped, shaped, unrooted, numbered, number_of, nonterminal_of, nonterminals_of, core_of, written_root, root_of, is_root}
+use Rattle.ig_core.specs.CoreOf.{Shaped, shaped, unrooted, numbered, number_of, nonterminal_of, nonterminals_of, core_of, written_root, root_of}
+use Rattle.ig_rewrite.specs.Rooted.{is_root}
 use Rattle.ig_core.proofs.Premises.{HasCore}
-use Rattle.ig_core.specs.Laws.{IsRemaining, CoresAreWellKinded}
+use Rattle.ig_core.specs.Laws.{CoresAreWellKinded}
+use Rattle.ig_rewrite.specs.Remaining.{IsRemaining}
 use Rattle.ig_core.proofs.Lookups.{contains_at, at_contained}
 use Rattle.ig_core.proofs.Places.{origin, root_cases, RootAt, NoRoot, nonterminal_from, without_level}
 use Rattle.ig_core.proofs.Law.{AtNumber, at_number, written_is, start_calls, calls_are, may_start, callee, rooted_root, unrooted_root, to_number, first_alternative}

@@ -18,7 +18,8 @@ use Rattle.ig_item.specs.Core.{dots, dots_of_nonterminal, dots_of_alternative}
 use Rattle.ig_item.specs.declared.core_grammar.Nonterminal.{Nonterminal}
 use Rattle.ig_item.specs.declared.core_grammar.CoreAlt.{CoreAlt}
 use Rattle.ig_core.specs.Tables.{number_by, Numbers}
-use Rattle.ig_core.specs.CoreOf.{Shaped, shaped, unrooted, number_of, nonterminal_of, nonterminals_of, alternative_of, alternatives_of, core_of, root_of, root_among, written_root, start_symbols, call_of, or_else, is_root}
+use Rattle.ig_core.specs.CoreOf.{Shaped, shaped, unrooted, number_of, nonterminal_of, nonterminals_of, alternative_of, alternatives_of, core_of, root_of, root_among, written_root, start_symbols, call_of, or_else}
+use Rattle.ig_rewrite.specs.Rooted.{is_root}
 use Rattle.ig_core.specs.Steps.{step_of, steps_of}
 use Rattle.std.specs.Prelude.{if◌then◌else◌, MatchOption, is_some}
 use Rattle.std.specs.Bool.{Decides}

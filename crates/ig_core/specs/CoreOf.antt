@@ -1,5 +1,5 @@
--- Core(G): the core grammar of a grammar with the shapes of its declarations.
-use Rattle.std.specs.Prelude.{ℕ, suc, List, [], ◌∷◌, Option, Some, None, map, if◌then◌else◌, Bool, true, false}
+-- The last step: the core grammar of a grammar that all passes leave, with the shapes of its declarations.
+use Rattle.std.specs.Prelude.{ℕ, suc, List, [], ◌∷◌, Option, Some, None, map, if◌then◌else◌}
 use Rattle.ig_text.specs.Words.{is_word}
 use Rattle.ig_grammar.specs.Symbol.{Symbol, Call}
 use Rattle.ig_grammar.specs.Numbering.{alternatives, tag_of, layout_among}
@@ -13,12 +13,9 @@ use Rattle.ig_grammar.specs.declared.place.Shape.{Shape}
 use Rattle.ig_grammar.specs.declared.place.Shape.TheVariants.{Root}
 use Rattle.ig_item.specs.declared.core_grammar.Nonterminal.{Nonterminal}
 use Rattle.ig_item.specs.declared.core_grammar.CoreAlt.{CoreAlt}
-use Rattle.ig_core.specs.Names.{root_name}
+use Rattle.ig_rewrite.specs.Added.{root_name}
+use Rattle.ig_rewrite.specs.Rooted.{is_root}
 use Rattle.ig_core.specs.Steps.{steps_of}
-
-abbrev pub is_root : Shape → Bool
-is_root Root = true
-is_root shape = false
 
 -- a declaration with its shape
 pub record Shaped : Type 0 where

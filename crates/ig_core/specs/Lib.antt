@@ -1,10 +1,9 @@
 pub mod Limits
-pub mod Remaining
-pub mod Built
 pub mod Steps
 pub mod CoreOf
-pub mod Names
+pub mod Ready
+pub mod Lowered
+pub mod Notation
 pub mod Tables
 pub mod Dots
 pub mod Laws
-pub mod Examples

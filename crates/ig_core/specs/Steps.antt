@@ -8,7 +8,7 @@ use Rattle.ig_grammar.specs.declared.filter.Filter.{Filter}
 use Rattle.ig_grammar.specs.declared.filter.Filter.TheVariants.{Not}
 use Rattle.ig_item.specs.Step.{Step, Test, Bind, Term}
 use Rattle.ig_item.specs.Step as step
-use Rattle.ig_core.specs.Remaining.{label_of, patterns_of, main_of}
+use Rattle.ig_rewrite.specs.Remaining.{label_of, patterns_of, main_of}
 
 -- the step of a symbol with this label and these excluded patterns; a form that doesn't remain is never passed
 abbrev pub step_with : (List ℕ → ℕ) → Option (List ℕ) → List Pattern → Symbol → Step

@@ -1,20 +1,40 @@
 //! What core grammars have to do with the grammars that they are of. The functions do nothing:
 //! their contracts are the laws, each proved for all grammars, shapes, texts and trees that it
 //! speaks of.
-ghost use Rattle.ig_core.specs.Laws.{CoreTreesArePermitted, CoresAreWellKinded, CoresAreRegular};
-ghost use Rattle.ig_core.specs.Laws.{BuiltGrammarsRemain, RootIsNamed, NamesAreNotAdded};
-ghost use Rattle.ig_core.specs.Laws.{CoreNamesDiffer};
+ghost use Rattle.ig_core.specs.Laws.{CoresAreNamed, CoresAreWellKinded, CoreTreesArePermitted};
+ghost use Rattle.ig_core.specs.Laws.{NotationIsBuildable, PassesKeep};
 
+use ig_blocks::blocks_keep;
+use ig_ebnf::lists_keep;
 use ig_grammar::regularity_by_form;
 use ig_item::{names_differ, steps_fit};
+use ig_levels::levels_keep;
+use ig_lexical::{filters_keep, layout_keeps};
 use ig_meaning::trees_without_operators_are_clean;
+use ig_rewrite::{added_names_are_new, rooted_is_the_same, same_trees_is_an_equivalence};
 
-/// A tree is one of the core grammar exactly where the grammar permits it. This law computes
-/// nothing.
+/// What the passes leave of a grammar permits the same trees, has only the forms that the last
+/// step takes, and in it a declaration stands for the root. This law computes nothing.
+pub fn passes_keep()
+    ensures { PassesKeep }
+{
+    levels_keep();
+    blocks_keep();
+    layout_keeps();
+    filters_keep();
+    lists_keep();
+    regularity_by_form();
+    rooted_is_the_same();
+    same_trees_is_an_equivalence();
+}
+
+/// A tree is one of a grammar's core grammar exactly where the grammar permits it. This law
+/// computes nothing.
 pub fn core_trees_are_permitted_trees()
     ensures { CoreTreesArePermitted }
 {
     trees_without_operators_are_clean();
+    passes_keep();
 }
 
 /// The core grammar of a checked grammar of the forms that remain is well kinded. This law computes
@@ -26,32 +46,18 @@ pub fn cores_are_well_kinded()
     names_differ();
 }
 
-/// Where no literal of the grammar is empty, none of its core grammar is. This law computes
-/// nothing.
-pub fn cores_are_regular()
-    ensures { CoresAreRegular }
+/// Nonterminal 0 of a core grammar is named `$root`, and no two nonterminals have one name. This
+/// law computes nothing.
+pub fn cores_are_named()
+    ensures { CoresAreNamed }
 {
-    regularity_by_form();
+    passes_keep();
 }
 
-/// Each form that is built remains after all passes. This law computes nothing.
-pub fn built_grammars_remain()
-    ensures { BuiltGrammarsRemain }
-{}
-
-/// Nonterminal 0 is named `$root`. This law computes nothing.
-pub fn root_is_named()
-    ensures { RootIsNamed }
-{}
-
-/// A grammar whose declarations have names of the notation has none of the name `$root`. This law
+/// A grammar that the notation can say is buildable, as it is written: the passes take it. This law
 /// computes nothing.
-pub fn names_are_not_added()
-    ensures { NamesAreNotAdded }
-{}
-
-/// Where no declaration has the name `$root` already, the names of the nonterminals differ. This
-/// law computes nothing.
-pub fn core_names_differ()
-    ensures { CoreNamesDiffer }
-{}
+pub fn notation_is_buildable()
+    ensures { NotationIsBuildable }
+{
+    added_names_are_new();
+}

@@ -3,8 +3,8 @@ ghost use Rattle.std.specs.Prelude.{◌≡◌, map, IfOk, option_map};
 ghost use Rattle.std.specs.Option.{option_copied};
 ghost use Rattle.ig_grammar.specs.View.{symbol_of};
 ghost use Rattle.ig_item.specs.View.{step_of};
-ghost use Rattle.ig_core.specs.Remaining.{label_of, unlabelled, unfiltered};
-ghost use Rattle.ig_core.specs.Remaining.{excluded_of, exclusions};
+ghost use Rattle.ig_rewrite.specs.Remaining.{label_of, unlabelled, unfiltered};
+ghost use Rattle.ig_rewrite.specs.Remaining.{excluded_of, exclusions};
 ghost use Rattle.ig_core.specs.Steps as steps;
 ghost use Rattle.ig_core.specs.Tables.{lookup, number_by};
 

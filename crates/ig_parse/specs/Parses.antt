@@ -6,7 +6,7 @@ use Rattle.ig_meaning.specs.Permitted.{Permitted}
 use Rattle.ig_item.specs.Core.{dots}
 use Rattle.ig_item.specs.Items.{MoreThan}
 use Rattle.ig_item.specs.Limits.{most_dots}
-use Rattle.ig_core.specs.CoreOf.{core_of}
+use Rattle.ig_core.specs.Lowered.{CoreOf}
 use Rattle.ig_forest.specs.Forest.{Forest}
 use Rattle.ig_forest.specs.Unfold.{Unfold, Unfolds}
 use Rattle.ig_forest.specs.Reduced.{IsReduced}
@@ -25,15 +25,15 @@ module _ (c : CheckedGrammar) (text : List ℕ) where
   -- the forest is the reduced one, which is one, and to every depth it has exactly the permitted trees of at most that
   -- height, each with one cursor
   pub record IsForestOf (f : Forest) : Type 0 where
-    pub reduced : IsReduced (core_of c.grammar c.shapes) text f
-    pub only : (other : Forest) → IsReduced (core_of c.grammar c.shapes) text other → other ≡ f
+    pub reduced : IsReduced (CoreOf c) text f
+    pub only : (other : Forest) → IsReduced (CoreOf c) text other → other ≡ f
     pub unfolds : (d : ℕ) (t : Tree) → Unfolds f d t ↔ (Permitted c.grammar c.shapes text t × (height t ≤ d))
     pub one_cursor : (d e : ℕ) (cs ds : List ℕ) (t : Tree) → Unfold f d cs t → Unfold f e ds t → cs ≡ ds
 
   module _ (budget : ℕ) where
     -- more items are reachable than the budget allows
     abbrev pub IsOver : Type 0
-    IsOver = MoreThan (core_of c.grammar c.shapes) text budget
+    IsOver = MoreThan (CoreOf c) text budget
 
     -- the budget suffices, a tree is permitted, and the forest is that of the permitted trees
     pub record HasForest (f : Forest) : Type 0 where
@@ -43,7 +43,7 @@ module _ (c : CheckedGrammar) (text : List ℕ) where
 
     -- why there is no forest: want of memory may come at any time
     abbrev pub HasNone : ParseFault → Type 0
-    HasNone TooManyDots = most_dots < dots (core_of c.grammar c.shapes)
+    HasNone TooManyDots = most_dots < dots (CoreOf c)
     HasNone Budget = IsOver
     HasNone NoParse = (IsOver → ⊥) × IsUnparsed
     HasNone Memory = Unit {0}
@@ -51,3 +51,9 @@ module _ (c : CheckedGrammar) (text : List ℕ) where
     abbrev pub Parses : Result Forest ParseFault → Type 0
     Parses (Ok f) = HasForest f
     Parses (Err fault) = HasNone fault
+
+-- the answer is that the core grammar has too many dots, or that memory ran out
+abbrev pub IsTooMany : Result Forest ParseFault → Type 0
+IsTooMany (Err TooManyDots) = Unit {0}
+IsTooMany (Err Memory) = Unit {0}
+IsTooMany answer = ⊥

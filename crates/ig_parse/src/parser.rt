@@ -1,12 +1,10 @@
 //! Parsers of one grammar.
-ghost use Rattle.std.specs.Prelude.{◌≡◌, ◌≢◌, ◌<◌, Err, IfErr, IfOk, length};
-ghost use Rattle.ig_core.specs.CoreOf.{core_of};
-ghost use Rattle.ig_core.specs.Laws.{IsRemaining};
-ghost use Rattle.ig_core.specs.Limits.{most_declarations};
+ghost use Rattle.std.specs.Prelude.{◌≡◌, ◌≢◌, ◌<◌, ◌≤◌, IfErr, IfOk};
+ghost use Rattle.ig_core.specs.Lowered.{CoreOf, IsBuildable};
 ghost use Rattle.ig_item.specs.Core.{dots};
 ghost use Rattle.ig_item.specs.Limits.{most_dots};
 ghost use Rattle.ig_core.specs.declared.fault.CoreFault.TheVariants as core_fault;
-ghost use Rattle.ig_parse.specs.Parses.{Parses};
+ghost use Rattle.ig_parse.specs.Parses.{IsTooMany, Parses};
 ghost use Rattle.ig_parse.specs.declared.fault.ParseFault.TheVariants.{TooManyDots};
 
 use crate::fault::ParseFault;
@@ -31,8 +29,7 @@ pub struct Parser<'g> {
 
 impl<'g> Model for Parser<'g> {
     ghost use Rattle.std.specs.Prelude.{◌≡◌};
-    ghost use Rattle.ig_core.specs.CoreOf.{core_of};
-    ghost use Rattle.ig_core.specs.Laws.{IsRemaining};
+    ghost use Rattle.ig_core.specs.Lowered.{CoreOf, IsBuildable, IsNumbered};
     ghost use Rattle.ig_grammar.specs.Checked.{CheckedGrammar};
     ghost use Rattle.ig_grammar.specs.CodingChecked.{checked_code};
 
@@ -42,21 +39,19 @@ impl<'g> Model for Parser<'g> {
 
     ghost view = { λ p. p.grammar.now };
 
-    ghost invariant = { λ p. IsRemaining p.grammar.now.grammar ×
-        (p.core ≡ core_of p.grammar.now.grammar p.grammar.now.shapes) };
+    ghost invariant = { λ p. IsBuildable p.grammar.now × IsNumbered p.grammar.now ×
+        (p.core ≡ CoreOf p.grammar.now) };
 }
 
 impl<'g> Parser<'g> {
-    /// The parser of a grammar, whose forms all remain behind the passes. `TooManyDots` comes
-    /// exactly where its core grammar has more than `MOST_DOTS` dots.
+    /// The parser of a grammar that the passes take. `TooManyDots` comes only where its core
+    /// grammar has more than `MOST_DOTS` dots, and then no parser comes.
     pub fn of(alloc: Global, grammar: &'g Checked) -> Result<Parser<'g>, CoreFault>
-        requires remaining { IsRemaining grammar.now.grammar }
-        requires few { length grammar.now.grammar.decls < most_declarations }
+        requires buildable { IsBuildable grammar.now }
         ensures same { IfOk result (λ parser. parser ≡ grammar.now) }
-        ensures many { most_dots < dots (core_of grammar.now.grammar grammar.now.shapes) →
-            result ≡ Err core_fault.TooManyDots }
+        ensures few { IfOk result (λ parser. dots (CoreOf grammar.now) ≤ most_dots) }
         ensures exact { IfErr result (λ fault. fault ≡ core_fault.TooManyDots →
-            most_dots < dots (core_of grammar.now.grammar grammar.now.shapes)) }
+            most_dots < dots (CoreOf grammar.now)) }
     {
         let core = build(alloc, grammar)?;
         Ok(Parser { grammar, core })
@@ -64,7 +59,7 @@ impl<'g> Parser<'g> {
 
     /// The core grammar. Takes no memory.
     pub fn core(&self) -> &Core
-        ensures { result.now ≡ core_of self.now.grammar self.now.shapes }
+        ensures { result.now ≡ CoreOf self.now }
     {
         &self.core
     }
@@ -82,7 +77,6 @@ impl<'g> Parser<'g> {
         reduced_forest_unfolds_to_core_trees();
         reduced_forest_is_unique();
         tree_has_one_cursor();
-        let _grammar = self.grammar.grammar();
         let _nonterminals = self.core.nonterminals();
         let items = match saturate(alloc, &self.core, text, budget) {
             Ok(items) => items,
@@ -97,21 +91,19 @@ impl<'g> Parser<'g> {
     }
 }
 
-/// The reduced forest of exactly the trees that the grammar permits for the whole text. The faults
-/// come exactly as these: `TooManyDots` where the grammar's core grammar has more than `MOST_DOTS`
-/// dots, else `Budget` where more than `budget` items are reachable, else `NoParse` where no tree
-/// is permitted.
+/// The reduced forest of exactly the trees that the grammar permits for the whole text. But for want
+/// of memory the faults come exactly as these: `TooManyDots` where the grammar's core grammar has
+/// more than `MOST_DOTS` dots, else `Budget` where more than `budget` items are reachable, else
+/// `NoParse` where no tree is permitted.
 pub fn parse(
     alloc: Global,
     grammar: &Checked,
     text: &Text,
     budget: u32,
 ) -> Result<Forest, ParseFault>
-    requires remaining { IsRemaining grammar.now.grammar }
-    requires few { length grammar.now.grammar.decls < most_declarations }
+    requires buildable { IsBuildable grammar.now }
     ensures parses { Parses grammar.now text.now budget result }
-    ensures many { most_dots < dots (core_of grammar.now.grammar grammar.now.shapes) →
-        result ≡ Err TooManyDots }
+    ensures many { most_dots < dots (CoreOf grammar.now) → IsTooMany result }
 {
     let parser = match Parser::of(alloc, grammar) {
         Ok(parser) => parser,

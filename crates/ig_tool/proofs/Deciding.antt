@@ -8,10 +8,9 @@ use Rattle.ig_outside.specs.States.{ShelfState, SinkState}
 use Rattle.ig_outside.specs.Told.{Told}
 use Rattle.ig_grammar.specs.Checked.{CheckedGrammar}
 use Rattle.ig_grammar.specs.declared.grammar.Grammar.{Grammar}
-use Rattle.ig_notation.specs.Outcome.{ReadGrammarsAreRegular}
-use Rattle.ig_core.specs.Built.{IsBuiltGrammar}
-use Rattle.ig_core.specs.CoreOf.{core_of}
-use Rattle.ig_core.specs.Limits.{most_declarations}
+use Rattle.ig_core.specs.Lowered.{CoreOf, IsBuildable}
+use Rattle.ig_core.specs.Notation.{IsOfNotation, unchanged}
+use Rattle.ig_core.specs.Laws.{NotationIsBuildable}
 use Rattle.ig_show.specs.CoreText.{core_text}
 use Rattle.ig_tool.specs.Change.{Change, change, raised, Fetched, IsCalm, Stood, Untouched}
 use Rattle.ig_tool.specs.declared.stop.Stop.{Stop}
@@ -19,12 +18,13 @@ use Rattle.ig_tool.specs.declared.stop.Stop.TheVariants as halt
 use Rattle.ig_tool.specs.declared.status.Status.{Status}
 use Rattle.ig_tool.specs.declared.status.Status.TheVariants as status
 use Rattle.ig_tool.specs.Commands.{Request, check, show, core, forest, grammar_name, IsCommand, file_count, never, for_names}
-use Rattle.ig_tool.specs.Accepted.{IsAccepted, unchanged}
+use Rattle.ig_tool.specs.Accepted.{IsAccepted}
+use Rattle.ig_tool.proofs.OfNotation.{ReadingLaws, of_notation}
 use Rattle.ig_tool.specs.Refusals.{too_many_dots, dots_text}
 use Rattle.ig_tool.specs.Outcome as decided
-use Rattle.ig_tool.specs.Outcome.{MayGive, HasFiles, AsksCore, Decided, usage, grammar_missing, grammar_unread, grammar_refused, checked, shown, core_shown, input_missing, input_unread, input_refused, over_budget, no_parse, parsed, usage_note, not_built_text, not_built_note, Answers, noted, unwritten, unnoted, no_memory}
+use Rattle.ig_tool.specs.Outcome.{MayGive, HasFiles, Decided, usage, grammar_missing, grammar_unread, grammar_refused, checked, shown, core_shown, input_missing, input_unread, input_refused, over_budget, no_parse, parsed, usage_note, Answers, noted, unwritten, unnoted, no_memory}
 use Rattle.ig_tool.specs.Stops as stops
-use Rattle.ig_tool.specs.Stops.{StopsAt, IsNoGrammar, IsNoInput, IsWrittenIn, LoadsGrammar, LoadsInput, StopsWith, RefusesWith, IsPrepared, Prepares, IsParse, StopsParse, ParsesText, StopsForest, GivesForest, RunsForest, SaysOk, ShowsGrammar, ShowsCore, Decides, WritesText, WritesNote, GivesUp}
+use Rattle.ig_tool.specs.Stops.{StopsAt, IsNoGrammar, IsNoInput, IsWrittenIn, LoadsGrammar, LoadsInput, StopsWith, IsPrepared, Prepares, IsParse, StopsParse, ParsesText, StopsForest, GivesForest, RunsForest, SaysOk, ShowsGrammar, ShowsCore, Decides, WritesText, WritesNote, GivesUp}
 
 -- a stop that is passed on
 pub passed : {T : Type 0} (r : Result T Stop) (stop : Stop) → IsErrAnd r (λ s. s ≡ stop) → r ≡ Err stop
@@ -72,18 +72,16 @@ decides_at_grammar words shelf request name (halt.Note s line) command n count h
 decides_at_grammar words shelf request name halt.Memory command n count h =
     (1, for_names request 1 command (one_file request), count, h)
 
--- the grammar that was loaded has no more declarations than its text may have bytes
-pub few_declarations : ReadGrammarsAreRegular → (shelf : Change ShelfState) (name : List ℕ) (grammar : CheckedGrammar) →
-    LoadsGrammar shelf name (Ok grammar) → length grammar.grammar.decls < most_declarations
-few_declarations regular shelf name grammar lg =
-    let few = (regular lg.1.0 grammar.grammar lg.1.2.text.utf8 lg.1.2.text.reading).1.declarations in
-    omega arith
+-- the grammar that was loaded is buildable
+pub loaded_is_buildable : ReadingLaws → NotationIsBuildable → (shelf : Change ShelfState) (name : List ℕ) (c : CheckedGrammar) →
+    LoadsGrammar shelf name (Ok c) → IsBuildable c
+loaded_is_buildable laws law shelf name c lg =
+    let w = lg.1.2 in
+    subst IsBuildable (sym w.as_it_is) (law c.grammar (of_notation laws lg.1.0 c.grammar w.text))
 
--- where the parser of the grammar was made, or none, the grammar is accepted
-accepted_text : (xs : List ℕ) (c : CheckedGrammar) (parser : Option CheckedGrammar) → IsWrittenIn xs c →
-    IsPrepared c.grammar parser → IsAccepted xs c.grammar
-accepted_text xs c None w none = record { text = w.text; few_dots = λ built. absurd (none built) }
-accepted_text xs c (Some p) w is = record { text = w.text; few_dots = λ built. is.2 }
+-- where the parser of the grammar was made, the grammar is accepted
+accepted_text : (xs : List ℕ) (c parser : CheckedGrammar) → IsWrittenIn xs c → IsPrepared c.grammar parser → IsAccepted xs c.grammar
+accepted_text xs c parser w is = record { text = w.text; few_dots = is.1 }
 
 -- the grammar was loaded
 module _ (words : List (List ℕ)) (shelf : Change ShelfState) (name : List ℕ) (c : CheckedGrammar)
@@ -93,11 +91,11 @@ module _ (words : List (List ℕ)) (shelf : Change ShelfState) (name : List ℕ)
       Prepares c.grammar (Err stop) → Decides words shelf (Err stop)
   decides_at_dots request (halt.Note s line) command n h =
       let P : List ℕ → Type 0 = λ z. MayGive (shelf.before.holds z) lg.1.0 in
-      let many = too_many_dots c.grammar lg.1.2.text h.2 h.3 in
+      let many = too_many_dots c.grammar lg.1.2.text h.2 in
       (1, rw (h.0, h.1) (grammar_refused request lg.1.0 dots_text lg.0 command (subst P n lg.1.1) many), count, λ d. let p = h.0 in cc)
   decides_at_dots request halt.Memory command n h = (1, for_names request 1 command (one_file request), count, inl lg.0)
 
-  module _ (parser : Option CheckedGrammar) (prepared : IsPrepared c.grammar parser) where
+  module _ (parser : CheckedGrammar) (prepared : IsPrepared c.grammar parser) where
     accepted : IsAccepted lg.1.0 c.grammar
     accepted = accepted_text lg.1.0 c parser lg.1.2 prepared
 
@@ -122,63 +120,32 @@ module _ (words : List (List ℕ)) (shelf : Change ShelfState) (name : List ℕ)
     decides_show file g (Err (halt.Note s line)) command n e h = absurd h
     decides_show file g (Err halt.Memory) command n e h = (1, for_names (show file) 1 command (omega arith), count, inl lg.0)
 
--- the core grammar was asked for
-pub decides_core : (words : List (List ℕ)) (shelf : Change ShelfState) (name : List ℕ) (c : CheckedGrammar) → Fetched shelf 1 →
-    (lg : LoadsGrammar shelf name (Ok c)) (parser : Option CheckedGrammar) → IsPrepared c.grammar parser →
-    (file : List ℕ) (r : Result (Vec ℕ Global) Stop) → IsCommand words (core file) → name ≡ file → ShowsCore parser r →
-    Decides words shelf r
-decides_core words shelf name c count lg None prepared file (Ok text) command n h = absurd h
-decides_core words shelf name c count lg None prepared file (Err (halt.Note s line)) command n h =
-    let none = decided.not_built (core file) lg.1.0 c.grammar lg.0 command tt (gives words shelf name c count lg None prepared file n)
-    (accepted words shelf name c count lg None prepared) prepared in
-    (1, rw (h.0, h.1) none, count, λ d. let p = h.0 in cc)
-decides_core words shelf name c count lg None prepared file (Err halt.Memory) command n h =
-    (1, for_names (core file) 1 command (omega arith), count, inl lg.0)
-decides_core words shelf name c count lg (Some p) prepared file (Ok text) command n h =
-    let Q : List ℕ → Type 0 = λ z. Decided words shelf status.Done z [] 1 in
-    let same = h ∙ ap (λ (z : CheckedGrammar). core_text (core_of z.grammar z.shapes)) prepared.0 in (
-      1,
-      subst Q (sym same) (core_shown file lg.1.0 c.grammar lg.0 command (gives words shelf name c count lg (Some p) prepared file n)
-          (accepted words shelf name c count lg (Some p) prepared) prepared.1),
-      count,
-    )
-decides_core words shelf name c count lg (Some p) prepared file (Err (halt.Note s line)) command n h = absurd h
-decides_core words shelf name c count lg (Some p) prepared file (Err halt.Memory) command n h =
-    (1, for_names (core file) 1 command (omega arith), count, inl lg.0)
+    pub decides_core : (file : List ℕ) (r : Result (Vec ℕ Global) Stop) → IsCommand words (core file) → name ≡ file →
+        ShowsCore parser r → Decides words shelf r
+    decides_core file (Ok text) command n h =
+        let Q : List ℕ → Type 0 = λ z. Decided words shelf status.Done z [] 1 in
+        let same = h ∙ ap (λ (z : CheckedGrammar). core_text (CoreOf z)) prepared.0 in
+        (1, subst Q (sym same) (core_shown file lg.1.0 c.grammar lg.0 command (gives file n) accepted), count)
+    decides_core file (Err (halt.Note s line)) command n h = absurd h
+    decides_core file (Err halt.Memory) command n h = (1, for_names (core file) 1 command (omega arith), count, inl lg.0)
 
--- what comes of a parser, or none, and an input
-module _ (parser : Option CheckedGrammar) (budget : ℕ) (shelf : Change ShelfState) (name : List ℕ) where
-  pub runs_not_built : (stop : Stop) → parser ≡ None → RefusesWith not_built_text stop → IsCalm shelf → Fetched shelf 0 →
-      RunsForest parser budget shelf name (Err stop)
-  runs_not_built (halt.Note s line) none h e count = (0, stops.not_built s line.items e none h.0 h.1, count)
-  runs_not_built halt.Memory none h e count = (0, omega arith, count, inl e)
+-- what comes of a parser and an input
+module _ (c : CheckedGrammar) (budget : ℕ) (shelf : Change ShelfState) (name : List ℕ) where
+  pub runs_at_input : (stop : Stop) → LoadsInput shelf name (Err stop) → RunsForest c budget shelf name (Err stop)
+  runs_at_input (halt.Note s line) li = stops.at_input s line.items li
+  runs_at_input halt.Memory li = li
 
-  pub runs_at_input : (c : CheckedGrammar) (stop : Stop) → parser ≡ Some c → Fetched shelf 1 → LoadsInput shelf name (Err stop) →
-      RunsForest parser budget shelf name (Err stop)
-  runs_at_input c (halt.Note s line) some count li = (1, stops.at_input c s line.items some li, count)
-  runs_at_input c halt.Memory some count li = (1, omega arith, count, li)
-
-  pub runs_parse : (c : CheckedGrammar) (text : Text) (r : Result (Vec ℕ Global) Stop) → parser ≡ Some c → Fetched shelf 1 →
-      LoadsInput shelf name (Ok text) → ParsesText c text budget r → RunsForest parser budget shelf name r
-  runs_parse c text (Ok out) some count li h =
-      (record { of = c; is_parser = some; calm = li.0; input_bytes = li.1.0; input = text; gives_input = li.1.1; decoded = li.1.2; is_parse = h }, count)
-  runs_parse c text (Err (halt.Note s line)) some count li h =
-      (1, stops.at_parse c s line.items li.1.0 text some li.0 li.1.1 li.1.2 h, count)
-  runs_parse c text (Err halt.Memory) some count li h = (1, omega arith, count, inl li.0)
-
-parser_is : (g : Grammar) (parser : Option CheckedGrammar) (c : CheckedGrammar) → IsPrepared g parser → parser ≡ Some c →
-    (c ≡ unchanged g) × IsBuiltGrammar g
-parser_is g None c prepared e = cc
-parser_is g (Some p) c prepared e = (let same : p ≡ c = cc in sym same ∙ prepared.0, prepared.1)
-
-no_parser : (g : Grammar) (parser : Option CheckedGrammar) → IsPrepared g parser → parser ≡ None → IsBuiltGrammar g → ⊥
-no_parser g None prepared e = prepared
-no_parser g (Some p) prepared e = cc
+  pub runs_parse : (text : Text) (r : Result (Vec ℕ Global) Stop) → LoadsInput shelf name (Ok text) →
+      ParsesText c text budget r → RunsForest c budget shelf name r
+  runs_parse text (Ok out) li h =
+      record { calm = li.0; input_bytes = li.1.0; input = text; gives_input = li.1.1; decoded = li.1.2; is_parse = h }
+  runs_parse text (Err (halt.Note s line)) li h = stops.at_parse s line.items li.1.0 text li.0 li.1.1 li.1.2 h
+  runs_parse text (Err halt.Memory) li h = inl li.0
 
 -- a forest was asked for, and the grammar was accepted
 module _ (words : List (List ℕ)) (shelf : Change ShelfState) (grammar input : List ℕ) (budget : ℕ) (xs : List ℕ) (g : Grammar)
     (command : IsCommand words (forest grammar input budget)) (gives : MayGive (shelf.before.holds grammar) xs)
-    (accepted : IsAccepted xs g) (parser : Option CheckedGrammar) (prepared : IsPrepared g parser) where
+    (accepted : IsAccepted xs g) (parser : CheckedGrammar) (prepared : IsPrepared g parser) where
   abbrev told : Told
   told = shelf.before.holds input
 
@@ -189,20 +156,20 @@ module _ (words : List (List ℕ)) (shelf : Change ShelfState) (grammar input : 
   new = shelf.after.faults
 
   -- the input stops the command
-  stopped_at_input : (s : Status) (note : List ℕ) → IsBuiltGrammar g → StopsAt told input old new IsNoInput s note →
+  stopped_at_input : (s : Status) (note : List ℕ) → StopsAt told input old new IsNoInput s note →
       Decided words shelf s [] note 2 × (s ≢ status.Done)
-  stopped_at_input s note built (stops.missing z line e n p q) =
-      (rw (p, q) (input_missing grammar input budget xs g e command gives accepted built n), λ d. cc)
-  stopped_at_input s note built (stops.unread z line rose p q) =
-      (rw (p, q) (input_unread grammar input budget xs g rose command gives accepted built), λ d. cc)
-  stopped_at_input s note built (stops.refused z line ys e gives_input r) = (
+  stopped_at_input s note (stops.missing z line e n p q) =
+      (rw (p, q) (input_missing grammar input budget xs g e command gives accepted n), λ d. cc)
+  stopped_at_input s note (stops.unread z line rose p q) =
+      (rw (p, q) (input_unread grammar input budget xs g rose command gives accepted), λ d. cc)
+  stopped_at_input s note (stops.refused z line ys e gives_input r) = (
     rw (r.status_is, r.note_is)
-        (input_refused grammar input budget xs ys g r.fault e command gives accepted built gives_input r.faulty r.cause),
+        (input_refused grammar input budget xs ys g r.fault e command gives accepted gives_input r.faulty r.cause),
     λ d. let p = r.status_is in cc,
   )
 
-  has_files : (ys text : List ℕ) → IsBuiltGrammar g → MayGive told ys → IsDecoded ys text → HasFiles words shelf.before g text budget
-  has_files ys text built gives_input decoded =
+  has_files : (ys text : List ℕ) → MayGive told ys → IsDecoded ys text → HasFiles words shelf.before g text budget
+  has_files ys text gives_input decoded =
       record {
         grammar_file = grammar;
         input_file = input;
@@ -210,7 +177,6 @@ module _ (words : List (List ℕ)) (shelf : Change ShelfState) (grammar input : 
         grammar_bytes = xs;
         gives_grammar = gives;
         accepted = accepted;
-        built = built;
         input_bytes = ys;
         gives_input = gives_input;
         decoded = decoded;
@@ -223,36 +189,31 @@ module _ (words : List (List ℕ)) (shelf : Change ShelfState) (grammar input : 
   stopped_at_parse s note text e files (stops.no_parse z line suffices none p q) =
       (rw (p, q) (no_parse g text budget e files suffices none), λ d. cc)
 
-  stopped_forest : (s : Status) (note : List ℕ) (k : ℕ) → StopsForest parser budget told input old new s note k →
-      Decided words shelf s [] note (suc k) × (s ≢ status.Done)
-  stopped_forest s note k (stops.not_built z line e none p q) =
-      (rw (p, q) (decided.not_built (forest grammar input budget) xs g e command tt gives accepted (no_parser g parser prepared none)), λ d. cc)
-  stopped_forest s note k (stops.at_input c z line some at) =
-      stopped_at_input s note (parser_is g parser c prepared some).1 at
-  stopped_forest s note k (stops.at_parse c z line ys text some e gives_input decoded at) =
-      let is = parser_is g parser c prepared some in
+  stopped_forest : (s : Status) (note : List ℕ) → StopsForest parser budget told input old new s note →
+      Decided words shelf s [] note 2 × (s ≢ status.Done)
+  stopped_forest s note (stops.at_input z line at) = stopped_at_input s note at
+  stopped_forest s note (stops.at_parse z line ys text e gives_input decoded at) =
       let P : CheckedGrammar → Type 0 = λ z. StopsParse z text budget s note in
-      stopped_at_parse s note text e (has_files ys text is.1 gives_input decoded) (subst P is.0 at)
+      stopped_at_parse s note text e (has_files ys text gives_input decoded) (subst P prepared.0 at)
 
   made_forest : (text : List ℕ) → GivesForest parser budget told old new text → Decided words shelf status.Done text [] 2
   made_forest text h =
-      let is = parser_is g parser h.of prepared h.is_parser in
       let P : List ℕ → Type 0 = λ z. Decided words shelf status.Done z [] 2 in
       let Q : CheckedGrammar → Type 0 = λ z. IsParse z h.input budget text in
-      let parse = subst Q is.0 h.is_parse in
+      let parse = subst Q prepared.0 h.is_parse in
       subst P (sym parse.text_is)
-      (parsed g h.input budget parse.forest h.calm (has_files h.input_bytes h.input is.1 h.gives_input h.decoded) parse.is)
+      (parsed g h.input budget parse.forest h.calm (has_files h.input_bytes h.input h.gives_input h.decoded) parse.is)
 
 once_more : (k before between after : ℕ) → between ≡ risen before → after ≡ raised k between → after ≡ raised (suc k) before
 once_more k before between after c1 c2 = c2 ∙ ap (raised k) c1
 
 -- the grammar was loaded, and then a forest was run
 pub decides_forest : (words : List (List ℕ)) (first loaded last : ShelfState) (file input name : List ℕ) (budget : ℕ)
-    (c : CheckedGrammar) (parser : Option CheckedGrammar) (r : Result (Vec ℕ Global) Stop) → IsCommand words (forest file input budget) →
+    (c parser : CheckedGrammar) (r : Result (Vec ℕ Global) Stop) → IsCommand words (forest file input budget) →
     name ≡ file → Fetched (change first loaded) 1 → ((n : List ℕ) → loaded.holds n ≡ first.holds n) →
-    LoadsGrammar (change first loaded) name (Ok c) → IsPrepared c.grammar parser →
+    LoadsGrammar (change first loaded) name (Ok c) → IsPrepared c.grammar parser → Fetched (change loaded last) 1 →
     RunsForest parser budget (change loaded last) input r → Decides words (change first last) r
-decides_forest words first loaded last file input name budget c parser r command n count same lg prepared h = go r h
+decides_forest words first loaded last file input name budget c parser r command n count same lg prepared count_2 h = go r h
   where
     there : MayGive (first.holds file) lg.1.0
     there = let P : List ℕ → Type 0 = λ z. MayGive (first.holds z) lg.1.0 in subst P n lg.1.1
@@ -260,22 +221,25 @@ decides_forest words first loaded last file input name budget c parser r command
     taken : IsAccepted lg.1.0 c.grammar
     taken = accepted_text lg.1.0 c parser lg.1.2 prepared
 
+    twice : Fetched (change first last) 2
+    twice = once_more 1 first.fetches loaded.fetches last.fetches count count_2
+
     go : (r : Result (Vec ℕ Global) Stop) → RunsForest parser budget (change loaded last) input r → Decides words (change first last) r
     go (Ok text) h =
         let P : Told → ℕ → Type 0 = λ told old. GivesForest parser budget told old last.faults text.items in (
           2,
-          made_forest words (change first last) file input budget lg.1.0 c.grammar command there taken parser prepared text.items (subst₂ P (same input) lg.0 h.0),
-          once_more 1 first.fetches loaded.fetches last.fetches count h.1,
+          made_forest words (change first last) file input budget lg.1.0 c.grammar command there taken parser prepared text.items (subst₂ P (same input) lg.0 h),
+          twice,
         )
     go (Err (halt.Note s line)) h =
-        let P : Told → ℕ → Type 0 = λ told old. StopsForest parser budget told input old last.faults s line.items h.0 in
-        let d = stopped_forest words (change first last) file input budget lg.1.0 c.grammar command there taken parser prepared s line.items h.0 (subst₂ P (same input) lg.0 h.1) in
-        (suc h.0, d.0, once_more h.0 first.fetches loaded.fetches last.fetches count h.2, d.1)
+        let P : Told → ℕ → Type 0 = λ told old. StopsForest parser budget told input old last.faults s line.items in
+        let d = stopped_forest words (change first last) file input budget lg.1.0 c.grammar command there taken parser prepared s line.items (subst₂ P (same input) lg.0 h) in
+        (2, d.0, twice, d.1)
     go (Err halt.Memory) h = (
-      suc h.0,
-      for_names (forest file input budget) (suc h.0) command (let l : h.0 ≤ 1 = h.1 in omega arith),
-      once_more h.0 first.fetches loaded.fetches last.fetches count h.2,
-      subst (λ z. Stood z last.faults) lg.0 h.3,
+      2,
+      for_names (forest file input budget) 2 command (omega arith),
+      twice,
+      subst (λ z. Stood z last.faults) lg.0 h,
     )
 
 -- what was decided is answered

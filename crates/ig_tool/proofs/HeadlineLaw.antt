@@ -15,17 +15,16 @@ use Rattle.ig_notation.specs.declared.fault.Large.TheVariants as large
 use Rattle.ig_notation.specs.declared.fault.ReadFault.TheVariants as read
 use Rattle.ig_tool.specs.declared.status.Status.{Status}
 use Rattle.ig_tool.specs.declared.status.Status.TheVariants as status
-use Rattle.ig_grammar.specs.Numbering.{as_written}
 use Rattle.ig_item.specs.Core.{dots}
 use Rattle.ig_item.specs.Limits.{most_dots}
-use Rattle.ig_core.specs.Built.{IsBuiltGrammar}
-use Rattle.ig_core.specs.CoreOf.{core_of}
+use Rattle.ig_core.specs.Lowered.{CoreOf}
+use Rattle.ig_core.specs.Notation.{unchanged}
 use Rattle.ig_tool.specs.Commands.{Request, request_of, check, show, core, forest, grammar_name, IsCommand}
 use Rattle.ig_tool.specs.Accepted.{IsAccepted}
 use Rattle.ig_tool.specs.Refusals.{IsRefused, too_many, not_utf8, not_grammar, too_large, not_scoped, too_many_dots}
 use Rattle.ig_tool.specs.Change.{Change, FetchFailed, PutFailed, Got, Untouched}
 use Rattle.ig_tool.specs.Outcome as answer
-use Rattle.ig_tool.specs.Outcome.{MayGive, HasFiles, AsksCore, Decided, ok_text, shown_text, shown_core, Answers, written, noted, unwritten, unnoted, no_memory}
+use Rattle.ig_tool.specs.Outcome.{MayGive, HasFiles, Decided, ok_text, shown_text, shown_core, Answers, written, noted, unwritten, unnoted, no_memory}
 use Rattle.ig_tool.specs.Headline.{Asks, Outcome, over_budget, no_parse, parsed, Says, Headline, checks, shows, cores, GrammarCommands}
 
 one_value : (r q : Request) (found : Option Request) → found ≡ Some r → found ≡ Some q → r ≡ q
@@ -55,10 +54,10 @@ accepted_or_refused laws xs text g a (too_large which utf8 fault) =
 accepted_or_refused laws xs text g a (not_scoped h place c utf8 reading first) =
     a.text.scoped place c
     (subst (λ (z : Grammar). IsFirst z place c) (laws.only_reading xs h g reading a.text.reading) first).there.holds
-accepted_or_refused laws xs text g a (too_many_dots h is built more) =
+accepted_or_refused laws xs text g a (too_many_dots h is more) =
     let same = laws.only_reading xs h g is.reading a.text.reading in
-    let P : Grammar → Type 0 = λ z. most_dots < dots (core_of z (as_written z)) in
-    let few = a.few_dots (subst IsBuiltGrammar same built) in
+    let P : Grammar → Type 0 = λ z. most_dots < dots (CoreOf (unchanged z)) in
+    let few = a.few_dots in
     let many = subst P same more in
     omega arith
 
@@ -116,11 +115,11 @@ module _ (laws : Laws) (words : List (List ℕ)) (shelf : Change ShelfState) (re
   text_for (core file) = shown_core g
   text_for (forest file input budget) = []
 
-  -- a core grammar is asked for only where all forms are built
+  -- no forest is asked for
   abbrev AsksNoForest : Request → Type 0
   AsksNoForest (check file) = Unit {0}
   AsksNoForest (show file) = Unit {0}
-  AsksNoForest (core file) = IsBuiltGrammar g
+  AsksNoForest (core file) = Unit {0}
   AsksNoForest (forest file input budget) = ⊥
 
   no_forest : (r : Request) → IsCommand words r → AsksNoForest request → AsksNoForest r
@@ -128,12 +127,6 @@ module _ (laws : Laws) (words : List (List ℕ)) (shelf : Change ShelfState) (re
 
   text_of_request : (r : Request) (out : List ℕ) → IsCommand words r → out ≡ text_for r → out ≡ text_for request
   text_of_request r out command e = e ∙ ap text_for (same_request words r request command asked)
-
-  built_core : (r : Request) → AsksCore r → AsksNoForest r → IsBuiltGrammar g
-  built_core (check file) a n = absurd a
-  built_core (show file) a n = absurd a
-  built_core (core file) a n = n
-  built_core (forest file i budget) a n = absurd n
 
   -- what was decided is that text
   decided_text : (s : Status) (out note : List ℕ) (k : ℕ) → AsksNoForest request →
@@ -147,15 +140,13 @@ module _ (laws : Laws) (words : List (List ℕ)) (shelf : Change ShelfState) (re
       (refl, text_of_request (check file) ok_text command refl)
   decided_text s out note k none (answer.shown file ys h e command gives other) calm =
       (refl, text_of_request (show file) (shown_text h) command (ap shown_text (grammar_is (show file) ys h command gives other)))
-  decided_text s out note k none (answer.not_built r ys h e command asks gives other refused) calm =
-      absurd (refused (subst IsBuiltGrammar (sym (grammar_is r ys h command gives other)) (built_core r asks (no_forest r command none))))
-  decided_text s out note k none (answer.core_shown file ys h e command gives other built) calm =
+  decided_text s out note k none (answer.core_shown file ys h e command gives other) calm =
       (refl, text_of_request (core file) (shown_core h) command (ap shown_core (grammar_is (core file) ys h command gives other)))
-  decided_text s out note k none (answer.input_missing file i b ys h e command gives other built n) calm =
+  decided_text s out note k none (answer.input_missing file i b ys h e command gives other n) calm =
       absurd (no_forest (forest file i b) command none)
-  decided_text s out note k none (answer.input_unread file i b ys h rose command gives other built) calm =
+  decided_text s out note k none (answer.input_unread file i b ys h rose command gives other) calm =
       absurd (calm rose)
-  decided_text s out note k none (answer.input_refused file i b ys zs h fault e command gives other built given faulty cause) calm =
+  decided_text s out note k none (answer.input_refused file i b ys zs h fault e command gives other given faulty cause) calm =
       absurd (no_forest (forest file i b) command none)
   decided_text s out note k none (answer.over_budget h text b e files more) calm =
       absurd (no_forest (forest files.grammar_file files.input_file b) files.command none)
@@ -240,15 +231,13 @@ module _ (laws : Laws) (words : List (List ℕ))
       let same = same_request words (check file) request command asked.command in cc
   decided_outcome s out note k (answer.shown file xs h e command gives other) calm =
       let same = same_request words (show file) request command asked.command in cc
-  decided_outcome s out note k (answer.core_shown file xs h e command gives other built) calm =
+  decided_outcome s out note k (answer.core_shown file xs h e command gives other) calm =
       let same = same_request words (core file) request command asked.command in cc
-  decided_outcome s out note k (answer.not_built r xs h e command asks gives other refused) calm =
-      absurd (refused (subst IsBuiltGrammar (sym (same_grammar r xs h command gives other)) asked.built))
-  decided_outcome s out note k (answer.input_missing file i b xs h e command gives other built n) calm =
+  decided_outcome s out note k (answer.input_missing file i b xs h e command gives other n) calm =
       let told = told_input file i b command in cc
-  decided_outcome s out note k (answer.input_unread file i b xs h rose command gives other built) calm =
+  decided_outcome s out note k (answer.input_unread file i b xs h rose command gives other) calm =
       absurd (calm rose)
-  decided_outcome s out note k (answer.input_refused file i b xs ys h fault e command gives other built gives_input faulty cause) calm =
+  decided_outcome s out note k (answer.input_refused file i b xs ys h fault e command gives other gives_input faulty cause) calm =
       absurd (not_refused ys fault (given_input file i b ys command gives_input) faulty cause)
   decided_outcome s out note k (answer.over_budget h text b e files more) calm =
       moved h text b s out note files (over_budget more)
@@ -282,5 +271,5 @@ grammar_commands laws words shelf out notes s answers file xs g text (checks com
     answered_text laws words shelf (check file) command xs held g accepted out notes s tt answers calm a b
 grammar_commands laws words shelf out notes s answers file xs g text (shows command) held accepted calm a b =
     answered_text laws words shelf (show file) command xs held g accepted out notes s tt answers calm a b
-grammar_commands laws words shelf out notes s answers file xs g text (cores command built) held accepted calm a b =
-    answered_text laws words shelf (core file) command xs held g accepted out notes s built answers calm a b
+grammar_commands laws words shelf out notes s answers file xs g text (cores command) held accepted calm a b =
+    answered_text laws words shelf (core file) command xs held g accepted out notes s tt answers calm a b

@@ -7,3 +7,4 @@ pub mod HeadlineLaw
 pub mod Loading
 pub mod Parsing
 pub mod Written
+pub mod OfNotation

@@ -4,19 +4,19 @@ use Rattle.ig_text.specs.Decoding.{IsDecoded}
 use Rattle.ig_outside.specs.States.{ShelfState, SinkState}
 use Rattle.ig_outside.specs.Told.{bytes}
 use Rattle.ig_grammar.specs.declared.grammar.Grammar.{Grammar}
-use Rattle.ig_core.specs.Built.{IsBuiltGrammar}
+use Rattle.ig_core.specs.Notation.{unchanged}
 use Rattle.ig_forest.specs.Forest.{Forest}
 use Rattle.ig_parse.specs.Parses.{IsUnparsed, IsOver, HasForest}
 use Rattle.ig_show.specs.ForestText.{forest_text}
 use Rattle.ig_tool.specs.declared.status.Status.{Status}
 use Rattle.ig_tool.specs.declared.status.Status.TheVariants as status
 use Rattle.ig_tool.specs.Commands.{check, show, core, forest, IsCommand}
-use Rattle.ig_tool.specs.Accepted.{IsAccepted, unchanged}
+use Rattle.ig_tool.specs.Accepted.{IsAccepted}
 use Rattle.ig_tool.specs.Change.{Change, FetchFailed, PutFailed, Got, Untouched}
 use Rattle.ig_tool.specs.Outcome.{budget_note, no_parse_note, ok_text, shown_text, shown_core}
 
 -- the words ask for the forest of two files, and the shelf tells that it holds them: the first is the text of the
--- grammar, which is accepted and built, the second is the input
+-- grammar, which is accepted, the second is the input
 pub record Asks (words : List (List ℕ)) (shelf : ShelfState) (g : Grammar) (input : List ℕ) (budget : ℕ) : Type 0 where
   pub grammar_file : List ℕ
   pub input_file : List ℕ
@@ -24,7 +24,6 @@ pub record Asks (words : List (List ℕ)) (shelf : ShelfState) (g : Grammar) (in
   pub grammar_bytes : List ℕ
   pub holds_grammar : shelf.holds grammar_file ≡ bytes grammar_bytes
   pub accepted : IsAccepted grammar_bytes g
-  pub built : IsBuiltGrammar g
   pub input_bytes : List ℕ
   pub holds_input : shelf.holds input_file ≡ bytes input_bytes
   pub decoded : IsDecoded input_bytes input
@@ -57,7 +56,7 @@ Headline words shelf out notes answer =
 pub data IsGrammarCommand (words : List (List ℕ)) (file : List ℕ) (g : Grammar) : List ℕ → Type 0 where
   checks : IsCommand words (check file) → IsGrammarCommand words file g ok_text
   shows : IsCommand words (show file) → IsGrammarCommand words file g (shown_text g)
-  cores : IsCommand words (core file) → IsBuiltGrammar g → IsGrammarCommand words file g (shown_core g)
+  cores : IsCommand words (core file) → IsGrammarCommand words file g (shown_core g)
 
 -- where the shelf tells that it holds the grammar, it is accepted and nothing failed outside, the answer is status 0 and
 -- out got the text, or memory ran out, and out got nothing

@@ -7,9 +7,8 @@ use Rattle.ig_text.specs.declared.text.TextFault.TheVariants as text_fault
 use Rattle.ig_outside.specs.Told.{Told, silent, nothing, bytes}
 use Rattle.ig_outside.specs.States.{ShelfState, SinkState}
 use Rattle.ig_grammar.specs.declared.grammar.Grammar.{Grammar}
-use Rattle.ig_grammar.specs.Numbering.{as_written}
-use Rattle.ig_core.specs.Built.{IsBuiltGrammar}
-use Rattle.ig_core.specs.CoreOf.{core_of}
+use Rattle.ig_core.specs.Lowered.{CoreOf}
+use Rattle.ig_core.specs.Notation.{unchanged}
 use Rattle.ig_forest.specs.Forest.{Forest}
 use Rattle.ig_parse.specs.Parses.{IsUnparsed, IsOver, HasForest}
 use Rattle.ig_show.specs.Listed.{line_end}
@@ -19,7 +18,7 @@ use Rattle.ig_tool.specs.declared.status.Status.{Status}
 use Rattle.ig_tool.specs.declared.status.Status.TheVariants as status
 use Rattle.ig_tool.specs.Change.{Change, Fetched, IsCalm, FetchFailed, Stood, Got, Failed, Untouched, Noted}
 use Rattle.ig_show.specs.CanonicalText.{text_of}
-use Rattle.ig_tool.specs.Accepted.{IsAccepted, unchanged}
+use Rattle.ig_tool.specs.Accepted.{IsAccepted}
 use Rattle.ig_tool.specs.Refusals.{IsRefused}
 use Rattle.ig_tool.specs.Commands.{Request, check, show, core, forest, grammar_name, IsCommand, MayFetch}
 
@@ -53,12 +52,6 @@ cannot_read_note name = codes "cannot read " ++ (name ++ line_end)
 abbrev pub grammar_note : List ℕ → List ℕ
 grammar_note text = codes "grammar: " ++ (text ++ line_end)
 
-abbrev pub not_built_text : List ℕ
-not_built_text = codes "not built"
-
-abbrev pub not_built_note : List ℕ
-not_built_note = grammar_note not_built_text
-
 -- want of memory has a note of its own
 abbrev pub input_note : TextFault → List ℕ
 input_note (text_fault.NotUtf8 at) = codes "input: not UTF-8 at byte " ++ (decimal at ++ line_end)
@@ -85,10 +78,10 @@ abbrev pub shown_text : Grammar → List ℕ
 shown_text g = encode_utf8_all (text_of g)
 
 abbrev pub shown_core : Grammar → List ℕ
-shown_core g = core_text (core_of g (as_written g))
+shown_core g = core_text (CoreOf (unchanged g))
 
--- the words ask for the forest of two files, of which the first may give the grammar, which is accepted and built, and
--- the second the input
+-- the words ask for the forest of two files, of which the first may give the grammar, which is accepted, and the second the
+-- input
 pub record HasFiles (words : List (List ℕ)) (shelf : ShelfState) (g : Grammar) (input : List ℕ) (budget : ℕ) : Type 0 where
   pub grammar_file : List ℕ
   pub input_file : List ℕ
@@ -96,17 +89,9 @@ pub record HasFiles (words : List (List ℕ)) (shelf : ShelfState) (g : Grammar)
   pub grammar_bytes : List ℕ
   pub gives_grammar : MayGive (shelf.holds grammar_file) grammar_bytes
   pub accepted : IsAccepted grammar_bytes g
-  pub built : IsBuiltGrammar g
   pub input_bytes : List ℕ
   pub gives_input : MayGive (shelf.holds input_file) input_bytes
   pub decoded : IsDecoded input_bytes input
-
--- the core grammar of the grammar in this file is asked for, or its forest with some input
-abbrev pub AsksCore : Request → Type 0
-AsksCore (check grammar) = ⊥
-AsksCore (show grammar) = ⊥
-AsksCore (core grammar) = Unit {0}
-AsksCore (forest grammar input budget) = Unit {0}
 
 -- the status that is decided before anything is written, the text for out, the line for notes, and
 -- the number of fetches
@@ -130,27 +115,22 @@ pub data Decided (words : List (List ℕ)) (shelf : Change ShelfState) : Status 
   -- the grammar is accepted, and the text is its canonical one
   shown : (grammar xs : List ℕ) (g : Grammar) → IsCalm shelf → IsCommand words (show grammar) →
       MayGive (shelf.before.holds grammar) xs → IsAccepted xs g → Decided words shelf status.Done (shown_text g) [] 1
-  -- a core grammar or a forest is asked for; the grammar is accepted, but has a form that isn't built
-  not_built : (request : Request) (xs : List ℕ) (g : Grammar) → IsCalm shelf → IsCommand words request → AsksCore request →
-      MayGive (shelf.before.holds (grammar_name request)) xs → IsAccepted xs g → (IsBuiltGrammar g → ⊥) →
-      Decided words shelf status.Grammar [] not_built_note 1
-  -- the grammar is accepted and built, and the text is that of its core grammar
+  -- the grammar is accepted, and the text is that of its core grammar
   core_shown : (grammar xs : List ℕ) (g : Grammar) → IsCalm shelf → IsCommand words (core grammar) →
-      MayGive (shelf.before.holds grammar) xs → IsAccepted xs g → IsBuiltGrammar g →
-      Decided words shelf status.Done (shown_core g) [] 1
-  -- the grammar is accepted and built, and nothing is held under the input's name
+      MayGive (shelf.before.holds grammar) xs → IsAccepted xs g → Decided words shelf status.Done (shown_core g) [] 1
+  -- the grammar is accepted, and nothing is held under the input's name
   input_missing : (grammar input : List ℕ) (budget : ℕ) (xs : List ℕ) (g : Grammar) → IsCalm shelf →
       IsCommand words (forest grammar input budget) → MayGive (shelf.before.holds grammar) xs → IsAccepted xs g →
-      IsBuiltGrammar g → shelf.before.holds input ≡ nothing →
+      shelf.before.holds input ≡ nothing →
       Decided words shelf status.ReadFault [] (cannot_read_note input) 2
-  -- the grammar is accepted and built, and the fetch of the input failed
+  -- the grammar is accepted, and the fetch of the input failed
   input_unread : (grammar input : List ℕ) (budget : ℕ) (xs : List ℕ) (g : Grammar) → FetchFailed shelf →
       IsCommand words (forest grammar input budget) → MayGive (shelf.before.holds grammar) xs → IsAccepted xs g →
-      IsBuiltGrammar g → Decided words shelf status.ReadFault [] (cannot_read_note input) 2
-  -- the grammar is accepted and built, and the input's bytes are no text
+      Decided words shelf status.ReadFault [] (cannot_read_note input) 2
+  -- the grammar is accepted, and the input's bytes are no text
   input_refused : (grammar input : List ℕ) (budget : ℕ) (xs ys : List ℕ) (g : Grammar) (fault : TextFault) → IsCalm shelf →
       IsCommand words (forest grammar input budget) → MayGive (shelf.before.holds grammar) xs → IsAccepted xs g →
-      IsBuiltGrammar g → MayGive (shelf.before.holds input) ys → IsFaulty ys fault → fault ≢ text_fault.Memory →
+      MayGive (shelf.before.holds input) ys → IsFaulty ys fault → fault ≢ text_fault.Memory →
       Decided words shelf status.Input [] (input_note fault) 2
   -- more items than the budget are reachable
   over_budget : (g : Grammar) (input : List ℕ) (budget : ℕ) → IsCalm shelf → HasFiles words shelf.before g input budget →

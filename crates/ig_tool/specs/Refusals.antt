@@ -5,7 +5,6 @@ use Rattle.std.specs.Str.{IsValidUpTo}
 use Rattle.ig_syntax.specs.Notation.{most_bytes}
 use Rattle.ig_grammar.specs.Condition as condition
 use Rattle.ig_grammar.specs.Condition.{Condition}
-use Rattle.ig_grammar.specs.Numbering.{as_written}
 use Rattle.ig_grammar.specs.WellScoped.{IsFirst}
 use Rattle.ig_grammar.specs.declared.grammar.Grammar.{Grammar}
 use Rattle.ig_grammar.specs.declared.place.Place.{Place}
@@ -13,8 +12,8 @@ use Rattle.ig_notation.specs.Outcome.{IsRead, IsReadFault}
 use Rattle.ig_tool.specs.Accepted.{IsTextOf}
 use Rattle.ig_item.specs.Core.{dots}
 use Rattle.ig_item.specs.Limits.{most_dots}
-use Rattle.ig_core.specs.Built.{IsBuiltGrammar}
-use Rattle.ig_core.specs.CoreOf.{core_of}
+use Rattle.ig_core.specs.Lowered.{CoreOf}
+use Rattle.ig_core.specs.Notation.{unchanged}
 use Rattle.ig_notation.specs.declared.fault.Large.{Large}
 use Rattle.ig_notation.specs.declared.fault.Large.TheVariants as large
 use Rattle.ig_notation.specs.declared.fault.ReadFault.TheVariants as read
@@ -68,6 +67,5 @@ pub data IsRefused (bytes : List ℕ) : List ℕ → Type 0 where
   -- the grammar that they read as isn't well scoped, by this condition at this place
   not_scoped : (g : Grammar) (place : Place) (c : Condition) → IsUtf8 bytes → IsRead bytes g → IsFirst g place c →
       IsRefused bytes (condition_text c ++ place_text place)
-  -- all forms of the grammar are built, and its core grammar has too many dots
-  too_many_dots : (g : Grammar) → IsTextOf bytes g → IsBuiltGrammar g → most_dots < dots (core_of g (as_written g)) →
-      IsRefused bytes dots_text
+  -- the core grammar of the grammar has too many dots
+  too_many_dots : (g : Grammar) → IsTextOf bytes g → most_dots < dots (CoreOf (unchanged g)) → IsRefused bytes dots_text

@@ -15,20 +15,19 @@ use Rattle.ig_tool.specs.declared.status.Status.TheVariants as status
 use Rattle.ig_tool.specs.Change.{Change, Fetched, Stood, Got, Failed, Untouched, Noted}
 use Rattle.ig_tool.specs.Commands.{MayFetch}
 use Rattle.ig_grammar.specs.Checked.{CheckedGrammar}
-use Rattle.ig_grammar.specs.Numbering.{as_written}
 use Rattle.ig_grammar.specs.declared.grammar.Grammar.{Grammar}
 use Rattle.ig_item.specs.Core.{dots}
 use Rattle.ig_item.specs.Limits.{most_dots}
-use Rattle.ig_core.specs.Built.{IsBuiltGrammar}
-use Rattle.ig_core.specs.CoreOf.{core_of}
+use Rattle.ig_core.specs.Lowered.{CoreOf}
+use Rattle.ig_core.specs.Notation.{unchanged}
 use Rattle.ig_forest.specs.Forest.{Forest}
 use Rattle.ig_parse.specs.Parses.{IsUnparsed, IsOver, HasForest}
 use Rattle.ig_show.specs.Listed.{line_end}
 use Rattle.ig_show.specs.CoreText.{core_text}
 use Rattle.ig_show.specs.ForestText.{forest_text}
-use Rattle.ig_tool.specs.Accepted.{IsTextOf, HasFewDots, unchanged}
+use Rattle.ig_tool.specs.Accepted.{IsTextOf, HasFewDots}
 use Rattle.ig_tool.specs.Refusals.{IsRefused, dots_text}
-use Rattle.ig_tool.specs.Outcome.{MayGive, budget_note, cannot_read_note, cannot_write_note, input_note, no_memory_note, no_parse_note, grammar_note, not_built_text, not_built_note, shown_text, ok_text, Decided}
+use Rattle.ig_tool.specs.Outcome.{MayGive, budget_note, cannot_read_note, cannot_write_note, input_note, no_memory_note, no_parse_note, grammar_note, shown_text, ok_text, Decided}
 
 -- a line of two pieces
 abbrev pub IsLine : List ℕ → List ℕ → Vec ℕ Global → Type 0
@@ -117,17 +116,15 @@ LoadsGrammar shelf name = GivesGrammar (shelf.before.holds name) name shelf.befo
 abbrev pub LoadsInput : Change ShelfState → List ℕ → Result Text Stop → Type 0
 LoadsInput shelf name = GivesInput (shelf.before.holds name) name shelf.before.faults shelf.after.faults
 
--- the parser of a grammar of built forms with few dots, or none where a form isn't built
-abbrev pub IsPrepared : Grammar → Option CheckedGrammar → Type 0
-IsPrepared g None = IsBuiltGrammar g → ⊥
-IsPrepared g (Some parser) = (parser ≡ unchanged g) × IsBuiltGrammar g × HasFewDots g
+-- the parser of a grammar with few dots
+abbrev pub IsPrepared : Grammar → CheckedGrammar → Type 0
+IsPrepared g parser = (parser ≡ unchanged g) × HasFewDots g
 
 -- or too many dots
-abbrev pub Prepares : Grammar → Result (Option CheckedGrammar) Stop → Type 0
+abbrev pub Prepares : Grammar → Result CheckedGrammar Stop → Type 0
 Prepares g (Ok parser) = IsPrepared g parser
 Prepares g (Err (halt.Note s line)) =
-    (s ≡ status.Grammar) × (line.items ≡ grammar_note dots_text) × IsBuiltGrammar g ×
-    (most_dots < dots (core_of g (as_written g)))
+    (s ≡ status.Grammar) × (line.items ≡ grammar_note dots_text) × (most_dots < dots (CoreOf (unchanged g)))
 Prepares g (Err halt.Memory) = Unit {0}
 
 abbrev pub IsOverBudget : ℕ → Stop → Type 0
@@ -172,44 +169,35 @@ SaysOk (Ok text) = text.items ≡ ok_text
 SaysOk (Err (halt.Note s line)) = ⊥
 SaysOk (Err halt.Memory) = Unit {0}
 
--- the text of the core grammar, or none where a form isn't built
-abbrev pub ShowsCore : Option CheckedGrammar → Result (Vec ℕ Global) Stop → Type 0
-ShowsCore None (Ok text) = ⊥
-ShowsCore None (Err stop) = RefusesWith not_built_text stop
-ShowsCore (Some c) (Ok text) = text.items ≡ core_text (core_of c.grammar c.shapes)
-ShowsCore (Some c) (Err (halt.Note s line)) = ⊥
-ShowsCore (Some c) (Err halt.Memory) = Unit {0}
+-- the text of the core grammar
+abbrev pub ShowsCore : CheckedGrammar → Result (Vec ℕ Global) Stop → Type 0
+ShowsCore c (Ok text) = text.items ≡ core_text (CoreOf c)
+ShowsCore c (Err (halt.Note s line)) = ⊥
+ShowsCore c (Err halt.Memory) = Unit {0}
 
--- why there is no forest of a parser, or none, and the input of this name, by what the shelf tells of it, its counts of
--- faults, and how often files were fetched
-pub data StopsForest (parser : Option CheckedGrammar) (budget : ℕ) (told : Told) (name : List ℕ) (old new : ℕ) : Status → List ℕ → ℕ → Type 0 where
-  not_built : (s : Status) (note : List ℕ) → new ≡ old → parser ≡ None → s ≡ status.Grammar →
-      note ≡ not_built_note → StopsForest parser budget told name old new s note 0
-  at_input : (c : CheckedGrammar) (s : Status) (note : List ℕ) → parser ≡ Some c → StopsAt told name old new IsNoInput s note →
-      StopsForest parser budget told name old new s note 1
-  at_parse : (c : CheckedGrammar) (s : Status) (note ys input : List ℕ) → parser ≡ Some c → new ≡ old → MayGive told ys →
-      IsDecoded ys input → StopsParse c input budget s note → StopsForest parser budget told name old new s note 1
+-- why there is no forest of a parser and the input of this name, by what the shelf tells of it and its counts of faults
+pub data StopsForest (c : CheckedGrammar) (budget : ℕ) (told : Told) (name : List ℕ) (old new : ℕ) : Status → List ℕ → Type 0 where
+  at_input : (s : Status) (note : List ℕ) → StopsAt told name old new IsNoInput s note →
+      StopsForest c budget told name old new s note
+  at_parse : (s : Status) (note ys input : List ℕ) → new ≡ old → MayGive told ys → IsDecoded ys input →
+      StopsParse c input budget s note → StopsForest c budget told name old new s note
 
 -- the text is that of the forest of the parser and the input
-pub record GivesForest (parser : Option CheckedGrammar) (budget : ℕ) (told : Told) (old new : ℕ) (text : List ℕ) : Type 0 where
-  pub of : CheckedGrammar
-  pub is_parser : parser ≡ Some of
+pub record GivesForest (c : CheckedGrammar) (budget : ℕ) (told : Told) (old new : ℕ) (text : List ℕ) : Type 0 where
   pub calm : new ≡ old
   pub input_bytes : List ℕ
   pub input : List ℕ
   pub gives_input : MayGive told input_bytes
   pub decoded : IsDecoded input_bytes input
-  pub is_parse : IsParse of input budget text
+  pub is_parse : IsParse c input budget text
 
--- the forest of the parser and the input of this name; at most one file is fetched
-abbrev pub RunsForest : Option CheckedGrammar → ℕ → Change ShelfState → List ℕ → Result (Vec ℕ Global) Stop → Type 0
-RunsForest parser budget shelf name (Ok text) =
-    GivesForest parser budget (shelf.before.holds name) shelf.before.faults shelf.after.faults text.items × Fetched shelf 1
-RunsForest parser budget shelf name (Err (halt.Note s line)) =
-    (k : ℕ) × StopsForest parser budget (shelf.before.holds name) name shelf.before.faults shelf.after.faults s line.items k ×
-    Fetched shelf k
-RunsForest parser budget shelf name (Err halt.Memory) =
-    (k : ℕ) × (k ≤ 1) × Fetched shelf k × Stood shelf.before.faults shelf.after.faults
+-- the forest of the parser and the input of this name
+abbrev pub RunsForest : CheckedGrammar → ℕ → Change ShelfState → List ℕ → Result (Vec ℕ Global) Stop → Type 0
+RunsForest c budget shelf name (Ok text) =
+    GivesForest c budget (shelf.before.holds name) shelf.before.faults shelf.after.faults text.items
+RunsForest c budget shelf name (Err (halt.Note s line)) =
+    StopsForest c budget (shelf.before.holds name) name shelf.before.faults shelf.after.faults s line.items
+RunsForest c budget shelf name (Err halt.Memory) = Stood shelf.before.faults shelf.after.faults
 
 -- what is decided before anything is written
 abbrev pub Decides : List (List ℕ) → Change ShelfState → Result (Vec ℕ Global) Stop → Type 0

@@ -7,8 +7,8 @@
 //! theorem, `specs/Outcome.antt` all answers.
 //!
 //! Inside, the words are read (`words`, `command`), a grammar text is read and its scopes are
-//! checked, or a note says why it is refused (`grammar_text`). Where all of its forms are built,
-//! its parser is made, unless it has too many dots, and a forest is that parser's (`parse`).
+//! checked, or a note says why it is refused (`grammar_text`). Its parser is made, unless its core
+//! grammar has too many dots, and a forest is that parser's (`parse`).
 #![tactic(auto)]
 
 mod command;

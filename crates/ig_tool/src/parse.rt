@@ -1,15 +1,15 @@
 //! Running a grammar on an input.
-ghost use Rattle.std.specs.Prelude.{◌≡◌, ◌<◌, ◌++◌, OnOk, codes, length};
+ghost use Rattle.std.specs.Prelude.{◌≡◌, ◌++◌, OnOk, codes};
 ghost use Rattle.std.specs.Fmt.{decimal};
-ghost use Rattle.ig_core.specs.Limits.{most_declarations};
-ghost use Rattle.ig_tool.specs.Accepted.{unchanged};
+ghost use Rattle.ig_core.specs.Lowered.{IsBuildable};
+ghost use Rattle.ig_core.specs.Notation.{unchanged};
 ghost use Rattle.ig_tool.specs.Stops.{IsNotParsed, IsOverBudget, ParsesText, Prepares};
 ghost use Rattle.ig_tool.specs.Stops.{ShowsForest};
 
 use crate::grammar_text::refuse;
 use crate::status::Status;
 use crate::stop::{Stop, stop_with};
-use ig_core::{CoreFault, built_grammars_remain, unbuilt};
+use ig_core::CoreFault;
 use ig_forest::Forest;
 use ig_grammar::Checked;
 use ig_parse::{ParseFault, Parser};
@@ -18,19 +18,14 @@ use ig_text::Text;
 use itoa::Buffer;
 use std::alloc::{AllocError, Global};
 
-/// The parser of the grammar, which no pass has changed; none where it has a form that isn't built.
-/// A grammar of built forms with too many dots is refused.
-pub(crate) fn parser_of(alloc: Global, checked: &Checked) -> Result<Option<Parser<'_>>, Stop>
+/// The parser of the grammar, which no pass has changed. A grammar with too many dots is refused.
+pub(crate) fn parser_of(alloc: Global, checked: &Checked) -> Result<Parser<'_>, Stop>
     requires as_it_is { checked.now ≡ unchanged checked.now.grammar }
-    requires few { length checked.now.grammar.decls < most_declarations }
+    requires buildable { IsBuildable checked.now }
     ensures { Prepares checked.now.grammar result }
 {
-    built_grammars_remain();
-    if unbuilt(checked.grammar()) {
-        return Ok(None);
-    }
     match Parser::of(alloc, checked) {
-        Ok(parser) => Ok(Some(parser)),
+        Ok(parser) => Ok(parser),
         Err(CoreFault::TooManyDots) => Err(refuse(alloc, b"too many dots")),
         Err(CoreFault::Memory) => Err(Stop::Memory),
     }

@@ -16,6 +16,10 @@ const LETTER_FOREST: &str =
 
 const LETTER_CORE: &str = "nt 0 $root ()\nalt $root . call 1 ()\nnt 1 S ()\nalt S.1 . \"a\"\n";
 
+const OPTION_CORE: &str =
+    "nt 0 $root ()\nalt $root . call 1 ()\nnt 1 S ()\nalt S.1 . call 2 ()\nnt 2 S#1 ()\nalt $none\nalt \
+        $some . \"a\"\n";
+
 /// A grammar that counts down: eleven items are reachable on one letter.
 const COUNTING: &str =
     "start S; syntax S = A(1); syntax A(n: int) = when (n == 0) | \"a\" A(n - 1);";
@@ -173,7 +177,7 @@ fn expect_refused(
 }
 
 #[test]
-fn forests_of_built_grammars(rt: HostRuntime) -> Result<(), Fail> {
+fn forests_of_grammars(rt: HostRuntime) -> Result<(), Fail> {
     let table = [
         (LETTER, "a", LETTER_FOREST),
         ("start S; syntax S = S | \"a\";", "a", "forest 2 6\n"),
@@ -246,8 +250,8 @@ fn budgets(rt: HostRuntime) -> Result<(), Fail> {
 fn core_grammars(rt: HostRuntime) -> Result<(), Fail> {
     let alloc = rt.alloc();
     expect_text(&rt, alloc, "core", LETTER, LETTER_CORE)?;
-    let grammar = b"start S; syntax S = \"a\"?;";
-    expect_refused(&rt, alloc, &["core", "g"], grammar, "not built")
+    let grammar = "start S; syntax S = \"a\"?;";
+    expect_text(&rt, alloc, "core", grammar, OPTION_CORE)
 }
 
 #[test]
@@ -282,8 +286,8 @@ fn answers_without_a_forest(rt: HostRuntime) -> Result<(), Fail> {
         (
             "start S; syntax S = \"a\"?;",
             b"\xff",
-            Status::Grammar,
-            "grammar: not built\n",
+            Status::Input,
+            "input: not UTF-8 at byte 0\n",
         ),
         (
             "start S; syntax S = \"a\"? T;",

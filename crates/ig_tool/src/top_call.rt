@@ -1,19 +1,22 @@
 //! The top call.
 ghost use Rattle.std.specs.Prelude.{◌≡◌, ℕ, List, map, string_bytes};
-ghost use Rattle.ig_tool.specs.Change.{change};
+ghost use Rattle.ig_tool.specs.Change.{change, Fetched};
 ghost use Rattle.ig_tool.specs.Outcome.{Answers};
 ghost use Rattle.ig_tool.specs.Headline.{GrammarCommands, Headline};
 ghost use Rattle.ig_tool.specs.Stops.{Decides, GivesUp, RunsForest, SaysOk, ShowsCore};
 ghost use Rattle.ig_tool.specs.Stops.{ShowsGrammar, WritesNote, WritesText};
 
 use crate::command::{Command, command_of, grammar_of};
-use crate::grammar_text::refuse;
 use crate::load::{load_grammar, load_input};
 use crate::parse::{parse, parser_of};
 use crate::status::Status;
 use crate::stop::{Stop, stop_with};
+use ig_core::notation_is_buildable;
 use ig_grammar::Grammar;
-use ig_notation::{one_reading, read_grammars_are_regular, texts_are_read_or_refused};
+use ig_notation::{
+    one_reading, read_grammars_are_regular, read_grammars_are_written, read_names_are_names,
+    texts_are_read_or_refused,
+};
 use ig_outside::{Shelf, Sink};
 use ig_parse::Parser;
 use ig_show::{show_core, show_grammar};
@@ -64,6 +67,9 @@ fn decide<F: Shelf>(alloc: Global, words: &[String], shelf: &mut F) -> Result<Ve
     ensures same { (n : List ℕ) → (F.state shelf.new).holds n ≡ (F.state shelf.old).holds n }
 {
     read_grammars_are_regular();
+    read_grammars_are_written();
+    read_names_are_names();
+    notation_is_buildable();
     let Some(command) = command_of(words) else {
         return Err(stop_with(alloc, Status::Usage, b"usage", b""));
     };
@@ -93,33 +99,27 @@ fn show(alloc: Global, grammar: &Grammar) -> Result<Vec<u8>, Stop>
     Ok(text)
 }
 
-/// The text of the parser's core grammar. Without a parser the grammar is refused.
-fn shown_core(alloc: Global, parser: &Option<Parser<'_>>) -> Result<Vec<u8>, Stop>
+/// The text of the parser's core grammar.
+fn shown_core(alloc: Global, parser: &Parser<'_>) -> Result<Vec<u8>, Stop>
     ensures { ShowsCore parser.now result }
 {
-    let Some(parser) = parser else {
-        return Err(refuse(alloc, b"not built"));
-    };
     let text = show_core(alloc, parser.core())?;
     Ok(text)
 }
 
-/// The text of the forest of the parser's grammar and the input in the file of that name. Without a
-/// parser the grammar is refused, and the input isn't fetched.
+/// The text of the forest of the parser's grammar and the input in the file of that name.
 fn run<F: Shelf>(
     alloc: Global,
     shelf: &mut F,
-    parser: &Option<Parser<'_>>,
+    parser: &Parser<'_>,
     name: &str,
     budget: u32,
 ) -> Result<Vec<u8>, Stop>
     ensures answer { RunsForest parser.now budget
         (change (F.state shelf.old) (F.state shelf.new)) name.now result }
+    ensures counted { Fetched (change (F.state shelf.old) (F.state shelf.new)) 1 }
     ensures same { (n : List ℕ) → (F.state shelf.new).holds n ≡ (F.state shelf.old).holds n }
 {
-    let Some(parser) = parser else {
-        return Err(refuse(alloc, b"not built"));
-    };
     let input = load_input(alloc, shelf, name)?;
     parse(alloc, parser, &input, budget)
 }

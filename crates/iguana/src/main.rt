@@ -13,6 +13,10 @@
 mod file_shelf;
 mod folder;
 #[cfg(test)]
+mod form_rows;
+#[cfg(test)]
+mod forms;
+#[cfg(test)]
 mod scopes;
 mod stream_sink;
 mod words;

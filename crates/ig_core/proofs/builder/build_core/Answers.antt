@@ -14,39 +14,39 @@ declarations g = g.decls
 pub number_names-requires-clause-distinct : goal.number_names-requires-clause-distinct
 number_names-requires-clause-distinct c =
     subst (λ (z : List Decl). AreDistinct (names z)) (sym (c.as_slice-decls.ensures ∙ ap declarations c.grammar.ensures.same))
-    (ready_has_core c.args.checked.now.grammar c.args.checked.now.shapes (record { scoped = c.grammar.ensures.scoped; fit = c.grammar.ensures.fit; remaining = c.requires.remaining })).distinct
+    (ready_has_core c.args.lowered.now.grammar c.args.lowered.now.shapes (record { scoped = c.grammar.ensures.scoped; fit = c.grammar.ensures.fit; remaining = c.requires.remaining })).distinct
 
 pub overflow_add-missing : goal.overflow_add-missing
 overflow_add-missing c =
-    let a = few_names c.as_slice-decls.result.now c.args.checked.now.shapes in
+    let a = few_names c.as_slice-decls.result.now c.args.lowered.now.shapes in
     let b = ap length (c.as_slice-decls.ensures ∙ ap declarations c.grammar.ensures.same) in
     let d = c.count-missing.ensures in
     let e = c.requires.few in
     omega arith
 
 pub build_root-requires-clause-few : goal.build_root-requires-clause-few
-build_root-requires-clause-few c = few_root c.args.checked.now.grammar c.args.checked.now.shapes c.requires.few_dots
+build_root-requires-clause-few c = few_root c.args.lowered.now.grammar c.args.lowered.now.shapes c.requires.few_dots
 
 pub add_nonterminals-requires-clause-few_alternatives : goal.add_nonterminals-requires-clause-few_alternatives
 add_nonterminals-requires-clause-few_alternatives c =
     λ decl among.
-    few_each c.args.checked.now.grammar c.args.checked.now.shapes c.grammar.ensures.fit c.requires.few_dots decl
+    few_each c.args.lowered.now.grammar c.args.lowered.now.shapes c.grammar.ensures.fit c.requires.few_dots decl
     (subst (λ (z : List Decl). Contains z decl) (c.as_slice-decls.ensures ∙ ap declarations c.grammar.ensures.same) among)
 
 pub of-requires : goal.of-requires
 of-requires c =
     subst IsWellKinded
-    (sym (built_whole c.args.checked.now.grammar c.args.checked.now.shapes c.as_slice-decls.result.now c.in_ok-numbers.numbers c.count-missing.result
+    (sym (built_whole c.args.lowered.now.grammar c.args.lowered.now.shapes c.as_slice-decls.result.now c.in_ok-numbers.numbers c.count-missing.result
     (c.count-missing.result + 1) c.in_ok-root.root c.new-built.result.items c.push.new.self.items c.add_nonterminals.new.built.items c.from_vec.result
     (c.as_slice-decls.ensures ∙ ap declarations c.grammar.ensures.same) c.in_ok-numbers.ensures c.count-missing.ensures refl c.in_ok-root.ensures c.new-built.ensures.items c.in_ok-push.ensures.items
     c.in_ok-add_nonterminals.ensures c.from_vec.ensures))
-    (c.cores_are_well_kinded.ensures c.args.checked.now.grammar c.args.checked.now.shapes
+    (c.cores_are_well_kinded.ensures c.args.lowered.now.grammar c.args.lowered.now.shapes
     (record { scoped = c.grammar.ensures.scoped; fit = c.grammar.ensures.fit; remaining = c.requires.remaining })
     c.requires.few c.requires.few_dots)
 
 pub returns : goal.returns
 returns c =
-    built_whole c.args.checked.now.grammar c.args.checked.now.shapes c.as_slice-decls.result.now c.in_ok-numbers.numbers c.count-missing.result
+    built_whole c.args.lowered.now.grammar c.args.lowered.now.shapes c.as_slice-decls.result.now c.in_ok-numbers.numbers c.count-missing.result
     (c.count-missing.result + 1) c.in_ok-root.root c.new-built.result.items c.push.new.self.items c.add_nonterminals.new.built.items c.of.result
     (c.as_slice-decls.ensures ∙ ap declarations c.grammar.ensures.same) c.in_ok-numbers.ensures c.count-missing.ensures refl c.in_ok-root.ensures c.new-built.ensures.items c.in_ok-push.ensures.items
     c.in_ok-add_nonterminals.ensures (c.of.ensures ∙ c.from_vec.ensures)

@@ -1,5 +1,5 @@
 use Rattle.std.proofs.Common.{arith, sym, ◌∙◌, ap}
-use Rattle.ig_core.specs.CoreOf.{is_root}
+use Rattle.ig_rewrite.specs.Rooted.{is_root}
 use Rattle.ig_core.proofs.Building.{count_more, count_same}
 use Rattle.ig_core.proofs.naming.count.Goals as goal
 use Rattle.ig_core.proofs.naming.count.Goals.{then-not-is_root, else-not-is_root}

@@ -1,7 +1,7 @@
 use Rattle.std.proofs.Common.{subst, sym}
 use Rattle.ig_tool.specs.Change.{change}
 use Rattle.ig_tool.specs.Stops.{Decides}
-use Rattle.ig_tool.proofs.Deciding.{passed, decides_usage, decides_at_grammar, decides_at_dots, decides_check, decides_show, decides_core, decides_forest, few_declarations}
+use Rattle.ig_tool.proofs.Deciding.{passed, decides_usage, decides_at_grammar, decides_at_dots, decides_check, decides_show, decides_core, decides_forest, loaded_is_buildable}
 use Rattle.ig_tool.proofs.top_call.decide.Goals as goal
 
 pub returns-in_default-clause-answer : goal.returns-in_default-clause-answer
@@ -16,10 +16,16 @@ returns-in_err-checked-clause-answer g c =
 pub parser_of-requires-clause-as_it_is : goal.parser_of-requires-clause-as_it_is
 parser_of-requires-clause-as_it_is g c = c.in_ok-checked.ensures.answer.1.2.as_it_is
 
-pub parser_of-requires-clause-few : goal.parser_of-requires-clause-few
-parser_of-requires-clause-few g c =
+pub parser_of-requires-clause-buildable : goal.parser_of-requires-clause-buildable
+parser_of-requires-clause-buildable g c =
     let shelf = change (g.F.Shelf.state c.args.shelf.now) (g.F.Shelf.state c.load_grammar.new.shelf) in
-    few_declarations c.read_grammars_are_regular.ensures shelf c.grammar_of.result.now c.in_ok-checked.checked c.in_ok-checked.ensures.answer
+    loaded_is_buildable
+    (record {
+      regular = c.read_grammars_are_regular.ensures;
+      written = c.read_grammars_are_written.ensures;
+      named = c.read_names_are_names.ensures;
+    })
+    c.notation_is_buildable.ensures shelf c.grammar_of.result.now c.in_ok-checked.checked c.in_ok-checked.ensures.answer
 
 pub returns-in_err-parser-clause-answer : goal.returns-in_err-parser-clause-answer
 returns-in_err-parser-clause-answer g c =
@@ -50,4 +56,4 @@ returns-clause-answer g c =
     decides_forest _ _ _ _ c.in-Forest.grammar.now c.in-Forest.input.now c.grammar_of.result.now c.in-Forest.budget c.in_ok-checked.checked
     c.in_ok-parser.parser c.run.result (rw c.in-Forest.is at c.in-Some.ensures)
     (rw c.in-Forest.is at c.grammar_of.ensures) c.in_ok-checked.ensures.counted c.in_ok-checked.ensures.same c.in_ok-checked.ensures.answer
-    c.in_ok-parser.ensures c.run.ensures.answer
+    c.in_ok-parser.ensures c.run.ensures.counted c.run.ensures.answer

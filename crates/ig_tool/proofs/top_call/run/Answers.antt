@@ -1,24 +1,18 @@
-use Rattle.std.proofs.Common.{refl, subst, sym}
+use Rattle.std.proofs.Common.{subst, sym}
 use Rattle.ig_tool.specs.Change.{change}
 use Rattle.ig_tool.specs.Stops.{RunsForest}
-use Rattle.ig_tool.proofs.Deciding.{passed, runs_not_built, runs_at_input, runs_parse}
+use Rattle.ig_tool.proofs.Deciding.{passed, runs_at_input, runs_parse}
 use Rattle.ig_tool.proofs.top_call.run.Goals as goal
-
-pub returns-in_default-clause-answer : goal.returns-in_default-clause-answer
-returns-in_default-clause-answer g c =
-    let shelf = change (g.F.Shelf.state c.args.shelf.now) (g.F.Shelf.state c.args.shelf.now) in
-    runs_not_built c.args.parser.now c.args.budget shelf c.args.name.now c.refuse.result c.in_default.is c.refuse.ensures refl refl
 
 pub returns-in_err-input-clause-answer : goal.returns-in_err-input-clause-answer
 returns-in_err-input-clause-answer g c =
     let shelf = change (g.F.Shelf.state c.args.shelf.now) (g.F.Shelf.state c.load_input.new.shelf) in
     subst (RunsForest c.args.parser.now c.args.budget shelf c.args.name.now)
     (sym (passed c.from_residual.result c.in_err-input.field-0.0 c.from_residual.ensures.1))
-    (runs_at_input c.args.parser.now c.args.budget shelf c.args.name.now c.in-Some.parser c.in_err-input.field-0.0 c.in-Some.is
-    c.in_err-input.ensures.counted c.in_err-input.ensures.answer)
+    (runs_at_input c.args.parser.now c.args.budget shelf c.args.name.now c.in_err-input.field-0.0 c.in_err-input.ensures.answer)
 
 pub returns-clause-answer : goal.returns-clause-answer
 returns-clause-answer g c =
     let shelf = change (g.F.Shelf.state c.args.shelf.now) (g.F.Shelf.state c.load_input.new.shelf) in
-    runs_parse c.args.parser.now c.args.budget shelf c.args.name.now c.in-Some.parser c.in_ok-input.input c.parse.result c.in-Some.is
-    c.in_ok-input.ensures.counted c.in_ok-input.ensures.answer c.parse.ensures
+    runs_parse c.args.parser.now c.args.budget shelf c.args.name.now c.in_ok-input.input c.parse.result
+    c.in_ok-input.ensures.answer c.parse.ensures

@@ -13,8 +13,8 @@ returns-in-Ok-Some-clause-parses c =
       cursors = c.tree_has_one_cursor.ensures;
     })
     c.args.self.now c.args.text.now c.args.budget c.self.inside.core c.in-Ok-Some.forest
-    (runs_of c.args.self.now c.self.inside.grammar.now c.self.inside.core c.self.view_is c.grammar-grammar.ensures.scoped
-    c.grammar-grammar.ensures.fit c.self.invariant c.nonterminals-nonterminals.ensures.well_kinded) c.in-Ok.ensures.exact (rw c.in-Ok-Some.field-0-is at c.in-Ok-Some.ensures)
+    (runs_of c.args.self.now c.self.inside.grammar.now c.self.inside.core c.self.view_is
+    c.self.invariant c.nonterminals-nonterminals.ensures.well_kinded) c.in-Ok.ensures.exact (rw c.in-Ok-Some.field-0-is at c.in-Ok-Some.ensures)
 
 pub returns-in-Ok-None-clause-parses : goal.returns-in-Ok-None-clause-parses
 returns-in-Ok-None-clause-parses c =
@@ -28,5 +28,5 @@ returns-in-Ok-None-clause-parses c =
       cursors = c.tree_has_one_cursor.ensures;
     })
     c.args.self.now c.args.text.now c.args.budget c.self.inside.core
-    (runs_of c.args.self.now c.self.inside.grammar.now c.self.inside.core c.self.view_is c.grammar-grammar.ensures.scoped
-    c.grammar-grammar.ensures.fit c.self.invariant c.nonterminals-nonterminals.ensures.well_kinded) c.in-Ok.ensures.exact (rw c.in-Ok-None.field-0-is at c.in-Ok-None.ensures)
+    (runs_of c.args.self.now c.self.inside.grammar.now c.self.inside.core c.self.view_is
+    c.self.invariant c.nonterminals-nonterminals.ensures.well_kinded) c.in-Ok.ensures.exact (rw c.in-Ok-None.field-0-is at c.in-Ok-None.ensures)

@@ -1,0 +1,226 @@
+-- What the passes keep, one behind the other.
+use Rattle.std.proofs.Common.{◌≡◌, ◌∙◌, ℕ, List, [], ◌∷◌, Result, Ok, Err, None, refl, sym, ap, subst, arith}
+use Rattle.std.specs.Prelude.{◌≢◌, IfOk}
+use Rattle.ig_text.specs.Tree.{Tree}
+use Rattle.ig_grammar.specs.Checked.{CheckedGrammar}
+use Rattle.ig_grammar.specs.Numbering.{layout_among}
+use Rattle.ig_grammar.specs.Laws.{RegularityByForm}
+use Rattle.ig_meaning.specs.Laws.{TreesWithoutOperatorsAreClean}
+use Rattle.ig_meaning.specs.Permitted.{Permitted}
+use Rattle.ig_item.specs.CoreTrees.{CoreTree}
+use Rattle.ig_rewrite.specs.Added.{left_name, right_name, margin_name, first_name, column_name}
+use Rattle.ig_rewrite.specs.Rooted.{RootedIsTheSame}
+use Rattle.ig_rewrite.specs.SameTrees.{PermitSame, SameTreesIsAnEquivalence}
+use Rattle.ig_rewrite.specs.Sound.{IsSound, IsFree, IsUnmarked, HasExclusionsAlone}
+use Rattle.ig_rewrite.specs.Unbound.{IsUnbound}
+use Rattle.ig_levels.specs.Levels.{LevelsOf}
+use Rattle.ig_levels.specs.Laws.{LevelsKeep, KeptByLevels}
+use Rattle.ig_blocks.specs.Blocks.{BlocksOf}
+use Rattle.ig_blocks.specs.Laws.{BlocksKeep, KeptByBlocks, PlainIsUnmarked}
+use Rattle.ig_lexical.specs.Layout.{LayoutOf}
+use Rattle.ig_lexical.specs.Filters.{FiltersOf}
+use Rattle.ig_lexical.specs.Laws.{LayoutKeeps, KeptByLayout, FiltersKeep, KeptByFilters}
+use Rattle.ig_ebnf.specs.Lists.{ListsOf, HasFewLists}
+use Rattle.ig_ebnf.specs.Laws.{ListsKeep, KeptByLists}
+use Rattle.ig_core.specs.CoreOf.{core_of}
+use Rattle.ig_core.specs.Lowered.{IsBuildable, BeforeLists, Lowered, CoreOf, IsNumbered}
+use Rattle.ig_core.specs.Laws.{IsLeft, PassesKeep, CoreTreesArePermitted, CoresAreNamed}
+use Rattle.ig_core.proofs.Law.{core_trees_permitted}
+use Rattle.ig_core.proofs.CoreNames.{core_names_differ}
+use Rattle.ig_core.proofs.RootNames.{root_named}
+use Rattle.ig_core.proofs.Unmarked.{levels_plain}
+
+-- what each pass before that for lists keeps
+pub record Before : Type 0 where
+  pub levels : LevelsKeep
+  pub blocks : BlocksKeep
+  pub layout : LayoutKeeps
+  pub filters : FiltersKeep
+  pub forms : RegularityByForm
+  pub root : RootedIsTheSame
+
+-- what stands between the passes
+pub record Stages (c : CheckedGrammar) : Type 0 where
+  pub levels : KeptByLevels c
+  pub margin : IsUnbound (LevelsOf c).grammar margin_name
+  pub first : IsUnbound (LevelsOf c).grammar first_name
+  pub column : IsUnbound (LevelsOf c).grammar column_name
+  pub blocks : KeptByBlocks (LevelsOf c)
+  pub layout : KeptByLayout (BlocksOf (LevelsOf c))
+  pub filters : KeptByFilters (LayoutOf (BlocksOf (LevelsOf c)))
+
+-- names that begin with a dot differ where the characters behind it do
+abbrev behind_dot : List ℕ → ℕ
+behind_dot (first ∷ second ∷ others) = second
+behind_dot word = 0
+
+differ_behind_dot : (a b : List ℕ) → (behind_dot a ≡ behind_dot b → ⊥) → a ≢ b
+differ_behind_dot a b other = λ e. other (ap behind_dot e)
+
+margin_is_new : (margin_name ≢ left_name) × (margin_name ≢ right_name)
+margin_is_new =
+    (differ_behind_dot margin_name left_name (λ e. omega (arith, e)), differ_behind_dot margin_name right_name (λ e. omega (arith, e)))
+
+first_is_new : (first_name ≢ left_name) × (first_name ≢ right_name)
+first_is_new =
+    (differ_behind_dot first_name left_name (λ e. omega (arith, e)), differ_behind_dot first_name right_name (λ e. omega (arith, e)))
+
+column_is_new : (column_name ≢ left_name) × (column_name ≢ right_name)
+column_is_new =
+    (differ_behind_dot column_name left_name (λ e. omega (arith, e)), differ_behind_dot column_name right_name (λ e. omega (arith, e)))
+
+pub stages : Before → (c : CheckedGrammar) → IsBuildable c → Stages c
+stages law c can =
+    let levels = law.levels c can.sound can.left can.right in
+    let margin = levels.unbound margin_name margin_is_new.0 margin_is_new.1 can.margin in
+    let first = levels.unbound first_name first_is_new.0 first_is_new.1 can.first in
+    let column = levels.unbound column_name column_is_new.0 column_is_new.1 can.column in
+    let blocks = law.blocks (LevelsOf c) levels.sound levels.free margin first column (levels_plain law.forms law.root c can.sound can.plain) in
+    let layout = law.layout (BlocksOf (LevelsOf c)) blocks.sound blocks.free blocks.unmarked in
+    let filters = law.filters (LayoutOf (BlocksOf (LevelsOf c))) layout.sound layout.free layout.unmarked layout.no_layout in
+    record {
+      levels = levels;
+      margin = margin;
+      first = first;
+      column = column;
+      blocks = blocks;
+      layout = layout;
+      filters = filters;
+    }
+
+-- before the pass for lists the trees are the same
+same_before : SameTreesIsAnEquivalence → (c : CheckedGrammar) → Stages c → PermitSame c (BeforeLists c)
+unfolding BeforeLists
+same_before law c at =
+    law.chained c (LevelsOf c) (BeforeLists c) at.levels.same
+    (law.chained (LevelsOf c) (BlocksOf (LevelsOf c)) (BeforeLists c) at.blocks.same
+    (law.chained (BlocksOf (LevelsOf c)) (LayoutOf (BlocksOf (LevelsOf c))) (BeforeLists c) at.layout.same at.filters.same))
+
+lists_kept : ListsKeep → (c : CheckedGrammar) → Stages c → IsNumbered c → KeptByLists (BeforeLists c)
+unfolding BeforeLists
+lists_kept law c at numbered =
+    law (BeforeLists c) at.filters.sound at.filters.free at.filters.unmarked at.filters.no_layout at.filters.excluding
+    numbered.few_lists
+
+left_by : SameTreesIsAnEquivalence → (c : CheckedGrammar) → PermitSame c (BeforeLists c) → KeptByLists (BeforeLists c) → IsLeft c
+unfolding Lowered
+left_by law c same lists =
+    record {
+      same = law.chained c (BeforeLists c) (ListsOf (BeforeLists c)) same lists.same;
+      ready = record { scoped = lists.scoped; fit = lists.fit; remaining = lists.remaining };
+      root_named = lists.root_named;
+      rooted = lists.rooted;
+    }
+
+pub passes_keep : Before → ListsKeep → SameTreesIsAnEquivalence → PassesKeep
+passes_keep law lists equal c can numbered =
+    let at = stages law c can in left_by equal c (same_before equal c at) (lists_kept lists c at numbered)
+
+pub trees_permitted : TreesWithoutOperatorsAreClean → PassesKeep → CoreTreesArePermitted
+unfolding CoreOf
+trees_permitted clean keep c text t can numbered =
+    let left = keep c can numbered in
+    let last = core_trees_permitted clean (Lowered c).grammar (Lowered c).shapes text t left.ready in
+    let same = left.same.same text t in
+    (λ tree. same.1 (last.0 tree), λ permitted. last.1 (same.0 permitted))
+
+pub cores_named : PassesKeep → CoresAreNamed
+unfolding CoreOf
+cores_named keep c can numbered =
+    let left = keep c can numbered in
+    record {
+      root = root_named (Lowered c).grammar (Lowered c).shapes left.root_named;
+      differ = core_names_differ (Lowered c).grammar (Lowered c).shapes left.ready left.rooted;
+    }
+
+-- the same of the grammars that the code made
+pub record AtLevels (x : CheckedGrammar) : Type 0 where
+  pub sound : IsSound x
+  pub free : IsFree x.grammar
+  pub margin : IsUnbound x.grammar margin_name
+  pub first : IsUnbound x.grammar first_name
+  pub column : IsUnbound x.grammar column_name
+  pub plain : PlainIsUnmarked x.grammar
+
+pub record AtBlocks (x : CheckedGrammar) : Type 0 where
+  pub sound : IsSound x
+  pub free : IsFree x.grammar
+  pub unmarked : IsUnmarked x.grammar
+
+pub record AtLayout (x : CheckedGrammar) : Type 0 where
+  pub sound : IsSound x
+  pub free : IsFree x.grammar
+  pub unmarked : IsUnmarked x.grammar
+  pub no_layout : layout_among x.grammar.decls ≡ None
+
+pub record AtFilters (c x : CheckedGrammar) : Type 0 where
+  pub is : x ≡ BeforeLists c
+  pub sound : IsSound x
+  pub free : IsFree x.grammar
+  pub unmarked : IsUnmarked x.grammar
+  pub no_layout : layout_among x.grammar.decls ≡ None
+  pub excluding : HasExclusionsAlone x.grammar
+
+module _ (law : Before) (c : CheckedGrammar) (can : IsBuildable c) where
+  pub at_levels : (x : CheckedGrammar) → x ≡ LevelsOf c → AtLevels x
+  at_levels x is =
+      let at = stages law c can in
+      subst AtLevels (sym is)
+      (record { sound = at.levels.sound; free = at.levels.free; margin = at.margin; first = at.first; column = at.column; plain = levels_plain law.forms law.root c can.sound can.plain })
+
+  pub at_blocks : (x y : CheckedGrammar) → x ≡ LevelsOf c → y ≡ BlocksOf x → AtBlocks y
+  at_blocks x y is made =
+      let at = stages law c can in
+      subst AtBlocks (sym (made ∙ ap BlocksOf is))
+      (record { sound = at.blocks.sound; free = at.blocks.free; unmarked = at.blocks.unmarked })
+
+  pub at_layout : (x y z : CheckedGrammar) → x ≡ LevelsOf c → y ≡ BlocksOf x → z ≡ LayoutOf y → AtLayout z
+  at_layout x y z is made laid =
+      let at = stages law c can in
+      subst AtLayout (sym (laid ∙ ap LayoutOf (made ∙ ap BlocksOf is)))
+      (record {
+        sound = at.layout.sound;
+        free = at.layout.free;
+        unmarked = at.layout.unmarked;
+        no_layout = at.layout.no_layout;
+      })
+
+  at_last : AtFilters c (BeforeLists c)
+  unfolding BeforeLists
+  at_last =
+      let at = stages law c can in
+      record {
+        is = refl;
+        sound = at.filters.sound;
+        free = at.filters.free;
+        unmarked = at.filters.unmarked;
+        no_layout = at.filters.no_layout;
+        excluding = at.filters.excluding;
+      }
+
+  last_is : FiltersOf (LayoutOf (BlocksOf (LevelsOf c))) ≡ BeforeLists c
+  unfolding BeforeLists
+  last_is = refl
+
+  pub at_filters : (x y z w : CheckedGrammar) → x ≡ LevelsOf c → y ≡ BlocksOf x → z ≡ LayoutOf y → w ≡ FiltersOf z → AtFilters c w
+  at_filters x y z w is made laid guarded =
+      subst (AtFilters c) (sym (guarded ∙ ap FiltersOf (laid ∙ ap LayoutOf (made ∙ ap BlocksOf is)) ∙ last_is)) at_last
+
+lists_are : (c w : CheckedGrammar) → w ≡ BeforeLists c → ListsOf w ≡ Lowered c
+unfolding Lowered
+lists_are c w is = ap ListsOf is
+
+-- what the last pass gives
+module _ {R E : Type 0} (c w : CheckedGrammar) (is : w ≡ BeforeLists c) where
+  pub lowered_by : (view : R → CheckedGrammar) (r : Result R E) → IfOk r (λ x. view x ≡ ListsOf w) → IfOk r (λ x. view x ≡ Lowered c)
+  lowered_by view (Ok x) made = made ∙ lists_are c w is
+  lowered_by view (Err e) made = tt
+
+  pub numbered_by : (r : Result R E) → IfOk r (λ x. HasFewLists w.grammar) → IfOk r (λ x. IsNumbered c)
+  numbered_by (Ok x) few = record { few_lists = subst (λ (z : CheckedGrammar). HasFewLists z.grammar) is few }
+  numbered_by (Err e) few = tt
+
+-- the core grammar of what the passes left
+pub core_is : (c lowered : CheckedGrammar) → lowered ≡ Lowered c → core_of lowered.grammar lowered.shapes ≡ CoreOf c
+unfolding CoreOf
+core_is c lowered is = ap (λ (z : CheckedGrammar). core_of z.grammar z.shapes) is

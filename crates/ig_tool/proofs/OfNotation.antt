@@ -1,0 +1,52 @@
+-- A grammar that is read from a text and well scoped is one that the notation can say.
+use Rattle.std.proofs.Common.{ℕ, List, [], ◌∷◌, All}
+use Rattle.std.proofs.lemmas.List.Elements.{All-nil, All-cons, All-head, All-tail}
+use Rattle.ig_grammar.specs.Alternative.{gathered_alternatives}
+use Rattle.ig_grammar.specs.Subterms.{subterms_of_alternatives}
+use Rattle.ig_grammar.specs.Symbol.{Symbol, Call, Seq, Entry}
+use Rattle.ig_grammar.specs.declared.grammar.Grammar.{Grammar}
+use Rattle.ig_rules.specs.Names as read
+use Rattle.ig_rules.specs.Names.{own_names}
+use Rattle.ig_notation.specs.Outcome.{IsOfText, ReadGrammarsAreRegular, ReadGrammarsAreWritten, ReadNamesAreNames}
+use Rattle.ig_rewrite.specs.Unbound.{own_variables}
+use Rattle.ig_core.specs.Notation.{IsSaid, IsOfNotation}
+use Rattle.ig_tool.specs.Accepted.{IsTextOf}
+
+-- what the reader's laws say of names and forms
+pub record ReadingLaws : Type 0 where
+  pub regular : ReadGrammarsAreRegular
+  pub written : ReadGrammarsAreWritten
+  pub named : ReadNamesAreNames
+
+abbrev AreNames : Symbol → Type 0
+AreNames x = All read.IsName (own_names x)
+
+-- a symbol that a text can have, whose names are names of the notation
+said : (x : Symbol) → AreNames x → IsOfText x → IsSaid x
+said (Call name arguments) named formed = All-tail read.IsName name (own_variables (Call name arguments)) named
+said (Seq xs) named formed = absurd formed
+said (Entry bindings x) named formed = absurd formed
+said x named formed = named
+
+all_said : (xs : List Symbol) → All AreNames xs → All IsOfText xs → All IsSaid xs
+all_said [] named formed = All-nil IsSaid
+all_said (x ∷ xs) named formed =
+    All-cons IsSaid x xs
+    (said x (All-head AreNames x xs named) (All-head IsOfText x xs formed))
+    (all_said xs (All-tail AreNames x xs named) (All-tail IsOfText x xs formed))
+
+pub of_notation : ReadingLaws → (xs : List ℕ) (g : Grammar) → IsTextOf xs g → IsOfNotation g
+of_notation laws xs g text =
+    let named = laws.named xs g text.reading in
+    let formed = laws.written xs g text.reading in
+    let regular = (laws.regular xs g text.utf8 text.reading).0 in
+    record {
+      scoped = text.scoped;
+      declared = named.declared;
+      parameters = named.parameters;
+      within = λ decl level among inside.
+          all_said (subterms_of_alternatives (gathered_alternatives level.alts)) (named.within decl level among inside)
+          (formed.within decl level among inside);
+      well = regular.well;
+      kinds = formed.kinds;
+    }
