@@ -16,6 +16,7 @@ pub mod CodeNames
 pub mod CodeItemRows
 pub mod CodeGives
 pub mod CodeAdding
+pub mod CodePlaces
 pub mod CodeRuns
 pub mod CodeFiling
 pub mod CodeMatches

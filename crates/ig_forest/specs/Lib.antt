@@ -16,3 +16,4 @@ pub mod CodeEntries
 pub mod CodeRoot
 pub mod CodeViews
 pub mod CodeBuilder
+pub mod CodePlaces

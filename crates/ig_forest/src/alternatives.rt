@@ -31,8 +31,10 @@ pub(crate) fn with_alternatives(
         HasChoices core.now rows.now n.row n.alternatives) }
 {
     let mut stored = Vec::with_capacity(alloc, nodes.len())?;
+    let mut near = 0;
     for node in nodes {
-        let alternatives = choices_of(alloc, core, rows, *node)?;
+        let alternatives = choices_of(alloc, core, rows, near, *node)?;
+        near = behind(near, alternatives.as_slice());
         stored.push(StoredNode {
             row: *node,
             alternatives,
@@ -41,11 +43,13 @@ pub(crate) fn with_alternatives(
     Ok(stored)
 }
 
-/// The alternatives of a node: its complete items, in order.
+/// The alternatives of a node: its complete items, in order. They are looked for from the place
+/// `near` on first.
 fn choices_of(
     alloc: Global,
     core: &Core,
     rows: &[ItemRow],
+    near: u32,
     node: NodeRow,
 ) -> Result<Choices, AllocError>
     requires order { IsStrictlySortedBy row_cmp rows.now }
@@ -53,11 +57,19 @@ fn choices_of(
     ensures { IfOk result (λ choices. HasChoices core.now rows.now node choices) }
 {
     let mut choices = Choices::new(alloc);
-    let (first, end) = run_of_node(rows, node);
+    let (first, end) = run_of_node(rows, near, node);
     for place in first..end {
         add_choice(core, rows, &mut choices, place as u32)?;
     }
     Ok(choices)
+}
+
+/// The place behind the last choice; `near` where there is none.
+fn behind(near: u32, choices: &[Choice]) -> u32 {
+    match choices.last() {
+        Some(choice) => choice.item.saturating_add(1),
+        None => near,
+    }
 }
 
 /// Adds the item of that number as a choice, where it is complete.

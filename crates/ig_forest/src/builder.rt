@@ -15,7 +15,8 @@ use crate::entries::{Kept, number_of_node};
 use crate::forest::Forest;
 use crate::laws::reduced_forest_is_trim;
 use crate::links::{Link, Sources, links_of};
-use crate::live::{kept_of, rows_at};
+use crate::live::{LiveNumbers, kept_of, rows_at};
+use crate::places::{Places, places_of_nodes, places_of_targets, ranks_of};
 use crate::reach::{Graph, reached};
 use crate::root::root_of;
 use ig_expr::Value;
@@ -36,8 +37,10 @@ pub(crate) fn from_sources(alloc: Global, sources: &Sources) -> Result<Option<Fo
     };
     let link_table = links_of(alloc, sources)?;
     let links = link_table.as_slice();
-    let kept_table = live_numbers(alloc, sources, links, root)?;
-    let kept = kept_table.as_slice();
+    let place_table = places_of_targets(alloc, links, sources.rows.len() as u32)?;
+    let places = place_table.as_slice();
+    let numbers = live_numbers(alloc, sources, links, places, root)?;
+    let kept = numbers.kept.as_slice();
     let live_table = rows_at(alloc, sources.rows, kept)?;
     let live = live_table.as_slice();
     let node_table = nodes_of(alloc, sources.core, live)?;
@@ -47,6 +50,8 @@ pub(crate) fn from_sources(alloc: Global, sources: &Sources) -> Result<Option<Fo
         links,
         live,
         nodes,
+        places,
+        ranks: numbers.ranks.as_slice(),
     };
     let forest = finished(alloc, tables, kept, root)?;
     Ok(Some(forest))
@@ -57,14 +62,15 @@ fn live_numbers(
     alloc: Global,
     sources: &Sources,
     links: &[Link],
+    links_at: &[u32],
     root: u32,
-) -> Result<Vec<u32>, AllocError>
+) -> Result<LiveNumbers, AllocError>
     requires sources { AreSources sources.now }
     requires few { length sources.now.nodes.now < 4294967296 }
     requires links { AreLinks sources.now links.now }
     requires root { IsRootAt sources.now root }
-    ensures numbers { IfOk result (λ kept. AreLiveNumbers sources.now kept.items) }
-    ensures few { IfOk result (λ kept. length kept.items ≤ length sources.now.rows.now) }
+    ensures numbers { IfOk result (λ l. AreLiveNumbers sources.now l.kept.items) }
+    ensures few { IfOk result (λ l. length l.kept.items ≤ length sources.now.rows.now) }
 {
     let graph = Graph {
         core: sources.core,
@@ -72,8 +78,16 @@ fn live_numbers(
         nodes: sources.nodes,
         links,
     };
-    let marks = reached(alloc, &graph, sources.rows.len() + root as usize)?;
-    kept_of(alloc, marks.marked.as_slice(), sources.rows.len())
+    let nodes_at = places_of_nodes(alloc, sources.rows, sources.nodes)?;
+    let places = Places {
+        links: links_at,
+        nodes: nodes_at.as_slice(),
+    };
+    let marks = reached(alloc, &graph, places, sources.rows.len() + root as usize)?;
+    let marked = marks.marked.as_slice();
+    let kept = kept_of(alloc, marked, sources.rows.len())?;
+    let ranks = ranks_of(alloc, marked)?;
+    Ok(LiveNumbers { kept, ranks })
 }
 
 /// The forest of the kept items and nodes.
@@ -92,7 +106,7 @@ fn finished(alloc: Global, tables: Kept, kept: &[u32], root: u32) -> Result<Fore
     let items = tables.with_entries(alloc, kept)?;
     let names = copied_names(alloc, sources.core, nonterminals)?;
     let lists = copied_lists(alloc, sources.lists)?;
-    let root = number_of_node(tables.nodes, sources.nodes[root as usize]);
+    let root = number_of_node(tables.nodes, root, sources.nodes[root as usize]);
     Ok(Forest {
         root,
         names,

@@ -1,9 +1,10 @@
 //! Complete items and the nodes to which they belong.
 ghost use Rattle.std.specs.Prelude.{◌≡◌, ◌↔◌, ◌+◌, ◌≤◌, ◌<◌, ℕ, IfOk, OnOk, Some, true, false};
-ghost use Rattle.std.specs.Prelude.{length, slice_get};
+ghost use Rattle.std.specs.Prelude.{IsTrue, length, slice_get};
 ghost use Rattle.std.specs.List.Sorted.{IsPartitionPoint, IsStrictlySortedBy};
 ghost use Rattle.std.specs.Ordering.{is_le, is_lt};
 ghost use Rattle.ig_forest.specs.CodeTables.{node_of, node_row_cmp, row_cmp};
+ghost use Rattle.ig_forest.specs.CodePlaces.{IsAt};
 ghost use Rattle.ig_forest.specs.CodeSteps.{Adds};
 ghost use Rattle.ig_forest.specs.CodeDone.{AreNodesOf, IsDoneRow};
 
@@ -54,33 +55,119 @@ fn node_of(row: &ItemRow) -> NodeRow
 }
 
 /// Where the items that belong to the node stand once they are complete: from the first number to
-/// before the second.
-pub(crate) fn run_of_node(rows: &[ItemRow], node: NodeRow) -> (usize, usize)
+/// before the second. They are looked for from the place `near` on first.
+pub(crate) fn run_of_node(rows: &[ItemRow], near: u32, node: NodeRow) -> (usize, usize)
     requires { IsStrictlySortedBy row_cmp rows.now }
     ensures onward { result.0 ≤ result.1 }
     ensures within { result.1 ≤ length rows.now }
     ensures exact { (k : ℕ) (row : ItemRow) → slice_get rows.now k ≡ Some row →
         (node_of row ≡ node) ↔ ((result.0 ≤ k) × (k < result.1)) }
 {
-    (start_of_node(rows, node), end_of_node(rows, node))
+    let first = start_of_node(rows, near as usize, node);
+    let end = end_of_node(rows, first, node);
+    (first, end)
 }
 
-/// How many items stand before those of the node.
-fn start_of_node(rows: &[ItemRow], node: NodeRow) -> usize
+/// How many items stand before those of the node. Found by a walk from `near` on, and where that is
+/// too far on, by a search.
+fn start_of_node(rows: &[ItemRow], near: usize, node: NodeRow) -> usize
     requires { IsStrictlySortedBy row_cmp rows.now }
     ensures bound { result ≤ length rows.now }
     ensures parts { IsPartitionPoint (λ r. is_lt (node_row_cmp (node_of r) node) ≡ true)
         (λ r. is_lt (node_row_cmp (node_of r) node) ≡ false) rows.now result }
 {
+    let place = first_of_node(rows, near, node);
+    if begins_at(rows, place, node) {
+        return place;
+    }
     rows.partition_point(|row| node_of(row) < node)
 }
 
-/// How many items stand before those behind the node.
-fn end_of_node(rows: &[ItemRow], node: NodeRow) -> usize
+/// The first place from `near` on at which no item stands before those of the node.
+pub(crate) fn first_of_node(rows: &[ItemRow], near: usize, node: NodeRow) -> usize {
+    for place in near..rows.len() {
+        if !is_before(rows, place, node) {
+            return place;
+        }
+    }
+    rows.len()
+}
+
+/// Whether the items before those of the node end before that place.
+fn begins_at(rows: &[ItemRow], place: usize, node: NodeRow) -> bool
+    requires { IsStrictlySortedBy row_cmp rows.now }
+    ensures bound { IsTrue result → place ≤ length rows.now }
+    ensures parts { IsTrue result → IsPartitionPoint
+        (λ r. is_lt (node_row_cmp (node_of r) node) ≡ true)
+        (λ r. is_lt (node_row_cmp (node_of r) node) ≡ false) rows.now place }
+{
+    if is_before(rows, place, node) {
+        return false;
+    }
+    match place.checked_sub(1) {
+        Some(before) => is_before(rows, before, node),
+        None => true,
+    }
+}
+
+/// Whether there is an item at that place, before those of the node.
+fn is_before(rows: &[ItemRow], place: usize, node: NodeRow) -> bool
+    ensures { IsAt (λ r. is_lt (node_row_cmp (node_of r) node)) rows.now place result }
+{
+    match rows.get(place) {
+        Some(row) => node_of(row) < node,
+        None => false,
+    }
+}
+
+/// How many items stand before those behind the node. Found by a walk from `near` on, and where
+/// that is too far on, by a search.
+fn end_of_node(rows: &[ItemRow], near: usize, node: NodeRow) -> usize
     requires { IsStrictlySortedBy row_cmp rows.now }
     ensures bound { result ≤ length rows.now }
     ensures parts { IsPartitionPoint (λ r. is_le (node_row_cmp (node_of r) node) ≡ true)
         (λ r. is_le (node_row_cmp (node_of r) node) ≡ false) rows.now result }
 {
+    let place = first_beyond(rows, near, node);
+    if ends_at(rows, place, node) {
+        return place;
+    }
     rows.partition_point(|row| node_of(row) <= node)
+}
+
+/// The first place from `near` on at which no item of the node stands, and none before those.
+fn first_beyond(rows: &[ItemRow], near: usize, node: NodeRow) -> usize {
+    for place in near..rows.len() {
+        if !is_upto(rows, place, node) {
+            return place;
+        }
+    }
+    rows.len()
+}
+
+/// Whether the items of the node and those before them end before that place.
+fn ends_at(rows: &[ItemRow], place: usize, node: NodeRow) -> bool
+    requires { IsStrictlySortedBy row_cmp rows.now }
+    ensures bound { IsTrue result → place ≤ length rows.now }
+    ensures parts { IsTrue result → IsPartitionPoint
+        (λ r. is_le (node_row_cmp (node_of r) node) ≡ true)
+        (λ r. is_le (node_row_cmp (node_of r) node) ≡ false) rows.now place }
+{
+    if is_upto(rows, place, node) {
+        return false;
+    }
+    match place.checked_sub(1) {
+        Some(before) => is_upto(rows, before, node),
+        None => true,
+    }
+}
+
+/// Whether there is an item at that place, of the node or before those.
+fn is_upto(rows: &[ItemRow], place: usize, node: NodeRow) -> bool
+    ensures { IsAt (λ r. is_le (node_row_cmp (node_of r) node)) rows.now place result }
+{
+    match rows.get(place) {
+        Some(row) => node_of(row) <= node,
+        None => false,
+    }
 }

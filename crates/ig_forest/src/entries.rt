@@ -1,6 +1,6 @@
 //! The item nodes of a forest with their entries.
 ghost use Rattle.std.specs.Prelude.{◌≡◌, ◌<◌, ◌∷◌, [], ◌++◌, IfOk, OnOk, Some, None, map, length};
-ghost use Rattle.std.specs.Prelude.{slice_get, Contains};
+ghost use Rattle.std.specs.Prelude.{slice_get, Contains, IsTrue};
 ghost use Rattle.std.specs.List.Sorted.{IsStrictlySortedBy};
 ghost use Rattle.ig_forest.specs.CodeEntries.{AreFinal, EntryOf, HasEntries, TakenBy, begun};
 ghost use Rattle.ig_forest.specs.CodeEntries.{live_at};
@@ -12,6 +12,7 @@ ghost use Rattle.ig_forest.specs.declared.stored.StoredItem.{StoredItem};
 use crate::dots::next_step;
 use crate::entry::{Child, Entry};
 use crate::links::{Link, Sources, links_to, number_of};
+use crate::places::place_at;
 use crate::rows::{ItemRow, NodeRow};
 use crate::stored::{Entries, StoredItem};
 use ig_item::Step;
@@ -25,6 +26,11 @@ pub(crate) struct Kept<'a, 'v> {
     pub links: &'a [Link],
     pub live: &'a [ItemRow],
     pub nodes: &'a [NodeRow],
+    /// Of each item where the links to it mostly begin.
+    pub places: &'a [u32],
+    /// Of each number of the graph how many below it have a mark: where items and nodes mostly
+    /// stand among those that are kept.
+    pub ranks: &'a [u32],
 }
 
 impl<'a, 'v> Kept<'a, 'v> {
@@ -57,8 +63,14 @@ impl<'a, 'v> Kept<'a, 'v> {
             slice_get self.now.sources.rows.now number ≡ Some row →
             HasEntries self.now row entries) }
     {
-        let mut entries = first_entries(alloc, self.sources.rows[number as usize].dot)?;
-        for link in links_to(self.links, number) {
+        let near = place_at(self.places, number as usize);
+        let links = links_to(self.links, near, number);
+        let mut entries = first_entries(
+            alloc,
+            self.sources.rows[number as usize].dot,
+            links.len(),
+        )?;
+        for link in links {
             push_entry(&mut entries, self.entry_of(*link))?;
         }
         Ok(entries)
@@ -71,10 +83,14 @@ impl<'a, 'v> Kept<'a, 'v> {
         requires live { live_at self.now link.target }
         ensures { EntryOf self.now link result }
     {
-        let prev = number_of(self.live, &self.sources.rows[link.prev as usize]);
+        let row = self.sources.rows[link.prev as usize];
+        let near = place_at(self.ranks, link.prev as usize);
+        let prev = number_of(self.live, near, &row);
         match link.node {
             Some(node) => {
-                let node = number_of_node(self.nodes, self.sources.nodes[node as usize]);
+                let near = self.node_rank(node);
+                let row = self.sources.nodes[node as usize];
+                let node = number_of_node(self.nodes, near, row);
                 Entry::Take {
                     prev,
                     child: Child::Node(node),
@@ -82,6 +98,13 @@ impl<'a, 'v> Kept<'a, 'v> {
             }
             None => self.without_node(link, prev),
         }
+    }
+
+    /// Where the node of that number mostly stands among those that are kept.
+    fn node_rank(&self, node: u32) -> u32 {
+        let number = self.sources.rows.len().saturating_add(node as usize);
+        let items = place_at(self.ranks, self.sources.rows.len());
+        place_at(self.ranks, number).saturating_sub(items)
     }
 
     /// The entry of a link that takes no node, with the number of the previous item.
@@ -117,16 +140,24 @@ fn taken_by(step: &Step, prev: u32, begin: u32, end: u32) -> Entry
     }
 }
 
-/// The entries that an item with that dot begins with.
-fn first_entries(alloc: Global, dot: u32) -> Result<Entries, AllocError>
+/// The entries that an item with that dot begins with, with room for as many more.
+fn first_entries(alloc: Global, dot: u32, more: usize) -> Result<Entries, AllocError>
     ensures { IfOk result (λ entries. entries ≡ begun dot) }
 {
-    let mut entries = Entries::new(alloc);
+    let mut entries = no_entries(alloc, more.max(1))?;
     if dot > 0 {
         return Ok(entries);
     }
     push_entry(&mut entries, Entry::Begin)?;
     Ok(entries)
+}
+
+/// No entries, with room for as many.
+fn no_entries(alloc: Global, count: usize) -> Result<Entries, AllocError>
+    ensures { IfOk result (λ entries. entries ≡ []) }
+{
+    let entries = Vec::with_capacity(alloc, count)?;
+    Ok(Entries::from_vec(entries))
 }
 
 /// Adds an entry at the end.
@@ -136,15 +167,28 @@ fn push_entry(entries: &mut Entries, entry: Entry) -> Result<(), AllocError>
     entries.push(entry).map_err(|(_, error)| error)
 }
 
-/// The number of a node.
-pub(crate) fn number_of_node(nodes: &[NodeRow], node: NodeRow) -> u32
+/// The number of a node. It is looked for at a place first, and then everywhere.
+pub(crate) fn number_of_node(nodes: &[NodeRow], near: u32, node: NodeRow) -> u32
     requires order { IsStrictlySortedBy node_row_cmp nodes.now }
     requires few { length nodes.now < 4294967296 }
     requires there { Contains nodes.now node }
     ensures { slice_get nodes.now result ≡ Some node }
 {
+    if is_node_at(nodes, near as usize, node) {
+        return near;
+    }
     match nodes.binary_search(&node) {
         Ok(number) => number as u32,
         Err(_) => unreachable!(),
+    }
+}
+
+/// Whether the node stands at that place.
+fn is_node_at(nodes: &[NodeRow], place: usize, node: NodeRow) -> bool
+    ensures { IsTrue result → slice_get nodes.now place ≡ Some node }
+{
+    match nodes.get(place) {
+        Some(found) => *found == node,
+        None => false,
     }
 }

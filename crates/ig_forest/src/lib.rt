@@ -28,6 +28,7 @@ mod laws;
 mod links;
 mod live;
 mod names;
+mod places;
 mod reach;
 mod root;
 mod rows;

@@ -4,7 +4,8 @@
 //! that step. So it costs no more than there are links, but for the searches.
 ghost use Rattle.std.specs.Prelude.{◌≡◌, ◌↔◌, ◌≤◌, ◌<◌, ◌∷◌, [], ◌++◌, ℕ, false, IfOk, OnOk};
 ghost use Rattle.std.specs.Prelude.{MatchOption, Some, true, map, length, slice_get, Contains};
-ghost use Rattle.std.specs.Prelude.{List};
+ghost use Rattle.std.specs.Prelude.{IfSome, IsTrue, List};
+ghost use Rattle.ig_forest.specs.CodePlaces.{IsAt};
 ghost use Rattle.std.specs.Bool.{MatchBool};
 ghost use Rattle.ig_text.specs.Pattern.{Matches};
 ghost use Rattle.ig_expr.specs.Evaluation.{value_of};
@@ -23,11 +24,15 @@ ghost use Rattle.ig_forest.specs.CodeTables.{item_by, list_at, row_cmp};
 use crate::dots::next_step;
 use crate::environments::place_of;
 use crate::filed::{FiledNode, InstanceRow, run_of};
+use crate::places::{places_from, places_of_starts};
 use crate::rows::{ItemRow, NodeRow};
 use ig_expr::{Expr, Exprs, Value, evaluate};
 use ig_item::{Core, Step};
 use ig_text::{Pattern, Patterns, Sequence, Span, Text, Word, Words};
 use std::alloc::{AllocError, Global};
+
+/// How many rows count as near.
+const NEAR: usize = 32;
 
 /// A link from an item to a previous one, by number; behind a call with the node that was taken.
 #[derive(Clone, Copy, PartialEq, Eq, PartialOrd, Ord)]
@@ -54,11 +59,13 @@ pub(crate) fn links_of(alloc: Global, sources: &Sources) -> Result<Vec<Link>, Al
     requires { AreSources sources.now }
     ensures { IfOk result (λ links. AreLinks sources.now links.items) }
 {
+    let place_table = places_of_starts(alloc, sources.filed, sources.text.len())?;
+    let places = place_table.as_slice();
     let mut links = Vec::new(alloc);
     for number in 0..sources.rows.len() as u32 {
-        sources.add_links(alloc, &mut links, number)?;
+        sources.add_links(alloc, &mut links, places, number)?;
     }
-    links.sort_unstable();
+    links.sort()?;
     links.dedup();
     Ok(links)
 }
@@ -110,8 +117,15 @@ fn bound(label: &Option<Word>, begin: u32, end: u32) -> Option<Value>
 }
 
 impl<'a, 'v> Sources<'a, 'v> {
-    /// Adds the links whose previous item is the one of that number.
-    fn add_links(&self, alloc: Global, links: &mut Vec<Link>, number: u32) -> Result<(), AllocError>
+    /// Adds the links whose previous item is the one of that number. The nodes that start at each
+    /// position are mostly filed from its place on.
+    fn add_links(
+        &self,
+        alloc: Global,
+        links: &mut Vec<Link>,
+        places: &[u32],
+        number: u32,
+    ) -> Result<(), AllocError>
         requires sources { AreSources self.now }
         requires number { number < length self.now.rows.now }
         ensures { OnOk result (Adds links.old.items links.new.items (LinkedFrom self.now number)) }
@@ -131,7 +145,7 @@ impl<'a, 'v> Sources<'a, 'v> {
                 args,
                 label,
                 not,
-            } => self.add_nodes(alloc, links, number, *nonterminal, args, label, not),
+            } => self.add_nodes(alloc, links, places, number, *nonterminal, args, label, not),
         }
     }
 
@@ -207,6 +221,7 @@ impl<'a, 'v> Sources<'a, 'v> {
         &self,
         alloc: Global,
         links: &mut Vec<Link>,
+        places: &[u32],
         number: u32,
         callee: u32,
         args: &Exprs,
@@ -230,7 +245,8 @@ impl<'a, 'v> Sources<'a, 'v> {
             nonterminal: callee,
             values,
         };
-        let run = run_of(self.filed, wanted);
+        let near = places_from(places, row.position);
+        let run = run_of(self.filed, near, wanted);
         self.add_run(alloc, links, number, label, not, run)
     }
 
@@ -313,7 +329,8 @@ impl<'a, 'v> Sources<'a, 'v> {
             env,
             ..row
         };
-        let target = number_of(self.rows, &target);
+        let near = near_target(links.as_slice(), number);
+        let target = number_of(self.rows, near, &target);
         links.push(Link {
             target,
             prev: number,
@@ -415,47 +432,159 @@ impl<'a, 'v> Sources<'a, 'v> {
     }
 }
 
-/// The number of a row.
-pub(crate) fn number_of(rows: &[ItemRow], row: &ItemRow) -> u32
+/// The row that is mostly near to the target of the next link from that item: the target of the
+/// link before, where that is from the same item, and otherwise the item itself.
+fn near_target(links: &[Link], number: u32) -> u32 {
+    match links.last() {
+        Some(link) if link.prev == number => link.target,
+        _ => number,
+    }
+}
+
+/// The number of a row. It is looked for near behind a place first, and then everywhere.
+pub(crate) fn number_of(rows: &[ItemRow], near: u32, row: &ItemRow) -> u32
     requires order { IsStrictlySortedBy row_cmp rows.now }
     requires few { length rows.now < 4294967296 }
     requires there { Contains rows.now row.now }
     ensures { slice_get rows.now result ≡ Some row.now }
 {
+    if let Some(number) = number_within(rows, near as usize, 1, row) {
+        return number;
+    }
+    if let Some(number) = number_within(rows, near as usize, NEAR, row) {
+        return number;
+    }
     match rows.binary_search(row) {
         Ok(number) => number as u32,
         Err(_) => unreachable!(),
     }
 }
 
-/// The links to a target, in order.
-pub(crate) fn links_to(links: &[Link], target: u32) -> &[Link]
+/// The number of a row, if it is one of the first `count` from `first` on.
+fn number_within(rows: &[ItemRow], first: usize, count: usize, row: &ItemRow) -> Option<u32>
+    requires few { length rows.now < 4294967296 }
+    ensures { IfSome result (λ k. slice_get rows.now k ≡ Some row.now) }
+{
+    if first >= rows.len() {
+        return None;
+    }
+    let end = first.saturating_add(count).min(rows.len());
+    match rows[first..end].binary_search(row) {
+        Ok(place) => Some((first + place) as u32),
+        Err(_) => None,
+    }
+}
+
+/// The links to a target, in order. They are looked for from the place `near` on first.
+pub(crate) fn links_to(links: &[Link], near: u32, target: u32) -> &[Link]
     requires { IsStrictlySortedBy link_cmp links.now }
     ensures members { (link : Link) →
         Contains result.now link ↔ (Contains links.now link × (link.target ≡ target)) }
     ensures order { IsStrictlySortedBy link_cmp result.now }
 {
-    let first = links_before(links, target);
-    let end = links_upto(links, target);
+    let first = links_before(links, near as usize, target);
+    let end = links_upto(links, first, target);
     &links[first..end]
 }
 
-/// How many links have a lower target.
-fn links_before(links: &[Link], target: u32) -> usize
+/// How many links have a lower target. Found by a walk from `near` on, and where that is too far
+/// on, by a search.
+fn links_before(links: &[Link], near: usize, target: u32) -> usize
     requires { IsStrictlySortedBy link_cmp links.now }
     ensures bound { result ≤ length links.now }
     ensures parts { IsPartitionPoint (λ l. is_lt (nat_cmp l.target target) ≡ true)
         (λ l. is_lt (nat_cmp l.target target) ≡ false) links.now result }
 {
+    let place = first_not_lower(links, near, target);
+    if parts_lower(links, place, target) {
+        return place;
+    }
     links.partition_point(|link| link.target < target)
 }
 
-/// How many links have that target or a lower one.
-fn links_upto(links: &[Link], target: u32) -> usize
+/// The first place from `near` on at which there is no link with a lower target.
+pub(crate) fn first_not_lower(links: &[Link], near: usize, target: u32) -> usize {
+    for place in near..links.len() {
+        if !is_lower(links, place, target) {
+            return place;
+        }
+    }
+    links.len()
+}
+
+/// Whether the links with a lower target end before that place.
+fn parts_lower(links: &[Link], place: usize, target: u32) -> bool
+    requires { IsStrictlySortedBy link_cmp links.now }
+    ensures bound { IsTrue result → place ≤ length links.now }
+    ensures parts { IsTrue result → IsPartitionPoint (λ l. is_lt (nat_cmp l.target target) ≡ true)
+        (λ l. is_lt (nat_cmp l.target target) ≡ false) links.now place }
+{
+    if is_lower(links, place, target) {
+        return false;
+    }
+    match place.checked_sub(1) {
+        Some(before) => is_lower(links, before, target),
+        None => true,
+    }
+}
+
+/// Whether there is a link at that place, with a lower target.
+fn is_lower(links: &[Link], place: usize, target: u32) -> bool
+    ensures { IsAt (λ l. is_lt (nat_cmp l.target target)) links.now place result }
+{
+    match links.get(place) {
+        Some(link) => link.target < target,
+        None => false,
+    }
+}
+
+/// How many links have that target or a lower one. Found by a walk from `near` on, and where that
+/// is too far on, by a search.
+fn links_upto(links: &[Link], near: usize, target: u32) -> usize
     requires { IsStrictlySortedBy link_cmp links.now }
     ensures bound { result ≤ length links.now }
     ensures parts { IsPartitionPoint (λ l. is_le (nat_cmp l.target target) ≡ true)
         (λ l. is_le (nat_cmp l.target target) ≡ false) links.now result }
 {
+    let place = first_beyond(links, near, target);
+    if parts_upto(links, place, target) {
+        return place;
+    }
     links.partition_point(|link| link.target <= target)
+}
+
+/// The first place from `near` on at which there is no link with that target or a lower one.
+fn first_beyond(links: &[Link], near: usize, target: u32) -> usize {
+    for place in near..links.len() {
+        if !is_upto(links, place, target) {
+            return place;
+        }
+    }
+    links.len()
+}
+
+/// Whether the links with that target or a lower one end before that place.
+fn parts_upto(links: &[Link], place: usize, target: u32) -> bool
+    requires { IsStrictlySortedBy link_cmp links.now }
+    ensures bound { IsTrue result → place ≤ length links.now }
+    ensures parts { IsTrue result → IsPartitionPoint (λ l. is_le (nat_cmp l.target target) ≡ true)
+        (λ l. is_le (nat_cmp l.target target) ≡ false) links.now place }
+{
+    if is_upto(links, place, target) {
+        return false;
+    }
+    match place.checked_sub(1) {
+        Some(before) => is_upto(links, before, target),
+        None => true,
+    }
+}
+
+/// Whether there is a link at that place, with that target or a lower one.
+fn is_upto(links: &[Link], place: usize, target: u32) -> bool
+    ensures { IsAt (λ l. is_le (nat_cmp l.target target)) links.now place result }
+{
+    match links.get(place) {
+        Some(link) => link.target <= target,
+        None => false,
+    }
 }

@@ -5,6 +5,14 @@ ghost use Rattle.ig_forest.specs.CodeKept.{AreKept, AreTaken};
 use crate::rows::ItemRow;
 use std::alloc::{AllocError, Global};
 
+/// The numbers of the live items, in order, and of each number of the graph how many below it have
+/// a mark.
+#[derive(Drop)]
+pub(crate) struct LiveNumbers {
+    pub kept: Vec<u32>,
+    pub ranks: Vec<u32>,
+}
+
 /// The numbers below `count` that are marked, in order.
 pub(crate) fn kept_of(alloc: Global, marked: &[bool], count: usize) -> Result<Vec<u32>, AllocError>
     requires long { count ≤ length marked.now }

@@ -6,6 +6,7 @@ ghost use Rattle.ig_forest.specs.CodeReach.{LeadsTo, MarksMore};
 use crate::done::run_of_node;
 use crate::dots::is_complete;
 use crate::links::{Link, links_to};
+use crate::places::{Places, place_at};
 use crate::rows::{ItemRow, NodeRow};
 use ig_item::Core;
 use std::alloc::{AllocError, Global};
@@ -26,8 +27,14 @@ pub(crate) struct Marks {
     pub found: Vec<usize>,
 }
 
-/// Marks the start and all to which the graph leads from it. Each number is visited once.
-pub(crate) fn reached(alloc: Global, graph: &Graph, start: usize) -> Result<Marks, AllocError>
+/// Marks the start and all to which the graph leads from it. Each number is visited once. The links
+/// to an item, and the items of a node, mostly begin at its place.
+pub(crate) fn reached(
+    alloc: Global,
+    graph: &Graph,
+    places: Places,
+    start: usize,
+) -> Result<Marks, AllocError>
     requires graph { FitsGraph graph.now }
     requires start { start < length graph.now.rows.now + length graph.now.nodes.now }
     ensures { IfOk result (λ marks. AreMarked graph.now start marks) }
@@ -39,7 +46,7 @@ pub(crate) fn reached(alloc: Global, graph: &Graph, start: usize) -> Result<Mark
         let Some(number) = marks.at(turn) else {
             return Ok(marks);
         };
-        graph.visit(&mut marks, number)?;
+        graph.visit(&mut marks, places, number)?;
     }
     Ok(marks)
 }
@@ -80,7 +87,7 @@ impl Marks {
 
 impl<'a> Graph<'a> {
     /// Marks all to which one step leads from the number.
-    fn visit(&self, marks: &mut Marks, number: usize) -> Result<(), AllocError>
+    fn visit(&self, marks: &mut Marks, places: Places, number: usize) -> Result<(), AllocError>
         requires graph { FitsGraph self.now }
         requires marks { AreMarks marks.old (length self.now.rows.now + length self.now.nodes.now) }
         requires number { number < length self.now.rows.now + length self.now.nodes.now }
@@ -88,20 +95,21 @@ impl<'a> Graph<'a> {
     {
         let count = self.rows.len();
         if number < count {
-            self.visit_item(marks, number)
+            self.visit_item(marks, places, number)
         } else {
-            self.visit_node(marks, number - count)
+            self.visit_node(marks, places, number - count)
         }
     }
 
     /// Marks the previous items of an item, and the nodes over which they have a tree.
-    fn visit_item(&self, marks: &mut Marks, number: usize) -> Result<(), AllocError>
+    fn visit_item(&self, marks: &mut Marks, places: Places, number: usize) -> Result<(), AllocError>
         requires graph { FitsGraph self.now }
         requires marks { AreMarks marks.old (length self.now.rows.now + length self.now.nodes.now) }
         requires number { number < length self.now.rows.now }
         ensures { OnOk result (MarksMore marks.old marks.new (Edge self.now number)) }
     {
-        for link in links_to(self.links, number as u32) {
+        let near = place_at(places.links, number);
+        for link in links_to(self.links, near, number as u32) {
             self.follow(marks, *link)?;
         }
         Ok(())
@@ -121,14 +129,15 @@ impl<'a> Graph<'a> {
     }
 
     /// Marks the complete items of a node.
-    fn visit_node(&self, marks: &mut Marks, number: usize) -> Result<(), AllocError>
+    fn visit_node(&self, marks: &mut Marks, places: Places, number: usize) -> Result<(), AllocError>
         requires graph { FitsGraph self.now }
         requires marks { AreMarks marks.old (length self.now.rows.now + length self.now.nodes.now) }
         requires number { number < length self.now.nodes.now }
         ensures { OnOk result (MarksMore marks.old marks.new
             (Edge self.now (length self.now.rows.now + number))) }
     {
-        let (first, end) = run_of_node(self.rows, self.nodes[number]);
+        let near = place_at(places.nodes, number);
+        let (first, end) = run_of_node(self.rows, near, self.nodes[number]);
         for place in first..end {
             self.visit_place(marks, place)?;
         }

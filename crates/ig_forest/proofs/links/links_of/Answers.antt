@@ -14,5 +14,5 @@ loop-number-preserved c =
 pub returns : goal.returns
 returns c =
     links_all c.args.sources.now c.requires c.loop-number.links.items c.dedup.new.self.items c.loop-number.number c.loop-number-test.false c.loop-number.invariant
-    (once link_full_total link_full_exact (link_eq.eq-value).it link_laws.matches_eq-law c.loop-number.links.items c.sort_unstable.new.self.items
-    c.dedup.new.self.items c.sort_unstable.ensures.permutation c.sort_unstable.ensures.sorted c.dedup.ensures.filtered)
+    (once link_full_total link_full_exact (link_eq.eq-value).it link_laws.matches_eq-law c.loop-number.links.items c.sort.new.self.items
+    c.dedup.new.self.items c.sort.ensures.permutation c.in_ok-sort.ensures.sorted c.dedup.ensures.filtered)

@@ -9,31 +9,31 @@ use Rattle.ig_forest.proofs.entries.Kept.entries_of.Goals as goal
 pub bounds-self-number : goal.bounds-self-number
 bounds-self-number c = slice_get_within c.args.self.now.sources.rows.now c.args.number c.requires.live.0 c.requires.live.1
 
-pub links_to-link-items-requires : goal.links_to-link-items-requires
-links_to-link-items-requires c = c.requires.tables.links.order
+pub links_to-links-requires : goal.links_to-links-requires
+links_to-links-requires c = c.requires.tables.links.order
 
 pub loop-link-init : goal.loop-link-init
 loop-link-init c row at =
-    entered_none c.args.self.now c.requires.tables c.links_to-link-items.result.now row.dot c.in_ok-entries.entries
+    entered_none c.args.self.now c.requires.tables c.links_to-links.result.now row.dot c.in_ok-entries.entries
     (c.in_ok-entries.ensures ∙ ap (λ (z : ItemRow). begun z.dot) (get_or_from_slice_get c.args.self.now.sources.rows.now c.args.number row _ at))
 
 pub entry_of-requires-clause-link : goal.entry_of-requires-clause-link
 entry_of-requires-clause-link c =
-    ((c.links_to-link-items.ensures.members _).0 (Contains-get_or c.links_to-link-items.result.now c.loop-link.link-index _ c.loop-link-test.true)).0
+    ((c.links_to-links.ensures.members _).0 (Contains-get_or c.links_to-links.result.now c.loop-link.link-index _ c.loop-link-test.true)).0
 
 pub entry_of-requires-clause-live : goal.entry_of-requires-clause-live
 entry_of-requires-clause-live c =
     run_live c.args.self.now c.requires.tables c.args.number
-    (get_or c.links_to-link-items.result.now c.loop-link.link-index (record { target = 0; prev = 0; node = None }))
-    ((c.links_to-link-items.ensures.members _).0 (Contains-get_or c.links_to-link-items.result.now c.loop-link.link-index _ c.loop-link-test.true)).1 c.requires.live
+    (get_or c.links_to-links.result.now c.loop-link.link-index (record { target = 0; prev = 0; node = None }))
+    ((c.links_to-links.ensures.members _).0 (Contains-get_or c.links_to-links.result.now c.loop-link.link-index _ c.loop-link-test.true)).1 c.requires.live
 
 pub loop-link-preserved : goal.loop-link-preserved
 loop-link-preserved c row at =
-    entered_next c.args.self.now c.requires.tables c.args.number row at c.links_to-link-items.result.now c.links_to-link-items.ensures.order
-    c.links_to-link-items.ensures.members c.loop-link.link-index _ c.entry_of.result c.loop-link.entries c.push_entry.new.entries c.loop-link-test.true
+    entered_next c.args.self.now c.requires.tables c.args.number row at c.links_to-links.result.now c.links_to-links.ensures.order
+    c.links_to-links.ensures.members c.loop-link.link-index _ c.entry_of.result c.loop-link.entries c.push_entry.new.entries c.loop-link-test.true
     c.entry_of.ensures c.in_ok-push_entry.ensures (c.loop-link.invariant row at)
 
 pub returns : goal.returns
 returns c row at =
-    entered_all c.args.self.now c.requires.tables c.args.number row at c.links_to-link-items.result.now c.links_to-link-items.ensures.order
-    c.links_to-link-items.ensures.members c.loop-link.link-index c.loop-link.entries c.loop-link-test.false (c.loop-link.invariant row at)
+    entered_all c.args.self.now c.requires.tables c.args.number row at c.links_to-links.result.now c.links_to-links.ensures.order
+    c.links_to-links.ensures.members c.loop-link.link-index c.loop-link.entries c.loop-link-test.false (c.loop-link.invariant row at)

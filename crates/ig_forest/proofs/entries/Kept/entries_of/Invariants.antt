@@ -5,4 +5,4 @@ use Rattle.ig_forest.proofs.entries.Kept.entries_of.Given as goal
 
 abbrev pub invariant-loop-link : goal.invariant-loop-link
 invariant-loop-link l =
-    (row : ItemRow) → slice_get l.self.sources.rows.now l.number ≡ Some row → Entered l.self l.link-items row.dot l.link-index l.entries
+    (row : ItemRow) → slice_get l.self.sources.rows.now l.number ≡ Some row → Entered l.self l.links row.dot l.link-index l.entries
