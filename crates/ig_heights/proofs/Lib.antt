@@ -1,0 +1,11 @@
+pub mod Depths
+pub mod Numbers
+pub mod Working
+pub mod Rounds
+pub mod Turns
+pub mod Using
+pub mod Exact
+pub mod Ruling
+pub mod Linking
+pub mod Answering
+pub mod Endless

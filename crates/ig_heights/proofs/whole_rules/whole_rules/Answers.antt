@@ -1,0 +1,10 @@
+use Rattle.std.proofs.Common.{refl, arith, subst, List, ℕ, length}
+use Rattle.ig_heights.specs.Table.{AreLasts}
+use Rattle.ig_heights.proofs.Linking.{table_whole}
+use Rattle.ig_heights.proofs.whole_rules.whole_rules.Goals as goal
+
+pub returns : goal.returns
+returns c =
+    table_whole c.args.least.now _ c.requires.fits c.add_links.new.links.items c.in_ok-last.last.items c.in_ok-last.ensures
+    (subst (λ (z : List ℕ). AreLasts c.args.least.now.ground c.add_links.new.links.items c.add_lasts.new.rules.items z (length z))
+    c.as_slice.ensures.value c.in_ok-add_lasts.ensures) refl refl (let n = c.len.ensures in omega (arith, n))

@@ -1,0 +1,5 @@
+pub mod Heights
+pub mod Laws
+pub mod Rules
+pub mod Table
+pub mod Work
