@@ -1,7 +1,8 @@
 //! The forms of the notation on the top call: which texts have a tree, and core grammars. Expected
 //! values were worked out by hand from what the forms mean.
 
-use crate::form_rows::{BLOCKS, CORES, DEFINITIONS, LEXICAL, LISTS, PIECES, WHOLE};
+use crate::form_rows::{BLOCKS, DEFINITIONS, LEXICAL, LISTS, WHOLE};
+use crate::text_rows::{CORES, PIECES};
 use ig_outside::{MemoryShelf, MemorySink, Sink};
 use ig_tool::iguana;
 use std::alloc::Global;

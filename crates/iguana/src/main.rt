@@ -19,6 +19,8 @@ mod forms;
 #[cfg(test)]
 mod scopes;
 mod stream_sink;
+#[cfg(test)]
+mod text_rows;
 mod words;
 
 ghost use Rattle.std.specs.Prelude.{◌≡◌, map, string_bytes};
