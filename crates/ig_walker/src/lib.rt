@@ -9,8 +9,8 @@
 //! options, and a walk is a list of visits, which is the walker's own stack. The depth that is left
 //! is the same for all that one option leads to, so no choice limits a later one: an option leads
 //! on exactly where the least height of each of its parts is no greater than the depth that is
-//! left, and no other option is ever entered. The next walk goes back to the last visit with a later
-//! option that leads on, and from there takes the first one at each visit.
+//! left, and no other option is ever entered. The next walk goes back to the last visit with a
+//! later option that leads on, and from there takes the first one at each visit.
 #![tactic(auto)]
 
 mod follow;

@@ -336,17 +336,20 @@ pub(crate) const LISTS: [(&str, &str, &str); 43] = [
     ("start S; syntax S = ((\"a\" | \"b\")*)?;", "", "more"),
     // two lists that name one variable
     (
-        "start S; syntax S = n: [0-9] (\"a\" when (number(n) == 2))* (\"b\" when (number(n) == 2))*;",
+        "start S; syntax S = n: [0-9] (\"a\" when (number(n) == 2))* (\"b\" when (number(n) == \
+            2))*;",
         "2aabb",
         "one",
     ),
     (
-        "start S; syntax S = n: [0-9] (\"a\" when (number(n) == 2))* (\"b\" when (number(n) == 2))*;",
+        "start S; syntax S = n: [0-9] (\"a\" when (number(n) == 2))* (\"b\" when (number(n) == \
+            2))*;",
         "1",
         "one",
     ),
     (
-        "start S; syntax S = n: [0-9] (\"a\" when (number(n) == 2))* (\"b\" when (number(n) == 2))*;",
+        "start S; syntax S = n: [0-9] (\"a\" when (number(n) == 2))* (\"b\" when (number(n) == \
+            2))*;",
         "1b",
         "none",
     ),
@@ -531,7 +534,8 @@ pub(crate) const LEXICAL: [(&str, &str, &str); 42] = [
     ),
     // a comment up to the end of the text
     (
-        "start S; syntax S = \"a\"; layout W = ([ \\n] | C)* !>> [ \\n/]; lexical C = \"//\" [^\\n]* !>> [^\\n];",
+        "start S; syntax S = \"a\"; layout W = ([ \\n] | C)* !>> [ \\n/]; lexical C = \"//\" \
+            [^\\n]* !>> [^\\n];",
         "a // x",
         "one",
     ),
@@ -668,33 +672,45 @@ pub(crate) const BLOCKS: [(&str, &str, &str); 30] = [
     ),
     // definitions with nested `where` blocks, and comments as layout
     (
-        "start P; syntax P = align D*; syntax D = offside (N \"=\" N W?); syntax W = \"where\" align D+; lexical N = [a-z]+ !>> [a-z] \\ \"where\"; layout L = ([ \\n] | C)* !>> [ \\n#]; lexical C = \"#\" [^\\n]* !>> [^\\n];",
+        "start P; syntax P = align D*; syntax D = offside (N \"=\" N W?); syntax W = \"where\" \
+            align D+; lexical N = [a-z]+ !>> [a-z] \\ \"where\"; layout L = ([ \\n] | C)* !>> [ \
+            \\n#]; lexical C = \"#\" [^\\n]* !>> [^\\n];",
         "x = y\nz = q",
         "one",
     ),
     (
-        "start P; syntax P = align D*; syntax D = offside (N \"=\" N W?); syntax W = \"where\" align D+; lexical N = [a-z]+ !>> [a-z] \\ \"where\"; layout L = ([ \\n] | C)* !>> [ \\n#]; lexical C = \"#\" [^\\n]* !>> [^\\n];",
+        "start P; syntax P = align D*; syntax D = offside (N \"=\" N W?); syntax W = \"where\" \
+            align D+; lexical N = [a-z]+ !>> [a-z] \\ \"where\"; layout L = ([ \\n] | C)* !>> [ \
+            \\n#]; lexical C = \"#\" [^\\n]* !>> [^\\n];",
         "x = y # note\n  where\n    a = b\n    c = d\nz = q",
         "one",
     ),
     (
-        "start P; syntax P = align D*; syntax D = offside (N \"=\" N W?); syntax W = \"where\" align D+; lexical N = [a-z]+ !>> [a-z] \\ \"where\"; layout L = ([ \\n] | C)* !>> [ \\n#]; lexical C = \"#\" [^\\n]* !>> [^\\n];",
+        "start P; syntax P = align D*; syntax D = offside (N \"=\" N W?); syntax W = \"where\" \
+            align D+; lexical N = [a-z]+ !>> [a-z] \\ \"where\"; layout L = ([ \\n] | C)* !>> [ \
+            \\n#]; lexical C = \"#\" [^\\n]* !>> [^\\n];",
         "x = y where a = b where c = d",
         "one",
     ),
     // a definition beside the column of its block; a name that isn't behind its definition; no name
     (
-        "start P; syntax P = align D*; syntax D = offside (N \"=\" N W?); syntax W = \"where\" align D+; lexical N = [a-z]+ !>> [a-z] \\ \"where\"; layout L = ([ \\n] | C)* !>> [ \\n#]; lexical C = \"#\" [^\\n]* !>> [^\\n];",
+        "start P; syntax P = align D*; syntax D = offside (N \"=\" N W?); syntax W = \"where\" \
+            align D+; lexical N = [a-z]+ !>> [a-z] \\ \"where\"; layout L = ([ \\n] | C)* !>> [ \
+            \\n#]; lexical C = \"#\" [^\\n]* !>> [^\\n];",
         "x = y\n where\n  a = b\n c = d",
         "none",
     ),
     (
-        "start P; syntax P = align D*; syntax D = offside (N \"=\" N W?); syntax W = \"where\" align D+; lexical N = [a-z]+ !>> [a-z] \\ \"where\"; layout L = ([ \\n] | C)* !>> [ \\n#]; lexical C = \"#\" [^\\n]* !>> [^\\n];",
+        "start P; syntax P = align D*; syntax D = offside (N \"=\" N W?); syntax W = \"where\" \
+            align D+; lexical N = [a-z]+ !>> [a-z] \\ \"where\"; layout L = ([ \\n] | C)* !>> [ \
+            \\n#]; lexical C = \"#\" [^\\n]* !>> [^\\n];",
         "x =\ny",
         "none",
     ),
     (
-        "start P; syntax P = align D*; syntax D = offside (N \"=\" N W?); syntax W = \"where\" align D+; lexical N = [a-z]+ !>> [a-z] \\ \"where\"; layout L = ([ \\n] | C)* !>> [ \\n#]; lexical C = \"#\" [^\\n]* !>> [^\\n];",
+        "start P; syntax P = align D*; syntax D = offside (N \"=\" N W?); syntax W = \"where\" \
+            align D+; lexical N = [a-z]+ !>> [a-z] \\ \"where\"; layout L = ([ \\n] | C)* !>> [ \
+            \\n#]; lexical C = \"#\" [^\\n]* !>> [^\\n];",
         "x = where",
         "none",
     ),

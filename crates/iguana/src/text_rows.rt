@@ -1,5 +1,5 @@
-//! Rows for texts of forests and of core grammars. Expected values were worked out by hand from what
-//! the forms mean.
+//! Rows for texts of forests and of core grammars. Expected values were worked out by hand from
+//! what the forms mean.
 
 // Each row is a grammar, an input, and a piece of the text of its forest.
 pub(crate) const PIECES: [(&str, &str, &str); 10] = [
@@ -50,47 +50,69 @@ pub(crate) const CORES: [(&str, &str); 17] = [
     // a list in a list
     (
         "start S; syntax S = {\"a\"+ \",\"}+;",
-        "nt 0 $root ()\nalt $root . call 1 ()\nnt 1 S ()\nalt S.1 . call 2 ()\nnt 2 S#1 ()\nalt $one . call 3 ()\nalt $more . call 2 () . \",\" . call 3 ()\nnt 3 S#2 ()\nalt $one . \"a\"\nalt $more . call 3 () . \"a\"\n",
+        "nt 0 $root ()\nalt $root . call 1 ()\nnt 1 S ()\nalt S.1 . call 2 ()\nnt 2 S#1 ()\nalt \
+            $one . call 3 ()\nalt $more . call 2 () . \",\" . call 3 ()\nnt 3 S#2 ()\nalt $one \
+            . \"a\"\nalt $more . call 3 () . \"a\"\n",
     ),
     // a group in a list in an option
     (
         "start S; syntax S = ((\"a\" | \"b\")+)?;",
-        "nt 0 $root ()\nalt $root . call 1 ()\nnt 1 S ()\nalt S.1 . call 2 ()\nnt 2 S#1 ()\nalt $none\nalt $some . call 3 ()\nnt 3 S#2 ()\nalt $group.1 . call 4 ()\nnt 4 S#3 ()\nalt $one . call 5 ()\nalt $more . call 4 () . call 5 ()\nnt 5 S#4 ()\nalt $group.1 . \"a\"\nalt $group.2 . \"b\"\n",
+        "nt 0 $root ()\nalt $root . call 1 ()\nnt 1 S ()\nalt S.1 . call 2 ()\nnt 2 S#1 ()\nalt \
+            $none\nalt $some . call 3 ()\nnt 3 S#2 ()\nalt $group.1 . call 4 ()\nnt 4 S#3 \
+            ()\nalt $one . call 5 ()\nalt $more . call 4 () . call 5 ()\nnt 5 S#4 ()\nalt \
+            $group.1 . \"a\"\nalt $group.2 . \"b\"\n",
     ),
     // a list whose item has a label
     (
         "start S; syntax S = n: [0-9] (x: \"a\" when (end(x) <= number(n)))*;",
-        "nt 0 $root ()\nalt $root . call 1 ()\nnt 1 S ()\nalt S.1 . n: [0-9] . call 2 (n)\nnt 2 S#1 (n)\nalt $nil\nalt $snoc . call 2 (n) . call 3 (n)\nnt 3 S#2 (n)\nalt $group.1 . x: \"a\" . test end(x) <= number(n)\n",
+        "nt 0 $root ()\nalt $root . call 1 ()\nnt 1 S ()\nalt S.1 . n: [0-9] . call 2 (n)\nnt 2 \
+            S#1 (n)\nalt $nil\nalt $snoc . call 2 (n) . call 3 (n)\nnt 3 S#2 (n)\nalt $group.1 \
+            . x: \"a\" . test end(x) <= number(n)\n",
     ),
     // two lists that name one variable
     (
-        "start S; syntax S = n: [0-9] (\"a\" when (number(n) == 2))* (\"b\" when (number(n) == 2))*;",
-        "nt 0 $root ()\nalt $root . call 1 ()\nnt 1 S ()\nalt S.1 . n: [0-9] . call 2 (n) . call 4 (n)\nnt 2 S#1 (n)\nalt $nil\nalt $snoc . call 2 (n) . call 3 (n)\nnt 3 S#2 (n)\nalt $group.1 . \"a\" . test number(n) == 2\nnt 4 S#3 (n)\nalt $nil\nalt $snoc . call 4 (n) . call 5 (n)\nnt 5 S#4 (n)\nalt $group.1 . \"b\" . test number(n) == 2\n",
+        "start S; syntax S = n: [0-9] (\"a\" when (number(n) == 2))* (\"b\" when (number(n) == \
+            2))*;",
+        "nt 0 $root ()\nalt $root . call 1 ()\nnt 1 S ()\nalt S.1 . n: [0-9] . call 2 (n) . \
+            call 4 (n)\nnt 2 S#1 (n)\nalt $nil\nalt $snoc . call 2 (n) . call 3 (n)\nnt 3 S#2 \
+            (n)\nalt $group.1 . \"a\" . test number(n) == 2\nnt 4 S#3 (n)\nalt $nil\nalt $snoc \
+            . call 4 (n) . call 5 (n)\nnt 5 S#4 (n)\nalt $group.1 . \"b\" . test number(n) == \
+            2\n",
     ),
     // a separator that may be empty
     (
         "start S; syntax S = {\"a\" C}*; syntax C = \",\" | ;",
-        "nt 0 $root ()\nalt $root . call 1 ()\nnt 1 S ()\nalt S.1 . call 3 ()\nnt 2 C ()\nalt C.1 . \",\"\nalt C.2\nnt 3 S#1 ()\nalt $none\nalt $some . call 4 ()\nnt 4 S#2 ()\nalt $one . \"a\"\nalt $more . call 4 () . call 2 () . \"a\"\n",
+        "nt 0 $root ()\nalt $root . call 1 ()\nnt 1 S ()\nalt S.1 . call 3 ()\nnt 2 C ()\nalt \
+            C.1 . \",\"\nalt C.2\nnt 3 S#1 ()\nalt $none\nalt $some . call 4 ()\nnt 4 S#2 \
+            ()\nalt $one . \"a\"\nalt $more . call 4 () . call 2 () . \"a\"\n",
     ),
     // an empty group
     (
         "start S; syntax S = \"a\" ( ) \"b\";",
-        "nt 0 $root ()\nalt $root . call 1 ()\nnt 1 S ()\nalt S.1 . \"a\" . call 2 () . \"b\"\nnt 2 S#1 ()\nalt $group.1\n",
+        "nt 0 $root ()\nalt $root . call 1 ()\nnt 1 S ()\nalt S.1 . \"a\" . call 2 () . \
+            \"b\"\nnt 2 S#1 ()\nalt $group.1\n",
     ),
     // an option of nothing
     (
         "start S; syntax S = A?; syntax A = ;",
-        "nt 0 $root ()\nalt $root . call 1 ()\nnt 1 S ()\nalt S.1 . call 3 ()\nnt 2 A ()\nalt A.1\nnt 3 S#1 ()\nalt $none\nalt $some . call 2 ()\n",
+        "nt 0 $root ()\nalt $root . call 1 ()\nnt 1 S ()\nalt S.1 . call 3 ()\nnt 2 A ()\nalt \
+            A.1\nnt 3 S#1 ()\nalt $none\nalt $some . call 2 ()\n",
     ),
     // a list in a declaration with a parameter
     (
         "start S; syntax S = L(2); syntax L(n: int) = (when (n > 0) \"a\")* when (n == 2);",
-        "nt 0 $root ()\nalt $root . call 1 ()\nnt 1 S ()\nalt S.1 . call 2 (2)\nnt 2 L (n)\nalt L.1 . call 3 (n) . test n == 2\nnt 3 L#1 (n)\nalt $nil\nalt $snoc . call 3 (n) . call 4 (n)\nnt 4 L#2 (n)\nalt $group.1 . test n > 0 . \"a\"\n",
+        "nt 0 $root ()\nalt $root . call 1 ()\nnt 1 S ()\nalt S.1 . call 2 (2)\nnt 2 L (n)\nalt \
+            L.1 . call 3 (n) . test n == 2\nnt 3 L#1 (n)\nalt $nil\nalt $snoc . call 3 (n) . \
+            call 4 (n)\nnt 4 L#2 (n)\nalt $group.1 . test n > 0 . \"a\"\n",
     ),
     // parameters in the order of binding, whatever the order of naming
     (
-        "start S; syntax S = L(1); syntax L(n: int) = x: \"a\" let y = (2) (\"b\" when (y == 2) when (n == 1) when (size(x) == 1))*;",
-        "nt 0 $root ()\nalt $root . call 1 ()\nnt 1 S ()\nalt S.1 . call 2 (1)\nnt 2 L (n)\nalt L.1 . x: \"a\" . let y = 2 . call 3 (n,x,y)\nnt 3 L#1 (n,x,y)\nalt $nil\nalt $snoc . call 3 (n,x,y) . call 4 (n,x,y)\nnt 4 L#2 (n,x,y)\nalt $group.1 . \"b\" . test y == 2 . test n == 1 . test size(x) == 1\n",
+        "start S; syntax S = L(1); syntax L(n: int) = x: \"a\" let y = (2) (\"b\" when (y == 2) \
+            when (n == 1) when (size(x) == 1))*;",
+        "nt 0 $root ()\nalt $root . call 1 ()\nnt 1 S ()\nalt S.1 . call 2 (1)\nnt 2 L (n)\nalt \
+            L.1 . x: \"a\" . let y = 2 . call 3 (n,x,y)\nnt 3 L#1 (n,x,y)\nalt $nil\nalt $snoc \
+            . call 3 (n,x,y) . call 4 (n,x,y)\nnt 4 L#2 (n,x,y)\nalt $group.1 . \"b\" . test y \
+            == 2 . test n == 1 . test size(x) == 1\n",
     ),
     // lists
     (
