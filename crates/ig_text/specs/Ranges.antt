@@ -1,6 +1,6 @@
 -- Ranges of characters, and their normal form. A character is its number; a range is its first and its last character.
-use Rattle.std.specs.Prelude.{◌≡◌, ℕ, ◌+◌, ◌≤◌, List, [], ◌∷◌, Bool, ◌&&◌, nat_le, nat_lt, min, max, if◌then◌else◌}
-use Rattle.std.specs.List.{All, list_any}
+use Rattle.std.specs.Prelude.{◌≡◌, ℕ, ◌+◌, ◌≤◌, List, [], ◌∷◌, Bool, ◌&&◌, Some, nat_le, nat_lt, min, max, if◌then◌else◌}
+use Rattle.std.specs.List.{All, list_any, slice_get}
 
 -- no range falls
 abbrev pub NoneFalls : List (ℕ × ℕ) → Type 0
@@ -18,6 +18,10 @@ is_within r c = nat_le r.0 c && nat_le c r.1
 -- the number lies in one of the ranges
 abbrev pub is_among : List (ℕ × ℕ) → ℕ → Bool
 is_among ranges c = list_any (λ r. is_within r c) ranges
+
+-- each of the truth values says of its place whether that number lies in one of the ranges
+abbrev pub KnowsFirst : List (ℕ × ℕ) → List Bool → Type 0
+KnowsFirst ranges known = (c : ℕ) (b : Bool) → slice_get known c ≡ Some b → b ≡ is_among ranges c
 
 -- the first range begins at low or later, none falls, and between two neighbours at least one number is free
 abbrev pub IsNormalFrom : ℕ → List (ℕ × ℕ) → Type 0

@@ -2,15 +2,12 @@ ghost use Rattle.std.specs.Prelude.{◌≡◌, ◌+◌, ◌<◌, ◌↔◌, IfOk
 ghost use Rattle.ig_text.specs.Ranges.{NoneFalls, Ascends, is_among, IsNormalFormOf};
 ghost use Rattle.ig_text.specs.Ranges.{HasOneNormalForm, normal_form, NormalFormIsNormal};
 ghost use Rattle.ig_text.specs.Ranges.{NormalRangesStay};
-ghost use Rattle.ig_text.specs.declared.class.Class.TheVariants.{Ranges};
+ghost use Rattle.ig_text.specs.declared.class.Class.TheVariants as class;
 ghost use Rattle.ig_text.specs.Class.{is_in_class, IsClassOf};
 
 use crate::copied::Copied;
-use crate::sequence::Sequence;
+use crate::ranges::Ranges;
 use std::alloc::{AllocError, Global};
-
-/// Ranges of characters: pairs of a first and a last character, both of which belong to it.
-pub type Ranges = Sequence<(char, char)>;
 
 /// A set of characters.
 #[derive(Drop)]
@@ -32,20 +29,22 @@ impl Class {
     pub fn ranges(alloc: Global, negated: bool, pairs: &[(char, char)]) -> Result<Class, AllocError>
         requires { NoneFalls pairs.now }
         ensures members { IfOk result (IsClassOf negated pairs.now) }
-        ensures value { IfOk result (λ c. c ≡ Ranges negated (normal_form pairs.now)) }
+        ensures value { IfOk result (λ c. c ≡ class.Ranges negated (normal_form pairs.now)) }
     {
         let mut sorted = Vec::from_slice(alloc, pairs)?;
         sorted.sort_unstable();
-        let ranges = joined(alloc, sorted.as_slice())?;
+        let pairs = joined(alloc, sorted.as_slice())?;
+        let ranges = Ranges::from_vec(alloc, pairs)?;
         Ok(Class::Ranges { negated, ranges })
     }
 
-    /// Whether the character is in the class. Takes no memory.
+    /// Whether the character is in the class: one look-up for an ASCII character of ranges. Takes
+    /// no memory.
     pub fn has(&self, c: char) -> bool
         ensures { result ≡ is_in_class self.now c }
     {
         match self {
-            Class::Ranges { negated, ranges } => is_in_some(ranges.as_slice(), c) != *negated,
+            Class::Ranges { negated, ranges } => ranges.has(c) != *negated,
             Class::XidStart => unicode_ident::is_xid_start(c),
             Class::XidContinue => unicode_ident::is_xid_continue(c),
             Class::Any => true,
@@ -53,21 +52,14 @@ impl Class {
     }
 }
 
-/// Whether the character is in some range. Takes no memory.
-fn is_in_some(ranges: &[(char, char)], c: char) -> bool
-    ensures { result ≡ is_among ranges.now c }
-{
-    ranges.iter().any(|(first, last)| *first <= c && c <= *last)
-}
-
 /// The normal form of pairs whose first characters ascend.
-fn joined(alloc: Global, pairs: &[(char, char)]) -> Result<Ranges, AllocError>
+fn joined(alloc: Global, pairs: &[(char, char)]) -> Result<Vec<(char, char)>, AllocError>
     requires { Ascends 0 pairs.now }
-    ensures { IfOk result (IsNormalFormOf pairs.now) }
+    ensures { IfOk result (λ ranges. IsNormalFormOf pairs.now ranges.items) }
 {
     let mut ranges = Vec::new(alloc);
     let Some((first, rest)) = pairs.split_first() else {
-        return Ok(Ranges::from_vec(ranges));
+        return Ok(ranges);
     };
     let mut open = *first;
     for pair in rest {
@@ -79,7 +71,7 @@ fn joined(alloc: Global, pairs: &[(char, char)]) -> Result<Ranges, AllocError>
         }
     }
     ranges.push(open)?;
-    Ok(Ranges::from_vec(ranges))
+    Ok(ranges)
 }
 
 /// Whether some number lies between the end of the first range and the begin of the second.

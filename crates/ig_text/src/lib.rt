@@ -15,14 +15,16 @@ mod class;
 mod copied;
 mod lines;
 mod pattern;
+mod ranges;
 mod sequence;
 mod tag;
 mod text;
 mod word;
 
-pub use class::{Class, Ranges, normal_form_is_normal, normal_form_is_single, normal_ranges_stay};
+pub use class::{Class, normal_form_is_normal, normal_form_is_single, normal_ranges_stay};
 pub use copied::Copied;
 pub use pattern::{Pattern, Patterns};
+pub use ranges::Ranges;
 pub use sequence::Sequence;
 pub use tag::Tag;
 pub use text::{Span, Text, TextFault};

@@ -13,13 +13,14 @@ fn none_falls(pairs: &[(char, char)]) -> bool
 
 #[test]
 fn joins_ranges(rt: HostRuntime) -> Result<(), Fail> {
-    let pairs = [('x', 'z'), ('c', 'd'), ('a', 'b')];
+    let pairs = [('x', 'é'), ('c', 'd'), ('a', 'b')];
     assert!(rt; none_falls(&pairs));
     let class = Class::ranges(rt.alloc(), false, &pairs)?.copy(rt.alloc())?;
+    assert!(rt; class.has('d') && !class.has('e') && class.has('é'));
     let Class::Ranges { ranges, .. } = class else {
         return Err(Fail::new("no ranges"));
     };
-    assert_eq!(rt; ranges.as_slice(), [('a', 'd'), ('x', 'z')].as_slice());
+    assert_eq!(rt; ranges.as_slice(), [('a', 'd'), ('x', 'é')].as_slice());
     Ok(())
 }
 

@@ -1,4 +1,4 @@
-use Rattle.std.proofs.Common.{refl, ap}
+use Rattle.std.proofs.Common.{refl, sym, ap}
 use Rattle.ig_text.specs.declared.class.Class.TheVariants.{Ranges}
 use Rattle.ig_text.proofs.Ascending.{sorted_ascends, of_permutation}
 use Rattle.ig_text.proofs.Insertion.{class_value}
@@ -14,7 +14,7 @@ pub returns : goal.returns
 returns c =
     let p = rw c.in_ok-sorted.ensures.items at c.sort_unstable.ensures.permutation in
     let n = of_permutation c.args.pairs.now c.sort_unstable.new.self.items c.as_slice.result.now c.in_ok-ranges.ranges
-    c.as_slice.ensures.value p c.in_ok-ranges.ensures in
+    c.as_slice.ensures.value p (rw (sym c.in_ok-ranges.ensures) at c.in_ok-pairs.ensures) in
     record {
       members = (c.in_ok-ranges.ranges, refl, n);
       value = ap (Ranges c.args.negated) (class_value c.args.pairs.now c.in_ok-ranges.ranges c.requires n);
