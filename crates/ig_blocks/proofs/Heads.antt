@@ -26,7 +26,7 @@ use Rattle.ig_rewrite.specs.Needs.{needs, AreWanted, IsEntered}
 use Rattle.ig_blocks.specs.Setting.{Setting, Pair, lacking, carried, opened, cleared, m_of, f_of, opened_by, cleared_by, pair_bindings, column_bindings, column_here, guards, column_guards, wrapped, entered, extra_by}
 use Rattle.ig_blocks.specs.Body.{call_tests, tests_of}
 use Rattle.ig_blocks.specs.Blocks.{setting_of}
-use Rattle.ig_blocks.proofs.Placing.{Placed, PlacedSymbols}
+use Rattle.ig_rewrite.specs.Throughout.{Placed, PlacedSymbols}
 use Rattle.ig_blocks.proofs.Meeting.{IsQuiet, Fine, quiet_fine, test_fine, entry_fine, inside_typed, box_typed}
 use Rattle.ig_blocks.proofs.Sights.{Typed, IsPair, no_pair, handed_pair, opened_pair, cleared_pair, HasColumn, found_typed, number_typed, two_typed, pair_cleared}
 

@@ -18,8 +18,6 @@ pub mod Remaking
 pub mod Taking
 pub mod Around
 pub mod Parts
-pub mod Placing
-pub mod Occurrences
 pub mod Everywhere
 pub mod Rooting
 pub mod Marking

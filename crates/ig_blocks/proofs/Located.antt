@@ -14,7 +14,7 @@ use Rattle.ig_grammar.specs.declared.symbol.Alt.{Alt}
 use Rattle.ig_blocks.specs.Setting.{Setting, Pair}
 use Rattle.ig_blocks.specs.Blocks.{alternative_by, level_by}
 use Rattle.ig_blocks.proofs.Parts.{contains_first, contains_later, parts_of_alternatives, all_parts}
-use Rattle.ig_blocks.proofs.Placing.{Placed, PlacedSymbols, PlacedChoices}
+use Rattle.ig_rewrite.specs.Throughout.{Placed, PlacedSymbols, PlacedChoices}
 
 pub back_from : {X Y : Type 0} (f : X → Y) (xs : List X) (y : Y) → Contains (map f xs) y → (x : X) × Contains xs x × (f x ≡ y)
 back_from f [] y m = absurd (none_in_nil y m)

@@ -12,7 +12,9 @@ use Rattle.ig_meaning.specs.Inversion.{DerivationsInvert}
 use Rattle.ig_meaning.specs.Laws.{HasNoOperators, SpansAreInOrder, TreesWithoutOperatorsAreClean}
 use Rattle.ig_rewrite.specs.Added.{AddedNamesAreNew}
 use Rattle.ig_rewrite.specs.Found.{DeclarationsAreFound}
-use Rattle.ig_rewrite.specs.Rooted.{is_root, has_root, RootedIsTheSame}
+use Rattle.ig_rewrite.specs.Binders.{BindersAreCounted}
+use Rattle.ig_rewrite.specs.KeptByRoot.{RootAt, RootKeeps}
+use Rattle.ig_rewrite.specs.Rooted.{is_root}
 use Rattle.ig_rewrite.specs.SameTrees.{PermitSame, SameTreesIsAnEquivalence}
 use Rattle.ig_rewrite.specs.Sound.{IsFree}
 use Rattle.ig_blocks.specs.Setting.{Setting, Pair, lacking, pair_for}
@@ -31,7 +33,8 @@ pub record Given : Type 0 where
   pub cleans : TreesWithoutOperatorsAreClean
   pub found : DeclarationsAreFound
   pub new : AddedNamesAreNew
-  pub rooting : RootedIsTheSame
+  pub root : RootKeeps
+  pub counted : BindersAreCounted
   pub equivalence : SameTreesIsAnEquivalence
 
 other_letters : (a b : ℕ) → 46 ∷ a ∷ [] ≡ 46 ∷ b ∷ [] → (a ≡ b → ⊥) → ⊥
@@ -75,11 +78,11 @@ lowered_is_free g shapes free decl m =
     no_operators s (pair_at s d.shape d.d) d.d.levels (free d.d (contains_from_at g.decls z.0 d.d d.has)) in
     subst (λ (q : Decl). HasNoOperators q.levels) d.made (subst HasNoOperators (sym (levels_are s d.shape d.d)) levels)
 
-pub lowered_permits : Given → (c : CheckedGrammar) → IsPrepared c → has_root c.shapes ≡ true → PermitSame c (lowered_of c)
-lowered_permits given c prepared has =
+pub lowered_permits : Given → (c : CheckedGrammar) → IsPrepared c → RootAt c → PermitSame c (lowered_of c)
+lowered_permits given c prepared at =
     let g = c.grammar in
     let shapes = c.shapes in
-    let is = ready given.found c prepared has in
+    let is = ready given.found c prepared at in
     record {
       same = λ text t.
           same_trees (setting_of g.decls shapes) g (lowered_grammar g shapes) shapes shapes text t (apart g.decls shapes)

@@ -1,17 +1,15 @@
 -- A prepared grammar in which a declaration stands for the root is ready.
-use Rattle.std.proofs.Common.{◌≡◌, ◌∙◌, ℕ, zero, suc, ◌<◌, ◌+◌, List, [], ◌∷◌, ◌++◌, Some, Bool, true, false, refl, sym, ap, subst, length, inl, inr, map, take}
-use Rattle.std.specs.Prelude.{◌⊎◌, ◌≢◌, All, Contains, slice_get, option_map}
-use Rattle.std.proofs.lemmas.Bool.{cases_order}
-use Rattle.std.proofs.lemmas.List.{take-map}
-use Rattle.std.proofs.lemmas.Option.{slice_get_within, slice_get-map}
-use Rattle.ig_text.proofs.Lists.{at_from_contains, contains_from_at, get_within, in_take}
+use Rattle.std.proofs.Common.{◌≡◌, ◌∙◌, ℕ, suc, ◌+◌, List, [], ◌∷◌, Some, Bool, true, false, refl, sym, ap, subst, length, map}
+use Rattle.std.specs.Prelude.{◌≢◌, All, Contains, slice_get, option_map}
+use Rattle.std.proofs.lemmas.List.{map-append}
+use Rattle.std.proofs.lemmas.Option.{slice_get-map}
+use Rattle.ig_text.proofs.Lists.{at_from_contains, contains_from_at}
 use Rattle.ig_grammar.specs.Checked.{CheckedGrammar, IsRoot}
 use Rattle.ig_grammar.specs.Regular.{IsPlaced}
 use Rattle.ig_grammar.specs.declared.declaration.Level.{Level}
 use Rattle.ig_grammar.specs.declared.symbol.Alt.{Alt}
-use Rattle.ig_grammar.specs.Condition.{Condition, IsListed, SymbolMeets, IsInLexical, declaration_of, symbols_of, expressions, variables}
+use Rattle.ig_grammar.specs.Condition.{symbols_of}
 use Rattle.ig_grammar.specs.Condition as meets
-use Rattle.ig_grammar.specs.Names.{names, AreDistinct}
 use Rattle.ig_grammar.specs.Numbering.{Levelled, IsAlternative, by_level, alternatives}
 use Rattle.ig_grammar.specs.Subterms.{subterms_of_symbols}
 use Rattle.ig_grammar.specs.Symbol.{Symbol, Offside}
@@ -24,7 +22,7 @@ use Rattle.ig_grammar.specs.declared.grammar.Grammar.{Grammar}
 use Rattle.ig_grammar.specs.declared.place.Shape.{Shape}
 use Rattle.ig_grammar.specs.declared.place.Shape.TheVariants as shape
 use Rattle.ig_rewrite.specs.Found.{DeclarationsAreFound}
-use Rattle.ig_rewrite.specs.Rooted.{has_root}
+use Rattle.ig_rewrite.specs.KeptByRoot.{RootAt}
 use Rattle.ig_rewrite.specs.Unbound.{LacksName}
 use Rattle.ig_blocks.specs.Setting.{Setting}
 use Rattle.ig_blocks.specs.Blocks.{is_marked, setting_of}
@@ -32,8 +30,8 @@ use Rattle.ig_blocks.proofs.Fitting.{AreFit}
 use Rattle.ig_blocks.proofs.Takes.{AreWritten}
 use Rattle.ig_blocks.proofs.Ready.{IsReady}
 use Rattle.ig_blocks.proofs.Parts.{all_also, all_both, all_always}
-use Rattle.ig_blocks.proofs.Placing.{PlacedSymbols}
-use Rattle.ig_blocks.proofs.Occurrences.{placed_symbols}
+use Rattle.ig_rewrite.specs.Throughout.{PlacedSymbols}
+use Rattle.ig_rewrite.specs.Throughout.{placed_symbols}
 use Rattle.ig_blocks.proofs.Everywhere.{everywhere}
 use Rattle.ig_blocks.proofs.Marking.{IsNoBlock, unmarked_is, none_blocked}
 use Rattle.ig_blocks.proofs.Remaking.{name_at}
@@ -41,36 +39,9 @@ use Rattle.ig_blocks.proofs.Rooting.{IsPrepared}
 use Rattle.ig_blocks.proofs.Suiting.{IsGood, LacksAdded, MayBlock, params_written, symbols_fit}
 use Rattle.ig_rewrite.specs.Added.{margin_name, first_name, column_name}
 
--- no name is declared twice
-module _ (g : Grammar) (scoped : IsWellScoped g) where
-  declared_at : (ds : List Decl) (j : ℕ) (name : List ℕ) → slice_get (names ds) j ≡ Some name → (d : Decl) × (slice_get ds j ≡ Some d) × (d.name ≡ name)
-  declared_at [] j name e = cc
-  declared_at (d ∷ ds) zero name e = (d, refl, cc)
-  declared_at (d ∷ ds) (suc j) name e = declared_at ds j name e
-
-  not_again : (i j : ℕ) (name : List ℕ) → i < j → slice_get (names g.decls) i ≡ Some name → slice_get (names g.decls) j ≡ Some name → ⊥
-  not_again i j name l e f =
-      let d = declared_at g.decls j name f in
-      let earlier : Contains (names (take j g.decls)) name =
-      subst (λ (z : List (List ℕ)). Contains z name) (take-map (λ (x : Decl). x.name) j g.decls)
-      (contains_from_at (take j (names g.decls)) i name (in_take (names g.decls) j i name l e)) in
-      scoped (record { decl = suc j; alt = 0; symbol = 0 }) meets.DuplicateName
-      (d.0, d.1, meets.duplicate_name (subst (λ (z : List ℕ). Contains (names (take j g.decls)) z) (sym d.2) earlier))
-
-  pub distinct_names : AreDistinct (names g.decls)
-  distinct_names i j name e f = cases (cases_order i j)
-    where
-      cases : (i ≡ j) ⊎ ((i < j) ⊎ (j < i)) → i ≡ j
-      cases (inl same) = same
-      cases (inr (inl before)) = absurd (not_again i j name before e f)
-      cases (inr (inr behind)) = absurd (not_again j i name behind f e)
-
-  pub one_place : (n k : ℕ) (d e : Decl) → slice_get g.decls n ≡ Some d → slice_get g.decls k ≡ Some e → d.name ≡ e.name → n ≡ k
-  one_place n k d e a b same = distinct_names n k d.name (name_at g.decls n d a) (name_at g.decls k e b ∙ ap Some (sym same))
-
-map_joined : {X Y : Type 0} (f : X → Y) (xs ys : List X) → map f (xs ++ ys) ≡ map f xs ++ map f ys
-map_joined f [] ys = refl
-map_joined f (x ∷ xs) ys = ap (λ zs. f x ∷ zs) (map_joined f xs ys)
+-- a name stands at one place
+pub one_place : DeclarationsAreFound → (g : Grammar) → IsWellScoped g → (n k : ℕ) (d e : Decl) → slice_get g.decls n ≡ Some d → slice_get g.decls k ≡ Some e → d.name ≡ e.name → n ≡ k
+one_place found g scoped n k d e a b same = found.distinct g scoped n k d.name (name_at g.decls n d a) (name_at g.decls k e b ∙ ap Some (sym same))
 
 map_twice : {X Y : Type 0} (f : X → Y) (r : Y → X) → ((x : X) → r (f x) ≡ x) → (xs : List X) → map r (map f xs) ≡ xs
 map_twice f r e [] = refl
@@ -80,23 +51,12 @@ pub alternatives_by_level : (levels : List Level) → map (λ a. a.alternative) 
 alternatives_by_level [] = refl
 alternatives_by_level (level ∷ others) =
     let f : Alt → Levelled = λ a. record { alternative = a; level = length others + 1; assoc = level.assoc } in
-    map_joined (λ a. a.alternative) (map f level.alts) (by_level others) ∙
+    map-append (λ a. a.alternative) (map f level.alts) (by_level others) ∙
     (rw (map_twice f (λ a. a.alternative) (λ x. refl) level.alts, alternatives_by_level others) refl)
 
 pub alternative_at : (levels : List Level) (k : ℕ) (a : Levelled) → slice_get (by_level levels) k ≡ Some a → slice_get (alternatives levels) k ≡ Some a.alternative
 alternative_at levels k a h =
     ap (λ xs. slice_get xs k) (sym (alternatives_by_level levels)) ∙ slice_get-map (λ a. a.alternative) (by_level levels) k ∙ ap (option_map (λ a. a.alternative)) h
-
-root_among : (shapes : List Shape) → has_root shapes ≡ true → (k : ℕ) × (slice_get shapes k ≡ Some shape.Root)
-root_among [] e = absurd (cc)
-root_among (shape.Root ∷ ss) e = (zero, refl)
-root_among (shape.Rule ∷ ss) e = let r = root_among ss e in (suc r.0, r.1)
-root_among (shape.Opt ∷ ss) e = let r = root_among ss e in (suc r.0, r.1)
-root_among (shape.Star ∷ ss) e = let r = root_among ss e in (suc r.0, r.1)
-root_among (shape.Plus ∷ ss) e = let r = root_among ss e in (suc r.0, r.1)
-root_among (shape.SepPlus ∷ ss) e = let r = root_among ss e in (suc r.0, r.1)
-root_among (shape.SepStar ∷ ss) e = let r = root_among ss e in (suc r.0, r.1)
-root_among (shape.Group ∷ ss) e = let r = root_among ss e in (suc r.0, r.1)
 
 module _ (found : DeclarationsAreFound) (c : CheckedGrammar) (prepared : IsPrepared c) where
   abbrev g : Grammar
@@ -109,7 +69,7 @@ module _ (found : DeclarationsAreFound) (c : CheckedGrammar) (prepared : IsPrepa
   s = setting_of g.decls shapes
 
   abbrev place : (n k : ℕ) (d e : Decl) → slice_get g.decls n ≡ Some d → slice_get g.decls k ≡ Some e → d.name ≡ e.name → n ≡ k
-  place = one_place g prepared.sound.scoped
+  place = one_place found g prepared.sound.scoped
 
   abbrev counted : length shapes ≡ length g.decls
   counted = prepared.sound.fit.counted
@@ -186,18 +146,14 @@ module _ (found : DeclarationsAreFound) (c : CheckedGrammar) (prepared : IsPrepa
         not_c = λ e. prepared.column.parameters decl m (subst (Contains (map (λ p. p.name) decl.params)) e has);
       })
 
-  pub ready : has_root shapes ≡ true → IsReady g shapes
-  ready has =
-      let r = root_among shapes has in
-      let inside : r.0 < length g.decls = subst (λ n. r.0 < n) counted (slice_get_within shapes r.0 shape.Root r.1) in
-      let at = get_within g.decls r.0 inside in
-      let root = root_of r.0 at.0 at.1 r.1 in
+  pub ready : RootAt c → IsReady g shapes
+  ready at =
       record {
-        distinct = distinct_names g prepared.sound.scoped;
+        distinct = found.distinct g prepared.sound.scoped;
         as_many = counted;
         params = parameters_written;
         well = λ n d k a declared numbered. everywhere IsPlaced g prepared.sound.well n k d a declared numbered;
         fit = λ n d k a declared numbered. all_fit n k d a declared numbered;
         layout_no_root = λ n d declared kind shaped. let q = root_of n d declared shaped in q.no_layout kind;
-        rooted = (at.0.name, r.0, at.0, root.start, at.1, refl, r.1);
+        rooted = (at.decl.name, at.before, at.decl, at.start, at.declared, refl, at.shaped);
       }

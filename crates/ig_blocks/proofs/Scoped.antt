@@ -6,13 +6,13 @@ use Rattle.std.proofs.lemmas.List.Sums.{sum_by-cons, sum_by-append}
 use Rattle.std.proofs.lemmas.Option.{slice_get_within}
 use Rattle.ig_text.proofs.Lists.{at_from_contains, contains_from_at, within_take, in_take, sides}
 use Rattle.ig_grammar.specs.Checked.{CheckedGrammar}
-use Rattle.ig_grammar.specs.Condition.{Condition, SymbolMeets, AlternativeMeets, HeadMeets, StartMeets, IsNotPlain, declaration_of, symbols_of, named_parameters, most_variables, most_parameters, binds_name}
+use Rattle.ig_grammar.specs.Condition.{Condition, SymbolMeets, HeadMeets, StartMeets, IsNotPlain, symbols_of, named_parameters, most_variables, most_parameters, binds_name}
 use Rattle.ig_grammar.specs.Condition as meets
 use Rattle.ig_grammar.specs.Name.{is_name}
 use Rattle.ig_grammar.specs.Names.{names}
 use Rattle.ig_grammar.specs.Numbering.{alternatives}
 use Rattle.ig_grammar.specs.Symbol.{gathered}
-use Rattle.ig_grammar.specs.Visible.{Visible, Occurrence, parameters, inside_sequence}
+use Rattle.ig_grammar.specs.Visible.{parameters, inside_sequence}
 use Rattle.ig_grammar.specs.Visible as visible
 use Rattle.ig_grammar.specs.WellScoped.{IsWellScoped, GrammarHas, DeclarationHas, AlternativeHas}
 use Rattle.ig_grammar.specs.declared.declaration.DeclKind.TheVariants.{Layout}
@@ -25,14 +25,16 @@ use Rattle.ig_grammar.specs.declared.place.Shape.TheVariants as shape
 use Rattle.ig_grammar.specs.declared.symbol.Alt.{Alt}
 use Rattle.ig_rewrite.specs.Added.{AddedNamesAreNew}
 use Rattle.ig_rewrite.specs.Found.{DeclarationsAreFound}
-use Rattle.ig_rewrite.specs.Rooted.{is_root, has_root}
+use Rattle.ig_rewrite.specs.Binders.{BindersAreCounted}
+use Rattle.ig_rewrite.specs.KeptByRoot.{RootAt}
+use Rattle.ig_rewrite.specs.Rooted.{is_root}
 use Rattle.ig_blocks.specs.Setting.{Setting, extra_by}
 use Rattle.ig_blocks.specs.Blocks.{setting_of, int_param, alternative_by, level_by, declaration_by, root_by, lowered_declaration, lowered_declarations, lowered_grammar}
 use Rattle.ig_blocks.proofs.Reading.{IsWritten}
 use Rattle.ig_blocks.proofs.Takes.{AreWritten}
 use Rattle.ig_blocks.proofs.Gathering.{gathered_by}
 use Rattle.ig_blocks.proofs.Suiting.{mapped}
-use Rattle.ig_blocks.proofs.Occurrences.{of_placed_symbols}
+use Rattle.ig_rewrite.specs.Throughout.{of_placed_symbols}
 use Rattle.ig_blocks.proofs.Counting.{same_count}
 use Rattle.ig_blocks.proofs.Heads.{IsSoundAt}
 use Rattle.ig_blocks.proofs.Declared.{Undeclared, Declared, declared_by}
@@ -123,7 +125,7 @@ count_extra true m f e d =
     sum_by-cons (λ (p : Param). cond (is_name p.name) 1 0) (int_param m) (int_param f ∷ []) ∙
     ap₂ (λ x y. x + y) (ap (λ z. cond z 1 0) e) (sum_by-cons (λ (p : Param). cond (is_name p.name) 1 0) (int_param f) [] ∙ ap (λ z. cond z 1 0 + 0) d)
 
-module _ (found : DeclarationsAreFound) (new : AddedNamesAreNew) (c : CheckedGrammar) (prepared : IsPrepared c) (has : has_root c.shapes ≡ true) where
+module _ (binders : BindersAreCounted) (found : DeclarationsAreFound) (new : AddedNamesAreNew) (c : CheckedGrammar) (prepared : IsPrepared c) (root_at : RootAt c) where
   abbrev g : Grammar
   g = c.grammar
 
@@ -175,7 +177,7 @@ module _ (found : DeclarationsAreFound) (new : AddedNamesAreNew) (c : CheckedGra
   start_there k (meets.start_has_parameters name decl started there some) = go (declared_by found s g.decls shapes name counted)
     where
       is : IsReady g shapes
-      is = ready found c prepared has
+      is = ready found c prepared root_at
 
       go : Undeclared s g.decls shapes name ⊎ Declared s g.decls shapes name → ⊥
       go (inl u) = let clash : Some decl ≡ None = sym there ∙ u.after in cc
@@ -183,7 +185,7 @@ module _ (found : DeclarationsAreFound) (new : AddedNamesAreNew) (c : CheckedGra
           let r = is.rooted in
           let one : Some r.0 ≡ Some name = sym r.3 ∙ started in
           let same : r.0 ≡ name = cc in
-          let n : d.n ≡ r.1 = one_place g scoped d.n r.1 d.d r.2 d.at r.4 (d.named ∙ sym (r.5 ∙ same)) in
+          let n : d.n ≡ r.1 = one_place found g scoped d.n r.1 d.d r.2 d.at r.4 (d.named ∙ sym (r.5 ∙ same)) in
           let both : Some d.shape ≡ Some shape.Root = sym d.shaped ∙ ap (slice_get shapes) n ∙ r.6 in
           let root : d.shape ≡ shape.Root = cc in
           let other : Some (made d.shape d.d) ≡ Some decl = sym d.after ∙ there in
@@ -237,7 +239,7 @@ module _ (found : DeclarationsAreFound) (new : AddedNamesAreNew) (c : CheckedGra
         let p = pair_at s sh d in
         let counts : count_by (λ o. binds_name o.symbol) (symbols_of (made sh d) (alternative_by s p a)) ≡ count_by (λ o. binds_name o.symbol) (symbols_of d a) =
         ap (λ xs. count_by (λ o. binds_name o.symbol) (inside_sequence (parameters (made sh d).params) xs)) (gathered_by s p a.symbols) ∙
-        same_count s (gathered a.symbols) p (parameters d.params) (parameters (made sh d).params) in
+        same_count s binders (gathered a.symbols) p (parameters d.params) (parameters (made sh d).params) in
         scoped (record { decl = suc b; alt = suc i.0; symbol = 0 }) (meets.TooMany meets.Variables)
         (d, at, (a, i.1, meets.too_many_variables (ap is_name (sym (name_kept s sh d)) ∙ n) (subst (λ z. most_variables < z) (ap₂ (λ x y. x + y) (named sh d) counts) less)))
     alternative_there level a l m (suc t) k met =

@@ -21,7 +21,7 @@ use Rattle.ig_rewrite.specs.Found.{DeclarationsAreFound}
 use Rattle.ig_blocks.specs.Setting.{Setting, Pair, lacking, wrapped}
 use Rattle.ig_blocks.specs.Body.{call_tests, tests_of, body_of, sequence_of}
 use Rattle.ig_blocks.specs.Blocks.{setting_of, symbols_by, alternative_by, level_by, lowered_declaration, lowered_declarations, lowered_grammar}
-use Rattle.ig_blocks.proofs.Occurrences.{of_placed_symbols}
+use Rattle.ig_rewrite.specs.Throughout.{of_placed_symbols}
 use Rattle.ig_blocks.proofs.Heads.{IsSoundAt}
 use Rattle.ig_blocks.proofs.Located.{made_alternative, among_alternatives}
 use Rattle.ig_blocks.proofs.Rooting.{IsPrepared}

@@ -24,7 +24,7 @@ use Rattle.ig_blocks.specs.Body.{tests_of, arguments_of, body_of, sequence_of, c
 use Rattle.ig_blocks.specs.Blocks.{setting_of, lowered_declarations}
 use Rattle.ig_blocks.proofs.Reading.{AreApart, BindingsRead}
 use Rattle.ig_blocks.proofs.Parts.{own_part, inner_parts, parts_of_symbols, parts_of_alternatives, all_also, contains_first}
-use Rattle.ig_blocks.proofs.Placing.{Placed, PlacedSymbols, PlacedChoices}
+use Rattle.ig_rewrite.specs.Throughout.{Placed, PlacedSymbols, PlacedChoices}
 use Rattle.ig_blocks.proofs.Suiting.{IsGood, LacksAdded, binder_written, read_in, arguments_read, entry_read}
 use Rattle.ig_blocks.proofs.Forms.{label_form, filters_form, sign_form, separated_form, entry_form, tests_are, column_tests_are, wrapped_sign, wrapped_separated, wrapped_bound, bound_kept}
 use Rattle.ig_blocks.proofs.Sights.{Sight, IsPair, opened_pair, pair_cleared, sight_joined, HasColumn, kind_same}

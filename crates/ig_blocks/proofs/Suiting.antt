@@ -10,7 +10,7 @@ use Rattle.ig_text.specs.Words.{is_word}
 use Rattle.ig_expr.specs.Expression.{Expression}
 use Rattle.ig_expr.specs.Expression as expression
 use Rattle.ig_grammar.specs.Binding.{Binding}
-use Rattle.ig_grammar.specs.Condition.{Condition, IsListed, SymbolMeets, IsInLexical, declaration_of, symbols_of, expressions, variables}
+use Rattle.ig_grammar.specs.Condition.{Condition, IsListed, SymbolMeets, IsInLexical, declaration_of, expressions, variables}
 use Rattle.ig_grammar.specs.Condition as meets
 use Rattle.ig_grammar.specs.Subterms.{subterms, subterms_of_symbols, subterms_of_alternatives}
 use Rattle.ig_grammar.specs.Symbol.{Symbol, Literal, OneOf, Call, Label, Guard, Let, Opt, Star, Plus, SepStar, SepPlus, Group, Offside, Ignore, Align, Filtered, Seq, Entry}
@@ -32,7 +32,7 @@ use Rattle.ig_blocks.proofs.Reading.{IsWritten, Reads, AllRead, BindingsRead}
 use Rattle.ig_blocks.proofs.Fitting.{IsKnown, IsFit, AreFit, AreFitChoices}
 use Rattle.ig_blocks.proofs.Takes.{AreWritten}
 use Rattle.ig_blocks.proofs.Parts.{contains_first, contains_later, own_part, inner_parts, parts_of_symbols, parts_of_alternatives}
-use Rattle.ig_blocks.proofs.Placing.{Placed, PlacedSymbols, PlacedChoices}
+use Rattle.ig_rewrite.specs.Throughout.{Placed, PlacedSymbols, PlacedChoices}
 use Rattle.ig_blocks.proofs.Looking.{if_true, if_false}
 use Rattle.ig_blocks.proofs.Taking.{called_from, root_or_not}
 

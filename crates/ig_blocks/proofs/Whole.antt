@@ -30,8 +30,8 @@ use Rattle.ig_blocks.proofs.Reading.{IsWritten, AreApart}
 use Rattle.ig_blocks.proofs.Takes.{AreWritten}
 use Rattle.ig_blocks.proofs.Looking.{find, find_cons, or_else, if_true, if_false, same_word, other_word}
 use Rattle.ig_blocks.proofs.Gathering.{gathered_by}
-use Rattle.ig_blocks.proofs.Placing.{PlacedSymbols}
-use Rattle.ig_blocks.proofs.Occurrences.{placed_symbols}
+use Rattle.ig_rewrite.specs.Throughout.{PlacedSymbols}
+use Rattle.ig_rewrite.specs.Throughout.{placed_symbols}
 use Rattle.ig_blocks.proofs.Suiting.{IsGood}
 use Rattle.ig_blocks.proofs.Sights.{Sight, no_pair, handed_pair, find_join}
 use Rattle.ig_blocks.proofs.Heads.{IsSoundAt}
@@ -97,7 +97,7 @@ module _ (found : DeclarationsAreFound) (c : CheckedGrammar) (prepared : IsPrepa
   lowered = lowered_declarations s shapes g.decls
 
   abbrev place : (n k : ℕ) (d e : Decl) → slice_get g.decls n ≡ Some d → slice_get g.decls k ≡ Some e → d.name ≡ e.name → n ≡ k
-  place = one_place g prepared.sound.scoped
+  place = one_place found g prepared.sound.scoped
 
   abbrev counted : length shapes ≡ length g.decls
   counted = prepared.sound.fit.counted

@@ -14,7 +14,8 @@ pub fn blocks_keep()
     ig_meaning::trees_without_operators_are_clean();
     ig_rewrite::declarations_are_found();
     ig_rewrite::added_names_are_new();
-    ig_rewrite::rooted_is_the_same();
+    ig_rewrite::binders_are_counted();
+    ig_rewrite::root_keeps();
     ig_rewrite::same_trees_is_an_equivalence();
 }
 

@@ -56,9 +56,3 @@ named_by (d ∷ ds) name some = go (is_word d.name name) refl (named_by ds name)
         (λ none. some
         (declaration_next d ds name ∙ ap (λ z. cond z (Some d) (declaration_of ds name)) e ∙ none)) in
         record { place = suc below.place; decl = below.decl; there = below.there; named = below.named }
-
-pub declared_at : (ds : List Decl) (j : ℕ) (name : List ℕ) → slice_get (names ds) j ≡ Some name →
-    (d : Decl) × (slice_get ds j ≡ Some d) × (d.name ≡ name)
-declared_at [] j name e = cc
-declared_at (d ∷ ds) zero name e = (d, refl, cc)
-declared_at (d ∷ ds) (suc j) name e = declared_at ds j name e

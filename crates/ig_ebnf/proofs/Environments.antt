@@ -1,10 +1,9 @@
 -- Environments, by the names that are looked up in them.
-use Rattle.std.proofs.Common.{◌≡◌, ℕ, suc, ◌+◌, Bool, true, false, List, [], ◌∷◌, ◌++◌, refl, sym, ◌∙◌, ap, length}
+use Rattle.std.proofs.Common.{◌≡◌, ℕ, suc, ◌+◌, Bool, true, false, List, [], ◌∷◌, ◌++◌, refl, sym, ◌∙◌, ap}
 use Rattle.std.proofs.Common.{cond, Option, Some, None, arith}
-use Rattle.std.specs.Prelude.{◌≢◌, ◌||◌, ◌&&◌, nat_lt, not, option_and_then, option_map, slice_get, position}
-use Rattle.std.specs.List.{prefix_len}
+use Rattle.std.specs.Prelude.{◌≢◌, ◌||◌, ◌&&◌, not, option_and_then, option_map, slice_get, position}
 use Rattle.std.specs.Cmp.Lexicographic.{bytes_decides}
-use Rattle.std.proofs.lemmas.Bool.Decides.{nat_tests}
+use Rattle.ig_ebnf.proofs.CodeOfFirst.{position-cons}
 use Rattle.ig_ebnf.proofs.Definitions.{has, is_some, find, Binds, Agree, Keeps}
 use Rattle.ig_ebnf.specs.Lists.{keep, params_for, params_of, arguments}
 use Rattle.ig_expr.specs.Blocks.{outer, inside}
@@ -24,29 +23,6 @@ use Rattle.ig_meaning.specs.Environment.{AreBound}
 use Rattle.ig_meaning.specs.Environment.{no_parameters, next_parameter}
 use Rattle.ig_rewrite.specs.Needs.{uses, any_uses, is_added}
 use Rattle.ig_text.specs.Words.{is_word}
-
-abbrev pub place_after : {X : Type 0} → (X → Bool) → X → Option ℕ → Option ℕ
-place_after p x others = cond (p x) (Some 0) (option_map (λ k. k + 1) others)
-
-one_further : (k n : ℕ) →
-    cond (nat_lt (1 + k) (suc n)) (Some (1 + k)) None ≡ option_map (λ k. k + 1) (cond (nat_lt k n) (Some k) None)
-one_further k n = go (nat_lt k n) refl
-  where
-    go : (b : Bool) → nat_lt k n ≡ b →
-        cond (nat_lt (1 + k) (suc n)) (Some (1 + k)) None ≡ option_map (λ k. k + 1) (cond b (Some k) None)
-    go true e = let h : nat_lt (1 + k) (suc n) ≡ true = grind (arith, nat_tests) in rw h (ap Some (omega arith))
-    go false e = let h : nat_lt (1 + k) (suc n) ≡ false = grind (arith, nat_tests) in rw h refl
-
-zero_first : (n : ℕ) → cond {A = Option ℕ} (nat_lt 0 (suc n)) (Some 0) None ≡ Some 0
-zero_first n = let h : nat_lt 0 (suc n) ≡ true = grind (arith, nat_tests) in rw h refl
-
-pub position-cons : {X : Type 0} (p : X → Bool) (x : X) (xs : List X) →
-    position p (x ∷ xs) ≡ place_after p x (position p xs)
-position-cons p x xs = go (p x) refl
-  where
-    go : (b : Bool) → p x ≡ b → position p (x ∷ xs) ≡ cond b (Some 0) (option_map (λ k. k + 1) (position p xs))
-    go true e = rw e (zero_first (length xs))
-    go false e = rw e (one_further (prefix_len (λ y. not (p y)) xs) (length xs))
 
 at_place : {A : Type 0} (b : Bool) (members : List A) (v : A) (r : Option ℕ) →
     option_and_then (slice_get (v ∷ members)) (cond b (Some 0) (option_map (λ k. k + 1) r)) ≡

@@ -8,7 +8,7 @@ use Rattle.ig_text.proofs.Lists.{left_at}
 use Rattle.ig_grammar.specs.Name.{is_name}
 use Rattle.ig_grammar.specs.Names.{names, AreDistinct}
 use Rattle.ig_grammar.specs.Checked.{CheckedGrammar}
-use Rattle.ig_grammar.specs.Condition.{Condition, HeadMeets, StartMeets, declaration_of, symbols_of, binds_name}
+use Rattle.ig_grammar.specs.Condition.{Condition, StartMeets, declaration_of, symbols_of, binds_name}
 use Rattle.ig_grammar.specs.Condition.{named_parameters, most_variables}
 use Rattle.ig_grammar.specs.Condition as meets
 use Rattle.ig_grammar.specs.Numbering.{Levelled, by_level, alternatives}
@@ -228,7 +228,7 @@ module _ (c : CheckedGrammar) (given : Given c) where
   source_alternative b decl k lower zero met e f (meets.too_many_variables n l) =
       let from = lowered_from b decl k lower e f in
       let v = parameters decl.params in
-      let fewer = fewer_binders decl.name from.a.symbols v v from.k in
+      let fewer = fewer_binders decl.name given.counted from.a.symbols v v from.k in
       let more : most_variables < named_parameters decl + count_by (λ o. binds_name o.symbol)
       (inside_sequence v (gathered (new_symbols decl.name v from.k (gathered from.a.symbols)))) =
       subst

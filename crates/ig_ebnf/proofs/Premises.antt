@@ -1,11 +1,10 @@
 -- A sound grammar may be lowered.
-use Rattle.std.proofs.Common.{◌≡◌, ℕ, zero, suc, ◌<◌, ◌⊎◌, inl, inr, List, [], ◌∷◌, Option, Some, None, refl, sym}
-use Rattle.std.proofs.Common.{◌∙◌, ap, subst, arith, take}
+use Rattle.std.proofs.Common.{◌≡◌, ℕ, zero, suc, List, [], ◌∷◌, Option, Some, None, refl, sym}
+use Rattle.std.proofs.Common.{◌∙◌, ap, subst, arith}
 use Rattle.std.specs.Prelude.{Contains, All, slice_get}
-use Rattle.std.proofs.lemmas.Bool.{cases_order}
-use Rattle.std.proofs.lemmas.List.{take-map, append-nil}
+use Rattle.std.proofs.lemmas.List.{append-nil}
 use Rattle.std.proofs.lemmas.Option.{same_Some}
-use Rattle.ig_text.proofs.Lists.{contains_from_at, in_take}
+use Rattle.ig_text.proofs.Lists.{contains_from_at}
 use Rattle.ig_grammar.specs.Symbol.{gathered}
 use Rattle.ig_grammar.specs.Alternative.{gathered_alternatives}
 use Rattle.ig_grammar.specs.Subterms.{subterms_of_alternatives}
@@ -24,13 +23,15 @@ use Rattle.ig_grammar.specs.declared.grammar.Grammar.{Grammar}
 use Rattle.ig_grammar.specs.declared.place.Shape.{Shape}
 use Rattle.ig_grammar.specs.declared.place.Shape.TheVariants.{Root}
 use Rattle.ig_meaning.specs.Laws.{HasNoOperators}
+use Rattle.ig_rewrite.specs.Binders.{BindersAreCounted}
+use Rattle.ig_rewrite.specs.Found.{DeclarationsAreFound}
 use Rattle.ig_rewrite.specs.Added.{AddedNamesAreNew, HasNoSign}
 use Rattle.ig_rewrite.specs.Sound.{IsSound, IsFree, IsUnmarked, HasExclusionsAlone}
 use Rattle.ig_ebnf.specs.Lists.{Made, HasFewLists, count_levels, all_added}
 use Rattle.ig_ebnf.proofs.Definitions.{IsOld, MayBeLowered, Small, SymbolsProper}
 use Rattle.ig_ebnf.proofs.AddedNames.{title_at}
 use Rattle.ig_ebnf.proofs.LoweredGrammar.{into_map}
-use Rattle.ig_ebnf.proofs.Declarations.{declared_by, declared_at, named_by}
+use Rattle.ig_ebnf.proofs.Declarations.{declared_by, named_by}
 use Rattle.ig_ebnf.proofs.Occurrences.{Calm, AllCalm, of_all}
 use Rattle.ig_ebnf.proofs.ClearSymbols.{IsFit, SymbolsClear, clear_at}
 use Rattle.ig_ebnf.proofs.ProperSymbols.{symbols_proper}
@@ -66,6 +67,8 @@ clear_there (level ∷ next ∷ others) free each m a e = absurd free
 -- the laws and premises
 pub record Given (c : CheckedGrammar) : Type 0 where
   pub new : AddedNamesAreNew
+  pub counted : BindersAreCounted
+  pub found : DeclarationsAreFound
   pub sound : IsSound c
   pub free : IsFree c.grammar
   pub unmarked : IsUnmarked c.grammar
@@ -77,27 +80,8 @@ module _ (c : CheckedGrammar) (given : Given c) where
   abbrev g : Grammar
   g = c.grammar
 
-  not_again : (i j : ℕ) (name : List ℕ) → i < j → slice_get (names g.decls) i ≡ Some name →
-      slice_get (names g.decls) j ≡ Some name → ⊥
-  not_again i j name l e f =
-      let d = declared_at g.decls j name f in
-      let earlier : Contains (names (take j g.decls)) name =
-      subst (λ (z : List (List ℕ)). Contains z name) (take-map (λ (x : Decl). x.name) j g.decls)
-      (contains_from_at (take j (names g.decls)) i name (in_take (names g.decls) j i name l e)) in
-      given.sound.scoped (record { decl = suc j; alt = 0; symbol = 0 }) condition.DuplicateName (
-        d.0,
-        d.1,
-        condition.duplicate_name (subst (λ (z : List ℕ). Contains (names (take j g.decls)) z) (sym d.2) earlier),
-      )
-
   pub distinct_names : AreDistinct (names g.decls)
-  distinct_names i j name e f =
-      cases (cases_order i j)
-    where
-      cases : (i ≡ j) ⊎ ((i < j) ⊎ (j < i)) → i ≡ j
-      cases (inl same) = same
-      cases (inr (inl before)) = absurd (not_again i j name before e f)
-      cases (inr (inr behind)) = absurd (not_again j i name behind f e)
+  distinct_names = given.found.distinct g given.sound.scoped
 
   small : (n : ℕ) (decl : Decl) → slice_get g.decls n ≡ Some decl → Small (count_levels decl.levels)
   small n decl e k within = let below = given.few decl (contains_from_at g.decls n decl e) in

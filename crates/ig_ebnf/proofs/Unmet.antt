@@ -14,14 +14,15 @@ use Rattle.ig_grammar.specs.Condition.{unknown_name, wrong_arity}
 use Rattle.ig_grammar.specs.Condition.{unknown_variable, duplicate_label, duplicate_let, no_kind, guard_kind}
 use Rattle.ig_grammar.specs.Condition.{argument_kind, align_not_list}
 use Rattle.ig_grammar.specs.Condition.{offside_in_lexical, ignore_in_lexical, align_in_lexical, syntax_in_lexical}
-use Rattle.ig_grammar.specs.Symbol.{Symbol, Literal, OneOf, Call, Label, Guard, Let, Opt, Star, Plus, SepStar}
-use Rattle.ig_grammar.specs.Symbol.{SepPlus, Group, Offside, Ignore, Align}
-use Rattle.ig_grammar.specs.Symbol.{Filtered, Seq, Entry}
+use Rattle.ig_grammar.specs.Symbol.{Symbol, Literal, OneOf, Call, Label, Guard, Let}
+use Rattle.ig_grammar.specs.Symbol.{Offside, Ignore, Align}
+use Rattle.ig_grammar.specs.Symbol.{Filtered}
 use Rattle.ig_grammar.specs.Visible.{Visible, kind_at}
 use Rattle.ig_grammar.specs.declared.declaration.Decl.{Decl}
 use Rattle.ig_grammar.specs.declared.declaration.DeclKind.{DeclKind}
 use Rattle.ig_grammar.specs.declared.declaration.DeclKind.TheVariants.{Plain, Syntax}
 use Rattle.ig_grammar.specs.declared.declaration.Param.{Param}
+use Rattle.ig_grammar.specs.declared.filter.Filter.{Filter}
 use Rattle.ig_rewrite.specs.Needs.{needs, uses, any_uses}
 use Rattle.ig_grammar.specs.Condition as met
 
@@ -33,189 +34,67 @@ IsKept (Call m es) = Unit {0}
 IsKept (Label m x) = Unit {0}
 IsKept (Guard e) = Unit {0}
 IsKept (Let m e) = Unit {0}
-IsKept (Opt x) = ⊥
-IsKept (Star x) = ⊥
-IsKept (Plus x) = ⊥
-IsKept (SepStar x s) = ⊥
-IsKept (SepPlus x s) = ⊥
-IsKept (Group ys) = ⊥
-IsKept (Offside x) = ⊥
-IsKept (Ignore x) = ⊥
-IsKept (Align x) = ⊥
 IsKept (Filtered x fs) = Unit {0}
-IsKept (Seq xs) = ⊥
-IsKept (Entry bs x) = ⊥
+IsKept x = ⊥
 
-kept_call : (of : List ℕ) (v : Visible) (k : ℕ) (x : Symbol) {n : List ℕ} {a : List Expression} → IsKept x →
-    Call n a ≡ new_symbol of v k x → x ≡ Call n a
-kept_call of v k (Literal w) h eq = absurd (cc)
-kept_call of v k (OneOf w) h eq = absurd (cc)
-kept_call of v k (Call m es) h eq = sym eq
-kept_call of v k (Label m x) h eq = absurd (cc)
-kept_call of v k (Guard e) h eq = absurd (cc)
-kept_call of v k (Let m e) h eq = absurd (cc)
-kept_call of v k (Opt x) h eq = absurd h
-kept_call of v k (Star x) h eq = absurd h
-kept_call of v k (Plus x) h eq = absurd h
-kept_call of v k (SepStar x s) h eq = absurd h
-kept_call of v k (SepPlus x s) h eq = absurd h
-kept_call of v k (Group ys) h eq = absurd h
-kept_call of v k (Offside x) h eq = absurd h
-kept_call of v k (Ignore x) h eq = absurd h
-kept_call of v k (Align x) h eq = absurd h
-kept_call of v k (Filtered x fs) h eq = absurd (cc)
-kept_call of v k (Seq xs) h eq = absurd h
-kept_call of v k (Entry bs x) h eq = absurd h
+-- a symbol that stays is itself, or it has the same label or the same filters
+data KeptAs : Symbol → Symbol → Type 0 where
+  itself : (x : Symbol) → KeptAs x x
+  labelled : (name : List ℕ) (x z : Symbol) → KeptAs (Label name x) (Label name z)
+  sifted : (x z : Symbol) (filters : List Filter) → KeptAs (Filtered x filters) (Filtered z filters)
 
-kept_guard : (of : List ℕ) (v : Visible) (k : ℕ) (x : Symbol) {a : Expression} → IsKept x →
-    Guard a ≡ new_symbol of v k x → x ≡ Guard a
-kept_guard of v k (Literal w) h eq = absurd (cc)
-kept_guard of v k (OneOf w) h eq = absurd (cc)
-kept_guard of v k (Call m es) h eq = absurd (cc)
-kept_guard of v k (Label m x) h eq = absurd (cc)
-kept_guard of v k (Guard e) h eq = sym eq
-kept_guard of v k (Let m e) h eq = absurd (cc)
-kept_guard of v k (Opt x) h eq = absurd h
-kept_guard of v k (Star x) h eq = absurd h
-kept_guard of v k (Plus x) h eq = absurd h
-kept_guard of v k (SepStar x s) h eq = absurd h
-kept_guard of v k (SepPlus x s) h eq = absurd h
-kept_guard of v k (Group ys) h eq = absurd h
-kept_guard of v k (Offside x) h eq = absurd h
-kept_guard of v k (Ignore x) h eq = absurd h
-kept_guard of v k (Align x) h eq = absurd h
-kept_guard of v k (Filtered x fs) h eq = absurd (cc)
-kept_guard of v k (Seq xs) h eq = absurd h
-kept_guard of v k (Entry bs x) h eq = absurd h
+kept_as : (of : List ℕ) (v : Visible) (k : ℕ) (x : Symbol) → IsKept x → KeptAs x (new_symbol of v k x)
+kept_as of v k (Literal w) h = itself (Literal w)
+kept_as of v k (OneOf w) h = itself (OneOf w)
+kept_as of v k (Call m es) h = itself (Call m es)
+kept_as of v k (Label m x) h = labelled m x _
+kept_as of v k (Guard e) h = itself (Guard e)
+kept_as of v k (Let m e) h = itself (Let m e)
+kept_as of v k (Filtered x fs) h = sifted x _ fs
+kept_as of v k x h = absurd h
 
-kept_let : (of : List ℕ) (v : Visible) (k : ℕ) (x : Symbol) {n : List ℕ} {a : Expression} → IsKept x →
-    Let n a ≡ new_symbol of v k x → x ≡ Let n a
-kept_let of v k (Literal w) h eq = absurd (cc)
-kept_let of v k (OneOf w) h eq = absurd (cc)
-kept_let of v k (Call m es) h eq = absurd (cc)
-kept_let of v k (Label m x) h eq = absurd (cc)
-kept_let of v k (Guard e) h eq = absurd (cc)
-kept_let of v k (Let m e) h eq = sym eq
-kept_let of v k (Opt x) h eq = absurd h
-kept_let of v k (Star x) h eq = absurd h
-kept_let of v k (Plus x) h eq = absurd h
-kept_let of v k (SepStar x s) h eq = absurd h
-kept_let of v k (SepPlus x s) h eq = absurd h
-kept_let of v k (Group ys) h eq = absurd h
-kept_let of v k (Offside x) h eq = absurd h
-kept_let of v k (Ignore x) h eq = absurd h
-kept_let of v k (Align x) h eq = absurd h
-kept_let of v k (Filtered x fs) h eq = absurd (cc)
-kept_let of v k (Seq xs) h eq = absurd h
-kept_let of v k (Entry bs x) h eq = absurd h
+kept_call : {x y : Symbol} {n : List ℕ} {a : List Expression} → KeptAs x y → Call n a ≡ y → x ≡ Call n a
+kept_call (itself x) e = sym e
+kept_call (labelled m x z) e = absurd (cc)
+kept_call (sifted x z fs) e = absurd (cc)
+
+kept_guard : {x y : Symbol} {a : Expression} → KeptAs x y → Guard a ≡ y → x ≡ Guard a
+kept_guard (itself x) e = sym e
+kept_guard (labelled m x z) e = absurd (cc)
+kept_guard (sifted x z fs) e = absurd (cc)
+
+kept_let : {x y : Symbol} {n : List ℕ} {a : Expression} → KeptAs x y → Let n a ≡ y → x ≡ Let n a
+kept_let (itself x) e = sym e
+kept_let (labelled m x z) e = absurd (cc)
+kept_let (sifted x z fs) e = absurd (cc)
 
 label_same : (m n : List ℕ) {y : Symbol} (x : Symbol) {z : Symbol} → Label n y ≡ Label m z → Label m x ≡ Label n x
 label_same m n x e = let same : n ≡ m = cc in ap (λ z. Label z x) (sym same)
 
-kept_label : (of : List ℕ) (v : Visible) (k : ℕ) (x : Symbol) {n : List ℕ} {y : Symbol} → IsKept x →
-    Label n y ≡ new_symbol of v k x → (z : Symbol) × (x ≡ Label n z)
-kept_label of v k (Literal w) h eq = absurd (cc)
-kept_label of v k (OneOf w) h eq = absurd (cc)
-kept_label of v k (Call m es) h eq = absurd (cc)
-kept_label of v k (Label m x) h eq = (x, label_same m _ x eq)
-kept_label of v k (Guard e) h eq = absurd (cc)
-kept_label of v k (Let m e) h eq = absurd (cc)
-kept_label of v k (Opt x) h eq = absurd h
-kept_label of v k (Star x) h eq = absurd h
-kept_label of v k (Plus x) h eq = absurd h
-kept_label of v k (SepStar x s) h eq = absurd h
-kept_label of v k (SepPlus x s) h eq = absurd h
-kept_label of v k (Group ys) h eq = absurd h
-kept_label of v k (Offside x) h eq = absurd h
-kept_label of v k (Ignore x) h eq = absurd h
-kept_label of v k (Align x) h eq = absurd h
-kept_label of v k (Filtered x fs) h eq = absurd (cc)
-kept_label of v k (Seq xs) h eq = absurd h
-kept_label of v k (Entry bs x) h eq = absurd h
+kept_label : {x y u : Symbol} {n : List ℕ} → KeptAs x y → Label n u ≡ y → (z : Symbol) × (x ≡ Label n z)
+kept_label {u = u} (itself x) e = (u, sym e)
+kept_label (labelled m x z) e = (x, label_same m _ x e)
+kept_label (sifted x z fs) e = absurd (cc)
 
-no_offside : (of : List ℕ) (v : Visible) (k : ℕ) (x : Symbol) {y : Symbol} → IsKept x →
-    Offside y ≡ new_symbol of v k x → ⊥
-no_offside of v k (Literal w) h eq = absurd (cc)
-no_offside of v k (OneOf w) h eq = absurd (cc)
-no_offside of v k (Call m es) h eq = absurd (cc)
-no_offside of v k (Label m x) h eq = absurd (cc)
-no_offside of v k (Guard e) h eq = absurd (cc)
-no_offside of v k (Let m e) h eq = absurd (cc)
-no_offside of v k (Opt x) h eq = absurd h
-no_offside of v k (Star x) h eq = absurd h
-no_offside of v k (Plus x) h eq = absurd h
-no_offside of v k (SepStar x s) h eq = absurd h
-no_offside of v k (SepPlus x s) h eq = absurd h
-no_offside of v k (Group ys) h eq = absurd h
-no_offside of v k (Offside x) h eq = absurd h
-no_offside of v k (Ignore x) h eq = absurd h
-no_offside of v k (Align x) h eq = absurd h
-no_offside of v k (Filtered x fs) h eq = absurd (cc)
-no_offside of v k (Seq xs) h eq = absurd h
-no_offside of v k (Entry bs x) h eq = absurd h
+no_offside : {x y u : Symbol} → IsKept x → KeptAs x y → Offside u ≡ y → ⊥
+no_offside h (itself x) e = subst IsKept (sym e) h
+no_offside h (labelled m x z) e = absurd (cc)
+no_offside h (sifted x z fs) e = absurd (cc)
 
-no_ignore : (of : List ℕ) (v : Visible) (k : ℕ) (x : Symbol) {y : Symbol} → IsKept x →
-    Ignore y ≡ new_symbol of v k x → ⊥
-no_ignore of v k (Literal w) h eq = absurd (cc)
-no_ignore of v k (OneOf w) h eq = absurd (cc)
-no_ignore of v k (Call m es) h eq = absurd (cc)
-no_ignore of v k (Label m x) h eq = absurd (cc)
-no_ignore of v k (Guard e) h eq = absurd (cc)
-no_ignore of v k (Let m e) h eq = absurd (cc)
-no_ignore of v k (Opt x) h eq = absurd h
-no_ignore of v k (Star x) h eq = absurd h
-no_ignore of v k (Plus x) h eq = absurd h
-no_ignore of v k (SepStar x s) h eq = absurd h
-no_ignore of v k (SepPlus x s) h eq = absurd h
-no_ignore of v k (Group ys) h eq = absurd h
-no_ignore of v k (Offside x) h eq = absurd h
-no_ignore of v k (Ignore x) h eq = absurd h
-no_ignore of v k (Align x) h eq = absurd h
-no_ignore of v k (Filtered x fs) h eq = absurd (cc)
-no_ignore of v k (Seq xs) h eq = absurd h
-no_ignore of v k (Entry bs x) h eq = absurd h
+no_ignore : {x y u : Symbol} → IsKept x → KeptAs x y → Ignore u ≡ y → ⊥
+no_ignore h (itself x) e = subst IsKept (sym e) h
+no_ignore h (labelled m x z) e = absurd (cc)
+no_ignore h (sifted x z fs) e = absurd (cc)
 
-no_align : (of : List ℕ) (v : Visible) (k : ℕ) (x : Symbol) {y : Symbol} → IsKept x → Align y ≡ new_symbol of v k x →
-    ⊥
-no_align of v k (Literal w) h eq = absurd (cc)
-no_align of v k (OneOf w) h eq = absurd (cc)
-no_align of v k (Call m es) h eq = absurd (cc)
-no_align of v k (Label m x) h eq = absurd (cc)
-no_align of v k (Guard e) h eq = absurd (cc)
-no_align of v k (Let m e) h eq = absurd (cc)
-no_align of v k (Opt x) h eq = absurd h
-no_align of v k (Star x) h eq = absurd h
-no_align of v k (Plus x) h eq = absurd h
-no_align of v k (SepStar x s) h eq = absurd h
-no_align of v k (SepPlus x s) h eq = absurd h
-no_align of v k (Group ys) h eq = absurd h
-no_align of v k (Offside x) h eq = absurd h
-no_align of v k (Ignore x) h eq = absurd h
-no_align of v k (Align x) h eq = absurd h
-no_align of v k (Filtered x fs) h eq = absurd (cc)
-no_align of v k (Seq xs) h eq = absurd h
-no_align of v k (Entry bs x) h eq = absurd h
+no_align : {x y u : Symbol} → IsKept x → KeptAs x y → Align u ≡ y → ⊥
+no_align h (itself x) e = subst IsKept (sym e) h
+no_align h (labelled m x z) e = absurd (cc)
+no_align h (sifted x z fs) e = absurd (cc)
 
-same_expressions : (of : List ℕ) (v : Visible) (k : ℕ) (x : Symbol) → IsKept x →
-    expressions (new_symbol of v k x) ≡ expressions x
-same_expressions of v k (Literal w) h = refl
-same_expressions of v k (OneOf w) h = refl
-same_expressions of v k (Call m es) h = refl
-same_expressions of v k (Label m x) h = refl
-same_expressions of v k (Guard e) h = refl
-same_expressions of v k (Let m e) h = refl
-same_expressions of v k (Opt x) h = absurd h
-same_expressions of v k (Star x) h = absurd h
-same_expressions of v k (Plus x) h = absurd h
-same_expressions of v k (SepStar x s) h = absurd h
-same_expressions of v k (SepPlus x s) h = absurd h
-same_expressions of v k (Group ys) h = absurd h
-same_expressions of v k (Offside x) h = absurd h
-same_expressions of v k (Ignore x) h = absurd h
-same_expressions of v k (Align x) h = absurd h
-same_expressions of v k (Filtered x fs) h = refl
-same_expressions of v k (Seq xs) h = absurd h
-same_expressions of v k (Entry bs x) h = absurd h
+same_expressions : {x y : Symbol} → KeptAs x y → expressions y ≡ expressions x
+same_expressions (itself x) = refl
+same_expressions (labelled m x z) = refl
+same_expressions (sifted x z fs) = refl
 
 -- what the expressions of a kept symbol name, it needs
 all_used : (es : List Expression) (e : Expression) → Contains es e → (n : List ℕ) → uses n e ≡ true →
@@ -242,18 +121,8 @@ used_needed (Call m es) e1 kept h n u = all_used es e1 h n u
 used_needed (Label m x) e1 kept h n u = absurd (nothing_in e1 h)
 used_needed (Guard e) e1 kept h n u = one_used e e1 h n u
 used_needed (Let m e) e1 kept h n u = one_used e e1 h n u
-used_needed (Opt x) e1 kept h n u = absurd kept
-used_needed (Star x) e1 kept h n u = absurd kept
-used_needed (Plus x) e1 kept h n u = absurd kept
-used_needed (SepStar x s) e1 kept h n u = absurd kept
-used_needed (SepPlus x s) e1 kept h n u = absurd kept
-used_needed (Group ys) e1 kept h n u = absurd kept
-used_needed (Offside x) e1 kept h n u = absurd kept
-used_needed (Ignore x) e1 kept h n u = absurd kept
-used_needed (Align x) e1 kept h n u = absurd kept
 used_needed (Filtered x fs) e1 kept h n u = absurd (nothing_in e1 h)
-used_needed (Seq xs) e1 kept h n u = absurd kept
-used_needed (Entry bs x) e1 kept h n u = absurd kept
+used_needed x e1 kept h n u = absurd kept
 
 -- the call of an added declaration meets nothing
 fits_length : (w : Visible) (es : List Expression) (ps : Visible) → Fits w es ps → length es ≡ length (params_of ps)
@@ -352,53 +221,53 @@ module _ (decls lower : List Decl) (k k' : DeclKind) (lexical : IsInLexical k' �
       (of : List ℕ) (v : Visible) (m : ℕ) (x : Symbol) → IsKept x → y ≡ new_symbol of v m x →
       MayCall x → Narrow (λ n. needs n x) v w → ((d : Condition) → SymbolMeets decls k v x d → ⊥) → ⊥
   kept_unmet (unknown_name name args none) of v m x kept same may s free =
-      let is = kept_call of v m x kept same in
+      let is = kept_call (kept_as of v m x kept) same in
       free met.UnknownName (subst (λ z. SymbolMeets decls k v z met.UnknownName) (sym is)
       (unknown_name name args
       (no_option (declaration_of decls name) (sym (declared name (subst MayCall is may)) ∙ none))))
   kept_unmet (wrong_arity name args callee some wrong) of v m x kept same may s free =
-      let is = kept_call of v m x kept same in
+      let is = kept_call (kept_as of v m x kept) same in
       let from = from_option (declaration_of decls name) callee (sym (declared name (subst MayCall is may)) ∙ some) in
       free met.WrongArity (subst (λ z. SymbolMeets decls k v z met.WrongArity) (sym is)
       (wrong_arity name args from.0 from.1 (λ e. wrong (e ∙ ap (λ (z : Decl). length z.params) (sym from.2)))))
   kept_unmet (unknown_variable y e among unknown) of v m x kept same may s free =
       let there : Contains (expressions x) e =
-      subst (λ z. Contains z e) (ap expressions same ∙ same_expressions of v m x kept) among in
+      subst (λ z. Contains z e) (ap expressions same ∙ same_expressions (kept_as of v m x kept)) among in
       free met.UnknownVariable
       (unknown_variable x e there (unknown_from e (narrower s (used_needed x e kept there)) unknown))
   kept_unmet {w = w} (duplicate_label name y among) of v m x kept same may s free =
-      let is = kept_label of v m x kept same in
+      let is = kept_label (kept_as of v m x kept) same in
       free met.DuplicateVariable (subst (λ z. SymbolMeets decls k v z met.DuplicateVariable) (sym is.1)
       (duplicate_label name is.0 (has_named v name (s.less name (named_has w name among)))))
   kept_unmet {w = w} (duplicate_let name e among) of v m x kept same may s free =
-      let is = kept_let of v m x kept same in
+      let is = kept_let (kept_as of v m x kept) same in
       free met.DuplicateVariable (subst (λ z. SymbolMeets decls k v z met.DuplicateVariable) (sym is)
       (duplicate_let name e (has_named v name (s.less name (named_has w name among)))))
   kept_unmet (no_kind y e among none) of v m x kept same may s free =
       let there : Contains (expressions x) e =
-      subst (λ z. Contains z e) (ap expressions same ∙ same_expressions of v m x kept) among in
+      subst (λ z. Contains z e) (ap expressions same ∙ same_expressions (kept_as of v m x kept)) among in
       let s1 = narrower s (used_needed x e kept there) in
       free met.KindMismatch (no_kind x e there ((λ u. none.0 (unknown_to e s1 u)), same_kind e s1 ∙ none.1))
   kept_unmet {w = w} (guard_kind e other) of v m x kept same may s free =
-      let is = kept_guard of v m x kept same in
+      let is = kept_guard (kept_as of v m x kept) same in
       let s1 = subst (λ z. Narrow (λ n. needs n z) v w) is s in
       free met.KindMismatch
       (subst (λ z. SymbolMeets decls k v z met.KindMismatch) (sym is)
       (guard_kind e (λ some. other (sym (same_kind e s1) ∙ some))))
   kept_unmet {w = w} (argument_kind name args callee n e q some at_e at_q other) of v m x kept same may s free =
-      let is = kept_call of v m x kept same in
+      let is = kept_call (kept_as of v m x kept) same in
       let from = from_option (declaration_of decls name) callee (sym (declared name (subst MayCall is may)) ∙ some) in
       let s1 = subst (λ z. Narrow (λ n. needs n z) v w) is s in
       let among : Contains args e = contains_from_at args n e at_e in
       free met.KindMismatch (subst (λ z. SymbolMeets decls k v z met.KindMismatch) (sym is)
       (argument_kind name args from.0 n e q from.1 at_e (ap (λ (z : Decl). slice_get z.params n) (sym from.2) ∙ at_q)
       (λ is_kind. other (sym (same_kind e (narrower s1 (all_used args e among))) ∙ is_kind))))
-  kept_unmet (align_not_list y not_list) of v m x kept same may s free = no_align of v m x kept same
-  kept_unmet (offside_in_lexical y is) of v m x kept same may s free = no_offside of v m x kept same
-  kept_unmet (ignore_in_lexical y is) of v m x kept same may s free = no_ignore of v m x kept same
-  kept_unmet (align_in_lexical y is) of v m x kept same may s free = no_align of v m x kept same
+  kept_unmet (align_not_list y not_list) of v m x kept same may s free = no_align kept (kept_as of v m x kept) same
+  kept_unmet (offside_in_lexical y is) of v m x kept same may s free = no_offside kept (kept_as of v m x kept) same
+  kept_unmet (ignore_in_lexical y is) of v m x kept same may s free = no_ignore kept (kept_as of v m x kept) same
+  kept_unmet (align_in_lexical y is) of v m x kept same may s free = no_align kept (kept_as of v m x kept) same
   kept_unmet (syntax_in_lexical name args callee is some syntax) of v m x kept same may s free =
-      let there = kept_call of v m x kept same in
+      let there = kept_call (kept_as of v m x kept) same in
       let from =
       from_option (declaration_of decls name) callee (sym (declared name (subst MayCall there may)) ∙ some) in
       free met.SyntaxInLexical (subst (λ z. SymbolMeets decls k v z met.SyntaxInLexical) (sym there)

@@ -11,6 +11,8 @@ pub fn lowering_keeps()
 {
     ig_meaning::trees_without_operators_are_clean();
     ig_rewrite::added_names_are_new();
+    ig_rewrite::binders_are_counted();
+    ig_rewrite::declarations_are_found();
 }
 
 /// With lists, options and groups as calls of added nonterminals, and with the root, a checked
@@ -22,6 +24,8 @@ pub fn lists_keep()
 {
     ig_meaning::trees_without_operators_are_clean();
     ig_rewrite::added_names_are_new();
-    ig_rewrite::rooted_is_the_same();
+    ig_rewrite::binders_are_counted();
+    ig_rewrite::declarations_are_found();
+    ig_rewrite::root_keeps();
     ig_rewrite::same_trees_is_an_equivalence();
 }

@@ -160,7 +160,8 @@ impl Variables {
 
 /// Adds a parameter.
 fn push_param(alloc: Global, params: &mut Params, name: &Word, kind: Kind) -> Result<(), AllocError>
-    ensures { OnOk result (params.new ≡ params.old ++ record { name = name.now; kind = kind } ∷ []) }
+    ensures { OnOk result
+        (params.new ≡ params.old ++ record { name = name.now; kind = kind } ∷ []) }
 {
     let name = name.copy(alloc)?;
     params

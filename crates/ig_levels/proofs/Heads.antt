@@ -1,13 +1,12 @@
 -- At the heads of declarations without levels, and at their start line, no condition holds that didn't hold before.
 use Rattle.std.proofs.Common.{◌≡◌, ◌⊎◌, ◌∙◌, ℕ, zero, suc, ◌+◌, ◌<◌, Bool, true, false, List, [], ◌∷◌, ◌++◌, Option, Some, None, cond, map, take, length, refl, sym, ap, subst, inl, inr, arith}
-use Rattle.std.specs.Prelude.{Contains, slice_get, option_map, option_and_then, count_by}
+use Rattle.std.specs.Prelude.{Contains, slice_get, option_map, count_by}
 use Rattle.std.proofs.lemmas.List.{take-map, append-nil}
 use Rattle.std.proofs.lemmas.List.Sums.{sum_by-append, sum_by-cons}
 use Rattle.std.proofs.lemmas.Option.{slice_get-map, slice_get_within}
 use Rattle.ig_text.specs.Words.{is_word}
 use Rattle.ig_text.proofs.Lists.{contains_from_at, at_from_contains, contains_one, none_in_nil, within_take, in_take, sides}
 use Rattle.ig_text.proofs.Options.{mapped}
-use Rattle.ig_expr.specs.Names.{place_of}
 use Rattle.ig_expr.specs.declared.kind.Kind.{Kind}
 use Rattle.ig_expr.specs.declared.kind.Kind.TheVariants.{Int}
 use Rattle.ig_grammar.specs.Name.{is_name}
@@ -121,7 +120,7 @@ module _ (new : AddedNamesAreNew) where
       plain : (n : ℕ) → n + 0 ≡ n
       plain n = omega arith
 
-module _ (g : Grammar) where
+module _ (found : DeclarationsAreFound) (g : Grammar) where
   abbrev levelled : List ℕ → Bool
   levelled = names_levelled g.decls
 
@@ -141,34 +140,24 @@ module _ (g : Grammar) where
       sum_by-cons (λ e. cond (is_name e.name) 1 0) (turn d) (map turn ds) ∙ ap (λ n. cond (is_name d.name) 1 0 + n) (count_kept ds) ∙
       sym (sum_by-cons (λ e. cond (is_name e.name) 1 0) d ds)
 
-  found_along : (decls : List Decl) (p : Option ℕ) →
-      option_and_then (slice_get (map turn decls)) p ≡ option_map turn (option_and_then (slice_get decls) p)
-  found_along decls None = refl
-  found_along decls (Some k) = slice_get-map turn decls k
-
-  pub declaration_along : (decls : List Decl) (name : List ℕ) →
-      declaration_of (map turn decls) name ≡ option_map turn (declaration_of decls name)
-  declaration_along decls name =
-      ap (λ ns. option_and_then (slice_get (map turn decls)) (place_of ns name)) (names_kept decls) ∙ found_along decls (place_of (names decls) name)
-
   abbrev Before : List ℕ → Decl → Type 0
   Before name e = (d : Decl) × (declaration_of g.decls name ≡ Some d) × (e ≡ turn d)
 
   declared_before : (name : List ℕ) (e : Decl) → declaration_of h.decls name ≡ Some e → Before name e
-  declared_before name e f = mapped turn (declaration_of g.decls name) e (sym (declaration_along g.decls name) ∙ f)
+  declared_before name e f = mapped turn (declaration_of g.decls name) e (sym (found.changed turn (λ d. refl) g.decls name) ∙ f)
 
   undeclared_before : (name : List ℕ) → declaration_of h.decls name ≡ None → declaration_of g.decls name ≡ None
-  undeclared_before name f = go (declaration_of g.decls name) refl (sym (declaration_along g.decls name) ∙ f)
+  undeclared_before name f = go (declaration_of g.decls name) refl (sym (found.changed turn (λ d. refl) g.decls name) ∙ f)
     where
       go : (o : Option Decl) → declaration_of g.decls name ≡ o → option_map turn o ≡ None → declaration_of g.decls name ≡ None
       go None q f = q
       go (Some d) q f = absurd (cc)
 
   -- a name is levelled where its declaration is
-  pub levelled_known : DeclarationsAreFound → (decls : List Decl) (name : List ℕ) (d : Decl) → declaration_of decls name ≡ Some d → names_levelled decls name ≡ is_levelled d.levels
-  levelled_known found [] name d e = absurd (cc)
-  levelled_known found (first ∷ others) name d e =
-      go (is_word first.name name) (sym (found.first first others name) ∙ e) (levelled_known found others name d)
+  pub levelled_known : (decls : List Decl) (name : List ℕ) (d : Decl) → declaration_of decls name ≡ Some d → names_levelled decls name ≡ is_levelled d.levels
+  levelled_known [] name d e = absurd (cc)
+  levelled_known (first ∷ others) name d e =
+      go (is_word first.name name) (sym (found.first first others name) ∙ e) (levelled_known others name d)
     where
       go : (b : Bool) → cond b (Some first) (declaration_of others name) ≡ Some d → (declaration_of others name ≡ Some d → names_levelled others name ≡ is_levelled d.levels) →
           cond b (is_levelled first.levels) (names_levelled others name) ≡ is_levelled d.levels

@@ -1,8 +1,7 @@
 -- What the pass keeps, from the laws of what it stands on.
-use Rattle.std.proofs.Common.{◌≡◌, ◌∙◌, ℕ, ◌<◌, true, false, List, Some, length, refl, sym, ap, subst}
+use Rattle.std.proofs.Common.{◌≡◌, ◌∙◌, ℕ, true, false, List, Some, sym, ap, subst}
 use Rattle.std.specs.Prelude.{slice_get}
-use Rattle.std.proofs.lemmas.Option.{slice_get-map, slice_get_within}
-use Rattle.ig_text.proofs.Lists.{get_within}
+use Rattle.std.proofs.lemmas.Option.{slice_get-map}
 use Rattle.ig_text.proofs.Options.{mapped, one_value}
 use Rattle.ig_grammar.specs.Checked.{CheckedGrammar}
 use Rattle.ig_grammar.specs.Condition.{declaration_of}
@@ -14,7 +13,8 @@ use Rattle.ig_meaning.specs.Laws.{TreesWithoutOperatorsAreClean}
 use Rattle.ig_rewrite.specs.Added.{left_name, right_name, AddedNamesAreNew, HasNoSign}
 use Rattle.ig_rewrite.specs.Found.{DeclarationsAreFound}
 use Rattle.ig_rewrite.specs.Needs.{IsEntered}
-use Rattle.ig_rewrite.specs.Rooted.{rooted, has_root, RootedIsTheSame}
+use Rattle.ig_rewrite.specs.KeptByRoot.{RootAt, RootKeeps}
+use Rattle.ig_rewrite.specs.Rooted.{rooted, has_root}
 use Rattle.ig_rewrite.specs.SameTrees.{PermitSame, SameTreesIsAnEquivalence}
 use Rattle.ig_rewrite.specs.Sound.{IsSound}
 use Rattle.ig_levels.specs.Levels.{is_levelled, names_levelled, lowered_declaration, lowered_grammar, LevelsOf}
@@ -22,9 +22,8 @@ use Rattle.ig_levels.specs.Laws.{LevelsKeep}
 use Rattle.ig_levels.proofs.Clearing.{clear_of}
 use Rattle.ig_levels.proofs.Keeping.{in_map, kept_at_levels}
 use Rattle.ig_levels.proofs.Lacking.{stays_unbound}
-use Rattle.ig_levels.proofs.Permitting.{root_there, lowered_is_free, permits_same}
+use Rattle.ig_levels.proofs.Permitting.{lowered_is_free, permits_same}
 use Rattle.ig_levels.proofs.Premises.{Lowerable, lowerable, one_free}
-use Rattle.ig_levels.proofs.RootSound.{rooted_soundly}
 use Rattle.ig_levels.proofs.Scoped.{lowered_is_well_scoped}
 use Rattle.ig_levels.proofs.Shaped.{lowered_fits, root_calls_kept}
 use Rattle.ig_levels.proofs.Standing.{keeps_placed}
@@ -34,7 +33,7 @@ use Rattle.ig_levels.proofs.Wanting.{keeps_entered}
 pub record Given : Type 0 where
   pub new : AddedNamesAreNew
   pub found : DeclarationsAreFound
-  pub rooting : RootedIsTheSame
+  pub root : RootKeeps
   pub equivalence : SameTreesIsAnEquivalence
   pub cleans : TreesWithoutOperatorsAreClean
 
@@ -42,21 +41,20 @@ abbrev lowered : CheckedGrammar → CheckedGrammar
 lowered c = record { grammar = lowered_grammar c.grammar; shapes = c.shapes }
 
 module _ (given : Given) (c : CheckedGrammar) (sound : IsSound c) (has : has_root c.shapes ≡ true) (may : Lowerable c.grammar c.shapes) where
+  at : RootAt c
+  at = given.root.stands c sound.fit has
+
   -- the start stands for the root, so it isn't levelled
   start_plain : (name : List ℕ) (decl : Decl) → c.grammar.start ≡ Some name → declaration_of c.grammar.decls name ≡ Some decl → is_levelled decl.levels ≡ false
   start_plain name decl started found =
-      let at = root_there c.shapes has in
-      let within : at.0 < length c.grammar.decls = subst (λ z. at.0 < z) sound.fit.counted (slice_get_within c.shapes at.0 Root at.1) in
-      let there = get_within c.grammar.decls at.0 within in
-      let fits = sound.fit.each at.0 there.0 Root there.1 at.1 in
-      let named : there.0.name ≡ name = one_value c.grammar.start there.0.name name (fits.root refl).start started in
-      let same : there.0 ≡ decl =
-      one_value (declaration_of c.grammar.decls name) there.0 decl
-      (subst (λ z. declaration_of c.grammar.decls z ≡ Some there.0) named (given.found.itself c.grammar at.0 there.0 sound.scoped there.1)) found in
-      ap (λ (z : Decl). is_levelled z.levels) (sym same) ∙ one_free there.0.levels (fits.level (λ e. cc))
+      let named : at.decl.name ≡ name = one_value c.grammar.start at.decl.name name at.start started in
+      let same : at.decl ≡ decl =
+      one_value (declaration_of c.grammar.decls name) at.decl decl
+      (subst (λ z. declaration_of c.grammar.decls z ≡ Some at.decl) named (given.found.itself c.grammar at.before at.decl sound.scoped at.declared)) found in
+      ap (λ (z : Decl). is_levelled z.levels) (sym same) ∙ one_free at.decl.levels ((sound.fit.each at.before at.decl Root at.declared at.shaped).level (λ e. cc))
 
   permitted_same : PermitSame c (lowered c)
-  permitted_same = record { same = λ text t. permits_same c.grammar c.shapes text given.cleans may has t }
+  permitted_same = record { same = λ text t. permits_same c.grammar c.shapes text given.cleans may at t }
 
   sound_still : IsSound (lowered c)
   sound_still =
@@ -80,12 +78,13 @@ module _ (given : Given) (c : CheckedGrammar) (sound : IsSound c) (has : has_roo
 
 pub levels_keep : Given → LevelsKeep
 levels_keep given c sound left right =
-    let root = rooted_soundly given.new given.rooting given.equivalence c sound in
+    let to = given.root.sound c sound in
+    let kept = given.root.kept c sound.fit in
     let r = rooted Syntax c in
-    let may = lowerable r.grammar r.shapes root.sound.scoped root.sound.fit (clear_of r.grammar (root.unbound left_name left) (root.unbound right_name right)) in
+    let may = lowerable given.found r.grammar r.shapes to.sound.scoped to.sound.fit (clear_of r.grammar (kept.unbound left_name left) (kept.unbound right_name right)) in
     record {
-      same = given.equivalence.chained c r (LevelsOf c) root.same (permitted_same given r root.sound root.has may);
-      sound = sound_still given r root.sound root.has may;
+      same = given.equivalence.chained c r (LevelsOf c) to.same (permitted_same given r to.sound kept.has may);
+      sound = sound_still given r to.sound kept.has may;
       free = lowered_is_free r.grammar;
-      unbound = λ name not_left not_right u. stays_unbound r.grammar name not_left not_right (root.unbound name u);
+      unbound = λ name not_left not_right u. stays_unbound r.grammar name not_left not_right (kept.unbound name u);
     }

@@ -16,7 +16,6 @@ pub mod Permitting
 pub mod Kinding
 pub mod Unmet
 pub mod Sequences
-pub mod RootSound
 pub mod Keeping
 pub mod Standing
 pub mod Wanting

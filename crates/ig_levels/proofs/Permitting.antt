@@ -1,10 +1,9 @@
 -- A grammar in which a declaration stands for the root permits the same trees without levels.
-use Rattle.std.proofs.Common.{◌≡◌, ℕ, suc, ◌<◌, Bool, true, false, List, [], ◌∷◌, length, refl, sym, ◌∙◌, ap, subst, Some, cond}
+use Rattle.std.proofs.Common.{◌≡◌, ℕ, suc, Bool, true, false, List, [], ◌∷◌, length, refl, sym, ◌∙◌, ap, subst, Some}
 use Rattle.std.specs.Prelude.{◌↔◌, slice_get}
-use Rattle.std.proofs.lemmas.Option.{slice_get_within}
 use Rattle.ig_text.specs.declared.tag.Tag.TheVariants as tag
 use Rattle.ig_text.specs.Tree.{Tree, Trees, Node}
-use Rattle.ig_text.proofs.Lists.{at_from_contains, get_within}
+use Rattle.ig_text.proofs.Lists.{at_from_contains}
 use Rattle.ig_grammar.specs.Symbol.{Symbol}
 use Rattle.ig_meaning.specs.Environment.{Environment}
 use Rattle.ig_grammar.specs.Numbering.{Levelled, Declares, IsAlternative}
@@ -19,7 +18,7 @@ use Rattle.ig_grammar.specs.declared.grammar.Grammar.{Grammar}
 use Rattle.ig_grammar.specs.declared.place.Shape.{Shape}
 use Rattle.ig_grammar.specs.declared.place.Shape.TheVariants as shape
 use Rattle.ig_grammar.specs.declared.symbol.Alt.{Alt}
-use Rattle.ig_rewrite.specs.Rooted.{is_root, has_root}
+use Rattle.ig_rewrite.specs.KeptByRoot.{RootAt}
 use Rattle.ig_rewrite.specs.Sound.{IsFree}
 use Rattle.ig_text.proofs.Options.{mapped}
 use Rattle.std.proofs.lemmas.Option.{slice_get-map}
@@ -33,18 +32,6 @@ use Rattle.ig_levels.proofs.Forth.{covers_to}
 use Rattle.ig_levels.proofs.Back.{covers_from}
 use Rattle.ig_levels.proofs.Nodes.{clean_other}
 use Rattle.ig_levels.proofs.Idle.{idle_wanted, no_tests}
-
--- a root among the shapes
-pub root_there : (shapes : List Shape) → has_root shapes ≡ true → (k : ℕ) × (slice_get shapes k ≡ Some shape.Root)
-root_there [] h = absurd (cc)
-root_there (s ∷ shapes) h = go s refl (root_there shapes)
-  where
-    behind : (has_root shapes ≡ true → (k : ℕ) × (slice_get shapes k ≡ Some shape.Root)) → has_root shapes ≡ true → (k : ℕ) × (slice_get (s ∷ shapes) k ≡ Some shape.Root)
-    behind below e = let at = below e in (suc at.0, at.1)
-
-    go : (r : Shape) → s ≡ r → (has_root shapes ≡ true → (k : ℕ) × (slice_get shapes k ≡ Some shape.Root)) → (k : ℕ) × (slice_get (s ∷ shapes) k ≡ Some shape.Root)
-    go shape.Root e below = (0, ap Some e)
-    go r e below = behind below (sym (ap (λ z. cond (is_root z) true (has_root shapes)) e) ∙ h)
 
 some_same : {X : Type 0} (x y : X) → Some x ≡ Some y → x ≡ y
 some_same x y e = cc
@@ -62,7 +49,7 @@ lowered_is_free g decl among =
     subst (λ (z : Decl). HasNoOperators z.levels) (sym from.2) (one_free from.0.levels _)
 
 module _ (g : Grammar) (shapes : List Shape) (text : List ℕ) (cleans : TreesWithoutOperatorsAreClean) (may : Lowerable g shapes)
-    (has : has_root shapes ≡ true) where
+    (root : RootAt (record { grammar = g; shapes = shapes })) where
   abbrev g' : Grammar
   g' = lowered_grammar g
 
@@ -73,24 +60,20 @@ module _ (g : Grammar) (shapes : List Shape) (text : List ℕ) (cleans : TreesWi
   takes = takes_of g shapes may
 
   -- where a shape is `Root`, its declaration is the start
-  pub record RootAt (start : List ℕ) : Type 0 where
+  pub record StartAt (start : List ℕ) : Type 0 where
     pub d : ℕ
     pub decl : Decl
     pub declares : Declares g shapes start d decl shape.Root
 
-  root_at : (start : List ℕ) → g.start ≡ Some start → RootAt start
+  root_at : (start : List ℕ) → g.start ≡ Some start → StartAt start
   root_at start starts =
-      let at = root_there shapes has in
-      let within : at.0 < length g.decls = subst (λ z. at.0 < z) may.lengths (slice_get_within shapes at.0 shape.Root at.1) in
-      let declaration = get_within g.decls at.0 within in
-      let is = may.root (suc at.0) declaration.0 (at.0, refl, declaration.1) (at.0, refl, at.1) in
       record {
-        d = suc at.0;
-        decl = declaration.0;
+        d = suc root.before;
+        decl = root.decl;
         declares = record {
-          numbered = (at.0, refl, declaration.1);
-          shaped = (at.0, refl, at.1);
-          named = some_same declaration.0.name start (sym is ∙ starts);
+          numbered = (root.before, refl, root.declared);
+          shaped = (root.before, refl, root.shaped);
+          named = some_same root.decl.name start (sym root.start ∙ starts);
         };
       }
 

@@ -1,8 +1,6 @@
 -- What the proofs use of a checked grammar in which the added names are not bound.
-use Rattle.std.proofs.Common.{◌≡◌, ℕ, zero, suc, ◌<◌, ◌⊎◌, inl, inr, true, false, List, [], ◌∷◌, length, Some, refl, sym, ◌∙◌, ap, subst, arith, take}
+use Rattle.std.proofs.Common.{◌≡◌, ℕ, suc, ◌<◌, true, false, List, [], ◌∷◌, length, Some, refl, sym, ◌∙◌, ap, subst, arith}
 use Rattle.std.specs.Prelude.{◌≢◌, Contains, slice_get, not}
-use Rattle.std.proofs.lemmas.Bool.{cases_order}
-use Rattle.std.proofs.lemmas.List.{take-map}
 use Rattle.ig_grammar.specs.declared.grammar.Grammar.{Grammar}
 use Rattle.ig_grammar.specs.declared.declaration.Assoc.{Assoc}
 use Rattle.ig_grammar.specs.declared.declaration.Assoc.TheVariants.{Free, Left, Right, Nonassoc}
@@ -10,64 +8,36 @@ use Rattle.ig_grammar.specs.declared.declaration.DeclKind.TheVariants.{Layout}
 use Rattle.ig_grammar.specs.declared.declaration.Decl.{Decl}
 use Rattle.ig_grammar.specs.declared.declaration.Level.{Level}
 use Rattle.ig_grammar.specs.declared.place.Shape.{Shape}
-use Rattle.ig_grammar.specs.declared.place.Shape.TheVariants.{Rule, Root}
+use Rattle.ig_grammar.specs.declared.place.Shape.TheVariants.{Rule}
 use Rattle.ig_grammar.specs.Checked.{FitShapes, IsOneFreeLevel}
 use Rattle.ig_grammar.specs.Condition.{DuplicateName, duplicate_name, LayoutNotPlain, layout_not_plain, IsNotPlain}
 use Rattle.ig_grammar.specs.Condition as plain
 use Rattle.ig_grammar.specs.Names.{AreDistinct, names}
 use Rattle.ig_grammar.specs.Numbering.{IsDeclaration, HasShape, Levelled, IsAlternative}
 use Rattle.ig_grammar.specs.WellScoped.{IsWellScoped}
-use Rattle.ig_text.proofs.Lists.{contains_from_at, in_take}
+use Rattle.ig_rewrite.specs.Found.{DeclarationsAreFound}
 use Rattle.ig_levels.specs.Levels.{is_levelled, is_free}
 use Rattle.ig_levels.proofs.Bounds.{AllClear, ParametersOfSource}
 
 pub record Lowerable (g : Grammar) (shapes : List Shape) : Type 0 where
   pub distinct : AreDistinct (names g.decls)
-  pub lengths : length shapes ≡ length g.decls
   -- a levelled declaration is a rule
   pub rules : (d : ℕ) (decl : Decl) (shape : Shape) → IsDeclaration g d decl → HasShape shapes d shape → is_levelled decl.levels ≡ true → shape ≡ Rule
   pub plain_layout : (d : ℕ) (decl : Decl) → IsDeclaration g d decl → decl.kind ≡ Layout → is_levelled decl.levels ≡ false
   pub parameters : (d : ℕ) (decl : Decl) → IsDeclaration g d decl → ParametersOfSource decl.params
   pub clear : (d : ℕ) (decl : Decl) (k : ℕ) (a : Levelled) → IsDeclaration g d decl → IsAlternative decl k a → AllClear a.alternative.symbols
-  -- a declaration that stands for the root is the start
-  pub root : (d : ℕ) (decl : Decl) → IsDeclaration g d decl → HasShape shapes d Root → g.start ≡ Some decl.name
 
 -- no name that is bound or read in the grammar is one of the added ones
 pub record IsClear (g : Grammar) : Type 0 where
   pub parameters : (d : ℕ) (decl : Decl) → IsDeclaration g d decl → ParametersOfSource decl.params
   pub clear : (d : ℕ) (decl : Decl) (k : ℕ) (a : Levelled) → IsDeclaration g d decl → IsAlternative decl k a → AllClear a.alternative.symbols
 
-declared_at : (ds : List Decl) (j : ℕ) (name : List ℕ) → slice_get (names ds) j ≡ Some name →
-    (d : Decl) × (slice_get ds j ≡ Some d) × (d.name ≡ name)
-declared_at [] j name e = cc
-declared_at (d ∷ ds) zero name e = (d, refl, cc)
-declared_at (d ∷ ds) (suc j) name e = declared_at ds j name e
-
 pub one_free : (levels : List Level) → IsOneFreeLevel levels → is_levelled levels ≡ false
 one_free [] h = absurd h
 one_free (level ∷ []) h = ap (λ z. not (is_free z)) h
 one_free (level ∷ next ∷ others) h = absurd h
 
-module _ (g : Grammar) (shapes : List Shape) (scoped : IsWellScoped g) (fit : FitShapes g shapes) (clear : IsClear g) where
-  not_again : (i j : ℕ) (name : List ℕ) → i < j → slice_get (names g.decls) i ≡ Some name →
-      slice_get (names g.decls) j ≡ Some name → ⊥
-  not_again i j name l e f =
-      let d = declared_at g.decls j name f in
-      let earlier : Contains (names (take j g.decls)) name =
-      subst (λ (z : List (List ℕ)). Contains z name) (take-map (λ (x : Decl). x.name) j g.decls)
-      (contains_from_at (take j (names g.decls)) i name (in_take (names g.decls) j i name l e)) in
-      scoped (record { decl = suc j; alt = 0; symbol = 0 }) DuplicateName
-      (d.0, d.1, duplicate_name (subst (λ (z : List ℕ). Contains (names (take j g.decls)) z) (sym d.2) earlier))
-
-  distinct_names : AreDistinct (names g.decls)
-  distinct_names i j name e f =
-      cases (cases_order i j)
-    where
-      cases : (i ≡ j) ⊎ ((i < j) ⊎ (j < i)) → i ≡ j
-      cases (inl same) = same
-      cases (inr (inl before)) = absurd (not_again i j name before e f)
-      cases (inr (inr behind)) = absurd (not_again j i name behind f e)
-
+module _ (found : DeclarationsAreFound) (g : Grammar) (shapes : List Shape) (scoped : IsWellScoped g) (fit : FitShapes g shapes) (clear : IsClear g) where
   places : (d : ℕ) (decl : Decl) (shape : Shape) → (at : IsDeclaration g d decl) (shaped : HasShape shapes d shape) → slice_get shapes at.0 ≡ Some shape
   places d decl shape at shaped =
       let same : shaped.0 ≡ at.0 = (let e : suc shaped.0 ≡ suc at.0 = sym shaped.1 ∙ at.1 in omega (arith, e)) in
@@ -106,11 +76,9 @@ module _ (g : Grammar) (shapes : List Shape) (scoped : IsWellScoped g) (fit : Fi
   pub lowerable : Lowerable g shapes
   lowerable =
       record {
-        distinct = distinct_names;
-        lengths = fit.counted;
+        distinct = found.distinct g scoped;
         rules = only_rules;
         plain_layout = plain_layout;
         parameters = clear.parameters;
         clear = clear.clear;
-        root = λ d decl at shaped. ((fit.each at.0 decl Root at.2 (places d decl Root at shaped)).root refl).start;
       }

@@ -16,7 +16,7 @@ use Rattle.ig_rewrite.specs.Added.{left_name, right_name, AddedNamesAreNew}
 use Rattle.ig_rewrite.specs.Found.{DeclarationsAreFound}
 use Rattle.ig_levels.specs.Levels.{is_levelled, names_levelled, added_parameters, lowered_alternative, lowered_declaration, lowered_grammar}
 use Rattle.ig_levels.proofs.Alternatives.{alternative_at, alternative_before}
-use Rattle.ig_levels.proofs.Heads.{declaration_along, levelled_known, start_before, head_before, same_named}
+use Rattle.ig_levels.proofs.Heads.{levelled_known, start_before, head_before, same_named}
 use Rattle.ig_levels.proofs.Keeping.{test}
 use Rattle.ig_levels.proofs.Kinded.{InsertedKinds}
 use Rattle.ig_levels.proofs.Partners.{IsTest, Partner, occurs, counted, parameters_inserted}
@@ -67,7 +67,7 @@ module _ (new : AddedNamesAreNew) (found : DeclarationsAreFound) (g : Grammar) (
             Partner levelled (is_levelled decl.levels) (symbols_of decl a.alternative) o → ⊥
         go (inl t) = test_none t t.name refl t.bound
         go (inr p) =
-            unmet levelled g.decls h.decls decl.kind (declaration_along g g.decls) (levelled_known g found g.decls) met p.x p.pair p.same p.v p.inserted p.fits p.clear
+            unmet levelled g.decls h.decls decl.kind (found.changed turn (λ d. refl) g.decls) (levelled_known found g g.decls) met p.x p.pair p.same p.v p.inserted p.fits p.clear
             (λ d m. none_met g scoped b k decl a declared numbered (record { visible = p.v; symbol = p.x }) p.there d m)
 
     symbol_there : (s : ℕ) (c : Condition) → AlternativeHas h.decls (turn decl) (lowered_alternative levelled decl a) s c → ⊥
@@ -87,7 +87,7 @@ module _ (new : AddedNamesAreNew) (found : DeclarationsAreFound) (g : Grammar) (
 
   declaration_there : (b a s : ℕ) (decl : Decl) (c : Condition) → slice_get g.decls b ≡ Some decl → DeclarationHas h.decls b (turn decl) a s c → ⊥
   declaration_there b zero zero decl c e m =
-      head_before g new b decl (may.parameters (suc b) decl (b, refl, e)) (may.plain_layout (suc b) decl (b, refl, e))
+      head_before found g new b decl (may.parameters (suc b) decl (b, refl, e)) (may.plain_layout (suc b) decl (b, refl, e))
       (λ d n. scoped (record { decl = suc b; alt = 0; symbol = 0 }) d (decl, e, n)) c m
   declaration_there b zero (suc s) decl c e m = m
   declaration_there b (suc k) s decl c e m =
@@ -98,7 +98,7 @@ module _ (new : AddedNamesAreNew) (found : DeclarationsAreFound) (g : Grammar) (
   lowered_is_well_scoped place c has = go place.decl place.alt place.symbol has
     where
       go : (d a s : ℕ) → GrammarHas h d a s c → ⊥
-      go zero zero zero m = scoped (record { decl = 0; alt = 0; symbol = 0 }) c (start_before g start_plain c m)
+      go zero zero zero m = scoped (record { decl = 0; alt = 0; symbol = 0 }) c (start_before found g start_plain c m)
       go zero zero (suc s) m = m
       go zero (suc a) s m = m
       go (suc b) a s m =

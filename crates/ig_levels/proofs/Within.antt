@@ -14,13 +14,13 @@ use Rattle.ig_levels.proofs.Forth.{instance_to}
 use Rattle.ig_levels.proofs.Kept.{Given}
 use Rattle.ig_levels.proofs.Declaring.{takes_of}
 use Rattle.ig_levels.proofs.Premises.{lowerable}
-use Rattle.ig_levels.proofs.RootSound.{rooted_soundly}
 
 pub bounds_ask : Given → BoundsAskOfSpines
 bounds_ask given c sound left right text name vs kind i e t starts l r levelled =
-    let root = rooted_soundly given.new given.rooting given.equivalence c sound in
+    let to = given.root.sound c sound in
+    let kept = given.root.kept c sound.fit in
     let d = rooted Syntax c in
-    let may = lowerable d.grammar d.shapes root.sound.scoped root.sound.fit (clear_of d.grammar (root.unbound left_name left) (root.unbound right_name right)) in
+    let may = lowerable given.found d.grammar d.shapes to.sound.scoped to.sound.fit (clear_of d.grammar (kept.unbound left_name left) (kept.unbound right_name right)) in
     let takes = takes_of d.grammar d.shapes may in
     let is : vs ++ bound_values (bounds_of (names_levelled d.grammar.decls name) l r) ≡ vs ++ bound_values (bounds_of true l r) =
     ap (λ z. vs ++ bound_values (bounds_of z l r)) levelled in (

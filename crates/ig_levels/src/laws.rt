@@ -12,7 +12,7 @@ pub fn levels_keep()
     ig_meaning::trees_without_operators_are_clean();
     ig_rewrite::added_names_are_new();
     ig_rewrite::declarations_are_found();
-    ig_rewrite::rooted_is_the_same();
+    ig_rewrite::root_keeps();
     ig_rewrite::same_trees_is_an_equivalence();
 }
 
@@ -26,6 +26,6 @@ pub fn bounds_ask_of_spines()
     ig_meaning::trees_without_operators_are_clean();
     ig_rewrite::added_names_are_new();
     ig_rewrite::declarations_are_found();
-    ig_rewrite::rooted_is_the_same();
+    ig_rewrite::root_keeps();
     ig_rewrite::same_trees_is_an_equivalence();
 }

@@ -6,7 +6,6 @@
 //! sound grammar sound.
 #![tactic(auto)]
 
-mod growing;
 mod laws;
 mod lower;
 mod naming;

@@ -1,7 +1,6 @@
 //! A grammar without levels.
 ghost use Rattle.std.specs.Prelude.{◌≡◌, ◌+◌, ◌-◌, ◌<◌, [], ◌∷◌, ◌++◌, map, true};
 ghost use Rattle.std.specs.Prelude.{IfOk, OnOk};
-ghost use Rattle.ig_expr.specs.declared.kind.Kind.TheVariants as kind;
 ghost use Rattle.ig_grammar.specs.Numbering.{by_level};
 ghost use Rattle.ig_grammar.specs.View.{symbol_of};
 ghost use Rattle.ig_rewrite.specs.Added.{left_name, right_name};
@@ -14,16 +13,18 @@ ghost use Rattle.ig_meaning.specs.Operands.{more_on_the_left, more_on_the_right}
 ghost use Rattle.ig_levels.specs.Roles.{numbered, place_of};
 ghost use Rattle.ig_levels.specs.Tables.{levelled_by};
 
-use crate::growing::{push_alternative, push_declaration, push_level, push_parameter, push_symbol};
 use crate::laws::levels_keep;
 use crate::naming::{is_levelled, left_word, levelled_names, right_word};
 use crate::operands::{Bounds, bounds_at, has_left, has_right, is_test, role_at};
 use crate::symbols::lower_symbol;
-use ig_expr::{Expr, Kind, Op, Operand};
+use ig_expr::{Expr, Op, Operand};
 use ig_grammar::{
-    Alt, Alts, Assoc, Checked, Decl, Decls, Grammar, Level, Levels, Param, Params, Symbol, Symbols,
+    Alt, Alts, Assoc, Checked, Decl, Decls, Grammar, Level, Levels, Params, Symbol, Symbols,
 };
-use ig_rewrite::{copy_of_shapes, root};
+use ig_rewrite::{
+    copy_of_shapes, copy_of_start, push_alternative, push_declaration, push_integer, push_level,
+    push_symbol, root,
+};
 use ig_text::{Copied, Word};
 use std::alloc::{AllocError, Global};
 use std::collections::BTreeMap;
@@ -52,16 +53,6 @@ fn lower_grammar(alloc: Global, grammar: &Grammar) -> Result<Grammar, AllocError
     let decls = lower_declarations(alloc, &table, grammar.decls.as_slice())?;
     let start = copy_of_start(alloc, &grammar.start)?;
     Ok(Grammar { start, decls })
-}
-
-/// An equal start line.
-fn copy_of_start(alloc: Global, start: &Option<Word>) -> Result<Option<Word>, AllocError>
-    ensures { IfOk result (λ r. r ≡ start.now) }
-{
-    match start {
-        Some(name) => Ok(Some(name.copy(alloc)?)),
-        None => Ok(None),
-    }
 }
 
 /// The declarations, without levels.
@@ -105,21 +96,10 @@ fn lower_parameters(alloc: Global, params: &Params, levelled: bool) -> Result<Pa
 {
     let mut all = params.copy(alloc)?;
     if levelled {
-        push_bound(&mut all, left_word(alloc)?)?;
-        push_bound(&mut all, right_word(alloc)?)?;
+        push_integer(&mut all, left_word(alloc)?)?;
+        push_integer(&mut all, right_word(alloc)?)?;
     }
     Ok(all)
-}
-
-/// Adds the parameter that stands for a bound.
-fn push_bound(all: &mut Params, name: Word) -> Result<(), AllocError>
-    ensures { OnOk result (all.new ≡ all.old ++ record { name = name; kind = kind.Int } ∷ []) }
-{
-    let param = Param {
-        name,
-        kind: Kind::Int,
-    };
-    push_parameter(all, param)
 }
 
 /// The one level of the declaration, where it has any.

@@ -6,10 +6,10 @@ ghost use Rattle.ig_levels.specs.Levels.{with_pair, no_pair, pair_arguments};
 ghost use Rattle.ig_levels.specs.Roles.{pair_of, outside};
 ghost use Rattle.ig_levels.specs.Tables.{levelled_by};
 
-use crate::growing::{push_alternative, push_expression, push_symbol};
 use crate::naming::{left_word, names_levelled, right_word};
 use ig_expr::{Expr, Exprs};
 use ig_grammar::{Alt, Alts, Inner, Symbol, Symbols};
+use ig_rewrite::{push_alternative, push_expression, push_symbol};
 use ig_text::{Copied, Word};
 use std::alloc::{AllocError, Global};
 use std::collections::BTreeMap;

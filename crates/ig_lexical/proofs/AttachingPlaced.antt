@@ -10,7 +10,7 @@ use Rattle.ig_grammar.specs.Condition.{variables}
 use Rattle.ig_grammar.specs.declared.filter.Filter.{Filter}
 use Rattle.ig_grammar.specs.declared.filter.Filter.TheVariants.{NotFollowed, NotPreceded, Not}
 use Rattle.ig_lexical.specs.Filters.{befores, afters, exclusions, with_filters, guarded, attached}
-use Rattle.ig_lexical.proofs.Placing.{Placed, PlacedSymbols}
+use Rattle.ig_rewrite.specs.Throughout.{Placed, PlacedSymbols}
 
 -- an expression without variables that is a truth value
 pub record IsTest (v : Visible) (e : Expression) : Type 0 where

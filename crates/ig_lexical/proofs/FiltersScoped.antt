@@ -8,6 +8,7 @@ use Rattle.ig_grammar.specs.Regular.{AlternativesHaveNoMark, OfEachLevel}
 use Rattle.ig_grammar.specs.WellScoped.{IsWellScoped}
 use Rattle.ig_grammar.specs.declared.filter.Filter.{Filter}
 use Rattle.ig_grammar.specs.declared.grammar.Grammar.{Grammar}
+use Rattle.ig_rewrite.specs.Found.{DeclarationsAreFound}
 use Rattle.ig_rewrite.specs.Rewriting.{rewritten_grammar}
 use Rattle.ig_lexical.specs.Filters.{befores, afters, exclusions, with_filters, guarded, attached}
 use Rattle.ig_lexical.proofs.AttachingPlaced.{IsTest, attached_placed}
@@ -20,7 +21,7 @@ use Rattle.ig_grammar.specs.Condition as meets
 use Rattle.ig_grammar.specs.Visible.{Visible, kind_at}
 use Rattle.ig_grammar.specs.declared.declaration.DeclKind.{DeclKind}
 use Rattle.ig_grammar.specs.declared.declaration.Decl.{Decl}
-use Rattle.ig_lexical.proofs.Counting.{binders, binders_of_symbols, one_if}
+use Rattle.ig_rewrite.specs.Binders.{one_if, binders, binders_of_symbols, BindersAreCounted}
 use Rattle.ig_lexical.proofs.RewrittenScoped.{KeepsKinds, turned_is_well_scoped}
 
 guards_bind_none : (es : List Expression) → binders_of_symbols (gathered (map Guard es)) ≡ 0
@@ -82,9 +83,9 @@ module _ (decls : List Decl) (within : DeclKind) where
 pub same_kinds : KeepsKinds (λ kind. kind)
 same_kinds = record { lexical = λ k i. i; syntax = λ k e. e; layout = λ k e. e }
 
-pub attached_is_well_scoped : RegularityByForm → (g : Grammar) → IsWellScoped g → OfEachLevel AlternativesHaveNoMark g →
+pub attached_is_well_scoped : RegularityByForm → BindersAreCounted → DeclarationsAreFound → (g : Grammar) → IsWellScoped g → OfEachLevel AlternativesHaveNoMark g →
     IsWellScoped (rewritten_grammar (λ decl. attached) g)
-attached_is_well_scoped forms g scoped none =
-    turned_is_well_scoped (λ kind. kind) (λ decl. attached) same_kinds g forms scoped none
+attached_is_well_scoped forms counted found g scoped none =
+    turned_is_well_scoped found (λ kind. kind) (λ decl. attached) same_kinds g forms counted scoped none
     (λ decl x v p. attached_placed (Fine g.decls decl.kind) (seq_fine g.decls decl.kind) (filtered_fine g.decls decl.kind)
     (guard_fine g.decls decl.kind) (label_fine g.decls decl.kind) x v p) (λ decl x. attached_binders x)

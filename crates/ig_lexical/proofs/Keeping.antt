@@ -10,7 +10,8 @@ use Rattle.ig_grammar.specs.declared.declaration.Decl.{Decl}
 use Rattle.ig_rewrite.specs.Rewriting.{within, rewritten, rewritten_symbols}
 use Rattle.ig_lexical.proofs.Alike.{IsLeaf}
 use Rattle.ig_lexical.proofs.Traversal.{ThroughoutSymbols, symbols_alike}
-use Rattle.ig_lexical.proofs.Placing.{Placed, PlacedSymbols, SameHead, label_head, filtered_head, entry_head, Stays, each_stays, alike_stays}
+use Rattle.ig_rewrite.specs.Throughout.{Placed, PlacedSymbols}
+use Rattle.ig_lexical.proofs.Placing.{SameHead, label_head, filtered_head, entry_head, Stays, each_stays, alike_stays}
 use Rattle.ig_lexical.proofs.Pass.{gathered_rewritten}
 use Rattle.ig_lexical.specs.Layout.{is_token, then_layout, laid_inside, laid}
 use Rattle.ig_grammar.specs.Regular.{IsNoMark}

@@ -8,17 +8,17 @@ use Rattle.ig_grammar.specs.Checked.{CheckedGrammar}
 use Rattle.ig_grammar.specs.declared.declaration.DeclKind.{DeclKind}
 use Rattle.ig_grammar.specs.declared.declaration.DeclKind.TheVariants.{Syntax, Plain}
 use Rattle.ig_grammar.specs.declared.declaration.Decl.{Decl}
-use Rattle.ig_rewrite.specs.Added.{AddedNamesAreNew}
 use Rattle.ig_rewrite.specs.Needs.{AlternativesAreEntered}
 use Rattle.ig_rewrite.specs.Rooted.{rooted}
 use Rattle.ig_rewrite.specs.Sound.{IsPlain}
 use Rattle.ig_lexical.specs.Layout.{laid_in, laid_declaration, LayoutOf}
 use Rattle.ig_lexical.specs.Laws.{LayoutKeeps}
 use Rattle.ig_lexical.proofs.Everywhere.{each_level}
-use Rattle.ig_lexical.proofs.KeptSound.{rooted_is_sound, made_free, made_is_sound}
+use Rattle.ig_lexical.proofs.KeptSound.{made_free, made_is_sound}
 use Rattle.ig_lexical.proofs.LaidKept.{well_in, entered_in, unmarked_in}
-use Rattle.ig_lexical.proofs.LayoutChecked.{layout_checked}
 use Rattle.ig_lexical.proofs.LayoutSame.{Given, layout_same}
+use Rattle.ig_lexical.proofs.LayoutScoped.{laid_is_well_scoped}
+use Rattle.ig_lexical.proofs.LayoutShaped.{laid_fits}
 use Rattle.ig_lexical.proofs.Pass.{taken_back}
 
 none_declared : (all decls : List Decl) → layout_among (map (laid_declaration all) decls) ≡ None
@@ -31,26 +31,28 @@ each_plain c decl m =
     let r = taken_back (laid_declaration (rooted Syntax c).grammar.decls) (rooted Syntax c).grammar.decls at.0 decl at.1 in
     ap (λ (z : Decl). z.kind) r.2
 
-pub layout_kept : AddedNamesAreNew → Given → LayoutKeeps
-layout_kept new given c sound free none =
+pub layout_kept : Given → LayoutKeeps
+layout_kept given c sound free none =
     let to : DeclKind → DeclKind = λ kind. Plain in
     let d : CheckedGrammar = rooted Syntax c in
     let own : Decl → Symbol → Symbol = λ decl. laid_in (layout_among d.grammar.decls) d.grammar.decls decl.kind in
-    let from = rooted_is_sound new given.rooting c sound free none in
-    let checked = layout_checked given c sound.scoped sound.fit none sound.root_calls sound.fresh in
+    let from = (given.root.sound c sound).sound in
+    let kept = given.root.kept c sound.fit in
+    let unmarked = kept.unmarked none in
     let well = each_level to own d.grammar AlternativesStandWell AlternativesStandWell
-    (λ decl. well_in d.grammar.decls (layout_among d.grammar.decls) decl.kind) from.sound.well in
+    (λ decl. well_in d.grammar.decls (layout_among d.grammar.decls) decl.kind) from.well in
     let entered = each_level to own d.grammar AlternativesAreEntered AlternativesAreEntered
-    (λ decl. entered_in d.grammar.decls (layout_among d.grammar.decls) decl.kind) from.sound.entered in
+    (λ decl. entered_in d.grammar.decls (layout_among d.grammar.decls) decl.kind) from.entered in
     record {
-      same = layout_same given c sound.scoped sound.fit free none sound.fresh;
-      sound = made_is_sound to own d from checked.0 checked.1 well entered
+      same = layout_same given c sound free none;
+      sound = made_is_sound to own d from kept.has (laid_is_well_scoped given.forms given.counted given.found d.grammar from.scoped unmarked)
+          (laid_fits given.forms given.found d.grammar d.shapes from.scoped unmarked from.fit from.root_calls) well entered
           (λ before decl a at shaped syntactic m.
           let r = taken_back (laid_declaration d.grammar.decls) d.grammar.decls before decl at in
           let k : Plain ≡ Syntax = ap (λ (z : Decl). z.kind) (sym r.2) ∙ syntactic in absurd (cc));
-      free = made_free to own d from.free;
+      free = made_free to own d (kept.free free);
       unmarked = each_level to own d.grammar AlternativesHaveNoMark AlternativesHaveNoMark
-          (λ decl. unmarked_in d.grammar.decls (layout_among d.grammar.decls) decl.kind) from.unmarked;
+          (λ decl. unmarked_in d.grammar.decls (layout_among d.grammar.decls) decl.kind) unmarked;
       plain = each_plain c;
       no_layout = none_declared d.grammar.decls d.grammar.decls;
     }

@@ -1,6 +1,6 @@
 -- The layout pass permits the same trees.
-use Rattle.std.proofs.Common.{◌≡◌, ◌∙◌, ℕ, List, Bool, true, false, refl, sym, ap, subst}
-use Rattle.std.specs.Prelude.{◌↔◌, Contains, slice_get, if◌then◌else◌}
+use Rattle.std.proofs.Common.{◌≡◌, ◌∙◌, ℕ, List, refl, sym, ap, subst}
+use Rattle.std.specs.Prelude.{◌↔◌, Contains, slice_get}
 use Rattle.ig_text.specs.Tree.{Tree}
 use Rattle.ig_grammar.specs.Symbol.{Symbol}
 use Rattle.ig_meaning.specs.Laws.{HasNoOperators, TreesWithoutOperatorsAreClean}
@@ -10,23 +10,24 @@ use Rattle.ig_grammar.specs.Regular.{AlternativesHaveNoMark, OfEachLevel}
 use Rattle.ig_grammar.specs.Numbering.{Levelled, by_level, Declares, IsAlternative, layout_among}
 use Rattle.ig_meaning.specs.Permitted.{Permitted}
 use Rattle.ig_grammar.specs.WellScoped.{IsWellScoped}
-use Rattle.ig_grammar.specs.Checked.{CheckedGrammar, FitShapes}
-use Rattle.ig_grammar.specs.Names.{names}
-use Rattle.ig_rewrite.specs.Added.{root_name}
+use Rattle.ig_grammar.specs.Checked.{CheckedGrammar}
 use Rattle.ig_grammar.specs.declared.declaration.DeclKind.TheVariants.{Syntax}
 use Rattle.ig_grammar.specs.declared.declaration.Decl.{Decl}
 use Rattle.ig_grammar.specs.declared.grammar.Grammar.{Grammar}
 use Rattle.ig_grammar.specs.declared.place.Shape.{Shape}
 use Rattle.ig_grammar.specs.declared.place.Shape.TheVariants as shape
 use Rattle.ig_rewrite.specs.SameTrees.{PermitSame, SameTreesIsAnEquivalence}
-use Rattle.ig_rewrite.specs.Rooted.{has_root, with_root, RootedIsTheSame}
+use Rattle.ig_rewrite.specs.Binders.{BindersAreCounted}
+use Rattle.ig_rewrite.specs.KeptByRoot.{RootKeeps}
+use Rattle.ig_rewrite.specs.Rooted.{rooted}
+use Rattle.ig_rewrite.specs.Sound.{IsSound, IsFree, IsUnmarked}
 use Rattle.ig_lexical.proofs.Instances.{LowInstances, AlternativeToo}
 use Rattle.ig_lexical.proofs.Leaves.{SameEnv, AnyStarts}
 use Rattle.ig_lexical.proofs.LayoutChain.{BecomesPlain}
 use Rattle.ig_text.proofs.Lists.{contains_from_at, at_from_contains}
 use Rattle.ig_lexical.proofs.Pass.{taken_back, taken_along, rewritten_by_level, levels_rewritten, free_rewritten}
 use Rattle.ig_lexical.proofs.Permitting.{HasRoot, permitted_along}
-use Rattle.ig_lexical.proofs.FiltersSame.{root_start, root_added, free_rooted}
+use Rattle.ig_lexical.proofs.FiltersSame.{root_start}
 use Rattle.ig_lexical.specs.Layout.{laid_in, laid_declaration, laid_grammar, laid_of, LayoutOf}
 use Rattle.ig_lexical.proofs.Tight.{AnyName}
 use Rattle.ig_lexical.proofs.LayingBack.{AnyKind}
@@ -39,7 +40,8 @@ pub record Given : Type 0 where
   pub cleans : TreesWithoutOperatorsAreClean
   pub forms : RegularityByForm
   pub found : DeclarationsAreFound
-  pub rooting : RootedIsTheSame
+  pub root : RootKeeps
+  pub counted : BindersAreCounted
   pub equivalence : SameTreesIsAnEquivalence
 
 module _ (given : Given) (g : Grammar) (shapes : List Shape) (scoped : IsWellScoped g) (none : OfEachLevel AlternativesHaveNoMark g) (text : List ℕ) where
@@ -116,19 +118,11 @@ pub with_root_same : Given → (c : CheckedGrammar) → IsWellScoped c.grammar �
     ((decl : Decl) → Contains c.grammar.decls decl → HasNoOperators decl.levels) → HasRoot c.grammar c.shapes → PermitSame c (laid_of c)
 with_root_same given c scoped none free root = record { same = λ text t. laid_permits given c.grammar c.shapes scoped none text free root t }
 
--- where no declaration has operators, no mark is left, and the name of the root is new or there already
-pub layout_same : Given → (c : CheckedGrammar) → IsWellScoped c.grammar → FitShapes c.grammar c.shapes →
-    ((decl : Decl) → Contains c.grammar.decls decl → HasNoOperators decl.levels) → OfEachLevel AlternativesHaveNoMark c.grammar →
-    (Contains (names c.grammar.decls) root_name → has_root c.shapes ≡ true) → PermitSame c (LayoutOf c)
-layout_same given c scoped fit free none fresh = go (has_root c.shapes) refl
-  where
-    go : (b : Bool) → has_root c.shapes ≡ b → PermitSame c (LayoutOf c)
-    go true e =
-        subst (λ d. PermitSame c (laid_of d)) (sym (ap (λ b. if b then c else with_root Syntax c) e))
-        (with_root_same given c scoped none free (root_start c fit e))
-    go false e =
-        let r = given.rooting c scoped fit e (λ m. let t : false ≡ true = sym e ∙ fresh m in cc) in
-        subst (λ d. PermitSame c (laid_of d)) (sym (ap (λ b. if b then c else with_root Syntax c) e))
-        (given.equivalence.chained c (with_root Syntax c) (laid_of (with_root Syntax c)) r.same
-        (with_root_same given (with_root Syntax c) r.scoped (r.unmarked none) (free_rooted c.grammar free)
-        (root_start (with_root Syntax c) r.fit (root_added c.shapes))))
+-- where no declaration has operators, and no mark is left
+pub layout_same : Given → (c : CheckedGrammar) → IsSound c → IsFree c.grammar → IsUnmarked c.grammar → PermitSame c (LayoutOf c)
+layout_same given c sound free none =
+    let d = rooted Syntax c in
+    let to = given.root.sound c sound in
+    let kept = given.root.kept c sound.fit in
+    given.equivalence.chained c d (laid_of d) to.same
+    (with_root_same given d to.sound.scoped (kept.unmarked none) (kept.free free) (root_start d (given.root.stands d to.sound.fit kept.has)))

@@ -17,7 +17,8 @@ use Rattle.ig_rewrite.specs.Found.{DeclarationsAreFound}
 use Rattle.ig_lexical.specs.Layout.{laid_in, laid_grammar}
 use Rattle.ig_lexical.proofs.Meeting.{Fine, layout_there, no_parameters, call_fine}
 use Rattle.ig_lexical.proofs.Keeping.{Keeps, same_keeps, laid_keeps}
-use Rattle.ig_lexical.proofs.Counting.{binders, laid_binders}
+use Rattle.ig_rewrite.specs.Binders.{binders, BindersAreCounted}
+use Rattle.ig_lexical.proofs.Counting.{laid_binders}
 use Rattle.ig_lexical.proofs.RewrittenScoped.{KeepsKinds, heads, turned_is_well_scoped}
 
 seq_fine : (decls : List Decl) (kind : DeclKind) (v : Visible) (xs : Symbols) → Fine decls kind v (Seq xs)
@@ -27,7 +28,7 @@ seq_fine decls kind v xs c (meets.no_kind _ e m k) = none_in_nil e m
 pub plain_kinds : KeepsKinds (λ kind. Plain)
 plain_kinds = record { lexical = λ k i. absurd i; syntax = λ k e. cc; layout = λ k e. cc }
 
-module _ (forms : RegularityByForm) (found : DeclarationsAreFound) (g : Grammar) (scoped : IsWellScoped g) (none : OfEachLevel AlternativesHaveNoMark g) where
+module _ (forms : RegularityByForm) (counted : BindersAreCounted) (found : DeclarationsAreFound) (g : Grammar) (scoped : IsWellScoped g) (none : OfEachLevel AlternativesHaveNoMark g) where
   layout_fine : (w : List ℕ) → layout_among g.decls ≡ Some w → (v : Visible) → Fine g.decls Syntax v (Call w [])
   layout_fine w e v =
       let l = layout_there g.decls w e in
@@ -56,5 +57,5 @@ module _ (forms : RegularityByForm) (found : DeclarationsAreFound) (g : Grammar)
 
   pub laid_is_well_scoped : IsWellScoped (laid_grammar g)
   laid_is_well_scoped =
-      turned_is_well_scoped (λ kind. Plain) (λ decl. laid_in (layout_among g.decls) g.decls decl.kind) plain_kinds g forms scoped none
+      turned_is_well_scoped found (λ kind. Plain) (λ decl. laid_in (layout_among g.decls) g.decls decl.kind) plain_kinds g forms counted scoped none
       (λ decl. keeps_in decl.kind) (λ decl x. binders_in decl.kind x)

@@ -19,19 +19,16 @@ pub mod Sorting
 pub mod Sides
 pub mod LayoutSame
 pub mod Placing
-pub mod Occurrences
 pub mod Meeting
 pub mod Keeping
 pub mod Counting
 pub mod LayoutScoped
 pub mod LayoutShaped
-pub mod LayoutChecked
 pub mod RewrittenScoped
 pub mod AttachingPlaced
 pub mod FiltersScoped
 pub mod RewrittenShaped
 pub mod FiltersShaped
-pub mod FiltersChecked
 pub mod FirstPlaces
 pub mod AttachedKept
 pub mod FiltersKept
@@ -40,4 +37,3 @@ pub mod KeptSound
 pub mod LayoutKept
 pub mod Everywhere
 pub mod StandingWell
-pub mod Entering

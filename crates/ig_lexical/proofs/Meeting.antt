@@ -1,6 +1,7 @@
 -- Which conditions hold of symbols, and where none does.
-use Rattle.std.proofs.Common.{◌≡◌, ◌∙◌, ℕ, zero, suc, ◌+◌, List, [], ◌∷◌, ◌++◌, map, refl, sym, ap, subst, Some, None, length, arith}
+use Rattle.std.proofs.Common.{◌≡◌, ◌∙◌, ℕ, zero, suc, ◌+◌, List, [], ◌∷◌, map, refl, sym, ap, subst, Some, None, length, arith}
 use Rattle.std.specs.Prelude.{◌≢◌, Contains, slice_get, option_map}
+use Rattle.std.proofs.lemmas.List.{map-append}
 use Rattle.std.proofs.lemmas.Option.{slice_get-map}
 use Rattle.ig_text.proofs.Lists.{at_from_contains}
 use Rattle.ig_grammar.specs.Symbol.{Symbol, Call, Entry}
@@ -62,10 +63,6 @@ head_meets ds es within v x y same (seq_head us ws) c (meets.no_kind _ e m k) = 
 head_meets ds es within v x y same (entry_head bs u w) c (meets.unknown_variable _ e m u2) = meets.unknown_variable (Entry bs u) e m u2
 head_meets ds es within v x y same (entry_head bs u w) c (meets.no_kind _ e m k) = meets.no_kind (Entry bs u) e m k
 
-map_joined : {X Y : Type 0} (f : X → Y) (xs ys : List X) → map f (xs ++ ys) ≡ map f xs ++ map f ys
-map_joined f [] ys = refl
-map_joined f (x ∷ xs) ys = ap (λ zs. f x ∷ zs) (map_joined f xs ys)
-
 map_twice : {X Y : Type 0} (f : X → Y) (r : Y → X) → ((x : X) → r (f x) ≡ x) → (xs : List X) → map r (map f xs) ≡ xs
 map_twice f r e [] = refl
 map_twice f r e (x ∷ xs) = rw (e x, map_twice f r e xs) refl
@@ -74,7 +71,7 @@ pub alternatives_by_level : (levels : List Level) → map (λ a. a.alternative) 
 alternatives_by_level [] = refl
 alternatives_by_level (level ∷ others) =
     let f : Alt → Levelled = λ a. record { alternative = a; level = length others + 1; assoc = level.assoc } in
-    map_joined (λ a. a.alternative) (map f level.alts) (by_level others) ∙
+    map-append (λ a. a.alternative) (map f level.alts) (by_level others) ∙
     (rw (map_twice f (λ a. a.alternative) (λ x. refl) level.alts, alternatives_by_level others) refl)
 
 pub alternative_at : (levels : List Level) (k : ℕ) (a : Levelled) → slice_get (by_level levels) k ≡ Some a → slice_get (alternatives levels) k ≡ Some a.alternative

@@ -1,12 +1,11 @@
 -- A pass that rewrites symbols, and keeps names, parameters and levels, keeps a grammar well scoped, where its own rule keeps
 -- what no condition holds of, what is bound, and how many names are bound.
 use Rattle.std.proofs.Common.{◌≡◌, ◌∙◌, ℕ, zero, suc, ◌+◌, ◌<◌, List, [], ◌∷◌, Option, Some, None, cond, map, take, length, refl, sym, ap, subst}
-use Rattle.std.specs.Prelude.{Contains, slice_get, option_map, option_and_then, count_by}
+use Rattle.std.specs.Prelude.{Contains, slice_get, option_map, count_by}
 use Rattle.std.proofs.lemmas.List.{length-map, take-map}
 use Rattle.std.proofs.lemmas.List.Sums.{sum_by-cons}
-use Rattle.std.proofs.lemmas.Option.{slice_get-map}
-use Rattle.ig_expr.specs.Names.{place_of}
 use Rattle.ig_text.proofs.Lists.{contains_from_at, at_from_contains}
+use Rattle.ig_text.proofs.Options.{mapped}
 use Rattle.ig_grammar.specs.Symbol.{Symbol, gathered}
 use Rattle.ig_grammar.specs.Name.{is_name}
 use Rattle.ig_grammar.specs.Names.{names}
@@ -23,14 +22,16 @@ use Rattle.ig_grammar.specs.declared.declaration.DeclKind.TheVariants.{Syntax, L
 use Rattle.ig_grammar.specs.declared.declaration.Level.{Level}
 use Rattle.ig_grammar.specs.declared.declaration.Decl.{Decl}
 use Rattle.ig_grammar.specs.declared.grammar.Grammar.{Grammar}
+use Rattle.ig_rewrite.specs.Found.{DeclarationsAreFound}
 use Rattle.ig_rewrite.specs.Rewriting.{rewritten, rewritten_alternative, rewritten_level}
 use Rattle.ig_lexical.proofs.Meeting.{Fine, SameDeclared, head_meets, none_met, alternatives_by_level, alternative_at}
-use Rattle.ig_lexical.proofs.Occurrences.{placed_symbols, of_placed_symbols}
+use Rattle.ig_rewrite.specs.Throughout.{placed_symbols, of_placed_symbols}
 use Rattle.ig_lexical.proofs.Pass.{taken_back, rewritten_by_level, levels_rewritten}
 use Rattle.ig_lexical.proofs.Placing.{SameHead}
 use Rattle.ig_lexical.proofs.Unmarked.{everywhere}
 use Rattle.ig_lexical.proofs.Keeping.{Keeps, symbols_kept}
-use Rattle.ig_lexical.proofs.Counting.{binders, same_count}
+use Rattle.ig_rewrite.specs.Binders.{binders, BindersAreCounted}
+use Rattle.ig_lexical.proofs.Counting.{same_count}
 
 same_declared : (ds : List Decl) → SameDeclared ds ds
 same_declared ds = record { undeclared = λ name e. e; declared = λ name d e. (d, e, refl, refl) }
@@ -60,7 +61,7 @@ turned_grammar becomes own g = record { start = g.start; decls = map (turned bec
 pub heads : (g : Grammar) (kind : DeclKind) (v : Visible) (x y : Symbol) → SameHead x y → Fine g.decls kind v x → Fine g.decls kind v y
 heads g kind v x y same fine c m = fine c (head_meets g.decls g.decls kind v x y (same_declared g.decls) same c m)
 
-module _ (becomes : DeclKind → DeclKind) (own : Decl → Symbol → Symbol) (kinds : KeepsKinds becomes) (g : Grammar) where
+module _ (found : DeclarationsAreFound) (becomes : DeclKind → DeclKind) (own : Decl → Symbol → Symbol) (kinds : KeepsKinds becomes) (g : Grammar) where
   abbrev turn : Decl → Decl
   turn = turned becomes own
 
@@ -77,32 +78,18 @@ module _ (becomes : DeclKind → DeclKind) (own : Decl → Symbol → Symbol) (k
       sum_by-cons (λ e. cond (is_name e.name) 1 0) (turn d) (map turn ds) ∙ ap (λ n. cond (is_name d.name) 1 0 + n) (count_kept ds) ∙
       sym (sum_by-cons (λ e. cond (is_name e.name) 1 0) d ds)
 
-  found_along : (decls : List Decl) (p : Option ℕ) →
-      option_and_then (slice_get (map turn decls)) p ≡ option_map turn (option_and_then (slice_get decls) p)
-  found_along decls None = refl
-  found_along decls (Some k) = slice_get-map turn decls k
-
-  pub declaration_along : (decls : List Decl) (name : List ℕ) →
-      declaration_of (map turn decls) name ≡ option_map turn (declaration_of decls name)
-  declaration_along decls name =
-      ap (λ ns. option_and_then (slice_get (map turn decls)) (place_of ns name)) (names_kept decls) ∙ found_along decls (place_of (names decls) name)
-
   abbrev Before : List ℕ → Decl → Type 0
   Before name e = (d : Decl) × (declaration_of g.decls name ≡ Some d) × (e ≡ turn d)
 
   declared_before : (name : List ℕ) (e : Decl) → declaration_of h.decls name ≡ Some e → Before name e
-  declared_before name e f = go (declaration_of g.decls name) refl (sym (declaration_along g.decls name) ∙ f)
-    where
-      go : (o : Option Decl) → declaration_of g.decls name ≡ o → option_map turn o ≡ Some e → Before name e
-      go None q f = absurd (cc)
-      go (Some d) q f = (d, q, cc)
+  declared_before name e f = mapped turn (declaration_of g.decls name) e (sym (found.changed turn (λ d. refl) g.decls name) ∙ f)
 
   undeclared_before : (name : List ℕ) → declaration_of h.decls name ≡ None → declaration_of g.decls name ≡ None
-  undeclared_before name f = go (declaration_of g.decls name) refl (sym (declaration_along g.decls name) ∙ f)
+  undeclared_before name f = go (declaration_of g.decls name) (sym (found.changed turn (λ d. refl) g.decls name) ∙ f)
     where
-      go : (o : Option Decl) → declaration_of g.decls name ≡ o → option_map turn o ≡ None → declaration_of g.decls name ≡ None
-      go None q f = q
-      go (Some d) q f = absurd (cc)
+      go : (o : Option Decl) → option_map turn o ≡ None → o ≡ None
+      go None f = refl
+      go (Some d) f = absurd (cc)
 
   params_before : (name : List ℕ) (e : Decl) (b : Before name e) → e.params ≡ b.0.params
   params_before name e b = ap (λ z. z.params) b.2
@@ -155,7 +142,7 @@ module _ (becomes : DeclKind → DeclKind) (own : Decl → Symbol → Symbol) (k
       meets.too_many_nonterminals n (sym (ap (count_by (λ d. is_name d.name)) (take-map turn b g.decls) ∙ count_kept (take b g.decls)) ∙ e)
   head_before b decl c (meets.too_many_parameters n l) = meets.too_many_parameters n l
 
-  module _ (forms : RegularityByForm) (scoped : IsWellScoped g) (none : OfEachLevel AlternativesHaveNoMark g)
+  module _ (forms : RegularityByForm) (counted : BindersAreCounted) (scoped : IsWellScoped g) (none : OfEachLevel AlternativesHaveNoMark g)
       (keeps_in : (decl : Decl) → Keeps (Fine g.decls decl.kind) (heads g decl.kind) (own decl))
       (binders_in : (decl : Decl) (x : Symbol) → binders (own decl x) ≡ binders x) where
     -- at no symbol of a rewritten alternative a condition holds
@@ -177,7 +164,7 @@ module _ (becomes : DeclKind → DeclKind) (own : Decl → Symbol → Symbol) (k
           (
             a.alternative,
             alternative_at decl.levels k a f,
-            meets.too_many_variables n (subst (λ m. most_variables < named_parameters decl + m) (same_count (own decl) (binders_in decl) a.alternative.symbols (parameters decl.params)) l),
+            meets.too_many_variables n (subst (λ m. most_variables < named_parameters decl + m) (same_count (own decl) (binders_in decl) counted a.alternative.symbols (parameters decl.params)) l),
           ),
         )
     symbol_there b k (suc s) decl a c e f m =

@@ -1,7 +1,7 @@
 -- The shapes of a grammar whose symbols a pass rewrites fit it, where the own rule keeps the root one.
-use Rattle.std.proofs.Common.{◌≡◌, ◌∙◌, ℕ, suc, List, [], ◌∷◌, ◌++◌, Some, map, length, refl, sym, ap, subst}
+use Rattle.std.proofs.Common.{◌≡◌, ◌∙◌, ℕ, suc, List, [], ◌∷◌, Some, map, length, refl, sym, ap, subst}
 use Rattle.std.specs.Prelude.{◌≢◌, All, Contains, slice_get}
-use Rattle.std.proofs.lemmas.List.{length-map}
+use Rattle.std.proofs.lemmas.List.{length-map, map-append}
 use Rattle.ig_expr.specs.Expression.{Expression}
 use Rattle.ig_grammar.specs.Symbol.{Symbol, Call}
 use Rattle.ig_grammar.specs.Symbol.{Symbols, no_symbols, next_symbol, gathered, listed}
@@ -20,7 +20,7 @@ use Rattle.ig_grammar.specs.declared.place.Shape.TheVariants as shape
 use Rattle.ig_rewrite.specs.Rewriting.{rewritten, rewritten_symbols, rewritten_alternative, rewritten_level}
 use Rattle.ig_text.proofs.Lists.{contains_from_at, at_from_contains}
 use Rattle.ig_lexical.proofs.Meeting.{alternative_at}
-use Rattle.ig_lexical.proofs.Occurrences.{placed_symbols, of_placed_symbols}
+use Rattle.ig_rewrite.specs.Throughout.{placed_symbols, of_placed_symbols}
 use Rattle.ig_lexical.proofs.Pass.{taken_back}
 use Rattle.ig_lexical.proofs.Placing.{SameHead, label_head, opt_head, star_head, plus_head, sep_star_head, sep_plus_head, group_head, offside_head, ignore_head, filtered_head, seq_head, entry_head}
 use Rattle.ig_grammar.specs.Laws.{RegularityByForm}
@@ -28,13 +28,9 @@ use Rattle.ig_lexical.proofs.Unmarked.{everywhere}
 use Rattle.ig_lexical.proofs.Keeping.{Keeps, symbols_kept}
 use Rattle.ig_lexical.proofs.RewrittenScoped.{KeepsKinds, turned, turned_grammar, alternative_before}
 
-map_joined : {X Y : Type 0} (f : X → Y) (xs ys : List X) → map f (xs ++ ys) ≡ map f xs ++ map f ys
-map_joined f [] ys = refl
-map_joined f (x ∷ xs) ys = ap (λ zs. f x ∷ zs) (map_joined f xs ys)
-
 alternatives_rewritten : (own : Symbol → Symbol) (levels : List Level) → alternatives (map (rewritten_level own) levels) ≡ map (rewritten_alternative own) (alternatives levels)
 alternatives_rewritten own [] = refl
-alternatives_rewritten own (level ∷ others) = (rw (alternatives_rewritten own others) refl) ∙ sym (map_joined (rewritten_alternative own) level.alts (alternatives others))
+alternatives_rewritten own (level ∷ others) = (rw (alternatives_rewritten own others) refl) ∙ sym (map-append (rewritten_alternative own) level.alts (alternatives others))
 
 pub listed_rewritten : (own : Symbol → Symbol) (xs : Symbols) → listed (rewritten_symbols own xs) ≡ map (rewritten own) (listed xs)
 listed_rewritten own no_symbols = refl

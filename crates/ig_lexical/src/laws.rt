@@ -10,9 +10,9 @@ pub fn layout_keeps()
 {
     ig_meaning::trees_without_operators_are_clean();
     ig_grammar::regularity_by_form();
-    ig_rewrite::added_names_are_new();
+    ig_rewrite::binders_are_counted();
     ig_rewrite::declarations_are_found();
-    ig_rewrite::rooted_is_the_same();
+    ig_rewrite::root_keeps();
     ig_rewrite::same_trees_is_an_equivalence();
 }
 
@@ -25,7 +25,8 @@ pub fn filters_keep()
     ig_expr::tests_look_for_matches();
     ig_meaning::trees_without_operators_are_clean();
     ig_grammar::regularity_by_form();
-    ig_rewrite::added_names_are_new();
-    ig_rewrite::rooted_is_the_same();
+    ig_rewrite::binders_are_counted();
+    ig_rewrite::declarations_are_found();
+    ig_rewrite::root_keeps();
     ig_rewrite::same_trees_is_an_equivalence();
 }

@@ -1,16 +1,19 @@
 -- The declaration of a name is the first one with that name.
-use Rattle.std.proofs.Common.{◌≡◌, ◌∙◌, ℕ, zero, suc, ◌<◌, ◌+◌, List, [], ◌∷◌, ◌++◌, Option, Some, None, Bool, cond, true, false, refl, sym, ap, subst, arith, length, take}
-use Rattle.std.specs.Prelude.{nat_lt, not, position, option_map, option_and_then, slice_get, Contains, if◌then◌else◌}
+use Rattle.std.proofs.Common.{◌≡◌, ◌∙◌, ℕ, zero, suc, ◌<◌, ◌+◌, List, [], ◌∷◌, ◌++◌, Option, Some, None, Bool, cond, true, false, refl, sym, ap, subst, arith, length, take, map, inl, inr}
+use Rattle.std.specs.Prelude.{◌⊎◌, nat_lt, not, position, option_map, option_and_then, slice_get, Contains, if◌then◌else◌}
 use Rattle.std.specs.List.{prefix_len}
 use Rattle.std.specs.Cmp.Lexicographic.{bytes_decides}
+use Rattle.std.proofs.lemmas.Bool.{cases_order}
 use Rattle.std.proofs.lemmas.Bool.Decides.{nat_tests}
+use Rattle.std.proofs.lemmas.List.{take-map}
 use Rattle.std.proofs.lemmas.Option.{slice_get-map}
 use Rattle.std.proofs.lemmas.List.Elements.{Contains-append_left, Contains-append_right, Contains-push}
+use Rattle.ig_expr.specs.Names.{place_of}
 use Rattle.ig_text.specs.Words.{is_word}
 use Rattle.ig_text.proofs.Lists.{contains_from_at, in_take}
 use Rattle.ig_grammar.specs.Condition.{declaration_of}
 use Rattle.ig_grammar.specs.Condition as meets
-use Rattle.ig_grammar.specs.Names.{names}
+use Rattle.ig_grammar.specs.Names.{AreDistinct, names}
 use Rattle.ig_grammar.specs.WellScoped.{IsWellScoped}
 use Rattle.ig_grammar.specs.declared.declaration.Decl.{Decl}
 use Rattle.ig_grammar.specs.declared.grammar.Grammar.{Grammar}
@@ -140,5 +143,43 @@ itself_declared g k decl scoped e = first_at g.decls k decl e (λ j d l there sa
           (contains_from_at (names (take k g.decls)) j d.name (named_at (take k g.decls) j d (in_take g.decls k j d l there)))),
     ))
 
+-- no name is declared twice
+module _ (g : Grammar) (scoped : IsWellScoped g) where
+  declared_at : (ds : List Decl) (j : ℕ) (name : List ℕ) → slice_get (names ds) j ≡ Some name → (d : Decl) × (slice_get ds j ≡ Some d) × (d.name ≡ name)
+  declared_at [] j name e = cc
+  declared_at (d ∷ ds) zero name e = (d, refl, cc)
+  declared_at (d ∷ ds) (suc j) name e = declared_at ds j name e
+
+  not_again : (i j : ℕ) (name : List ℕ) → i < j → slice_get (names g.decls) i ≡ Some name → slice_get (names g.decls) j ≡ Some name → ⊥
+  not_again i j name l e f =
+      let d = declared_at g.decls j name f in
+      let earlier : Contains (names (take j g.decls)) name =
+      subst (λ (z : List (List ℕ)). Contains z name) (take-map (λ (x : Decl). x.name) j g.decls)
+      (contains_from_at (take j (names g.decls)) i name (in_take (names g.decls) j i name l e)) in
+      scoped (record { decl = suc j; alt = 0; symbol = 0 }) meets.DuplicateName
+      (d.0, d.1, meets.duplicate_name (subst (λ (z : List ℕ). Contains (names (take j g.decls)) z) (sym d.2) earlier))
+
+  distinct : AreDistinct (names g.decls)
+  distinct i j name e f = cases (cases_order i j)
+    where
+      cases : (i ≡ j) ⊎ ((i < j) ⊎ (j < i)) → i ≡ j
+      cases (inl same) = same
+      cases (inr (inl before)) = absurd (not_again i j name before e f)
+      cases (inr (inr behind)) = absurd (not_again j i name behind f e)
+
+-- each declaration changed, and under its name
+module _ (change : Decl → Decl) (kept : (d : Decl) → (change d).name ≡ d.name) where
+  names_kept : (ds : List Decl) → names (map change ds) ≡ names ds
+  names_kept [] = refl
+  names_kept (d ∷ ds) = rw (kept d, names_kept ds) refl
+
+  found_along : (ds : List Decl) (p : Option ℕ) → option_and_then (slice_get (map change ds)) p ≡ option_map change (option_and_then (slice_get ds) p)
+  found_along ds None = refl
+  found_along ds (Some k) = slice_get-map change ds k
+
+  changed : (ds : List Decl) (name : List ℕ) → declaration_of (map change ds) name ≡ option_map change (declaration_of ds name)
+  changed ds name =
+      ap (λ ns. option_and_then (slice_get (map change ds)) (place_of ns name)) (names_kept ds) ∙ found_along ds (place_of (names ds) name)
+
 pub found : DeclarationsAreFound
-found = record { first = declaration_first; itself = itself_declared }
+found = record { first = declaration_first; itself = itself_declared; distinct = distinct; changed = changed }

@@ -8,6 +8,8 @@ pub mod RootCalls
 pub mod RootTrees
 pub mod RootScoped
 pub mod RootShaped
+pub mod RootKept
 pub mod RootCode
 pub mod Gathering
 pub mod Barren
+pub mod Counting

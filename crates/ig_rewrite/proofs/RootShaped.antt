@@ -14,7 +14,8 @@ use Rattle.ig_grammar.specs.Condition.{Condition, SymbolMeets, symbols_of}
 use Rattle.ig_grammar.specs.Condition as meets
 use Rattle.ig_grammar.specs.WellScoped.{IsWellScoped}
 use Rattle.ig_grammar.specs.Checked.{CheckedGrammar, FitShapes, FitsShape, IsRoot, IsOfCalls}
-use Rattle.ig_grammar.specs.Regular.{IsRegular, HasFewerThan, counts_bound, OfEachLevel, IsPlaced, IsNoMark, HasNoEmptyLiteral, AlternativesStandWell, AlternativesHaveNoMark}
+use Rattle.ig_grammar.specs.Regular.{IsRegular, HasFewerThan, counts_bound, OfEachLevel, IsPlaced, IsNoMark, HasNoEmptyLiteral, AlternativesHaveNoMark}
+use Rattle.ig_grammar.specs.Subterms.{subterms_of_alternatives}
 use Rattle.ig_grammar.specs.declared.symbol.Alt.{Alt}
 use Rattle.ig_grammar.specs.declared.declaration.Assoc.TheVariants.{Free}
 use Rattle.ig_grammar.specs.declared.declaration.DeclKind.TheVariants.{Syntax, Plain}
@@ -29,7 +30,8 @@ use Rattle.ig_rewrite.specs.Rooted.{calls_of_start, root_symbols, root_declarati
 use Rattle.ig_rewrite.proofs.FirstNamed.{not_declared}
 use Rattle.ig_rewrite.proofs.RootCalls.{root_occurrence, no_root_shape, start_other, layout_other}
 
-all_calls : (P : Symbol → Type 0) → ((name : List ℕ) → P (Call name [])) → (l s : Option (List ℕ)) → All P (behind_layout l (calls_of_start s))
+-- each symbol of the root alternative is a call without arguments
+pub all_calls : (P : Symbol → Type 0) → ((name : List ℕ) → P (Call name [])) → (l s : Option (List ℕ)) → All P (behind_layout l (calls_of_start s))
 all_calls P f None None = All-nil P
 all_calls P f None (Some s) = All-cons P (Call s []) [] (f s) (All-nil P)
 all_calls P f (Some w) None = All-cons P (Call w []) [] (f w) (All-nil P)
@@ -112,36 +114,32 @@ module _ (c : CheckedGrammar) (scoped : IsWellScoped c.grammar) (fit : FitShapes
 abbrev root_alternatives : Option (List ℕ) → Option (List ℕ) → Alternatives
 root_alternatives l s = gathered_alternatives (record { symbols = behind_layout l (calls_of_start s) } ∷ [])
 
-call_placed : (name : List ℕ) → IsPlaced (Call name [])
-call_placed name = (All-nil HasNoEmptyLiteral, tt)
-
-root_stands : (l s : Option (List ℕ)) → AlternativesStandWell (root_alternatives l s)
-root_stands None None = All-nil IsPlaced
-root_stands None (Some s) = All-cons IsPlaced (Call s []) [] (call_placed s) (All-nil IsPlaced)
-root_stands (Some w) None = All-cons IsPlaced (Call w []) [] (call_placed w) (All-nil IsPlaced)
-root_stands (Some w) (Some s) = All-cons IsPlaced (Call w []) (Call s [] ∷ []) (call_placed w) (All-cons IsPlaced (Call s []) [] (call_placed s) (All-nil IsPlaced))
-
-root_unmarked : (l s : Option (List ℕ)) → AlternativesHaveNoMark (root_alternatives l s)
-root_unmarked None None = All-nil IsNoMark
-root_unmarked None (Some s) = All-cons IsNoMark (Call s []) [] tt (All-nil IsNoMark)
-root_unmarked (Some w) None = All-cons IsNoMark (Call w []) [] tt (All-nil IsNoMark)
-root_unmarked (Some w) (Some s) = All-cons IsNoMark (Call w []) (Call s [] ∷ []) tt (All-cons IsNoMark (Call s []) [] tt (All-nil IsNoMark))
+-- what holds of each call without arguments holds throughout the root alternative
+root_symbols_all : (P : Symbol → Type 0) → ((name : List ℕ) → P (Call name [])) → (l s : Option (List ℕ)) → All P (subterms_of_alternatives (root_alternatives l s))
+root_symbols_all P f None None = All-nil P
+root_symbols_all P f None (Some s) = All-cons P (Call s []) [] (f s) (All-nil P)
+root_symbols_all P f (Some w) None = All-cons P (Call w []) [] (f w) (All-nil P)
+root_symbols_all P f (Some w) (Some s) = All-cons P (Call w []) (Call s [] ∷ []) (f w) (All-cons P (Call s []) [] (f s) (All-nil P))
 
 abbrev root_level : Grammar → Level
 root_level g = record { assoc = Free; alts = record { symbols = root_symbols g } ∷ [] }
 
--- what holds of each level, and of the root, holds of each level of the rooted grammar
-each_level : (P : Alternatives → Type 0) (g : Grammar) → OfEachLevel P g → P (root_alternatives (layout_among g.decls) g.start) → OfEachLevel P (rooted_grammar Syntax g)
-each_level P g f root decl level among has = go (Contains-push_cases g.decls (root_declaration Syntax g) decl among)
+-- what holds of each symbol, and of each call without arguments, holds of each symbol of the rooted grammar
+pub each_symbol : (P : Symbol → Type 0) → ((name : List ℕ) → P (Call name [])) → (g : Grammar) → OfEachLevel (λ choices. All P (subterms_of_alternatives choices)) g →
+    OfEachLevel (λ choices. All P (subterms_of_alternatives choices)) (rooted_grammar Syntax g)
+each_symbol P calls g f decl level among has = go (Contains-push_cases g.decls (root_declaration Syntax g) decl among)
   where
-    go : Contains g.decls decl ⊎ (root_declaration Syntax g ≡ decl) → P (gathered_alternatives level.alts)
+    go : Contains g.decls decl ⊎ (root_declaration Syntax g ≡ decl) → All P (subterms_of_alternatives (gathered_alternatives level.alts))
     go (inl m) = f decl level m has
     go (inr same) =
         let only = contains_one (root_level g) level (subst (λ (d : Decl). Contains d.levels level) (sym same) has) in
-        subst (λ (z : Level). P (gathered_alternatives z.alts)) (sym only) root
+        subst (λ (z : Level). All P (subterms_of_alternatives (gathered_alternatives z.alts))) (sym only) (root_symbols_all P calls (layout_among g.decls) g.start)
+
+pub calls_are_placed : (name : List ℕ) → IsPlaced (Call name [])
+calls_are_placed name = (All-nil HasNoEmptyLiteral, tt)
 
 -- the root is not plain
-plain_before : (g : Grammar) (decl : Decl) → Contains (rooted_grammar Syntax g).decls decl → decl.kind ≡ Plain → Contains g.decls decl
+pub plain_before : (g : Grammar) (decl : Decl) → Contains (rooted_grammar Syntax g).decls decl → decl.kind ≡ Plain → Contains g.decls decl
 plain_before g decl among plain = go (Contains-push_cases g.decls (root_declaration Syntax g) decl among)
   where
     go : Contains g.decls decl ⊎ (root_declaration Syntax g ≡ decl) → Contains g.decls decl
@@ -149,12 +147,12 @@ plain_before g decl among plain = go (Contains-push_cases g.decls (root_declarat
     go (inr same) = absurd (let e : Syntax ≡ Plain = ap (λ (d : Decl). d.kind) same ∙ plain in cc)
 
 pub rooted_is_unmarked : (g : Grammar) → OfEachLevel AlternativesHaveNoMark g → OfEachLevel AlternativesHaveNoMark (rooted_grammar Syntax g)
-rooted_is_unmarked g none = each_level AlternativesHaveNoMark g none (root_unmarked (layout_among g.decls) g.start)
+rooted_is_unmarked g none = each_symbol IsNoMark (λ name. tt) g none
 
 pub rooted_is_regular : (g : Grammar) → IsRegular g → HasFewerThan counts_bound (rooted_grammar Syntax g) → IsRegular (rooted_grammar Syntax g)
 rooted_is_regular g w fewer =
     record {
-      well = each_level AlternativesStandWell g w.well (root_stands (layout_among g.decls) g.start);
-      unmarked = λ decl among plain. each_level AlternativesHaveNoMark g (w.unmarked decl (plain_before g decl among plain) plain) (root_unmarked (layout_among g.decls) g.start);
+      well = each_symbol IsPlaced calls_are_placed g w.well;
+      unmarked = λ decl among plain. rooted_is_unmarked g (w.unmarked decl (plain_before g decl among plain) plain);
       counted = fewer;
     }

@@ -1,7 +1,8 @@
 -- Which declaration a name has, by the declarations in order.
-use Rattle.std.specs.Prelude.{◌≡◌, ℕ, List, ◌∷◌, Some, if◌then◌else◌, slice_get}
+use Rattle.std.specs.Prelude.{◌≡◌, ℕ, List, ◌∷◌, Some, map, if◌then◌else◌, option_map, slice_get}
 use Rattle.ig_text.specs.Words.{is_word}
 use Rattle.ig_grammar.specs.Condition.{declaration_of}
+use Rattle.ig_grammar.specs.Names.{AreDistinct, names}
 use Rattle.ig_grammar.specs.WellScoped.{IsWellScoped}
 use Rattle.ig_grammar.specs.declared.declaration.Decl.{Decl}
 use Rattle.ig_grammar.specs.declared.grammar.Grammar.{Grammar}
@@ -13,3 +14,8 @@ pub record DeclarationsAreFound : Type 0 where
   -- in a well-scoped grammar each declaration is that of its name
   pub itself : (g : Grammar) (k : ℕ) (decl : Decl) → IsWellScoped g → slice_get g.decls k ≡ Some decl →
       declaration_of g.decls decl.name ≡ Some decl
+  -- and no two have one name
+  pub distinct : (g : Grammar) → IsWellScoped g → AreDistinct (names g.decls)
+  -- where each declaration is changed and keeps its name, that of a name is the changed one
+  pub changed : (change : Decl → Decl) → ((d : Decl) → (change d).name ≡ d.name) → (ds : List Decl) (name : List ℕ) →
+      declaration_of (map change ds) name ≡ option_map change (declaration_of ds name)

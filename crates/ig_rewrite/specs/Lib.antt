@@ -6,5 +6,8 @@ pub mod Unbound
 pub mod Needs
 pub mod Sound
 pub mod Remaining
+pub mod KeptByRoot
 pub mod Found
+pub mod Throughout
+pub mod Binders
 pub mod Examples

@@ -1,7 +1,9 @@
 //! What passes rest on. The functions compute nothing: their contracts are the laws.
 
 ghost use Rattle.ig_rewrite.specs.Added.{AddedNamesAreNew};
+ghost use Rattle.ig_rewrite.specs.Binders.{BindersAreCounted};
 ghost use Rattle.ig_rewrite.specs.Found.{DeclarationsAreFound};
+ghost use Rattle.ig_rewrite.specs.KeptByRoot.{RootKeeps};
 ghost use Rattle.ig_rewrite.specs.Rooted.{RootedIsTheSame};
 ghost use Rattle.ig_rewrite.specs.SameTrees.{SameTreesIsAnEquivalence};
 
@@ -18,8 +20,10 @@ pub fn added_names_are_new()
     ensures { AddedNamesAreNew }
 {}
 
-/// The declaration of a name is the first one with that name, and in a well-scoped grammar each
-/// declaration is that of its name. This law, proved of all declarations, computes nothing.
+/// The declaration of a name is the first one with that name. In a well-scoped grammar each
+/// declaration is that of its name, and no two have one name. Where each declaration is changed and
+/// keeps its name, that of a name is the changed one. This law, proved of all declarations,
+/// computes nothing.
 pub fn declarations_are_found()
     ensures { DeclarationsAreFound }
 {}
@@ -30,4 +34,21 @@ pub fn declarations_are_found()
 /// nothing.
 pub fn rooted_is_the_same()
     ensures { RootedIsTheSame }
+{}
+
+/// A sound grammar is sound with its root written, and permits the same trees; and what passes ask
+/// of a grammar holds of it with its root where it held before. This law, proved of all checked
+/// grammars, computes nothing.
+pub fn root_keeps()
+    ensures { RootKeeps }
+{
+    added_names_are_new();
+    rooted_is_the_same();
+    same_trees_is_an_equivalence();
+}
+
+/// As many symbols of an alternative bind a name of the notation as there are labels and lets with
+/// such names in it, whatever is visible. This law, proved of all symbols, computes nothing.
+pub fn binders_are_counted()
+    ensures { BindersAreCounted }
 {}

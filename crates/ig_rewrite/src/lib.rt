@@ -1,5 +1,5 @@
 //! What the passes share: when two grammars permit the same trees, the declaration that stands for
-//! the root, the names that passes add, and one traversal of symbols.
+//! the root, the names that passes add, one traversal of symbols, and lists that grow.
 //!
 //! The laws say that `$root`, written as the last declaration, changes no tree and keeps a checked
 //! grammar checked, and which names are new; [`root`] writes it, exactly as `specs/Rooted.antt`
@@ -7,14 +7,20 @@
 //! `specs/Rewriting.antt` says. A call is refused for want of memory alone.
 #![tactic(auto)]
 
+mod growing;
 mod laws;
 mod rewriting;
 mod rooting;
 #[cfg(test)]
 mod tests;
 
+pub use growing::{
+    copy_of_start, push_alternative, push_declaration, push_expression, push_integer, push_level,
+    push_shape, push_symbol,
+};
 pub use laws::{
-    added_names_are_new, declarations_are_found, rooted_is_the_same, same_trees_is_an_equivalence,
+    added_names_are_new, binders_are_counted, declarations_are_found, root_keeps,
+    rooted_is_the_same, same_trees_is_an_equivalence,
 };
 pub use rewriting::{OwnRule, rewrite_grammar, rewrite_levels};
 pub use rooting::{copy_of_shapes, has_root, root};

@@ -1,12 +1,13 @@
 //! A grammar each of whose symbols is rewritten by a pass's own rule.
-ghost use Rattle.std.specs.Prelude.{◌≡◌, [], ◌∷◌, ◌++◌, map, OnOk, IfOk};
+ghost use Rattle.std.specs.Prelude.{◌≡◌, map, IfOk};
 ghost use Rattle.ig_grammar.specs.View.{symbol_of};
 ghost use Rattle.ig_rewrite.specs.Rewriting.{within, rewritten, rewritten_alternative};
 ghost use Rattle.ig_rewrite.specs.Rewriting.{rewritten_level, rewritten_declaration};
 ghost use Rattle.ig_rewrite.specs.Rewriting.{rewritten_grammar};
 
+use crate::growing::{copy_of_start, push_alternative, push_declaration, push_level, push_symbol};
 use ig_grammar::{Alt, Alts, Decl, Decls, Grammar, Inner, Level, Levels, Symbol, Symbols};
-use ig_text::{Copied, Word};
+use ig_text::Copied;
 use std::alloc::{AllocError, Global};
 
 /// A pass's own rule, for a symbol whose parts are rewritten already.
@@ -208,42 +209,4 @@ pub fn rewrite_levels<O: OwnRule>(own: &O, alloc: Global, decl: &Decl) -> Result
         )?;
     }
     Ok(all)
-}
-
-/// An equal start line.
-pub fn copy_of_start(alloc: Global, start: &Option<Word>) -> Result<Option<Word>, AllocError>
-    ensures { IfOk result (λ r. r ≡ start.now) }
-{
-    match start {
-        Some(name) => Ok(Some(name.copy(alloc)?)),
-        None => Ok(None),
-    }
-}
-
-/// Adds the symbol at the end.
-pub fn push_symbol(all: &mut Symbols, symbol: Symbol) -> Result<(), AllocError>
-    ensures { OnOk result (all.new ≡ all.old ++ symbol_of symbol ∷ []) }
-{
-    all.push(symbol).map_err(|refused| refused.1)
-}
-
-/// Adds the alternative at the end.
-pub fn push_alternative(all: &mut Alts, alternative: Alt) -> Result<(), AllocError>
-    ensures { OnOk result (all.new ≡ all.old ++ alternative ∷ []) }
-{
-    all.push(alternative).map_err(|refused| refused.1)
-}
-
-/// Adds the level at the end.
-pub fn push_level(all: &mut Levels, level: Level) -> Result<(), AllocError>
-    ensures { OnOk result (all.new ≡ all.old ++ level ∷ []) }
-{
-    all.push(level).map_err(|refused| refused.1)
-}
-
-/// Adds the declaration at the end.
-pub fn push_declaration(all: &mut Decls, decl: Decl) -> Result<(), AllocError>
-    ensures { OnOk result (all.new ≡ all.old ++ decl ∷ []) }
-{
-    all.push(decl).map_err(|refused| refused.1)
 }

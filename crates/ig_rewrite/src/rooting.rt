@@ -1,5 +1,5 @@
 //! The declaration that stands for the root.
-ghost use Rattle.std.specs.Prelude.{◌≡◌, ◌↔◌, [], ◌∷◌, ◌++◌, false, length, IfOk, IsTrue, OnOk};
+ghost use Rattle.std.specs.Prelude.{◌≡◌, ◌↔◌, [], false, length, IfOk, IsTrue};
 ghost use Rattle.ig_grammar.specs.Symbol.{Call};
 ghost use Rattle.ig_grammar.specs.View.{symbol_of};
 ghost use Rattle.ig_grammar.specs.Numbering.{layout_among};
@@ -9,10 +9,10 @@ ghost use Rattle.ig_rewrite.specs.Added.{root_name, IsFresh};
 ghost use Rattle.ig_rewrite.specs.Rooted.{root_symbols, root_declaration, rooted_grammar};
 ghost use Rattle.ig_rewrite.specs.Rooted.{is_root, has_root, rooted};
 
-use crate::laws::rooted_is_the_same;
-use crate::rewriting::{
-    copy_of_start, push_alternative, push_declaration, push_level, push_symbol,
+use crate::growing::{
+    copy_of_start, push_alternative, push_declaration, push_level, push_shape, push_symbol,
 };
+use crate::laws::rooted_is_the_same;
 use ig_expr::Exprs;
 use ig_grammar::{
     Alt, Alts, Assoc, Checked, Decl, DeclKind, Grammar, Level, Levels, Params, Shape, Shapes,
@@ -165,11 +165,4 @@ fn call(alloc: Global, name: &Word) -> Result<Symbol, AllocError>
 {
     let name = name.copy(alloc)?;
     Ok(Symbol::Call(name, Exprs::new(alloc)))
-}
-
-/// Adds the shape at the end.
-fn push_shape(all: &mut Shapes, shape: Shape) -> Result<(), AllocError>
-    ensures { OnOk result (all.new ≡ all.old ++ shape ∷ []) }
-{
-    all.push(shape).map_err(|refused| refused.1)
 }

@@ -10,6 +10,7 @@ returns c =
       cleans = c.trees_without_operators_are_clean.ensures;
       found = c.declarations_are_found.ensures;
       new = c.added_names_are_new.ensures;
-      rooting = c.rooted_is_the_same.ensures;
+      root = c.root_keeps.ensures;
+      counted = c.binders_are_counted.ensures;
       equivalence = c.same_trees_is_an_equivalence.ensures;
     })

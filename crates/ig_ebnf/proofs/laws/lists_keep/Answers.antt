@@ -2,4 +2,11 @@ use Rattle.ig_ebnf.proofs.Keeping.{all_lists_kept}
 use Rattle.ig_ebnf.proofs.laws.lists_keep.Goals as goal
 
 pub returns : goal.returns
-returns c = all_lists_kept c.trees_without_operators_are_clean.ensures c.added_names_are_new.ensures c.rooted_is_the_same.ensures c.same_trees_is_an_equivalence.ensures
+returns c =
+    all_lists_kept
+    (record {
+      clean = c.trees_without_operators_are_clean.ensures;
+      new = c.added_names_are_new.ensures;
+      counted = c.binders_are_counted.ensures;
+      found = c.declarations_are_found.ensures;
+    }) c.root_keeps.ensures c.same_trees_is_an_equivalence.ensures

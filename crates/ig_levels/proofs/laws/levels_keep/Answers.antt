@@ -6,7 +6,7 @@ returns c =
     levels_keep (record {
       new = c.added_names_are_new.ensures;
       found = c.declarations_are_found.ensures;
-      rooting = c.rooted_is_the_same.ensures;
+      root = c.root_keeps.ensures;
       equivalence = c.same_trees_is_an_equivalence.ensures;
       cleans = c.trees_without_operators_are_clean.ensures;
     })

@@ -3,9 +3,12 @@ use Rattle.ig_lexical.proofs.laws.filters_keep.Goals as goal
 
 pub returns : goal.returns
 returns c =
-    filters_kept c.regularity_by_form.ensures c.added_names_are_new.ensures (record {
+    filters_kept (record {
       looks = c.tests_look_for_matches.ensures;
       cleans = c.trees_without_operators_are_clean.ensures;
-      rooting = c.rooted_is_the_same.ensures;
+      forms = c.regularity_by_form.ensures;
+      root = c.root_keeps.ensures;
+      counted = c.binders_are_counted.ensures;
+      found = c.declarations_are_found.ensures;
       equivalence = c.same_trees_is_an_equivalence.ensures;
     })

@@ -3,10 +3,11 @@ use Rattle.ig_lexical.proofs.laws.layout_keeps.Goals as goal
 
 pub returns : goal.returns
 returns c =
-    layout_kept c.added_names_are_new.ensures (record {
+    layout_kept (record {
       cleans = c.trees_without_operators_are_clean.ensures;
       forms = c.regularity_by_form.ensures;
       found = c.declarations_are_found.ensures;
-      rooting = c.rooted_is_the_same.ensures;
+      root = c.root_keeps.ensures;
+      counted = c.binders_are_counted.ensures;
       equivalence = c.same_trees_is_an_equivalence.ensures;
     })

@@ -1,12 +1,43 @@
--- What holds of each occurrence is placed, and what is placed holds of each occurrence.
+-- What holds of each symbol at the variables that are visible there. A clause ranges over no properties of symbols, so that
+-- this is the same as what holds of each occurrence stands here with its proof, and not as a law of src/laws.rt; nothing
+-- of this file has to be believed.
 use Rattle.std.proofs.Common.{◌≡◌, List, [], ◌∷◌, ◌++◌, subst, inl, inr, arith}
 use Rattle.std.specs.Prelude.{Contains, ◌⊎◌}
-use Rattle.std.proofs.lemmas.List.Elements.{Contains-append_left, Contains-append_right, Contains-append_cases, Contains-push_cases}
+use Rattle.std.proofs.lemmas.List.Elements.{Contains-append_left, Contains-append_right, Contains-append_cases, Contains-push, Contains-push_cases}
 use Rattle.ig_grammar.specs.Symbol.{Symbol, Literal, OneOf, Call, Label, Guard, Let, Opt, Star, Plus, SepStar, SepPlus, Group, Offside, Ignore, Align, Filtered, Seq, Entry}
 use Rattle.ig_grammar.specs.Symbol.{Symbols, no_symbols, next_symbol, Alternatives, no_alternatives, next_alternative}
 use Rattle.ig_grammar.specs.Visible.{Visible, Occurrence, at, inside, inside_sequence, inside_choices, binds, replaced}
-use Rattle.ig_blocks.proofs.Parts.{contains_first, contains_later}
-use Rattle.ig_blocks.proofs.Placing.{Placed, PlacedSymbols, PlacedChoices}
+
+-- N holds of a symbol, and of each symbol inside it, at what is visible there
+module _ (N : Visible → Symbol → Type 0) where
+  abbrev mutual
+    pub Placed : Symbol → Visible → Type 0
+    Placed (Literal word) v = N v (Literal word)
+    Placed (OneOf class) v = N v (OneOf class)
+    Placed (Call name arguments) v = N v (Call name arguments)
+    Placed (Label name x) v = N v (Label name x) × Placed x v
+    Placed (Guard e) v = N v (Guard e)
+    Placed (Let name e) v = N v (Let name e)
+    Placed (Opt x) v = N v (Opt x) × Placed x v
+    Placed (Star x) v = N v (Star x) × Placed x v
+    Placed (Plus x) v = N v (Plus x) × Placed x v
+    Placed (SepStar x s) v = N v (SepStar x s) × Placed x v × Placed s v
+    Placed (SepPlus x s) v = N v (SepPlus x s) × Placed x v × Placed s v
+    Placed (Group choices) v = N v (Group choices) × PlacedChoices choices v
+    Placed (Offside x) v = N v (Offside x) × Placed x v
+    Placed (Ignore x) v = N v (Ignore x) × Placed x v
+    Placed (Align x) v = N v (Align x) × Placed x v
+    Placed (Filtered x filters) v = N v (Filtered x filters) × Placed x v
+    Placed (Seq xs) v = N v (Seq xs) × PlacedSymbols xs v
+    Placed (Entry bs x) v = N v (Entry bs x) × Placed x (replaced v v bs)
+
+    pub PlacedSymbols : Symbols → Visible → Type 0
+    PlacedSymbols no_symbols v = Unit {0}
+    PlacedSymbols (next_symbol x xs) v = Placed x v × PlacedSymbols xs (v ++ binds v x)
+
+    pub PlacedChoices : Alternatives → Visible → Type 0
+    PlacedChoices no_alternatives v = Unit {0}
+    PlacedChoices (next_alternative xs others) v = PlacedSymbols xs v × PlacedChoices others v
 
 module _ (N : Visible → Symbol → Type 0) where
   abbrev Every : List Occurrence → Type 0
@@ -19,11 +50,12 @@ module _ (N : Visible → Symbol → Type 0) where
   others_every os ps f o m = f o (Contains-append_right os ps o m)
 
   head_every : (o : Occurrence) (os : List Occurrence) → Every (o ∷ os) → N o.visible o.symbol
-  head_every o os f = f o (contains_first o os)
+  head_every o os f = f o (Contains-append_left (o ∷ []) os o (Contains-push [] o))
 
   tail_every : (o : Occurrence) (os : List Occurrence) → Every (o ∷ os) → Every os
-  tail_every o os f p m = f p (contains_later o os p m)
+  tail_every o os f p m = f p (Contains-append_right (o ∷ []) os p m)
 
+  -- what holds of each occurrence is placed
   mutual
     pub placed : (x : Symbol) (v : Visible) → N v x → Every (inside v x) → Placed N x v
     placed (Literal word) v n f = n
@@ -84,6 +116,7 @@ module _ (N : Visible → Symbol → Type 0) where
       go (inl c) = f p c
       go (inr c) = h p c
 
+  -- and what is placed holds of each occurrence
   mutual
     pub of_placed : (x : Symbol) (v : Visible) → Placed N x v → Every (at v x ∷ inside v x)
     of_placed (Literal word) v p = cons_every (at v (Literal word)) [] p no_occurrence
