@@ -28,7 +28,7 @@ use Rattle.ig_forest.specs.declared.rows.ItemRow.{ItemRow}
 use Rattle.ig_forest.specs.declared.rows.NodeRow.{NodeRow}
 use Rattle.ig_forest.specs.declared.links.Link.{Link}
 use Rattle.ig_forest.specs.declared.entries.Kept.{Kept}
-use Rattle.ig_forest.specs.declared.stored.StoredItem.{StoredItem}
+use Rattle.ig_forest.specs.CodeParts.{StoredItem}
 use Rattle.ig_forest.proofs.Lists.{contains_from_at, at_from_contains, rises, one_place}
 use Rattle.ig_forest.proofs.Liveness.{previous_reachable}
 use Rattle.ig_forest.proofs.CodeOrders.{row_total, node_row_total}

@@ -14,7 +14,8 @@ use Rattle.ig_expr.specs.declared.value.Value.{Value}
 use Rattle.ig_expr.specs.contracts.value.ValuePartialEq.TheImpl as value_eq
 use Rattle.ig_expr.specs.contracts.value.ValueOrd.TheImpl.Laws as value_laws
 use Rattle.ig_forest.specs.CodeTables.{AreLists, ArePlaces, list_cmp}
-use Rattle.ig_forest.proofs.CodeSorted.{not_found, map_at, once_by, IsOnce}
+use Rattle.ig_forest.specs.CodeOnce.{IsOnce}
+use Rattle.ig_forest.proofs.CodeSorted.{not_found, map_at, once_by}
 use Rattle.ig_forest.proofs.CodeOrders.{value_derived, values_as, list_total, list_exact}
 
 abbrev pub now_of : Bor (List Value) → List Value

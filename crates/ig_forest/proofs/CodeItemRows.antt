@@ -12,7 +12,8 @@ use Rattle.ig_item.specs.declared.items.Item as stored
 use Rattle.ig_forest.specs.CodeTables.{ArePlaces, AreRows, RowFits, item_by, list_at, row_cmp}
 use Rattle.ig_forest.specs.declared.rows.ItemRow.{ItemRow}
 use Rattle.ig_forest.proofs.Lists.{at_within, contains_from_at}
-use Rattle.ig_forest.proofs.CodeSorted.{map_at, at_of_map, map_member, member_of_map, IsOnce}
+use Rattle.ig_forest.specs.CodeOnce.{IsOnce}
+use Rattle.ig_forest.proofs.CodeSorted.{map_at, at_of_map, map_member, member_of_map}
 use Rattle.ig_forest.proofs.CodeEnvironments.{map_next}
 
 pub key_there : (keys : List InstanceKey) (k n : ℕ) (d : InstanceKey) → k < length keys →

@@ -11,7 +11,7 @@ use Rattle.ig_forest.specs.CodeDone.{IsDoneRow, AreNodesOf}
 use Rattle.ig_forest.specs.declared.rows.ItemRow.{ItemRow}
 use Rattle.ig_forest.specs.declared.rows.NodeRow.{NodeRow}
 use Rattle.ig_forest.proofs.CodeAdding.{taken_more, adds_none, adds_one}
-use Rattle.ig_forest.proofs.CodeSorted.{IsOnce}
+use Rattle.ig_forest.specs.CodeOnce.{IsOnce}
 use Rattle.ig_forest.proofs.CodeOrders.{node_row_total, node_row_exact}
 use Rattle.ig_forest.proofs.CodeRuns.{inside, between_bounds, bounds_rise, Starts, Stops}
 use Rattle.ig_forest.proofs.CodeGives.{complete_from_last, last_from_complete}

@@ -9,7 +9,7 @@ use Rattle.ig_forest.specs.CodeForest.{node_by, item_node_by, forest_by, name_at
 use Rattle.ig_forest.specs.declared.entry.Choice.{Choice}
 use Rattle.ig_forest.specs.declared.entry.Entry.{Entry}
 use Rattle.ig_forest.specs.declared.stored.StoredNode.{StoredNode}
-use Rattle.ig_forest.specs.declared.stored.StoredItem.{StoredItem}
+use Rattle.ig_forest.specs.CodeParts.{StoredItem}
 use Rattle.ig_forest.proofs.CodeSorted.{map_at}
 
 pub there_not : {X : Type 0} (xs : List X) (d : X) (n : ℕ) → n < length xs → None ≡ slice_get xs n → ⊥

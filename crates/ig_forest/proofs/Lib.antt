@@ -11,6 +11,8 @@ pub mod Usage
 pub mod Uniqueness
 pub mod CodeSorted
 pub mod CodeOrders
+pub mod CodePlacing
+pub mod CodeParts
 pub mod CodeEnvironments
 pub mod CodeNames
 pub mod CodeItemRows
@@ -36,3 +38,5 @@ pub mod CodeRooted
 pub mod CodeReduced
 pub mod CodeBuilding
 pub mod CodeReading
+pub mod TreeTags
+pub mod ShortCursors

@@ -13,7 +13,7 @@ use Rattle.ig_forest.specs.declared.entry.Choice.{Choice}
 use Rattle.ig_forest.specs.declared.rows.ItemRow.{ItemRow}
 use Rattle.ig_forest.specs.declared.rows.NodeRow.{NodeRow}
 use Rattle.ig_forest.specs.declared.stored.StoredNode.{StoredNode}
-use Rattle.ig_forest.specs.declared.stored.StoredItem.{StoredItem}
+use Rattle.ig_forest.specs.CodeParts.{StoredItem}
 
 abbrev pub name_at : List (List ℕ) → ℕ → List ℕ
 name_at names n = slice_index_or names n []

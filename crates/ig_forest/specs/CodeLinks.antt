@@ -1,6 +1,7 @@
 -- How items come about from previous ones, over rows.
 use Rattle.std.specs.Prelude.{◌≡◌, ◌↔◌, ℕ, ◌<◌, List, map, length, Contains, Option, Some, None, slice_get}
 use Rattle.std.specs.List.Sorted.{IsStrictlySortedBy, IsSorted}
+use Rattle.std.specs.Option.{option_cmp}
 use Rattle.std.specs.Ordering.{nat_cmp, ordering_then}
 use Rattle.std.specs.declared.cmp.Ordering.{Ordering}
 use Rattle.ig_text.specs.declared.pattern.Pattern.{Pattern}
@@ -121,6 +122,10 @@ pub record LinkedByOne (s : Sources) (number : ℕ) (label : Option (List ℕ)) 
 -- links in the order of the target, then of the previous item
 abbrev pub link_cmp : Link → Link → Ordering
 link_cmp x y = ordering_then (nat_cmp x.target y.target) (nat_cmp x.prev y.prev)
+
+-- the order of links, field by field
+abbrev pub link_full_cmp : Link → Link → Ordering
+link_full_cmp x y = ordering_then (nat_cmp x.target y.target) (ordering_then (nat_cmp x.prev y.prev) (option_cmp nat_cmp x.node y.node))
 
 pub record AreLinks (s : Sources) (links : List Link) : Type 0 where
   pub members : (link : Link) → Contains links link ↔ Linked s link

@@ -4,6 +4,10 @@ pub mod Live
 pub mod Orders
 pub mod Reduced
 pub mod Laws
+pub mod Flat
+pub mod Tags
+pub mod Cursors
+pub mod TreeLaws
 pub mod CodeTables
 pub mod CodeSteps
 pub mod CodeLinks
@@ -17,3 +21,5 @@ pub mod CodeRoot
 pub mod CodeViews
 pub mod CodeBuilder
 pub mod CodePlaces
+pub mod CodeOnce
+pub mod CodeParts

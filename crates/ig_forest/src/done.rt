@@ -1,7 +1,8 @@
 //! Complete items and the nodes to which they belong.
 ghost use Rattle.std.specs.Prelude.{◌≡◌, ◌↔◌, ◌+◌, ◌≤◌, ◌<◌, ℕ, IfOk, OnOk, Some, true, false};
 ghost use Rattle.std.specs.Prelude.{IsTrue, length, slice_get};
-ghost use Rattle.std.specs.List.Sorted.{IsPartitionPoint, IsStrictlySortedBy};
+ghost use Rattle.std.specs.List.Sorted.{IsPartitionPoint, IsPermutation, IsSorted};
+ghost use Rattle.std.specs.List.Sorted.{IsStrictlySortedBy};
 ghost use Rattle.std.specs.Ordering.{is_le, is_lt};
 ghost use Rattle.ig_forest.specs.CodeTables.{node_of, node_row_cmp, row_cmp};
 ghost use Rattle.ig_forest.specs.CodePlaces.{IsAt};
@@ -9,6 +10,7 @@ ghost use Rattle.ig_forest.specs.CodeSteps.{Adds};
 ghost use Rattle.ig_forest.specs.CodeDone.{AreNodesOf, IsDoneRow};
 
 use crate::dots::is_complete;
+use crate::placing::is_ordered;
 use crate::rows::{ItemRow, NodeRow};
 use ig_item::Core;
 use std::alloc::{AllocError, Global};
@@ -22,13 +24,24 @@ pub(crate) fn nodes_of(
     ensures nodes { IfOk result (λ nodes. AreNodesOf core.now rows.now nodes.items) }
     ensures few { IfOk result (λ nodes. length nodes.items ≤ length rows.now) }
 {
-    let mut nodes = Vec::new(alloc);
+    let mut nodes = Vec::with_capacity(alloc, rows.len())?;
     for row in rows {
         push_node(core, &mut nodes, row)?;
     }
-    nodes.sort_unstable();
+    sort_nodes(&mut nodes);
     nodes.dedup();
     Ok(nodes)
+}
+
+/// Sorts the nodes. They mostly come in order.
+fn sort_nodes(nodes: &mut Vec<NodeRow>)
+    ensures permutation { IsPermutation nodes.old.items nodes.new.items }
+    ensures sorted { IsSorted node_row_cmp nodes.new.items }
+    ensures few { length nodes.new.items ≡ length nodes.old.items }
+{
+    if !is_ordered(nodes.as_slice()) {
+        nodes.sort_unstable();
+    }
 }
 
 /// Adds the node of the item, where that is complete.

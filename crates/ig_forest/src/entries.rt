@@ -7,14 +7,14 @@ ghost use Rattle.ig_forest.specs.CodeEntries.{live_at};
 ghost use Rattle.ig_forest.specs.CodeKept.{AreTaken};
 ghost use Rattle.ig_forest.specs.CodeTables.{node_row_cmp};
 ghost use Rattle.ig_item.specs.View.{step_of};
-ghost use Rattle.ig_forest.specs.declared.stored.StoredItem.{StoredItem};
+ghost use Rattle.ig_forest.specs.CodeParts.{StoredItem};
 
 use crate::dots::next_step;
 use crate::entry::{Child, Entry};
+use crate::item_table::ItemTable;
 use crate::links::{Link, Sources, links_to, number_of};
 use crate::places::place_at;
 use crate::rows::{ItemRow, NodeRow};
-use crate::stored::{Entries, StoredItem};
 use ig_item::Step;
 use ig_text::Span;
 use std::alloc::{AllocError, Global};
@@ -35,45 +35,39 @@ pub(crate) struct Kept<'a, 'v> {
 
 impl<'a, 'v> Kept<'a, 'v> {
     /// The item nodes of the kept items, whose old numbers these are.
-    pub(crate) fn with_entries(
-        &self,
-        alloc: Global,
-        kept: &[u32],
-    ) -> Result<Vec<StoredItem>, AllocError>
+    pub(crate) fn with_entries(&self, alloc: Global, kept: &[u32]) -> Result<ItemTable, AllocError>
         requires tables { AreFinal self.now }
         requires kept { AreTaken self.now.sources.rows.now kept.now self.now.live.now }
-        ensures rows { IfOk result (λ stored. map (λ n. n.row) stored.items ≡ self.now.live.now) }
-        ensures entries { IfOk result (λ stored. (n : StoredItem) → Contains stored.items n →
+        ensures rows { IfOk result (λ stored. map (λ n. n.row) stored ≡ self.now.live.now) }
+        ensures entries { IfOk result (λ stored. (n : StoredItem) → Contains stored n →
             HasEntries self.now n.row n.entries) }
     {
-        let mut stored = Vec::with_capacity(alloc, kept.len())?;
+        let most = self.links.len().saturating_add(kept.len());
+        let mut stored = ItemTable::with_capacity(alloc, kept.len(), most)?;
+        let mut entries = Vec::new(alloc);
         for number in kept {
             let row = self.sources.rows[*number as usize];
-            let entries = self.entries_of(alloc, *number)?;
-            stored.push(StoredItem { row, entries })?;
+            self.enter(&mut entries, *number)?;
+            stored.push(row, entries.as_slice())?;
         }
         Ok(stored)
     }
 
-    /// The entries of the item of that number, in their order.
-    fn entries_of(&self, alloc: Global, number: u32) -> Result<Entries, AllocError>
+    /// Makes these the entries of the item of that number, in their order.
+    fn enter(&self, entries: &mut Vec<Entry>, number: u32) -> Result<(), AllocError>
         requires tables { AreFinal self.now }
         requires live { live_at self.now number }
-        ensures { IfOk result (λ entries. (row : ItemRow) →
+        ensures { OnOk result ((row : ItemRow) →
             slice_get self.now.sources.rows.now number ≡ Some row →
-            HasEntries self.now row entries) }
+            HasEntries self.now row entries.new.items) }
     {
         let near = place_at(self.places, number as usize);
         let links = links_to(self.links, near, number);
-        let mut entries = first_entries(
-            alloc,
-            self.sources.rows[number as usize].dot,
-            links.len(),
-        )?;
+        begin(entries, self.sources.rows[number as usize].dot)?;
         for link in links {
-            push_entry(&mut entries, self.entry_of(*link))?;
+            entries.push(self.entry_of(*link))?;
         }
-        Ok(entries)
+        Ok(())
     }
 
     /// The entry of a link whose target is kept.
@@ -140,31 +134,16 @@ fn taken_by(step: &Step, prev: u32, begin: u32, end: u32) -> Entry
     }
 }
 
-/// The entries that an item with that dot begins with, with room for as many more.
-fn first_entries(alloc: Global, dot: u32, more: usize) -> Result<Entries, AllocError>
-    ensures { IfOk result (λ entries. entries ≡ begun dot) }
+/// Makes these the entries that an item with that dot begins with.
+fn begin(entries: &mut Vec<Entry>, dot: u32) -> Result<(), AllocError>
+    ensures { OnOk result (entries.new.items ≡ begun dot) }
 {
-    let mut entries = no_entries(alloc, more.max(1))?;
+    entries.clear();
     if dot > 0 {
-        return Ok(entries);
+        return Ok(());
     }
-    push_entry(&mut entries, Entry::Begin)?;
-    Ok(entries)
-}
-
-/// No entries, with room for as many.
-fn no_entries(alloc: Global, count: usize) -> Result<Entries, AllocError>
-    ensures { IfOk result (λ entries. entries ≡ []) }
-{
-    let entries = Vec::with_capacity(alloc, count)?;
-    Ok(Entries::from_vec(entries))
-}
-
-/// Adds an entry at the end.
-fn push_entry(entries: &mut Entries, entry: Entry) -> Result<(), AllocError>
-    ensures { OnOk result (entries.new ≡ entries.old ++ entry ∷ []) }
-{
-    entries.push(entry).map_err(|(_, error)| error)
+    entries.push(Entry::Begin)?;
+    Ok(())
 }
 
 /// The number of a node. It is looked for at a place first, and then everywhere.

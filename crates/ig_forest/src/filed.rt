@@ -6,6 +6,7 @@ ghost use Rattle.std.specs.List.Sorted.{IsPartitionPoint, IsSorted};
 ghost use Rattle.std.specs.Ordering.{is_le, is_lt};
 ghost use Rattle.ig_forest.specs.CodeLinks.{AreFiled, filed_cmp, instance_row_cmp};
 
+use crate::ordered::filed_in_order;
 use crate::rows::NodeRow;
 use std::alloc::{AllocError, Global};
 
@@ -24,11 +25,20 @@ pub(crate) struct FiledNode {
     pub node: u32,
 }
 
-/// The nodes, filed by instance.
-pub(crate) fn file_nodes(alloc: Global, nodes: &[NodeRow]) -> Result<Vec<FiledNode>, AllocError>
+/// The nodes, filed by instance. They mostly come by their starts, with nonterminals below that
+/// number.
+pub(crate) fn file_nodes(
+    alloc: Global,
+    nodes: &[NodeRow],
+    nonterminals: u32,
+) -> Result<Vec<FiledNode>, AllocError>
     requires { length nodes.now < 4294967296 }
     ensures { IfOk result (λ filed. AreFiled nodes.now filed.items) }
 {
+    let starts = match nodes.last() {
+        Some(node) => (node.start as usize).saturating_add(1),
+        None => 0,
+    };
     let mut filed = Vec::with_capacity(alloc, nodes.len())?;
     for (number, node) in nodes.iter().enumerate() {
         let instance = InstanceRow {
@@ -41,8 +51,8 @@ pub(crate) fn file_nodes(alloc: Global, nodes: &[NodeRow]) -> Result<Vec<FiledNo
             node: number as u32,
         })?;
     }
-    filed.sort_unstable();
-    Ok(filed)
+    let ordered = filed_in_order(alloc, filed, starts, nonterminals as usize)?;
+    Ok(ordered)
 }
 
 /// The filed nodes of an instance. They are looked for from one place to another first.

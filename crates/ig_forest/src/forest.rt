@@ -14,9 +14,10 @@ use crate::entry::{Choice, Entry};
 use crate::environments::lists_of;
 use crate::filed::file_nodes;
 use crate::item_rows::rows_of;
+use crate::item_table::ItemTable;
 use crate::links::Sources;
 use crate::names::names_of_core;
-use crate::stored::{StoredItem, StoredNode};
+use crate::stored::StoredNode;
 use ig_expr::Value;
 use ig_item::{Core, EnvironmentTable, Items, environments_fit, reachable_is_closed};
 use ig_text::{Span, Text, Word, Words};
@@ -30,7 +31,7 @@ pub struct Forest {
     pub(crate) names: Words,
     pub(crate) lists: EnvironmentTable,
     pub(crate) nodes: Vec<StoredNode>,
-    pub(crate) items: Vec<StoredItem>,
+    pub(crate) items: ItemTable,
 }
 
 impl Model for Forest {
@@ -39,9 +40,9 @@ impl Model for Forest {
 
     ghost Value = { parts.Forest };
 
-    ghost view = { λ s. forest_by s.root s.names s.lists s.nodes.items s.items.items };
+    ghost view = { λ s. forest_by s.root s.names s.lists s.nodes.items s.items };
 
-    ghost invariant = { λ s. FitsForest s.root s.names s.lists s.nodes.items s.items.items };
+    ghost invariant = { λ s. FitsForest s.root s.names s.lists s.nodes.items s.items };
 }
 
 /// A node that is borrowed from a forest.
@@ -84,14 +85,14 @@ impl Forest {
     {
         reachable_is_closed();
         environments_fit();
-        let _ = core.nonterminals();
+        let nonterminals = core.nonterminals();
         let list_table = lists_of(alloc, items)?;
         let lists = list_table.as_slice();
-        let row_table = rows_of(alloc, items, lists)?;
+        let row_table = rows_of(alloc, items, lists, text.len())?;
         let rows = row_table.as_slice();
         let node_table = nodes_of(alloc, core, rows)?;
         let nodes = node_table.as_slice();
-        let filed_table = file_nodes(alloc, nodes)?;
+        let filed_table = file_nodes(alloc, nodes, nonterminals)?;
         let filed = filed_table.as_slice();
         let name_table = names_of_core(alloc, core)?;
         let names = name_table.as_slice();
@@ -159,7 +160,7 @@ impl Forest {
     pub fn item(&self, k: u32) -> Option<ItemNode<'_>>
         ensures { option_map item_node_view result ≡ slice_get self.now.items k }
     {
-        let Some(stored) = item_at(self.items.as_slice(), k) else {
+        let Some(stored) = self.items.get(k) else {
             return None;
         };
         let Some(name) = word_at(self.names.as_slice(), stored.row.nonterminal) else {
@@ -180,7 +181,7 @@ impl Forest {
             dot: stored.row.dot,
             env,
             position: stored.row.position,
-            entries: stored.entries.as_slice(),
+            entries: stored.entries,
         })
     }
 }
@@ -190,13 +191,6 @@ fn node_at(nodes: &[StoredNode], k: u32) -> Option<&StoredNode>
     ensures { option_copied result ≡ slice_get nodes.now k }
 {
     nodes.get(k as usize)
-}
-
-/// A stored item node by its number.
-fn item_at(items: &[StoredItem], k: u32) -> Option<&StoredItem>
-    ensures { option_copied result ≡ slice_get items.now k }
-{
-    items.get(k as usize)
 }
 
 /// A word by its number.

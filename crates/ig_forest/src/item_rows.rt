@@ -9,16 +9,18 @@ ghost use Rattle.ig_forest.specs.CodeTables.{AreLists, AreNodeRows, ArePlaces, A
 ghost use Rattle.ig_forest.specs.CodeTables.{node_of, RowFits};
 
 use crate::environments::places_of;
+use crate::ordered::rows_in_order;
 use crate::rows::{ItemRow, NodeRow};
 use ig_expr::Value;
 use ig_item::{Core, InstanceKey, Item, Items, Step};
 use std::alloc::{AllocError, Global};
 
-/// The items, each once, in order.
+/// The items, each once, in order. They mostly start at `end` or before.
 pub(crate) fn rows_of(
     alloc: Global,
     items: &Items,
     lists: &[&[Value]],
+    end: u32,
 ) -> Result<Vec<ItemRow>, AllocError>
     requires lists { AreLists items.now.environments (map (λ l. l.now) lists.now) }
     requires few { length lists.now < 4294967296 }
@@ -27,10 +29,9 @@ pub(crate) fn rows_of(
     ensures few { IfOk result (λ rows. length rows.items < 4294967296) }
 {
     let places = places_of(alloc, items, lists)?;
-    let mut rows = all_rows(alloc, items, lists, places.as_slice())?;
-    rows.sort_unstable();
-    rows.dedup();
-    Ok(rows)
+    let rows = all_rows(alloc, items, lists, places.as_slice())?;
+    let ordered = rows_in_order(alloc, rows, (end as usize).saturating_add(1))?;
+    Ok(ordered)
 }
 
 /// The items, in the order of their numbers.
@@ -47,7 +48,7 @@ fn all_rows(
         (row : ItemRow) → Contains rows.items row → RowFits (map (λ l. l.now) lists.now) row) }
     ensures few { IfOk result (λ rows. length rows.items < 4294967296) }
 {
-    let mut rows = Vec::new(alloc);
+    let mut rows = Vec::with_capacity(alloc, items.items().len())?;
     for item in items.items() {
         rows.push(row_of(places, items.instance_keys(), *item))?;
     }

@@ -24,15 +24,20 @@ mod environments;
 mod filed;
 mod forest;
 mod item_rows;
+mod item_table;
 mod laws;
 mod links;
 mod live;
 mod names;
+mod ordered;
 mod places;
+mod placing;
 mod reach;
 mod root;
 mod rows;
 mod stored;
+mod tree;
+mod tree_laws;
 
 pub use entry::{Child, Choice, Entry};
 pub use forest::{Forest, ItemNode, Node};
@@ -42,3 +47,5 @@ pub use laws::{
     tree_has_one_cursor, trim_forest_has_trees,
 };
 pub use stored::{Choices, Entries};
+pub use tree::{Cursor, Part, Tree};
+pub use tree_laws::{cursors_are_short, tags_name_nonterminals};

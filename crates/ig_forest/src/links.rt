@@ -24,6 +24,7 @@ ghost use Rattle.ig_forest.specs.CodeTables.{item_by, list_at, row_cmp};
 use crate::dots::next_step;
 use crate::environments::place_of;
 use crate::filed::{FiledNode, InstanceRow, run_of};
+use crate::ordered::links_in_order;
 use crate::places::{places_from, places_of_starts};
 use crate::rows::{ItemRow, NodeRow};
 use ig_expr::{Expr, Exprs, Value, evaluate};
@@ -31,7 +32,9 @@ use ig_item::{Core, Step};
 use ig_text::{Pattern, Patterns, Sequence, Span, Text, Word, Words};
 use std::alloc::{AllocError, Global};
 
-/// How many rows count as near.
+/// How many rows count as next to a place, and how many as near it.
+const FEW: usize = 8;
+
 const NEAR: usize = 32;
 
 /// A link from an item to a previous one, by number; behind a call with the node that was taken.
@@ -61,13 +64,12 @@ pub(crate) fn links_of(alloc: Global, sources: &Sources) -> Result<Vec<Link>, Al
 {
     let place_table = places_of_starts(alloc, sources.filed, sources.text.len())?;
     let places = place_table.as_slice();
-    let mut links = Vec::new(alloc);
+    let mut links = Vec::with_capacity(alloc, sources.rows.len())?;
     for number in 0..sources.rows.len() as u32 {
         sources.add_links(alloc, &mut links, places, number)?;
     }
-    links.sort()?;
-    links.dedup();
-    Ok(links)
+    let ordered = links_in_order(alloc, links, sources.rows.len())?;
+    Ok(ordered)
 }
 
 /// Whether the text from `begin` to `end` is a match of one of the patterns.
@@ -448,10 +450,10 @@ pub(crate) fn number_of(rows: &[ItemRow], near: u32, row: &ItemRow) -> u32
     requires there { Contains rows.now row.now }
     ensures { slice_get rows.now result ≡ Some row.now }
 {
-    if let Some(number) = number_within(rows, near as usize, 1, row) {
+    if let Some(number) = number_among_few(rows, near as usize, row) {
         return number;
     }
-    if let Some(number) = number_within(rows, near as usize, NEAR, row) {
+    if let Some(number) = number_near(rows, near as usize, row) {
         return number;
     }
     match rows.binary_search(row) {
@@ -460,15 +462,29 @@ pub(crate) fn number_of(rows: &[ItemRow], near: u32, row: &ItemRow) -> u32
     }
 }
 
-/// The number of a row, if it is one of the first `count` from `first` on.
-fn number_within(rows: &[ItemRow], first: usize, count: usize, row: &ItemRow) -> Option<u32>
+/// The number of a row, if it is one of the few from `first` on.
+fn number_among_few(rows: &[ItemRow], first: usize, row: &ItemRow) -> Option<u32>
+    requires few { length rows.now < 4294967296 }
+    ensures { IfSome result (λ k. slice_get rows.now k ≡ Some row.now) }
+{
+    let end = first.saturating_add(FEW).min(rows.len());
+    for number in first..end {
+        if rows[number] == *row {
+            return Some(number as u32);
+        }
+    }
+    None
+}
+
+/// The number of a row, if it is near behind `first`.
+fn number_near(rows: &[ItemRow], first: usize, row: &ItemRow) -> Option<u32>
     requires few { length rows.now < 4294967296 }
     ensures { IfSome result (λ k. slice_get rows.now k ≡ Some row.now) }
 {
     if first >= rows.len() {
         return None;
     }
-    let end = first.saturating_add(count).min(rows.len());
+    let end = first.saturating_add(NEAR).min(rows.len());
     match rows[first..end].binary_search(row) {
         Ok(place) => Some((first + place) as u32),
         Err(_) => None,

@@ -56,10 +56,9 @@ fn no_marks(alloc: Global, count: usize) -> Result<Marks, AllocError>
     ensures marks { IfOk result (λ m. AreMarks m count) }
     ensures none { IfOk result (λ m. m.found.items ≡ []) }
 {
-    Ok(Marks {
-        marked: vec![in alloc; false; count]?,
-        found: Vec::new(alloc),
-    })
+    let marked = vec![in alloc; false; count]?;
+    let found = Vec::with_capacity(alloc, count)?;
+    Ok(Marks { marked, found })
 }
 
 impl Marks {

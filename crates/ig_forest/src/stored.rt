@@ -1,6 +1,6 @@
-//! Nodes and item nodes as they are kept.
+//! Nodes as they are kept.
 use crate::entry::{Choice, Entry};
-use crate::rows::{ItemRow, NodeRow};
+use crate::rows::NodeRow;
 use ig_text::Sequence;
 
 /// A list of choices.
@@ -14,11 +14,4 @@ pub type Entries = Sequence<Entry>;
 pub(crate) struct StoredNode {
     pub row: NodeRow,
     pub alternatives: Choices,
-}
-
-/// An item node with its entries.
-#[derive(Drop)]
-pub(crate) struct StoredItem {
-    pub row: ItemRow,
-    pub entries: Entries,
 }

@@ -108,7 +108,8 @@ impl Items {
 
     /// The instances, in order, with their values by number. Takes no memory.
     pub fn instance_keys(&self) -> &[InstanceKey]
-        ensures instances { map (instance_by self.now.environments) result.now ≡ self.now.instances }
+        ensures instances { map (instance_by self.now.environments) result.now
+            ≡ self.now.instances }
         ensures values { HaveValues self.now.environments result.now }
     {
         self.keys.as_slice()

@@ -8,7 +8,7 @@ use Rattle.ig_forest.proofs.done.nodes_of.Goals as goal
 
 pub loop-row-init : goal.loop-row-init
 loop-row-init c = record {
-  nodes = nodes_begin c.args.core.now c.args.rows.now c.new-nodes.result.items c.new-nodes.ensures.items;
+  nodes = nodes_begin c.args.core.now c.args.rows.now c.in_ok-nodes.nodes.items c.in_ok-nodes.ensures.items;
   few = search rules;
 }
 
@@ -23,5 +23,5 @@ loop-row-preserved c = record {
 pub returns-clause-nodes : goal.returns-clause-nodes
 returns-clause-nodes c =
     nodes_all c.args.core.now c.args.rows.now c.loop-row.nodes.items c.dedup.new.self.items c.loop-row.row-index c.loop-row-test.false c.loop-row.invariant.nodes
-    (once node_row_total node_row_exact (row_eq.eq-value).it row_laws.matches_eq-law c.loop-row.nodes.items c.sort_unstable.new.self.items
-    c.dedup.new.self.items c.sort_unstable.ensures.permutation c.sort_unstable.ensures.sorted c.dedup.ensures.filtered)
+    (once node_row_total node_row_exact (row_eq.eq-value).it row_laws.matches_eq-law c.loop-row.nodes.items c.sort_nodes.new.nodes.items
+    c.dedup.new.self.items c.sort_nodes.ensures.permutation c.sort_nodes.ensures.sorted c.dedup.ensures.filtered)

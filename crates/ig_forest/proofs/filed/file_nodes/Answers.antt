@@ -11,5 +11,5 @@ loop-number-preserved c =
 
 pub returns : goal.returns
 returns c =
-    filed_all c.args.nodes.now c.loop-number.filed.items c.sort_unstable.new.self.items c.loop-number.number c.loop-number-test.false
-    c.loop-number.invariant c.sort_unstable.ensures.permutation c.sort_unstable.ensures.sorted
+    filed_all c.args.nodes.now c.loop-number.filed.items c.in_ok-ordered.ordered.items c.loop-number.number c.loop-number-test.false
+    c.loop-number.invariant c.in_ok-ordered.ensures

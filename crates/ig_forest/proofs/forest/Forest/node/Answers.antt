@@ -5,7 +5,7 @@ use Rattle.ig_forest.proofs.forest.Forest.node.Goals as goal
 
 pub returns-in_default : goal.returns-in_default
 returns-in_default c =
-    node_absent c.self.inside.root c.self.inside.names c.self.inside.lists c.self.inside.nodes.items c.self.inside.items.items c.args.self.now c.self.view_is
+    node_absent c.self.inside.root c.self.inside.names c.self.inside.lists c.self.inside.nodes.items c.self.inside.items c.args.self.now c.self.view_is
     c.self.invariant c.args.k (read_none c.self.inside.nodes.items _ c.args.k c.as_slice.ensures.value c.in_default.ensures)
 
 pub unreachable-requires : goal.unreachable-requires
@@ -24,7 +24,7 @@ unreachable-requires-in_default-get c =
 
 pub returns : goal.returns
 returns c =
-    node_read c.self.inside.root c.self.inside.names c.self.inside.lists c.self.inside.nodes.items c.self.inside.items.items c.args.self.now c.self.view_is
+    node_read c.self.inside.root c.self.inside.names c.self.inside.lists c.self.inside.nodes.items c.self.inside.items c.args.self.now c.self.view_is
     c.self.invariant c.args.k c.in-Some.stored.now c.in-Some-word_at.name.now c.in-Some-get.values.now c.as_slice-3.result.now
     (read_at c.self.inside.nodes.items _ c.args.k c.in-Some.stored.now c.as_slice.ensures.value c.in-Some.ensures)
     (sym (read_at c.self.inside.names _ c.in-Some.stored.now.row.nonterminal c.in-Some-word_at.name.now c.as_slice-2.ensures c.in-Some-word_at.ensures))

@@ -1,7 +1,12 @@
 use Rattle.ig_forest.proofs.CodeAdding.{on_ok}
 use Rattle.ig_forest.proofs.CodeMatches.{match_true, match_false}
-use Rattle.ig_forest.proofs.CodeRules.{leaf_there, leaf_added, leaf_excluded}
+use Rattle.ig_forest.proofs.CodeRules.{leaf_there, leaf_added, leaf_excluded, leaf_unmatched}
 use Rattle.ig_forest.proofs.links.Sources.add_leaf.Goals as goal
+
+pub returns-in_default : goal.returns-in_default
+returns-in_default c =
+    leaf_unmatched c.args.self.now c.requires.sources c.args.number c.args.what.now c.args.label.now c.args.not.now c.requires.before c.args.links.now.items
+    c.in_default.ensures
 
 pub returns-then-is_excluded : goal.returns-then-is_excluded
 returns-then-is_excluded c =

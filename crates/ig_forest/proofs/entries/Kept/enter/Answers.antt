@@ -4,7 +4,7 @@ use Rattle.std.proofs.lemmas.Option.{slice_get_within, get_or_from_slice_get}
 use Rattle.ig_forest.specs.CodeEntries.{begun}
 use Rattle.ig_forest.specs.declared.rows.ItemRow.{ItemRow}
 use Rattle.ig_forest.proofs.CodeEntering.{entered_none, entered_next, entered_all, run_live}
-use Rattle.ig_forest.proofs.entries.Kept.entries_of.Goals as goal
+use Rattle.ig_forest.proofs.entries.Kept.enter.Goals as goal
 
 pub bounds-self-number : goal.bounds-self-number
 bounds-self-number c = slice_get_within c.args.self.now.sources.rows.now c.args.number c.requires.live.0 c.requires.live.1
@@ -14,8 +14,8 @@ links_to-links-requires c = c.requires.tables.links.order
 
 pub loop-link-init : goal.loop-link-init
 loop-link-init c row at =
-    entered_none c.args.self.now c.requires.tables c.links_to-links.result.now row.dot c.in_ok-entries.entries
-    (c.in_ok-entries.ensures ∙ ap (λ (z : ItemRow). begun z.dot) (get_or_from_slice_get c.args.self.now.sources.rows.now c.args.number row _ at))
+    entered_none c.args.self.now c.requires.tables c.links_to-links.result.now row.dot c.begin.new.entries.items
+    (c.in_ok-begin.ensures ∙ ap (λ (z : ItemRow). begun z.dot) (get_or_from_slice_get c.args.self.now.sources.rows.now c.args.number row _ at))
 
 pub entry_of-requires-clause-link : goal.entry_of-requires-clause-link
 entry_of-requires-clause-link c =
@@ -30,10 +30,10 @@ entry_of-requires-clause-live c =
 pub loop-link-preserved : goal.loop-link-preserved
 loop-link-preserved c row at =
     entered_next c.args.self.now c.requires.tables c.args.number row at c.links_to-links.result.now c.links_to-links.ensures.order
-    c.links_to-links.ensures.members c.loop-link.link-index _ c.entry_of.result c.loop-link.entries c.push_entry.new.entries c.loop-link-test.true
-    c.entry_of.ensures c.in_ok-push_entry.ensures (c.loop-link.invariant row at)
+    c.links_to-links.ensures.members c.loop-link.link-index _ c.entry_of.result c.loop-link.entries.items c.push.new.self.items c.loop-link-test.true
+    c.entry_of.ensures c.in_ok-push.ensures.items (c.loop-link.invariant row at)
 
 pub returns : goal.returns
 returns c row at =
     entered_all c.args.self.now c.requires.tables c.args.number row at c.links_to-links.result.now c.links_to-links.ensures.order
-    c.links_to-links.ensures.members c.loop-link.link-index c.loop-link.entries c.loop-link-test.false (c.loop-link.invariant row at)
+    c.links_to-links.ensures.members c.loop-link.link-index c.loop-link.entries.items c.loop-link-test.false (c.loop-link.invariant row at)
