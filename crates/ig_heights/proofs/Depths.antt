@@ -5,7 +5,7 @@ use Rattle.ig_forest.specs.Forest.{Forest}
 use Rattle.ig_forest.specs.Unfold.{OfNode, OfItem}
 use Rattle.ig_forest.specs.Unfold as trees
 use Rattle.ig_heights.specs.Heights.{HasNoHigher}
-use Rattle.ig_heights.specs.Laws.{DepthsAreHeights, NoneAboveNodes}
+use Rattle.ig_heights.specs.Laws.{DepthsAreHeights, NoneAboveNodes, TreesAreNoHigherThanNodes}
 
 greatest_join : (ts us : Trees) → greatest_height (join ts us) ≡ max (greatest_height ts) (greatest_height us)
 greatest_join none us = omega arith
@@ -66,3 +66,7 @@ none_above_nodes f heights are acyclic =
       | true ↦ λ e. absurd (acyclic (are.cyclic.0 e))
       | false ↦ λ e. are.bounded e
     ]) refl
+
+pub trees_are_no_higher_than_nodes : TreesAreNoHigherThanNodes
+trees_are_no_higher_than_nodes f heights are acyclic d cs t unfolds =
+    let low = are.bounded acyclic d cs t unfolds in (low, node_at f unfolds (length f.nodes) low)

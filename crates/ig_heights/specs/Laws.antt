@@ -1,8 +1,8 @@
 -- Laws of heights.
-use Rattle.std.specs.Prelude.{ℕ, ◌≤◌, List, length}
+use Rattle.std.specs.Prelude.{◌≡◌, ℕ, ◌≤◌, List, length, false}
 use Rattle.ig_text.specs.Tree.{Tree, Trees, height, greatest_height}
 use Rattle.ig_forest.specs.Forest.{Forest}
-use Rattle.ig_forest.specs.Unfold.{OfNode, OfItem}
+use Rattle.ig_forest.specs.Unfold.{OfNode, OfItem, Unfold}
 use Rattle.ig_heights.specs.Heights.{Heights, AreHeights, IsCyclic, HasNoHigher}
 
 -- a depth and each greater one have the trees that are no higher, with the same cursors
@@ -20,3 +20,9 @@ DepthsAreHeights = (f : Forest) → HasLowTrees f
 abbrev pub NoneAboveNodes : Type 0
 NoneAboveNodes =
     (f : Forest) (heights : Heights) → AreHeights f heights → (IsCyclic f → ⊥) → HasNoHigher f (length f.nodes)
+
+-- there each tree of the root, with its cursor, is among those to the depth of the number of nodes
+abbrev pub TreesAreNoHigherThanNodes : Type 0
+TreesAreNoHigherThanNodes =
+    (f : Forest) (heights : Heights) → AreHeights f heights → heights.cyclic ≡ false →
+    (d : ℕ) (cs : List ℕ) (t : Tree) → Unfold f d cs t → (height t ≤ length f.nodes) × Unfold f (length f.nodes) cs t

@@ -23,4 +23,4 @@ mod whole_rules;
 mod work;
 
 pub use heights::Heights;
-pub use laws::{depths_are_heights, none_above_nodes};
+pub use laws::{depths_are_heights, none_above_nodes, trees_are_no_higher_than_nodes};

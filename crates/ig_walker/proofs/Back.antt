@@ -14,9 +14,9 @@ use Rattle.ig_forest.specs.declared.entry.Child.TheVariants as child
 use Rattle.ig_walker.specs.Walks.{Walk, Leads, cursor, Before, Opens, Passed, Least, Next, Last}
 use Rattle.ig_walker.specs.Walks as w
 use Rattle.ig_walker.specs.Options.{alternatives_of, entries_of, behind_choice, behind_entry, options}
-use Rattle.ig_walker.specs.Flat.{flat}
+use Rattle.ig_forest.specs.Flat.{flat}
 use Rattle.ig_walker.specs.Written.{emits}
-use Rattle.ig_walker.specs.declared.tree.Part.{Part}
+use Rattle.ig_forest.specs.declared.tree.Part.{Part}
 use Rattle.ig_walker.specs.declared.goal.Goal.{Goal}
 use Rattle.ig_walker.specs.declared.goal.Goal.TheVariants.{Node, Item, Leaf}
 use Rattle.ig_walker.specs.declared.goal.Visit.{Visit}

@@ -1,7 +1,7 @@
 -- One more child of the last part.
 use Rattle.std.proofs.Common.{◌≡◌, ℕ, ◌+◌, List, [], ◌∷◌, ◌++◌, sym, ap, ◌∙◌}
 use Rattle.ig_walker.specs.Written.{bump_last}
-use Rattle.ig_walker.specs.declared.tree.Part.{Part}
+use Rattle.ig_forest.specs.declared.tree.Part.{Part}
 use Rattle.ig_walker.proofs.Unfolding.{bump_last_at}
 
 pub bumped_code : (old left new : List Part) (q : Part) (n : ℕ) → old ≡ left ++ q ∷ [] →

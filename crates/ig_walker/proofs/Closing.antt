@@ -8,7 +8,7 @@ use Rattle.ig_walker.specs.States.{HasWalked, HasNoNext, IsNextWalk, IsWalkOf, I
 use Rattle.ig_walker.specs.Walks.{cursor}
 use Rattle.ig_walker.specs.Written.{emits}
 use Rattle.ig_walker.specs.declared.goal.Visit.{Visit}
-use Rattle.ig_walker.specs.declared.tree.Part.{Part}
+use Rattle.ig_forest.specs.declared.tree.Part.{Part}
 use Rattle.ig_walker.proofs.Listings.{has_walked, keeps_walked, gives_code, over_code}
 
 module _ (f : Forest) (d : ℕ) where

@@ -3,8 +3,8 @@ use Rattle.std.proofs.Common.{◌≡◌, ℕ, List, [], ◌∷◌, ◌++◌, Som
 use Rattle.std.proofs.lemmas.Option.{same_Some}
 use Rattle.ig_text.specs.declared.tag.Tag.{Tag}
 use Rattle.ig_text.specs.Tree.{Tree, Trees, Leaf, Node, none, more}
-use Rattle.ig_walker.specs.Flat.{count, flat, flats}
-use Rattle.ig_walker.specs.declared.tree.Part.{Part}
+use Rattle.ig_forest.specs.Flat.{count, flat, flats}
+use Rattle.ig_forest.specs.declared.tree.Part.{Part}
 
 abbrev leaf_part : ℕ → ℕ → Part
 leaf_part i j = record { tag = None; span = record { begin = i; end = j }; children = 0 }

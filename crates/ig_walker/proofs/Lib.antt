@@ -18,3 +18,4 @@ pub mod Bumping
 pub mod Listings
 pub mod Closing
 pub mod Beginning
+pub mod Growing

@@ -9,7 +9,7 @@ use Rattle.ig_walker.specs.Walks.{Walk, cursor, Least, Next}
 use Rattle.ig_walker.specs.Written.{emits}
 use Rattle.ig_walker.specs.declared.goal.Goal.{Goal}
 use Rattle.ig_walker.specs.declared.goal.Visit.{Visit}
-use Rattle.ig_walker.specs.declared.tree.Part.{Part}
+use Rattle.ig_forest.specs.declared.tree.Part.{Part}
 use Rattle.ig_walker.proofs.Cursors.{cursor_less}
 use Rattle.ig_walker.proofs.Walking.{steps}
 use Rattle.ig_walker.proofs.Unfolding.{node_walk}

@@ -27,7 +27,7 @@ onward_later (order.later a k ds es agree more) i j xs bs e same rest =
     let p : a ≡ j = cc in let q : ds ≡ bs = cc in
     order.later i k xs es (omega (arith, p, agree, same)) (rest es (subst (λ (z : List ℕ). Less z es) q more))
 
-onward : {cs ds : List ℕ} → Less cs ds → (es : List ℕ) → Less ds es → Less cs es
+pub onward : {cs ds : List ℕ} → Less cs ds → (es : List ℕ) → Less ds es → Less cs es
 onward (order.shorter j ds) es more = onward_short more j ds refl
 onward (order.here i j cs ds less) es more = onward_here more i j cs ds refl less
 onward (order.later i j cs ds same less) es more = onward_later more i j cs ds refl same (onward less)
@@ -40,7 +40,7 @@ total_more i j cs ds (inl e) (inr (inr less)) = inr (inr (order.later j i ds cs 
 total_more i j cs ds (inr (inl less)) rest = inr (inl (order.here i j cs ds less))
 total_more i j cs ds (inr (inr less)) rest = inr (inr (order.here j i ds cs less))
 
-total : (cs ds : List ℕ) → (cs ≡ ds) ⊎ (Less cs ds ⊎ Less ds cs)
+pub total : (cs ds : List ℕ) → (cs ≡ ds) ⊎ (Less cs ds ⊎ Less ds cs)
 total [] [] = inl refl
 total [] (j ∷ ds) = inr (inl (order.shorter j ds))
 total (i ∷ cs) [] = inr (inr (order.shorter i cs))

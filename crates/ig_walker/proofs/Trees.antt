@@ -3,12 +3,12 @@ use Rattle.std.proofs.Common.{◌≡◌, ℕ, List, [], ◌∷◌, ◌⊎◌, in
 use Rattle.ig_text.specs.Tree.{Tree}
 use Rattle.ig_forest.specs.Forest.{Forest}
 use Rattle.ig_forest.specs.Unfold.{OfNode, Unfold}
-use Rattle.ig_walker.specs.Flat.{flat}
+use Rattle.ig_forest.specs.Flat.{flat}
 use Rattle.ig_walker.specs.Listing.{Less}
 use Rattle.ig_walker.specs.Walks.{Walk, cursor, Next, Last}
 use Rattle.ig_walker.specs.Options.{options}
 use Rattle.ig_walker.specs.Written.{emits}
-use Rattle.ig_walker.specs.declared.tree.Part.{Part}
+use Rattle.ig_forest.specs.declared.tree.Part.{Part}
 use Rattle.ig_walker.specs.declared.goal.Goal.{Goal}
 use Rattle.ig_walker.specs.declared.goal.Goal.TheVariants.{Node}
 use Rattle.ig_walker.specs.declared.goal.Visit.{Visit}

@@ -1,6 +1,6 @@
 pub mod Listing
+pub mod Listed
 pub mod Laws
-pub mod Flat
 pub mod Walks
 pub mod Options
 pub mod Written

@@ -3,8 +3,8 @@ use Rattle.std.specs.Prelude.{◌≡◌, ◌⊎◌, ℕ, ◌<◌, List, [], ◌�
 use Rattle.ig_text.specs.Tree.{Tree}
 use Rattle.ig_forest.specs.Forest.{Forest}
 use Rattle.ig_forest.specs.Unfold.{Unfold}
-use Rattle.ig_walker.specs.Flat.{flat}
-use Rattle.ig_walker.specs.declared.tree.Part.{Part}
+use Rattle.ig_forest.specs.Flat.{flat}
+use Rattle.ig_forest.specs.declared.tree.Part.{Part}
 
 -- the order of lists of numbers: the first difference decides, and a list that goes on comes behind one that ends
 pub data Less : List ℕ → List ℕ → Type 0 where

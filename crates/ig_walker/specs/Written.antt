@@ -10,7 +10,7 @@ use Rattle.ig_walker.specs.Options.{entries_of}
 use Rattle.ig_walker.specs.declared.goal.Goal.{Goal}
 use Rattle.ig_walker.specs.declared.goal.Goal.TheVariants.{Node, Item, Leaf}
 use Rattle.ig_walker.specs.declared.goal.Visit.{Visit}
-use Rattle.ig_walker.specs.declared.tree.Part.{Part}
+use Rattle.ig_forest.specs.declared.tree.Part.{Part}
 
 -- the part with so many more children
 abbrev pub bumped : ℕ → Part → Part

@@ -19,10 +19,10 @@ mod laws;
 mod options;
 mod parts;
 mod stack;
-mod tree;
 mod walk;
 mod walker;
 
-pub use laws::{cursor_has_one_tree, cursors_are_in_order, parts_have_one_tree};
-pub use tree::{Cursor, Part, Tree};
+pub use laws::{
+    cursor_has_one_tree, cursors_are_in_order, listing_is_one, listings_grow, parts_have_one_tree,
+};
 pub use walker::{WalkFault, Walker};

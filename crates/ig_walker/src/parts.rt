@@ -6,8 +6,7 @@ ghost use Rattle.ig_walker.specs.Walks.{cursor};
 
 use crate::goal::{Goal, Visit};
 use crate::options::{count_options, entries_of};
-use crate::tree::{Cursor, Part, Tree};
-use ig_forest::{Entry, Forest};
+use ig_forest::{Cursor, Entry, Forest, Part, Tree};
 use ig_text::Sequence;
 use std::alloc::{AllocError, Global};
 

@@ -7,9 +7,8 @@ ghost use Rattle.ig_walker.specs.declared.walker.WalkFault.TheVariants.{BadCurso
 use crate::follow::follow;
 use crate::goal::Visit;
 use crate::parts::{cursor_of, tree_of};
-use crate::tree::{Cursor, Tree};
 use crate::walk::next_walk;
-use ig_forest::Forest;
+use ig_forest::{Cursor, Forest, Tree};
 use ig_heights::Heights;
 use std::alloc::{AllocError, Global};
 use std::marker::Model;
