@@ -9,3 +9,9 @@ pub mod Retokenized
 pub mod ReadBack
 pub mod Bytes
 pub mod Listing
+pub mod Nested
+pub mod CursorTexts
+pub mod LoneRoot
+pub mod Once
+pub mod SortedTexts
+pub mod Reporting

@@ -7,4 +7,8 @@ pub mod ValueText
 pub mod TagText
 pub mod CoreText
 pub mod ForestText
+pub mod TreeText
+pub mod Nesting
+pub mod ReportText
+pub mod QueryText
 pub mod Laws

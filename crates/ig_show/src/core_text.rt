@@ -30,7 +30,7 @@ fn push_formula(out: &mut String, expression: &Expr) -> Result<(), AllocError>
 }
 
 /// Adds what a terminal matches.
-fn push_terminal(out: &mut String, what: &Pattern) -> Result<(), AllocError>
+pub(crate) fn push_terminal(out: &mut String, what: &Pattern) -> Result<(), AllocError>
     ensures { OnOk result (string_bytes out.new ≡ string_bytes out.old ++ pattern_bytes what.now) }
 {
     push_pattern(out, what)

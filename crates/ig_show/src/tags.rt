@@ -1,6 +1,6 @@
 //! How tags print.
 
-ghost use Rattle.std.specs.Prelude.{◌≡◌, ◌++◌, OnOk, string_bytes, encode_utf8_all, codes};
+ghost use Rattle.std.specs.Prelude.{◌≡◌, ◌++◌, OnOk, [], string_bytes, encode_utf8_all, codes};
 ghost use Rattle.std.specs.Fmt.{decimal};
 ghost use Rattle.ig_show.specs.TagText.{tag_text};
 
@@ -8,13 +8,12 @@ use crate::values::{push_number, push_word};
 use ig_text::{Tag, Word};
 use std::alloc::AllocError;
 
-/// Adds a tag of a nonterminal of that name.
-pub(crate) fn push_tag(out: &mut String, name: &Word, tag: Tag) -> Result<(), AllocError>
-    ensures { OnOk result (string_bytes out.new ≡ string_bytes out.old ++ tag_text name.now tag) }
+/// Adds a tag without the name of its nonterminal.
+pub(crate) fn push_nameless(out: &mut String, tag: Tag) -> Result<(), AllocError>
+    ensures { OnOk result (string_bytes out.new ≡ string_bytes out.old ++ tag_text [] tag) }
 {
     match tag {
         Tag::Rule { alternative, .. } => {
-            push_word(out, name)?;
             out.push_str(".")?;
             push_number(out, alternative)
         }
@@ -30,4 +29,14 @@ pub(crate) fn push_tag(out: &mut String, name: &Word, tag: Tag) -> Result<(), Al
         }
         Tag::Root => out.push_str("$root"),
     }
+}
+
+/// Adds a tag of a nonterminal of that name.
+pub(crate) fn push_tag(out: &mut String, name: &Word, tag: Tag) -> Result<(), AllocError>
+    ensures { OnOk result (string_bytes out.new ≡ string_bytes out.old ++ tag_text name.now tag) }
+{
+    if let Tag::Rule { .. } = tag {
+        push_word(out, name)?;
+    }
+    push_nameless(out, tag)
 }

@@ -1,9 +1,20 @@
-//! Canonical texts, written by hand: each call once. A table of every form stands in the tests of
+//! Texts, written by hand: each call once. A table of every form stands in the tests of
 //! the top call.
-use crate::{show_expression, show_grammar, show_pattern};
-use ig_expr::{Expr, Function, Op, Operand};
+ghost use Rattle.std.specs.Prelude.{◌≡◌, [], ◌∷◌, IfOk, List};
+ghost use Rattle.ig_forest.specs.Tags.{TagsAreNamed};
+ghost use Rattle.ig_item.specs.Examples.{lone_root};
+ghost use Rattle.ig_item.specs.declared.core_grammar.Nonterminal.{Nonterminal};
+
+use crate::{
+    CursorFault, Report, read_cursor, show_cursor, show_cyclic, show_expression, show_furthest,
+    show_grammar, show_pattern, show_report, show_spans, show_tree,
+};
+use ig_expr::{Expr, Function, Kinds, Op, Operand};
+use ig_forest::{Part, Tree};
 use ig_grammar::{Decls, Grammar};
-use ig_text::{Class, Pattern, Word};
+use ig_item::{Core, CoreAlt, CoreAlts, Nonterminal, Nonterminals, Steps};
+use ig_text::{Class, Pattern, Patterns, Span, Tag, Word, Words};
+use std::alloc::{AllocError, Global};
 use std::test::Fail;
 
 #[test]
@@ -37,5 +48,113 @@ fn shows_a_grammar(rt: HostRuntime) -> Result<(), Fail> {
     };
     let shown = show_grammar(alloc, &grammar)?;
     assert_eq!(rt; shown.as_slice(), b"start S;\n".as_slice());
+    Ok(())
+}
+
+#[test]
+fn reads_a_cursor_and_shows_it(rt: HostRuntime) -> Result<(), Fail> {
+    let alloc = rt.alloc();
+    let cursor = read_cursor(alloc, "2.0.4294967295")?;
+    assert_eq!(rt; cursor.as_slice(), [2, 0, 4294967295].as_slice());
+    let shown = show_cursor(alloc, &cursor)?;
+    assert_eq!(rt; shown.as_slice(), b"2.0.4294967295".as_slice());
+    let refused = read_cursor(alloc, "2.00");
+    assert!(rt; matches!(refused, Err(CursorFault::NotACursor)));
+    Ok(())
+}
+
+// A root of that name, of one alternative without steps.
+fn lone_root(alloc: Global, name: Word) -> Result<Nonterminals, AllocError>
+    ensures { IfOk result (λ core. core ≡ lone_root name ∷ []) }
+{
+    let alternative = CoreAlt {
+        tag: Tag::Root,
+        steps: Steps::new(alloc),
+    };
+    let root = Nonterminal {
+        name,
+        params: Words::new(alloc),
+        kinds: Kinds::new(alloc),
+        alternatives: CoreAlts::from_vec(vec![in alloc; alternative]?),
+    };
+    Ok(Nonterminals::from_vec(vec![in alloc; root]?))
+}
+
+// A root over a leaf.
+fn small_tree(alloc: Global) -> Result<Tree, AllocError>
+    ensures { IfOk result (λ tree. (core : List Nonterminal) → TagsAreNamed core tree) }
+{
+    let span = Span { begin: 0, end: 12 };
+    let root = Part {
+        tag: Some(Tag::Root),
+        span,
+        children: 1,
+    };
+    let leaf = Part {
+        tag: None,
+        span,
+        children: 0,
+    };
+    Ok(Tree::from_vec(vec![in alloc; root, leaf]?))
+}
+
+#[test]
+fn shows_a_tree(rt: HostRuntime) -> Result<(), Fail> {
+    let alloc = rt.alloc();
+    let core = Core::of(lone_root(alloc, Word::new(alloc, "$root")?)?);
+    let shown = show_tree(alloc, &small_tree(alloc)?, &core)?;
+    assert_eq!(rt; shown.as_slice(), b"($root 0..12 0..12)".as_slice());
+    Ok(())
+}
+
+#[test]
+fn shows_a_report(rt: HostRuntime) -> Result<(), Fail> {
+    let alloc = rt.alloc();
+    let mut expected = Patterns::new(alloc);
+    let class = Class::ranges(alloc, false, &[('a', 'z')])?;
+    expected
+        .push(Pattern::OneOf(class))
+        .map_err(|refused| refused.1)?;
+    let word = Word::new(alloc, ">")?;
+    expected
+        .push(Pattern::Literal(word))
+        .map_err(|refused| refused.1)?;
+    let report = Report {
+        position: 6,
+        line: 1,
+        column: 7,
+        expected,
+        end: true,
+    };
+    let shown = show_report(alloc, &report)?;
+    let place = b"line 1, column 7, expected \">\", [a-z], end of input";
+    assert_eq!(rt; shown.as_slice(), place.as_slice());
+    Ok(())
+}
+
+#[test]
+fn shows_the_furthest_place(rt: HostRuntime) -> Result<(), Fail> {
+    let alloc = rt.alloc();
+    let report = Report {
+        position: 0,
+        line: 1,
+        column: 1,
+        expected: Patterns::new(alloc),
+        end: false,
+    };
+    let shown = show_furthest(alloc, &report)?;
+    let line = b"furthest at line 1, column 1, expected nothing\n";
+    assert_eq!(rt; shown.as_slice(), line.as_slice());
+    Ok(())
+}
+
+#[test]
+fn shows_spans_and_cycles(rt: HostRuntime) -> Result<(), Fail> {
+    let alloc = rt.alloc();
+    let spans = [Span { begin: 4, end: 6 }, Span { begin: 4, end: 13 }];
+    let shown = show_spans(alloc, &spans)?;
+    assert_eq!(rt; shown.as_slice(), b"4..6\n4..13\n".as_slice());
+    let cyclic = show_cyclic(alloc, true)?;
+    assert_eq!(rt; cyclic.as_slice(), b"cyclic yes\n".as_slice());
     Ok(())
 }

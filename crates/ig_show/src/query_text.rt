@@ -1,0 +1,114 @@
+//! The texts of what queries answer, in lines.
+
+ghost use Rattle.std.specs.Prelude.{◌≡◌, ◌++◌, IfOk, OnOk, slice_get, string_bytes};
+ghost use Rattle.ig_forest.specs.CodeViews.{node_view};
+ghost use Rattle.ig_show.specs.QueryText.{IsFurthestLine, ambiguous_text, cyclic_text, key_line};
+ghost use Rattle.ig_show.specs.QueryText.{line_if_there, node_lines, spans_text};
+
+use crate::report::{Report, push_place};
+use crate::values::{push_places, push_values, push_word};
+use ig_forest::{Forest, Node};
+use ig_text::Span;
+use std::alloc::{AllocError, Global};
+
+/// Whether a forest is ambiguous, and the nodes of these numbers, which are its ambiguous ones, as
+/// UTF-8: the line `ambiguous no` where there are none; else the line `ambiguous yes`, then a line
+/// for each node, with its name, its values and its span. A number that isn't there has no line.
+/// Refuses only for want of memory.
+pub fn show_ambiguous(alloc: Global, forest: &Forest, nodes: &[u32]) -> Result<Vec<u8>, AllocError>
+    ensures { IfOk result (λ bytes. bytes.items ≡ ambiguous_text forest.now nodes.now) }
+{
+    let mut out = String::new(alloc);
+    push_ambiguous(&mut out, forest, nodes)?;
+    Ok(out.into_bytes())
+}
+
+/// Adds whether there are ambiguous nodes, and their lines.
+fn push_ambiguous(out: &mut String, forest: &Forest, nodes: &[u32]) -> Result<(), AllocError>
+    ensures { OnOk result (string_bytes out.new ≡ string_bytes out.old ++
+        ambiguous_text forest.now nodes.now) }
+{
+    if nodes.is_empty() {
+        return out.push_str("ambiguous no\n");
+    }
+    out.push_str("ambiguous yes\n")?;
+    push_nodes(out, forest, nodes)
+}
+
+/// Adds the lines of the nodes of these numbers.
+fn push_nodes(out: &mut String, forest: &Forest, nodes: &[u32]) -> Result<(), AllocError>
+    ensures { OnOk result (string_bytes out.new ≡ string_bytes out.old ++
+        node_lines forest.now nodes.now) }
+{
+    for number in nodes {
+        push_node(out, forest, *number)?;
+    }
+    Ok(())
+}
+
+/// Adds the line of the node of that number, where it is there.
+fn push_node(out: &mut String, forest: &Forest, number: u32) -> Result<(), AllocError>
+    ensures { OnOk result (string_bytes out.new ≡ string_bytes out.old ++
+        line_if_there (slice_get forest.now.nodes number)) }
+{
+    match forest.node(number) {
+        Some(node) => push_key(out, &node),
+        None => Ok(()),
+    }
+}
+
+/// Adds the line of a node: its name, its values and its span.
+fn push_key(out: &mut String, node: &Node<'_>) -> Result<(), AllocError>
+    ensures { OnOk result (string_bytes out.new ≡ string_bytes out.old ++
+        key_line (node_view node.now)) }
+{
+    push_word(out, node.name)?;
+    push_values(out, node.values)?;
+    push_places(out, node.span.begin, node.span.end)?;
+    out.push_str("\n")
+}
+
+/// The line `cyclic yes` or `cyclic no`, as UTF-8. Refuses only for want of memory.
+pub fn show_cyclic(alloc: Global, cyclic: bool) -> Result<Vec<u8>, AllocError>
+    ensures { IfOk result (λ bytes. bytes.items ≡ cyclic_text cyclic) }
+{
+    let mut out = String::new(alloc);
+    if cyclic {
+        out.push_str("cyclic yes\n")?;
+    } else {
+        out.push_str("cyclic no\n")?;
+    }
+    Ok(out.into_bytes())
+}
+
+/// A line for each span, as UTF-8: the positions where it begins and ends, in characters from 0.
+/// Refuses only for want of memory.
+pub fn show_spans(alloc: Global, spans: &[Span]) -> Result<Vec<u8>, AllocError>
+    ensures { IfOk result (λ bytes. bytes.items ≡ spans_text spans.now) }
+{
+    let mut out = String::new(alloc);
+    push_spans(&mut out, spans)?;
+    Ok(out.into_bytes())
+}
+
+/// Adds the lines of spans.
+fn push_spans(out: &mut String, spans: &[Span]) -> Result<(), AllocError>
+    ensures { OnOk result (string_bytes out.new ≡ string_bytes out.old ++ spans_text spans.now) }
+{
+    for span in spans {
+        push_places(out, span.begin, span.end)?;
+        out.push_str("\n")?;
+    }
+    Ok(())
+}
+
+/// The line `furthest at ` and the text of the report, as UTF-8. Refuses only for want of memory.
+pub fn show_furthest(alloc: Global, report: &Report) -> Result<Vec<u8>, AllocError>
+    ensures { IfOk result (λ bytes. IsFurthestLine report.now bytes.items) }
+{
+    let mut out = String::new(alloc);
+    out.push_str("furthest at ")?;
+    push_place(alloc, &mut out, report)?;
+    out.push_str("\n")?;
+    Ok(out.into_bytes())
+}
