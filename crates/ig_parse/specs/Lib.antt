@@ -1,1 +1,3 @@
 pub mod Parses
+pub mod Faults
+pub mod Laws

@@ -1,15 +1,20 @@
 -- What parsing a text with a checked grammar gives: the main theorem.
-use Rattle.std.specs.Prelude.{ℕ, ◌<◌, ◌≤◌, ◌↔◌, ◌≡◌, List, Result, Ok, Err}
+use Rattle.std.specs.Prelude.{ℕ, ◌<◌, ◌≤◌, ◌↔◌, ◌≡◌, List, Contains, Option, None, Some, Result, Ok, Err}
 use Rattle.ig_text.specs.Tree.{Tree, height}
 use Rattle.ig_grammar.specs.Checked.{CheckedGrammar}
 use Rattle.ig_meaning.specs.Permitted.{Permitted}
 use Rattle.ig_item.specs.Core.{dots}
-use Rattle.ig_item.specs.Items.{MoreThan}
+use Rattle.ig_item.specs.Items.{Item, MoreThan, Reachable}
 use Rattle.ig_item.specs.Limits.{most_dots}
+use Rattle.ig_item.specs.Tables.{Tables, items_of}
+use Rattle.ig_item.specs.WellKinded.{NoneTwice}
+use Rattle.ig_item.specs.declared.run_fault.RunFault.{RunFault}
+use Rattle.ig_item.specs.declared.run_fault.RunFault.TheVariants as run_fault
 use Rattle.ig_core.specs.Lowered.{CoreOf}
 use Rattle.ig_forest.specs.Forest.{Forest}
 use Rattle.ig_forest.specs.Unfold.{Unfold, Unfolds}
 use Rattle.ig_forest.specs.Reduced.{IsReduced}
+use Rattle.ig_query.specs.Report.{IsReport}
 use Rattle.ig_parse.specs.declared.fault.ParseFault.{ParseFault}
 use Rattle.ig_parse.specs.declared.fault.ParseFault.TheVariants.{TooManyDots, Budget, NoParse, Memory}
 
@@ -30,6 +35,15 @@ module _ (c : CheckedGrammar) (text : List ℕ) where
     pub unfolds : (d : ℕ) (t : Tree) → Unfolds f d t ↔ (Permitted c.grammar c.shapes text t × (height t ≤ d))
     pub one_cursor : (d e : ℕ) (cs ds : List ℕ) (t : Tree) → Unfold f d cs t → Unfold f e ds t → cs ≡ ds
 
+  -- the items are the reachable ones
+  abbrev pub AreReachable : Tables → Type 0
+  AreReachable tables = (x : Item) → Contains (items_of tables) x ↔ Reachable (CoreOf c) text x
+
+  -- the forest of the permitted trees, where there is one: it is there where a tree is permitted
+  abbrev pub MayHaveForest : Option Forest → Type 0
+  MayHaveForest None = IsUnparsed
+  MayHaveForest (Some f) = IsParsed × IsForestOf f
+
   module _ (budget : ℕ) where
     -- more items are reachable than the budget allows
     abbrev pub IsOver : Type 0
@@ -41,11 +55,22 @@ module _ (c : CheckedGrammar) (text : List ℕ) where
       pub parsed : IsParsed
       pub is : IsForestOf f
 
+    -- the budget suffices, and the items are the reachable ones, each once
+    pub record HasItems (tables : Tables) : Type 0 where
+      pub suffices : IsOver → ⊥
+      pub reachable : AreReachable tables
+      pub once : NoneTwice (items_of tables)
+
+    abbrev pub Saturates : Result Tables RunFault → Type 0
+    Saturates (Ok tables) = HasItems tables
+    Saturates (Err run_fault.Budget) = IsOver
+    Saturates (Err run_fault.Memory) = Unit {0}
+
     -- why there is no forest: want of memory may come at any time
     abbrev pub HasNone : ParseFault → Type 0
     HasNone TooManyDots = most_dots < dots (CoreOf c)
     HasNone Budget = IsOver
-    HasNone NoParse = (IsOver → ⊥) × IsUnparsed
+    HasNone (NoParse report) = (IsOver → ⊥) × IsUnparsed × IsReport (CoreOf c) text report
     HasNone Memory = Unit {0}
 
     abbrev pub Parses : Result Forest ParseFault → Type 0

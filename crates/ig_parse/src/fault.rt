@@ -1,7 +1,10 @@
+use ig_item::RunFault;
+use ig_show::Report;
+use std::alloc::AllocError;
 use thiserror::Error;
 
 /// Why there is no forest.
-#[derive(Clone, Copy, PartialEq, Eq, Debug, Drop, Error)]
+#[derive(Debug, Drop, Error)]
 pub enum ParseFault {
     /// The core grammar has too many dots.
     #[error("too many dots")]
@@ -9,10 +12,36 @@ pub enum ParseFault {
     /// More items are reachable than the budget allows.
     #[error("more items than the budget")]
     Budget,
-    /// No tree is permitted for the whole text.
+    /// No tree is permitted for the whole text. The report says how far the items came, and what
+    /// they expected there.
     #[error("no parse")]
-    NoParse,
+    NoParse(Report),
     /// Memory ran out.
     #[error("out of memory")]
     Memory,
+}
+
+impl From<RunFault> for ParseFault {
+    ghost use Rattle.std.specs.Prelude.{◌≡◌};
+    ghost use Rattle.ig_parse.specs.Faults.{fault_of};
+
+    ghost from_gives = { λ error fault. fault ≡ fault_of error };
+
+    fn from(error: RunFault) -> ParseFault {
+        match error {
+            RunFault::Budget => ParseFault::Budget,
+            RunFault::Memory => ParseFault::Memory,
+        }
+    }
+}
+
+impl From<AllocError> for ParseFault {
+    ghost use Rattle.std.specs.Prelude.{◌≡◌};
+    ghost use Rattle.ig_parse.specs.declared.fault.ParseFault.TheVariants.{Memory};
+
+    ghost from_gives = { λ _ fault. fault ≡ Memory };
+
+    fn from(_error: AllocError) -> ParseFault {
+        ParseFault::Memory
+    }
 }

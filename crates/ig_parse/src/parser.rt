@@ -4,7 +4,8 @@ ghost use Rattle.ig_core.specs.Lowered.{CoreOf, IsBuildable};
 ghost use Rattle.ig_item.specs.Core.{dots};
 ghost use Rattle.ig_item.specs.Limits.{most_dots};
 ghost use Rattle.ig_core.specs.declared.fault.CoreFault.TheVariants as core_fault;
-ghost use Rattle.ig_parse.specs.Parses.{IsTooMany, Parses};
+ghost use Rattle.ig_parse.specs.Parses.{AreReachable, IsTooMany, MayHaveForest, Parses, Saturates};
+ghost use Rattle.ig_query.specs.Report.{IsReport};
 ghost use Rattle.ig_parse.specs.declared.fault.ParseFault.TheVariants.{TooManyDots};
 
 use crate::fault::ParseFault;
@@ -14,10 +15,12 @@ use ig_forest::{
     reduced_forest_unfolds_to_core_trees, tree_has_one_cursor,
 };
 use ig_grammar::Checked;
-use ig_item::{Core, RunFault, complete_root_items_are_trees};
+use ig_item::{Core, Items, RunFault, complete_root_items_are_trees};
 use ig_plain::saturate;
+use ig_query::report;
+use ig_show::Report;
 use ig_text::Text;
-use std::alloc::Global;
+use std::alloc::{AllocError, Global};
 use std::marker::Model;
 
 /// A parser of one grammar. It keeps the grammar's core grammar.
@@ -64,12 +67,26 @@ impl<'g> Parser<'g> {
         &self.core
     }
 
-    /// The reduced forest of exactly the permitted trees of the whole text. `Budget` comes exactly
-    /// where more than `budget` items are reachable, else `NoParse` exactly where no tree is
-    /// permitted; `TooManyDots` never comes.
-    pub fn parse(&self, alloc: Global, text: &Text, budget: u32) -> Result<Forest, ParseFault>
-        ensures parses { Parses self.now text.now budget result }
-        ensures dots { IfErr result (λ fault. fault ≢ TooManyDots) }
+    /// The reachable items of the core grammar and the text, each once. `Budget` comes exactly
+    /// where there are more than `budget`, if memory doesn't run out before.
+    pub fn saturate(&self, alloc: Global, text: &Text, budget: u32) -> Result<Items, RunFault>
+        ensures { Saturates self.now text.now budget result }
+    {
+        let _nonterminals = self.core.nonterminals();
+        saturate(alloc, &self.core, text, budget)
+    }
+
+    /// The reduced forest of exactly the permitted trees of the whole text, whose reachable items
+    /// these have to be; `None` exactly where no tree is permitted. Refuses only for want of
+    /// memory.
+    pub fn forest(
+        &self,
+        alloc: Global,
+        items: &Items,
+        text: &Text,
+    ) -> Result<Option<Forest>, AllocError>
+        requires reachable { AreReachable self.now text.now items.now }
+        ensures { IfOk result (MayHaveForest self.now text.now) }
     {
         core_trees_are_permitted_trees();
         complete_root_items_are_trees();
@@ -78,23 +95,41 @@ impl<'g> Parser<'g> {
         reduced_forest_is_unique();
         tree_has_one_cursor();
         let _nonterminals = self.core.nonterminals();
-        let items = match saturate(alloc, &self.core, text, budget) {
-            Ok(items) => items,
-            Err(RunFault::Budget) => return Err(ParseFault::Budget),
-            Err(RunFault::Memory) => return Err(ParseFault::Memory),
-        };
-        match Forest::build(alloc, &items, &self.core, text) {
-            Ok(Some(forest)) => Ok(forest),
-            Ok(None) => Err(ParseFault::NoParse),
-            Err(_) => Err(ParseFault::Memory),
+        Forest::build(alloc, items, &self.core, text)
+    }
+
+    /// How far the items came in the text, whose reachable items these have to be, and what they
+    /// expected there. Refuses only for want of memory.
+    pub fn report(&self, alloc: Global, items: &Items, text: &Text) -> Result<Report, AllocError>
+        requires reachable { AreReachable self.now text.now items.now }
+        ensures { IfOk result (IsReport (CoreOf self.now) text.now) }
+    {
+        let _nonterminals = self.core.nonterminals();
+        report(alloc, items, &self.core, text)
+    }
+
+    /// The reduced forest of exactly the permitted trees of the whole text. `Budget` comes exactly
+    /// where more than `budget` items are reachable, else `NoParse`, with the report, exactly where
+    /// no tree is permitted; `TooManyDots` never comes.
+    pub fn parse(&self, alloc: Global, text: &Text, budget: u32) -> Result<Forest, ParseFault>
+        ensures parses { Parses self.now text.now budget result }
+        ensures dots { IfErr result (λ fault. fault ≢ TooManyDots) }
+    {
+        let items = self.saturate(alloc, text, budget)?;
+        match self.forest(alloc, &items, text)? {
+            Some(forest) => Ok(forest),
+            None => {
+                let report = self.report(alloc, &items, text)?;
+                Err(ParseFault::NoParse(report))
+            }
         }
     }
 }
 
-/// The reduced forest of exactly the trees that the grammar permits for the whole text. But for want
-/// of memory the faults come exactly as these: `TooManyDots` where the grammar's core grammar has
-/// more than `MOST_DOTS` dots, else `Budget` where more than `budget` items are reachable, else
-/// `NoParse` where no tree is permitted.
+/// The reduced forest of exactly the trees that the grammar permits for the whole text. But for
+/// want of memory the faults come exactly as these: `TooManyDots` where the grammar's core grammar
+/// has more than `MOST_DOTS` dots, else `Budget` where more than `budget` items are reachable, else
+/// `NoParse`, with the report, where no tree is permitted.
 pub fn parse(
     alloc: Global,
     grammar: &Checked,

@@ -1,0 +1,24 @@
+use Rattle.ig_parse.proofs.Parsing.{runs_of, reached_inside, may_have_forest}
+use Rattle.ig_parse.proofs.parser.Parser.forest.Goals as goal
+
+pub build-requires : goal.build-requires
+build-requires c =
+    reached_inside c.args.self.now c.args.text.now c.self.inside.core
+    (runs_of c.args.self.now c.self.inside.grammar.now c.self.inside.core c.self.view_is c.self.invariant
+    c.nonterminals-nonterminals.ensures.well_kinded)
+    c.args.items.now c.requires.reachable
+
+pub returns : goal.returns
+returns c =
+    may_have_forest
+    (record {
+      trees = c.core_trees_are_permitted_trees.ensures;
+      roots = c.complete_root_items_are_trees.ensures;
+      there = c.reduced_forest_has_root.ensures;
+      unfolds = c.reduced_forest_unfolds_to_core_trees.ensures;
+      only = c.reduced_forest_is_unique.ensures;
+      cursors = c.tree_has_one_cursor.ensures;
+    })
+    c.args.self.now c.args.text.now c.self.inside.core
+    (runs_of c.args.self.now c.self.inside.grammar.now c.self.inside.core c.self.view_is c.self.invariant
+    c.nonterminals-nonterminals.ensures.well_kinded) c.build.result c.build.ensures

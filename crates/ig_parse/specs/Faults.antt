@@ -1,0 +1,9 @@
+-- The fault of a parse for that of a run.
+use Rattle.ig_item.specs.declared.run_fault.RunFault.{RunFault}
+use Rattle.ig_item.specs.declared.run_fault.RunFault.TheVariants as run_fault
+use Rattle.ig_parse.specs.declared.fault.ParseFault.{ParseFault}
+use Rattle.ig_parse.specs.declared.fault.ParseFault.TheVariants as parse_fault
+
+abbrev pub fault_of : RunFault → ParseFault
+fault_of run_fault.Budget = parse_fault.Budget
+fault_of run_fault.Memory = parse_fault.Memory

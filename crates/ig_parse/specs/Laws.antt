@@ -1,0 +1,44 @@
+-- What queries of a forest say of the permitted trees.
+use Rattle.std.specs.Prelude.{◌≡◌, ◌↔◌, ℕ, List}
+use Rattle.ig_text.specs.Tree.{Tree}
+use Rattle.ig_text.specs.declared.tag.Tag.TheVariants.{Rule}
+use Rattle.ig_text.specs.declared.text.Span.{Span}
+use Rattle.ig_grammar.specs.Checked.{CheckedGrammar}
+use Rattle.ig_meaning.specs.Permitted.{Permitted}
+use Rattle.ig_item.specs.WellKinded.{IsWellKinded}
+use Rattle.ig_core.specs.Lowered.{CoreOf}
+use Rattle.ig_forest.specs.Forest.{Forest}
+use Rattle.ig_forest.specs.Reduced.{IsNamed}
+use Rattle.ig_forest.specs.Unfold.{IsTrim}
+use Rattle.ig_query.specs.Ambiguity.{IsAmbiguous}
+use Rattle.ig_query.specs.InTrees.{HasNode}
+use Rattle.ig_query.specs.Spans.{HasSpan}
+use Rattle.ig_parse.specs.Parses.{IsForestOf}
+
+-- two different trees are permitted
+pub record PermitsTwo (c : CheckedGrammar) (text : List ℕ) : Type 0 where
+  pub first : Tree
+  pub second : Tree
+  pub first_permitted : Permitted c.grammar c.shapes text first
+  pub second_permitted : Permitted c.grammar c.shapes text second
+  pub differ : first ≡ second → ⊥
+
+-- a forest has an ambiguous node exactly where two different trees are permitted
+abbrev pub AmbiguityIsTwoPermitted : Type 0
+AmbiguityIsTwoPermitted =
+    (c : CheckedGrammar) (text : List ℕ) (f : Forest) → IsTrim f → IsForestOf c text f → IsAmbiguous f ↔ PermitsTwo c text
+
+-- a permitted tree has a node of a declaration of that name with that span
+pub record PermitsSpan (c : CheckedGrammar) (text name : List ℕ) (span : Span) : Type 0 where
+  pub tree : Tree
+  pub permitted : Permitted c.grammar c.shapes text tree
+  pub nonterminal : ℕ
+  pub alternative : ℕ
+  pub named : IsNamed (CoreOf c) nonterminal name
+  pub has : HasNode (Rule nonterminal alternative) span.begin span.end tree
+
+-- the spans of a declaration's nodes in a forest are exactly those in permitted trees
+abbrev pub SpansArePermitted : Type 0
+SpansArePermitted =
+    (c : CheckedGrammar) (text : List ℕ) (f : Forest) (name : List ℕ) (span : Span) → IsWellKinded (CoreOf c) →
+    IsForestOf c text f → HasSpan f name span ↔ PermitsSpan c text name span

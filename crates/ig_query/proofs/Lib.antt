@@ -1,0 +1,15 @@
+pub mod Through
+pub mod LookedUp
+pub mod ItemPlaces
+pub mod ItemDots
+pub mod DotSets
+pub mod Reporting
+pub mod Forks
+pub mod Uses
+pub mod InTrees
+pub mod Diverging
+pub mod OneTree
+pub mod NamedSpans
+pub mod Spanning
+pub mod Names
+pub mod Instances
