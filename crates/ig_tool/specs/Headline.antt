@@ -7,20 +7,21 @@ use Rattle.ig_grammar.specs.declared.grammar.Grammar.{Grammar}
 use Rattle.ig_core.specs.Notation.{unchanged}
 use Rattle.ig_forest.specs.Forest.{Forest}
 use Rattle.ig_parse.specs.Parses.{IsUnparsed, IsOver, HasForest}
-use Rattle.ig_show.specs.ForestText.{forest_text}
 use Rattle.ig_tool.specs.declared.status.Status.{Status}
 use Rattle.ig_tool.specs.declared.status.Status.TheVariants as status
-use Rattle.ig_tool.specs.Commands.{check, show, core, forest, IsCommand}
+use Rattle.ig_tool.specs.Commands.{check, show, core, IsCommand}
+use Rattle.ig_tool.specs.Jobs.{Job, request_for}
 use Rattle.ig_tool.specs.Accepted.{IsAccepted}
 use Rattle.ig_tool.specs.Change.{Change, FetchFailed, PutFailed, Got, Untouched}
-use Rattle.ig_tool.specs.Outcome.{budget_note, no_parse_note, ok_text, shown_text, shown_core}
+use Rattle.ig_tool.specs.Outcome.{budget_note, IsNoParseNote, ok_text, shown_text, shown_core, Finishes}
 
--- the words ask for the forest of two files, and the shelf tells that it holds them: the first is the text of the
--- grammar, which is accepted, the second is the input
-pub record Asks (words : List (List ℕ)) (shelf : ShelfState) (g : Grammar) (input : List ℕ) (budget : ℕ) : Type 0 where
+-- the words ask for the job with two files, and the shelf tells that it holds them: the first is the text of the grammar,
+-- which is accepted, the second is the input
+pub record Asks (words : List (List ℕ)) (shelf : ShelfState) (g : Grammar) (input : List ℕ) (budget : ℕ) (job : Job) :
+    Type 0 where
   pub grammar_file : List ℕ
   pub input_file : List ℕ
-  pub command : IsCommand words (forest grammar_file input_file budget)
+  pub command : IsCommand words (request_for job grammar_file input_file budget)
   pub grammar_bytes : List ℕ
   pub holds_grammar : shelf.holds grammar_file ≡ bytes grammar_bytes
   pub accepted : IsAccepted grammar_bytes g
@@ -28,29 +29,30 @@ pub record Asks (words : List (List ℕ)) (shelf : ShelfState) (g : Grammar) (in
   pub holds_input : shelf.holds input_file ≡ bytes input_bytes
   pub decoded : IsDecoded input_bytes input
 
--- the status, out's text and notes' line, from the grammar as it is written, the input and the budget
-pub data Outcome (g : Grammar) (input : List ℕ) (budget : ℕ) : Status → List ℕ → List ℕ → Type 0 where
+-- the status, out's text and notes' line, from the grammar as it is written, the input, the budget and the job
+pub data Outcome (g : Grammar) (input : List ℕ) (budget : ℕ) (job : Job) : Status → List ℕ → List ℕ → Type 0 where
   -- more items are reachable than the budget allows
-  over_budget : IsOver (unchanged g) input budget → Outcome g input budget status.Budget [] (budget_note budget)
-  -- no tree is permitted
-  no_parse : (IsOver (unchanged g) input budget → ⊥) → IsUnparsed (unchanged g) input →
-      Outcome g input budget status.NoParse [] no_parse_note
-  -- a tree is permitted, and out gets the text of the one reduced forest, which to every depth unfolds to exactly the
-  -- permitted trees of at most that height
-  parsed : (f : Forest) → HasForest (unchanged g) input budget f → Outcome g input budget status.Done (forest_text f) []
+  over_budget : IsOver (unchanged g) input budget → Outcome g input budget job status.Budget [] (budget_note budget)
+  -- no tree is permitted; the note says how far the items came, and what was expected there
+  no_parse : (note : List ℕ) → (IsOver (unchanged g) input budget → ⊥) → IsUnparsed (unchanged g) input →
+      IsNoParseNote (unchanged g) input note → Outcome g input budget job status.NoParse [] note
+  -- a tree is permitted, and the one reduced forest says what comes of the job: to every depth it unfolds to exactly the
+  -- permitted trees of at most that height. Where it is to be printed, out gets its text
+  parsed : (f : Forest) (s : Status) (out note : List ℕ) → HasForest (unchanged g) input budget f →
+      Finishes (unchanged g) input f job s out note → Outcome g input budget job s out note
 
 -- the answer is the outcome; or memory ran out, and out got nothing
-abbrev pub Says : Grammar → List ℕ → ℕ → Change SinkState → Change SinkState → Status → Type 0
-Says g input budget out notes answer =
+abbrev pub Says : Grammar → List ℕ → ℕ → Job → Change SinkState → Change SinkState → Status → Type 0
+Says g input budget job out notes answer =
     ((answer ≡ status.NoMemory) × Untouched out) ⊎
-    ((text : List ℕ) × ((note : List ℕ) × (Outcome g input budget answer text note × Got out text × Got notes note)))
+    ((text : List ℕ) × ((note : List ℕ) × (Outcome g input budget job answer text note × Got out text × Got notes note)))
 
 -- where the shelf tells both files, the grammar and the input are accepted and nothing failed outside, the answer is the
 -- outcome, or memory ran out
 abbrev pub Headline : List (List ℕ) → Change ShelfState → Change SinkState → Change SinkState → Status → Type 0
 Headline words shelf out notes answer =
-    (g : Grammar) (input : List ℕ) (budget : ℕ) → Asks words shelf.before g input budget → (FetchFailed shelf → ⊥) → (PutFailed out → ⊥) →
-    (PutFailed notes → ⊥) → Says g input budget out notes answer
+    (g : Grammar) (input : List ℕ) (budget : ℕ) (job : Job) → Asks words shelf.before g input budget job →
+    (FetchFailed shelf → ⊥) → (PutFailed out → ⊥) → (PutFailed notes → ⊥) → Says g input budget job out notes answer
 
 -- what out gets where the words ask that the grammar of this file be checked or shown, or for its core grammar
 pub data IsGrammarCommand (words : List (List ℕ)) (file : List ℕ) (g : Grammar) : List ℕ → Type 0 where

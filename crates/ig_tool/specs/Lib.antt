@@ -1,9 +1,12 @@
 pub mod Words
-pub mod WordParts
 pub mod Accepted
 pub mod Refusals
 pub mod Commands
+pub mod Jobs
+pub mod Listing
+pub mod Rows
 pub mod Change
 pub mod Outcome
 pub mod Stops
+pub mod Pages
 pub mod Headline

@@ -1,16 +1,20 @@
 -- What the top call answers, by cases.
-use Rattle.std.specs.Prelude.{◌≡◌, ◌≢◌, ℕ, List, [], ◌++◌, codes, encode_utf8_all}
+use Rattle.std.specs.Prelude.{◌≡◌, ◌≢◌, ℕ, List, [], ◌++◌, Option, Some, None, codes, encode_utf8_all}
 use Rattle.std.specs.Fmt.{decimal}
 use Rattle.ig_text.specs.Decoding.{IsDecoded, IsFaulty}
 use Rattle.ig_text.specs.declared.text.TextFault.{TextFault}
 use Rattle.ig_text.specs.declared.text.TextFault.TheVariants as text_fault
 use Rattle.ig_outside.specs.Told.{Told, silent, nothing, bytes}
 use Rattle.ig_outside.specs.States.{ShelfState, SinkState}
+use Rattle.ig_grammar.specs.Checked.{CheckedGrammar}
 use Rattle.ig_grammar.specs.declared.grammar.Grammar.{Grammar}
 use Rattle.ig_core.specs.Lowered.{CoreOf}
 use Rattle.ig_core.specs.Notation.{unchanged}
 use Rattle.ig_forest.specs.Forest.{Forest}
 use Rattle.ig_parse.specs.Parses.{IsUnparsed, IsOver, HasForest}
+use Rattle.ig_query.specs.Report.{IsReport}
+use Rattle.ig_show.specs.declared.report.Report.{Report}
+use Rattle.ig_show.specs.ReportText.{IsPlace}
 use Rattle.ig_show.specs.Listed.{line_end}
 use Rattle.ig_show.specs.CoreText.{core_text}
 use Rattle.ig_show.specs.ForestText.{forest_text}
@@ -20,7 +24,10 @@ use Rattle.ig_tool.specs.Change.{Change, Fetched, IsCalm, FetchFailed, Stood, Go
 use Rattle.ig_show.specs.CanonicalText.{text_of}
 use Rattle.ig_tool.specs.Accepted.{IsAccepted}
 use Rattle.ig_tool.specs.Refusals.{IsRefused}
-use Rattle.ig_tool.specs.Commands.{Request, check, show, core, forest, grammar_name, IsCommand, MayFetch}
+use Rattle.ig_tool.specs.Commands.{Request, Listing, check, show, core, query, load, grammar_file, IsCommand, MayFetch}
+use Rattle.ig_tool.specs.Jobs.{Job, print, list, request_for}
+use Rattle.ig_tool.specs.Listing.{HasNoHighest, IsBounded, IsNoCursor, Begins, IsTreeListing, listing_text}
+use Rattle.ig_walker.specs.Listed.{Listed}
 
 abbrev pub number_of : Status → ℕ
 number_of status.Done = 0
@@ -44,7 +51,7 @@ MayGive (bytes held) xs = xs ≡ held
 
 -- the notes, each a line
 abbrev pub usage_note : List ℕ
-usage_note = codes "usage" ++ line_end
+usage_note = codes "usage: iguana (check|show|core) G | (forest|trees|query) G I | load SIZE NUMBER" ++ line_end
 
 abbrev pub cannot_read_note : List ℕ → List ℕ
 cannot_read_note name = codes "cannot read " ++ (name ++ line_end)
@@ -61,8 +68,14 @@ input_note text_fault.Memory = []
 abbrev pub budget_note : ℕ → List ℕ
 budget_note budget = codes "budget: more than " ++ (decimal budget ++ (codes " items" ++ line_end))
 
-abbrev pub no_parse_note : List ℕ
-no_parse_note = codes "no parse" ++ line_end
+abbrev pub no_parse_note : List ℕ → List ℕ
+no_parse_note place = codes "no parse at " ++ (place ++ line_end)
+
+abbrev pub depth_needed_note : List ℕ
+depth_needed_note = codes "depth needed: the forest is cyclic" ++ line_end
+
+abbrev pub no_cursor_note : List ℕ
+no_cursor_note = codes "no such cursor" ++ line_end
 
 abbrev pub cannot_write_note : List ℕ
 cannot_write_note = codes "cannot write" ++ line_end
@@ -80,12 +93,13 @@ shown_text g = encode_utf8_all (text_of g)
 abbrev pub shown_core : Grammar → List ℕ
 shown_core g = core_text (CoreOf (unchanged g))
 
--- the words ask for the forest of two files, of which the first may give the grammar, which is accepted, and the second the
+-- the words ask for the job with two files, of which the first may give the grammar, which is accepted, and the second the
 -- input
-pub record HasFiles (words : List (List ℕ)) (shelf : ShelfState) (g : Grammar) (input : List ℕ) (budget : ℕ) : Type 0 where
+pub record HasFiles (words : List (List ℕ)) (shelf : ShelfState) (g : Grammar) (input : List ℕ) (budget : ℕ) (job : Job) :
+    Type 0 where
   pub grammar_file : List ℕ
   pub input_file : List ℕ
-  pub command : IsCommand words (forest grammar_file input_file budget)
+  pub command : IsCommand words (request_for job grammar_file input_file budget)
   pub grammar_bytes : List ℕ
   pub gives_grammar : MayGive (shelf.holds grammar_file) grammar_bytes
   pub accepted : IsAccepted grammar_bytes g
@@ -93,21 +107,55 @@ pub record HasFiles (words : List (List ℕ)) (shelf : ShelfState) (g : Grammar)
   pub gives_input : MayGive (shelf.holds input_file) input_bytes
   pub decoded : IsDecoded input_bytes input
 
+-- the note of how far the items came in the input, and of what was expected there
+pub record IsNoParseNote (c : CheckedGrammar) (input note : List ℕ) : Type 0 where
+  pub report : Report
+  pub place : List ℕ
+  pub is : IsReport (CoreOf c) input report
+  pub place_is : IsPlace report place
+  pub note_is : note ≡ no_parse_note place
+
+-- what comes of a job, by the forest of the trees that are permitted: the status, out's text and notes' line
+pub data Finishes (c : CheckedGrammar) (input : List ℕ) (f : Forest) : Job → Status → List ℕ → List ℕ → Type 0 where
+  -- the text of the forest
+  printed : Finishes c input f print status.Done (forest_text f) []
+  -- trees of each height are wanted, and there is no highest one
+  depth_needed : (listing : Listing) → listing.depth ≡ None → HasNoHighest c input →
+      Finishes c input f (list listing) status.DepthNeeded [] depth_needed_note
+  -- the cursor is that of no tree that may be listed
+  bad_cursor : (listing : Listing) (word : List ℕ) → IsBounded c input listing.depth → listing.after ≡ Some word →
+      IsNoCursor c input f listing.depth word → Finishes c input f (list listing) status.BadCursor [] no_cursor_note
+  -- the text of the listing
+  listed : (listing : Listing) (from : Option (List ℕ)) (trees : List Listed) → IsBounded c input listing.depth →
+      Begins c input f listing.depth listing.after from →
+      IsTreeListing c input f listing.depth from listing.count trees →
+      Finishes c input f (list listing) status.Done (listing_text (CoreOf c) trees) []
+
+-- what no command does yet
+abbrev pub IsUnbuilt : Request → Type 0
+IsUnbuilt (query grammar input budget question) = Unit {0}
+IsUnbuilt (load size number budget) = Unit {0}
+IsUnbuilt request = ⊥
+
 -- the status that is decided before anything is written, the text for out, the line for notes, and
 -- the number of fetches
 pub data Decided (words : List (List ℕ)) (shelf : Change ShelfState) : Status → List ℕ → List ℕ → ℕ → Type 0 where
   -- the words are no command
   usage : IsCalm shelf → ((request : Request) → IsCommand words request → ⊥) →
       Decided words shelf status.Usage [] usage_note 0
+  -- the words ask for what no command does yet
+  unbuilt : (request : Request) → IsCalm shelf → IsCommand words request → IsUnbuilt request →
+      Decided words shelf status.Usage [] usage_note 0
   -- nothing is held under the grammar's name
-  grammar_missing : (request : Request) → IsCalm shelf → IsCommand words request → shelf.before.holds (grammar_name request) ≡ nothing →
-      Decided words shelf status.ReadFault [] (cannot_read_note (grammar_name request)) 1
+  grammar_missing : (request : Request) (file : List ℕ) → IsCalm shelf → IsCommand words request →
+      grammar_file request ≡ Some file → shelf.before.holds file ≡ nothing →
+      Decided words shelf status.ReadFault [] (cannot_read_note file) 1
   -- the fetch of the grammar failed
-  grammar_unread : (request : Request) → FetchFailed shelf → IsCommand words request →
-      Decided words shelf status.ReadFault [] (cannot_read_note (grammar_name request)) 1
+  grammar_unread : (request : Request) (file : List ℕ) → FetchFailed shelf → IsCommand words request →
+      grammar_file request ≡ Some file → Decided words shelf status.ReadFault [] (cannot_read_note file) 1
   -- the grammar's bytes are refused
-  grammar_refused : (request : Request) (xs text : List ℕ) → IsCalm shelf → IsCommand words request →
-      MayGive (shelf.before.holds (grammar_name request)) xs → IsRefused xs text →
+  grammar_refused : (request : Request) (file xs text : List ℕ) → IsCalm shelf → IsCommand words request →
+      grammar_file request ≡ Some file → MayGive (shelf.before.holds file) xs → IsRefused xs text →
       Decided words shelf status.Grammar [] (grammar_note text) 1
   -- the grammar is accepted, which is all that was asked
   checked : (grammar xs : List ℕ) (g : Grammar) → IsCalm shelf → IsCommand words (check grammar) →
@@ -119,30 +167,32 @@ pub data Decided (words : List (List ℕ)) (shelf : Change ShelfState) : Status 
   core_shown : (grammar xs : List ℕ) (g : Grammar) → IsCalm shelf → IsCommand words (core grammar) →
       MayGive (shelf.before.holds grammar) xs → IsAccepted xs g → Decided words shelf status.Done (shown_core g) [] 1
   -- the grammar is accepted, and nothing is held under the input's name
-  input_missing : (grammar input : List ℕ) (budget : ℕ) (xs : List ℕ) (g : Grammar) → IsCalm shelf →
-      IsCommand words (forest grammar input budget) → MayGive (shelf.before.holds grammar) xs → IsAccepted xs g →
+  input_missing : (job : Job) (grammar input : List ℕ) (budget : ℕ) (xs : List ℕ) (g : Grammar) → IsCalm shelf →
+      IsCommand words (request_for job grammar input budget) → MayGive (shelf.before.holds grammar) xs → IsAccepted xs g →
       shelf.before.holds input ≡ nothing →
       Decided words shelf status.ReadFault [] (cannot_read_note input) 2
   -- the grammar is accepted, and the fetch of the input failed
-  input_unread : (grammar input : List ℕ) (budget : ℕ) (xs : List ℕ) (g : Grammar) → FetchFailed shelf →
-      IsCommand words (forest grammar input budget) → MayGive (shelf.before.holds grammar) xs → IsAccepted xs g →
+  input_unread : (job : Job) (grammar input : List ℕ) (budget : ℕ) (xs : List ℕ) (g : Grammar) → FetchFailed shelf →
+      IsCommand words (request_for job grammar input budget) → MayGive (shelf.before.holds grammar) xs → IsAccepted xs g →
       Decided words shelf status.ReadFault [] (cannot_read_note input) 2
   -- the grammar is accepted, and the input's bytes are no text
-  input_refused : (grammar input : List ℕ) (budget : ℕ) (xs ys : List ℕ) (g : Grammar) (fault : TextFault) → IsCalm shelf →
-      IsCommand words (forest grammar input budget) → MayGive (shelf.before.holds grammar) xs → IsAccepted xs g →
-      MayGive (shelf.before.holds input) ys → IsFaulty ys fault → fault ≢ text_fault.Memory →
+  input_refused : (job : Job) (grammar input : List ℕ) (budget : ℕ) (xs ys : List ℕ) (g : Grammar) (fault : TextFault) →
+      IsCalm shelf → IsCommand words (request_for job grammar input budget) → MayGive (shelf.before.holds grammar) xs →
+      IsAccepted xs g → MayGive (shelf.before.holds input) ys → IsFaulty ys fault → fault ≢ text_fault.Memory →
       Decided words shelf status.Input [] (input_note fault) 2
   -- more items than the budget are reachable
-  over_budget : (g : Grammar) (input : List ℕ) (budget : ℕ) → IsCalm shelf → HasFiles words shelf.before g input budget →
-      IsOver (unchanged g) input budget → Decided words shelf status.Budget [] (budget_note budget) 2
+  over_budget : (g : Grammar) (input : List ℕ) (budget : ℕ) (job : Job) → IsCalm shelf →
+      HasFiles words shelf.before g input budget job → IsOver (unchanged g) input budget →
+      Decided words shelf status.Budget [] (budget_note budget) 2
   -- the budget suffices, and no tree is permitted
-  no_parse : (g : Grammar) (input : List ℕ) (budget : ℕ) → IsCalm shelf → HasFiles words shelf.before g input budget →
-      (IsOver (unchanged g) input budget → ⊥) → IsUnparsed (unchanged g) input →
-      Decided words shelf status.NoParse [] no_parse_note 2
-  -- the budget suffices, a tree is permitted, and the text is that of the forest
-  parsed : (g : Grammar) (input : List ℕ) (budget : ℕ) (f : Forest) → IsCalm shelf →
-      HasFiles words shelf.before g input budget → HasForest (unchanged g) input budget f →
-      Decided words shelf status.Done (forest_text f) [] 2
+  no_parse : (g : Grammar) (input : List ℕ) (budget : ℕ) (job : Job) (note : List ℕ) → IsCalm shelf →
+      HasFiles words shelf.before g input budget job → (IsOver (unchanged g) input budget → ⊥) →
+      IsUnparsed (unchanged g) input → IsNoParseNote (unchanged g) input note →
+      Decided words shelf status.NoParse [] note 2
+  -- the budget suffices, a tree is permitted, and the forest says what comes of the job
+  parsed : (g : Grammar) (input : List ℕ) (budget : ℕ) (job : Job) (f : Forest) (s : Status) (out note : List ℕ) →
+      IsCalm shelf → HasFiles words shelf.before g input budget job → HasForest (unchanged g) input budget f →
+      Finishes (unchanged g) input f job s out note → Decided words shelf s out note 2
 
 -- the answer of the top call to its words, by what the shelf tells, with what was fetched and put
 pub data Answers (words : List (List ℕ)) (shelf : Change ShelfState) (out notes : Change SinkState) : Status → Type 0 where
@@ -152,8 +202,8 @@ pub data Answers (words : List (List ℕ)) (shelf : Change ShelfState) (out note
   -- another status was decided, and notes got its line
   noted : (s : Status) (note : List ℕ) (k : ℕ) → Decided words shelf s [] note k → s ≢ status.Done → Fetched shelf k →
       Untouched out → Got notes note → Answers words shelf out notes s
-  -- a text was decided, and out failed
-  unwritten : (text : List ℕ) (k : ℕ) → Decided words shelf status.Done text [] k → Fetched shelf k →
+  -- a text was decided that isn't empty, and out failed
+  unwritten : (text : List ℕ) (k : ℕ) → Decided words shelf status.Done text [] k → text ≢ [] → Fetched shelf k →
       Failed out text → Noted notes cannot_write_note → Answers words shelf out notes status.WriteFault
   -- another status was decided, and notes failed
   unnoted : (s : Status) (note : List ℕ) (k : ℕ) → Decided words shelf s [] note k → s ≢ status.Done → Fetched shelf k →

@@ -1,5 +1,5 @@
 -- Where a command stops before it has a text for out.
-use Rattle.std.specs.Prelude.{◌≡◌, ◌≢◌, ℕ, ◌<◌, ◌≤◌, ◌⊎◌, List, [], ◌++◌, Option, Some, None, Result, Ok, Err, Vec}
+use Rattle.std.specs.Prelude.{◌≡◌, ◌≢◌, ℕ, ◌<◌, ◌⊎◌, List, [], ◌++◌, Result, Ok, Err, Vec}
 use Rattle.std.specs.declared.alloc.Global.{Global}
 use Rattle.ig_text.specs.Decoding.{IsDecoded, IsFaulty}
 use Rattle.ig_text.specs.declared.text.Text.{Text}
@@ -25,9 +25,12 @@ use Rattle.ig_parse.specs.Parses.{IsUnparsed, IsOver, HasForest}
 use Rattle.ig_show.specs.Listed.{line_end}
 use Rattle.ig_show.specs.CoreText.{core_text}
 use Rattle.ig_show.specs.ForestText.{forest_text}
+use Rattle.ig_tool.specs.Jobs.{Job}
 use Rattle.ig_tool.specs.Accepted.{IsTextOf, HasFewDots}
 use Rattle.ig_tool.specs.Refusals.{IsRefused, dots_text}
-use Rattle.ig_tool.specs.Outcome.{MayGive, budget_note, cannot_read_note, cannot_write_note, input_note, no_memory_note, no_parse_note, grammar_note, shown_text, ok_text, Decided}
+use Rattle.ig_show.specs.declared.report.Report.{Report}
+use Rattle.ig_show.specs.ReportText.{IsPlace}
+use Rattle.ig_tool.specs.Outcome.{MayGive, budget_note, cannot_read_note, cannot_write_note, input_note, no_memory_note, no_parse_note, IsNoParseNote, grammar_note, shown_text, ok_text, Decided, Finishes}
 
 -- a line of two pieces
 abbrev pub IsLine : List ℕ → List ℕ → Vec ℕ Global → Type 0
@@ -130,8 +133,11 @@ Prepares g (Err halt.Memory) = Unit {0}
 abbrev pub IsOverBudget : ℕ → Stop → Type 0
 IsOverBudget budget = StopsWith status.Budget (budget_note budget)
 
-abbrev pub IsNotParsed : Stop → Type 0
-IsNotParsed = StopsWith status.NoParse no_parse_note
+-- no tree is permitted: the line has the place of the report
+abbrev pub TellsPlace : Report → Stop → Type 0
+TellsPlace report (halt.Note s line) =
+    (s ≡ status.NoParse) × ((place : List ℕ) × IsPlace report place × (line.items ≡ no_parse_note place))
+TellsPlace report halt.Memory = Unit {0}
 
 -- the text of the forest
 abbrev pub ShowsForest : Forest → Result (Vec ℕ Global) Stop → Type 0
@@ -139,23 +145,32 @@ ShowsForest f (Ok text) = text.items ≡ forest_text f
 ShowsForest f (Err (halt.Note s line)) = ⊥
 ShowsForest f (Err halt.Memory) = Unit {0}
 
--- why there is no forest
-pub data StopsParse (c : CheckedGrammar) (input : List ℕ) (budget : ℕ) : Status → List ℕ → Type 0 where
-  over_budget : (s : Status) (note : List ℕ) → IsOver c input budget → s ≡ status.Budget →
-      note ≡ budget_note budget → StopsParse c input budget s note
-  no_parse : (s : Status) (note : List ℕ) → (IsOver c input budget → ⊥) → IsUnparsed c input → s ≡ status.NoParse →
-      note ≡ no_parse_note → StopsParse c input budget s note
+-- what comes of a job, by the forest
+abbrev pub FinishesJob : CheckedGrammar → List ℕ → Forest → Job → Result (Vec ℕ Global) Stop → Type 0
+FinishesJob c input f job (Ok text) = Finishes c input f job status.Done text.items []
+FinishesJob c input f job (Err (halt.Note s line)) = Finishes c input f job s [] line.items × (s ≢ status.Done)
+FinishesJob c input f job (Err halt.Memory) = Unit {0}
 
--- the text is that of the forest of the permitted trees
-pub record IsParse (c : CheckedGrammar) (input : List ℕ) (budget : ℕ) (text : List ℕ) : Type 0 where
+-- that, and the forest is that of the permitted trees
+pub record IsParse (c : CheckedGrammar) (input : List ℕ) (budget : ℕ) (job : Job) (s : Status) (out note : List ℕ) :
+    Type 0 where
   pub forest : Forest
   pub is : HasForest c input budget forest
-  pub text_is : text ≡ forest_text forest
+  pub finishes : Finishes c input forest job s out note
 
-abbrev pub ParsesText : CheckedGrammar → List ℕ → ℕ → Result (Vec ℕ Global) Stop → Type 0
-ParsesText c input budget (Ok text) = IsParse c input budget text.items
-ParsesText c input budget (Err (halt.Note s line)) = StopsParse c input budget s line.items
-ParsesText c input budget (Err halt.Memory) = Unit {0}
+-- why there is no text
+pub data StopsParse (c : CheckedGrammar) (input : List ℕ) (budget : ℕ) (job : Job) : Status → List ℕ → Type 0 where
+  over_budget : (s : Status) (note : List ℕ) → IsOver c input budget → s ≡ status.Budget →
+      note ≡ budget_note budget → StopsParse c input budget job s note
+  no_parse : (s : Status) (note : List ℕ) → (IsOver c input budget → ⊥) → IsUnparsed c input → s ≡ status.NoParse →
+      IsNoParseNote c input note → StopsParse c input budget job s note
+  at_job : (s : Status) (note : List ℕ) → IsParse c input budget job s [] note → s ≢ status.Done →
+      StopsParse c input budget job s note
+
+abbrev pub ParsesText : CheckedGrammar → List ℕ → ℕ → Job → Result (Vec ℕ Global) Stop → Type 0
+ParsesText c input budget job (Ok text) = IsParse c input budget job status.Done text.items []
+ParsesText c input budget job (Err (halt.Note s line)) = StopsParse c input budget job s line.items
+ParsesText c input budget job (Err halt.Memory) = Unit {0}
 
 -- the canonical text of the grammar
 abbrev pub ShowsGrammar : Grammar → Result (Vec ℕ Global) Stop → Type 0
@@ -175,29 +190,30 @@ ShowsCore c (Ok text) = text.items ≡ core_text (CoreOf c)
 ShowsCore c (Err (halt.Note s line)) = ⊥
 ShowsCore c (Err halt.Memory) = Unit {0}
 
--- why there is no forest of a parser and the input of this name, by what the shelf tells of it and its counts of faults
-pub data StopsForest (c : CheckedGrammar) (budget : ℕ) (told : Told) (name : List ℕ) (old new : ℕ) : Status → List ℕ → Type 0 where
+-- why a parser and the input of this name give no text, by what the shelf tells of it and its counts of faults
+pub data StopsRun (c : CheckedGrammar) (budget : ℕ) (job : Job) (told : Told) (name : List ℕ) (old new : ℕ) :
+    Status → List ℕ → Type 0 where
   at_input : (s : Status) (note : List ℕ) → StopsAt told name old new IsNoInput s note →
-      StopsForest c budget told name old new s note
+      StopsRun c budget job told name old new s note
   at_parse : (s : Status) (note ys input : List ℕ) → new ≡ old → MayGive told ys → IsDecoded ys input →
-      StopsParse c input budget s note → StopsForest c budget told name old new s note
+      StopsParse c input budget job s note → StopsRun c budget job told name old new s note
 
--- the text is that of the forest of the parser and the input
-pub record GivesForest (c : CheckedGrammar) (budget : ℕ) (told : Told) (old new : ℕ) (text : List ℕ) : Type 0 where
+-- the text that the job makes of the parser and the input
+pub record GivesText (c : CheckedGrammar) (budget : ℕ) (job : Job) (told : Told) (old new : ℕ) (text : List ℕ) : Type 0 where
   pub calm : new ≡ old
   pub input_bytes : List ℕ
   pub input : List ℕ
   pub gives_input : MayGive told input_bytes
   pub decoded : IsDecoded input_bytes input
-  pub is_parse : IsParse c input budget text
+  pub is_parse : IsParse c input budget job status.Done text []
 
--- the forest of the parser and the input of this name
-abbrev pub RunsForest : CheckedGrammar → ℕ → Change ShelfState → List ℕ → Result (Vec ℕ Global) Stop → Type 0
-RunsForest c budget shelf name (Ok text) =
-    GivesForest c budget (shelf.before.holds name) shelf.before.faults shelf.after.faults text.items
-RunsForest c budget shelf name (Err (halt.Note s line)) =
-    StopsForest c budget (shelf.before.holds name) name shelf.before.faults shelf.after.faults s line.items
-RunsForest c budget shelf name (Err halt.Memory) = Stood shelf.before.faults shelf.after.faults
+-- a job with the parser and the input of this name
+abbrev pub RunsJob : CheckedGrammar → ℕ → Job → Change ShelfState → List ℕ → Result (Vec ℕ Global) Stop → Type 0
+RunsJob c budget job shelf name (Ok text) =
+    GivesText c budget job (shelf.before.holds name) shelf.before.faults shelf.after.faults text.items
+RunsJob c budget job shelf name (Err (halt.Note s line)) =
+    StopsRun c budget job (shelf.before.holds name) name shelf.before.faults shelf.after.faults s line.items
+RunsJob c budget job shelf name (Err halt.Memory) = Stood shelf.before.faults shelf.after.faults
 
 -- what is decided before anything is written
 abbrev pub Decides : List (List ℕ) → Change ShelfState → Result (Vec ℕ Global) Stop → Type 0
@@ -211,7 +227,7 @@ Decides words shelf (Err halt.Memory) =
 abbrev pub WritesText : List ℕ → Change SinkState → Change SinkState → Status → Type 0
 WritesText text out notes answer =
     ((answer ≡ status.Done) × Got out text × Untouched notes) ⊎
-    ((answer ≡ status.WriteFault) × Failed out text × Noted notes cannot_write_note)
+    ((answer ≡ status.WriteFault) × (text ≢ []) × Failed out text × Noted notes cannot_write_note)
 
 abbrev pub WritesNote : Status → List ℕ → Change SinkState → Status → Type 0
 WritesNote s line notes answer =

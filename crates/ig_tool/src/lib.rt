@@ -6,20 +6,26 @@
 //! to exactly the derivation trees that the grammar permits. `specs/Headline.antt` has that
 //! theorem, `specs/Outcome.antt` all answers.
 //!
-//! Inside, the words are read (`words`, `command`), a grammar text is read and its scopes are
-//! checked, or a note says why it is refused (`grammar_text`). Its parser is made, unless its core
+//! Inside, the words are tested (`words`), given to a command of `clap` (`rows`) and become what is
+//! asked for (`command`). A grammar text is read and its scopes are checked, or a note says why it
+//! is refused (`grammar_text`). Its parser is made, unless its core
 //! grammar has too many dots, and a forest is that parser's (`parse`).
 #![tactic(auto)]
 
 mod command;
 mod grammar_text;
+mod job;
+mod listing;
 mod load;
 mod parse;
+mod rows;
 pub mod status;
 mod stop;
 #[cfg(test)]
 mod tests;
 mod top_call;
+#[cfg(test)]
+mod tree_rows;
 mod words;
 
 pub use status::Status;

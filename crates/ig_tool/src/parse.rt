@@ -3,17 +3,23 @@ ghost use Rattle.std.specs.Prelude.{◌≡◌, ◌++◌, OnOk, codes};
 ghost use Rattle.std.specs.Fmt.{decimal};
 ghost use Rattle.ig_core.specs.Lowered.{IsBuildable};
 ghost use Rattle.ig_core.specs.Notation.{unchanged};
-ghost use Rattle.ig_tool.specs.Stops.{IsNotParsed, IsOverBudget, ParsesText, Prepares};
-ghost use Rattle.ig_tool.specs.Stops.{ShowsForest};
+ghost use Rattle.ig_tool.specs.Jobs.{stored_job};
+ghost use Rattle.ig_tool.specs.Pages.{ComesOf, IsPrintable};
+ghost use Rattle.ig_tool.specs.Stops.{IsOverBudget, ParsesText, Prepares};
+ghost use Rattle.ig_tool.specs.Stops.{ShowsForest, TellsPlace};
 
 use crate::grammar_text::refuse;
+use crate::job::Job;
+use crate::listing::list;
 use crate::status::Status;
 use crate::stop::{Stop, stop_with};
 use ig_core::CoreFault;
-use ig_forest::Forest;
+use ig_forest::{Forest, cursors_are_short, tags_name_nonterminals};
 use ig_grammar::Checked;
+use ig_heights::depths_are_heights;
+use ig_item::Core;
 use ig_parse::{ParseFault, Parser};
-use ig_show::show_forest;
+use ig_show::{Report, show_forest, show_report};
 use ig_text::Text;
 use itoa::Buffer;
 use std::alloc::{AllocError, Global};
@@ -31,20 +37,39 @@ pub(crate) fn parser_of(alloc: Global, checked: &Checked) -> Result<Parser<'_>, 
     }
 }
 
-/// The text of the forest of the parser's grammar and the input.
+/// What comes of a job by the forest of the parser's grammar and the input.
 pub(crate) fn parse(
     alloc: Global,
     parser: &Parser<'_>,
     input: &Text,
     budget: u32,
+    job: Job<'_>,
 ) -> Result<Vec<u8>, Stop>
-    ensures { ParsesText parser.now input.now budget result }
+    ensures { ParsesText parser.now input.now budget (stored_job job.entry) result }
 {
+    depths_are_heights();
+    tags_name_nonterminals();
+    let core = parser.core();
+    let _nonterminals = core.nonterminals();
     match parser.parse(alloc, input, budget) {
-        Ok(forest) => show(alloc, &forest),
+        Ok(forest) => {
+            cursors_are_short(&forest);
+            finish(alloc, core, &forest, job)
+        }
         Err(ParseFault::Budget) => Err(over_budget(alloc, budget)),
-        Err(ParseFault::NoParse) => Err(unparsed(alloc)),
+        Err(ParseFault::NoParse(report)) => Err(unparsed(alloc, &report)),
         Err(ParseFault::TooManyDots | ParseFault::Memory) => Err(Stop::Memory),
+    }
+}
+
+/// What comes of a job by the forest of the core grammar's trees.
+fn finish(alloc: Global, core: &Core, forest: &Forest, job: Job<'_>) -> Result<Vec<u8>, Stop>
+    requires printable { IsPrintable core.now forest.now }
+    ensures { ComesOf core.now forest.now (stored_job job.entry) result }
+{
+    match job {
+        Job::Print => show(alloc, forest),
+        Job::List(listing) => list(alloc, core, forest, listing),
     }
 }
 
@@ -82,9 +107,12 @@ fn push_items(text: &mut Vec<u8>, number: u32) -> Result<(), AllocError>
     text.extend_from_slice(b" items")
 }
 
-/// No tree is permitted.
-fn unparsed(alloc: Global) -> Stop
-    ensures { IsNotParsed result }
+/// No tree is permitted, as far as the report tells.
+fn unparsed(alloc: Global, report: &Report) -> Stop
+    ensures { TellsPlace report.now result }
 {
-    stop_with(alloc, Status::NoParse, b"no parse", b"")
+    match show_report(alloc, report) {
+        Ok(place) => stop_with(alloc, Status::NoParse, b"no parse at ", place.as_slice()),
+        Err(error) => Stop::from(error),
+    }
 }

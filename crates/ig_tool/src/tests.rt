@@ -17,8 +17,8 @@ const LETTER_FOREST: &str =
 const LETTER_CORE: &str = "nt 0 $root ()\nalt $root . call 1 ()\nnt 1 S ()\nalt S.1 . \"a\"\n";
 
 const OPTION_CORE: &str =
-    "nt 0 $root ()\nalt $root . call 1 ()\nnt 1 S ()\nalt S.1 . call 2 ()\nnt 2 S#1 ()\nalt $none\nalt \
-        $some . \"a\"\n";
+    "nt 0 $root ()\nalt $root . call 1 ()\nnt 1 S ()\nalt S.1 . call 2 ()\nnt 2 S#1 ()\nalt $none\n\
+        alt $some . \"a\"\n";
 
 /// A grammar that counts down: eleven items are reachable on one letter.
 const COUNTING: &str =
@@ -75,6 +75,9 @@ const CANONICAL: [&str; 31] = [
     "start S;\nsyntax S =  | \"a\" >  > left ;\n",
 ];
 
+const USAGE: &str =
+    "usage: iguana (check|show|core) G | (forest|trees|query) G I | load SIZE NUMBER\n";
+
 /// More bytes than any output of these rows.
 const ROOM: u64 = 100_000;
 
@@ -97,14 +100,19 @@ fn shelf_of(alloc: Global, grammar: &[u8], input: &[u8]) -> Result<MemoryShelf, 
 
 /// How a command ended: its status, and what out and notes got.
 #[derive(Drop)]
-struct Ended {
-    status: Status,
-    out: MemorySink,
-    notes: MemorySink,
+pub(crate) struct Ended {
+    pub status: Status,
+    pub out: MemorySink,
+    pub notes: MemorySink,
 }
 
 /// How the command of these words ends on a grammar under `g` and an input under `i`.
-fn end_of(alloc: Global, words: &[&str], grammar: &[u8], input: &[u8]) -> Result<Ended, Fail> {
+pub(crate) fn end_of(
+    alloc: Global,
+    words: &[&str],
+    grammar: &[u8],
+    input: &[u8],
+) -> Result<Ended, Fail> {
     let words = words_of(alloc, words)?;
     let mut shelf = shelf_of(alloc, grammar, input)?;
     let mut out = MemorySink::new(alloc, ROOM)?;
@@ -257,13 +265,23 @@ fn core_grammars(rt: HostRuntime) -> Result<(), Fail> {
 #[test]
 fn answers_without_a_forest(rt: HostRuntime) -> Result<(), Fail> {
     let table: [(&str, &[u8], Status, &str); 10] = [
-        (LETTER, b"", Status::NoParse, "no parse\n"),
-        (ENDS, b"aab", Status::NoParse, "no parse\n"),
+        (
+            LETTER,
+            b"",
+            Status::NoParse,
+            "no parse at line 1, column 1, expected \"a\"\n",
+        ),
+        (
+            ENDS,
+            b"aab",
+            Status::NoParse,
+            "no parse at line 1, column 4, expected \"b\"\n",
+        ),
         (
             "start S; syntax S = \"\u{e9}\" \"a\";",
             "\u{e9}b".as_bytes(),
             Status::NoParse,
-            "no parse\n",
+            "no parse at line 1, column 2, expected \"a\"\n",
         ),
         (
             LETTER,
@@ -299,7 +317,7 @@ fn answers_without_a_forest(rt: HostRuntime) -> Result<(), Fail> {
             "start S; syntax S = when ((9223372036854775807 + 1) > 0) \"a\";",
             b"a",
             Status::NoParse,
-            "no parse\n",
+            "no parse at line 1, column 1, expected nothing\n",
         ),
         (
             "start S; syntax S = when ((9223372036854775808 + 1) > 0) \"a\";",
@@ -547,7 +565,7 @@ fn words_that_are_no_command(rt: HostRuntime) -> Result<(), Fail> {
         &["forest", "g", "i", "--budget", "0"],
         &["forest", "g", "i", "--budget=4000001"],
         &["forest", "g", "i", "--budget"],
-        &["trees", "g", "i"],
+        &["trees", "g", "i", "--what=spans"],
         &["forest", "-g", "i"],
         &["forest", "g", ""],
         &["--help"],
@@ -556,7 +574,7 @@ fn words_that_are_no_command(rt: HostRuntime) -> Result<(), Fail> {
         let ended = end_of(alloc, words, LETTER.as_bytes(), b"a")?;
         assert_eq!(rt; ended.status, Status::Usage);
         assert_eq!(rt; ended.out.bytes(), b"".as_slice());
-        assert_eq!(rt; ended.notes.bytes(), b"usage\n".as_slice());
+        assert_eq!(rt; ended.notes.bytes(), USAGE.as_bytes());
     }
     Ok(())
 }

@@ -1,12 +1,16 @@
 //! The top call.
 ghost use Rattle.std.specs.Prelude.{◌≡◌, ℕ, List, map, string_bytes};
 ghost use Rattle.ig_tool.specs.Change.{change, Fetched};
-ghost use Rattle.ig_tool.specs.Outcome.{Answers};
+ghost use Rattle.ig_tool.specs.Outcome.{Answers, usage_note};
 ghost use Rattle.ig_tool.specs.Headline.{GrammarCommands, Headline};
-ghost use Rattle.ig_tool.specs.Stops.{Decides, GivesUp, RunsForest, SaysOk, ShowsCore};
-ghost use Rattle.ig_tool.specs.Stops.{ShowsGrammar, WritesNote, WritesText};
+ghost use Rattle.ig_tool.specs.Commands.{IsCommand};
+ghost use Rattle.ig_tool.specs.Jobs.{request_for, stored_job, task_request};
+ghost use Rattle.ig_tool.specs.Stops.{Decides, GivesUp, RunsJob, SaysOk, ShowsCore};
+ghost use Rattle.ig_tool.specs.Stops.{ShowsGrammar, StopsWith, WritesNote, WritesText};
+ghost use Rattle.ig_tool.specs.declared.status.Status.TheVariants.{Usage};
 
-use crate::command::{Command, command_of, grammar_of};
+use crate::command::{Command, command_of};
+use crate::job::{Job, Task};
 use crate::load::{load_grammar, load_input};
 use crate::parse::{parse, parser_of};
 use crate::status::Status;
@@ -22,12 +26,21 @@ use ig_parse::Parser;
 use ig_show::{show_core, show_grammar};
 use std::alloc::Global;
 
+/// The line of wrong words.
+const USAGE: &[u8] =
+    b"usage: iguana (check|show|core) G | (forest|trees|query) G I | load SIZE NUMBER";
+
 /// Does all that the program does: reads the words of a command, fetches the files that they name
-/// from the shelf, puts the output on out, or one line on notes, and answers how that ended.
+/// from the shelf, puts the output on out, or one line on notes, and answers how that ended. An
+/// empty output isn't put.
 ///
 /// `check G` puts `ok`, `show G` the canonical text of the grammar, `core G` the text of its core
 /// grammar, and `forest G I` the text of the reduced forest of the grammar and the input, where no
-/// more items are reachable than the option `--budget` says, or 1,000,000.
+/// more items are reachable than the option `--budget` says, or 1,000,000. `trees G I` puts a line
+/// for each tree of that forest in the order of their cursors: its cursor, a space and the tree.
+/// `--depth` is the greatest height that a tree may have; without it a forest that has no highest
+/// tree is refused. `--count` is the greatest number of lines, 20 without it, and `--after` the
+/// cursor of a tree, behind which the listing goes on.
 ///
 /// The words come without the program's name. All memory is taken before the first put.
 pub fn iguana<F: Shelf, O: Sink, N: Sink>(
@@ -66,21 +79,82 @@ fn decide<F: Shelf>(alloc: Global, words: &[String], shelf: &mut F) -> Result<Ve
         (change (F.state shelf.old) (F.state shelf.new)) result }
     ensures same { (n : List ℕ) → (F.state shelf.new).holds n ≡ (F.state shelf.old).holds n }
 {
+    let Some(command) = command_of(alloc, words)? else {
+        return Err(usage(alloc));
+    };
+    match command {
+        Command::Check { grammar } => on_grammar(alloc, shelf, grammar, Task::Check),
+        Command::Show { grammar } => on_grammar(alloc, shelf, grammar, Task::Show),
+        Command::Core { grammar } => on_grammar(alloc, shelf, grammar, Task::Core),
+        Command::Forest {
+            grammar,
+            input,
+            budget,
+        } => on_input(alloc, shelf, grammar, input, budget, Job::Print),
+        Command::Trees {
+            grammar,
+            input,
+            budget,
+            listing,
+        } => on_input(alloc, shelf, grammar, input, budget, Job::List(listing)),
+        // Words are read as these already; what they ask for isn't built.
+        Command::Query { .. } => Err(usage(alloc)),
+        Command::Load { .. } => Err(usage(alloc)),
+    }
+}
+
+/// How the program is called.
+fn usage(alloc: Global) -> Stop
+    ensures { StopsWith Usage usage_note result }
+{
+    stop_with(alloc, Status::Usage, USAGE, b"")
+}
+
+/// What comes of a task with the grammar in the file of that name.
+fn on_grammar<F: Shelf>(
+    alloc: Global,
+    shelf: &mut F,
+    name: &str,
+    task: Task,
+) -> Result<Vec<u8>, Stop>
+    ensures answer { (words : List (List ℕ)) → IsCommand words (task_request task name.now) →
+        Decides words (change (F.state shelf.old) (F.state shelf.new)) result }
+    ensures same { (n : List ℕ) → (F.state shelf.new).holds n ≡ (F.state shelf.old).holds n }
+{
     read_grammars_are_regular();
     read_grammars_are_written();
     read_names_are_names();
     notation_is_buildable();
-    let Some(command) = command_of(words) else {
-        return Err(stop_with(alloc, Status::Usage, b"usage", b""));
-    };
-    let checked = load_grammar(alloc, shelf, grammar_of(command))?;
+    let checked = load_grammar(alloc, shelf, name)?;
     let parser = parser_of(alloc, &checked)?;
-    match command {
-        Command::Check { .. } => say_ok(alloc),
-        Command::Show { .. } => show(alloc, checked.grammar()),
-        Command::Core { .. } => shown_core(alloc, &parser),
-        Command::Forest { input, budget, .. } => run(alloc, shelf, &parser, input, budget),
+    match task {
+        Task::Check => say_ok(alloc),
+        Task::Show => show(alloc, checked.grammar()),
+        Task::Core => shown_core(alloc, &parser),
     }
+}
+
+/// What comes of a job with the grammar and the input in the files of these names.
+fn on_input<F: Shelf>(
+    alloc: Global,
+    shelf: &mut F,
+    grammar: &str,
+    input: &str,
+    budget: u32,
+    job: Job<'_>,
+) -> Result<Vec<u8>, Stop>
+    ensures answer { (words : List (List ℕ)) →
+        IsCommand words (request_for (stored_job job.entry) grammar.now input.now budget) →
+        Decides words (change (F.state shelf.old) (F.state shelf.new)) result }
+    ensures same { (n : List ℕ) → (F.state shelf.new).holds n ≡ (F.state shelf.old).holds n }
+{
+    read_grammars_are_regular();
+    read_grammars_are_written();
+    read_names_are_names();
+    notation_is_buildable();
+    let checked = load_grammar(alloc, shelf, grammar)?;
+    let parser = parser_of(alloc, &checked)?;
+    run(alloc, shelf, &parser, input, budget, job)
 }
 
 /// The text that says that a grammar is accepted.
@@ -107,28 +181,32 @@ fn shown_core(alloc: Global, parser: &Parser<'_>) -> Result<Vec<u8>, Stop>
     Ok(text)
 }
 
-/// The text of the forest of the parser's grammar and the input in the file of that name.
+/// What comes of a job with the parser's grammar and the input in the file of that name.
 fn run<F: Shelf>(
     alloc: Global,
     shelf: &mut F,
     parser: &Parser<'_>,
     name: &str,
     budget: u32,
+    job: Job<'_>,
 ) -> Result<Vec<u8>, Stop>
-    ensures answer { RunsForest parser.now budget
+    ensures answer { RunsJob parser.now budget (stored_job job.entry)
         (change (F.state shelf.old) (F.state shelf.new)) name.now result }
     ensures counted { Fetched (change (F.state shelf.old) (F.state shelf.new)) 1 }
     ensures same { (n : List ℕ) → (F.state shelf.new).holds n ≡ (F.state shelf.old).holds n }
 {
     let input = load_input(alloc, shelf, name)?;
-    parse(alloc, parser, &input, budget)
+    parse(alloc, parser, &input, budget, job)
 }
 
-/// Puts the text on out. Where out fails, notes get a line of their own.
+/// Puts the text on out, an empty one not at all. Where out fails, notes get a line of their own.
 fn write_text<O: Sink, N: Sink>(text: &[u8], out: &mut O, notes: &mut N) -> Status
     ensures { WritesText text.now (change (O.state out.old) (O.state out.new))
         (change (N.state notes.old) (N.state notes.new)) result }
 {
+    if text.is_empty() {
+        return Status::Done;
+    }
     match out.put(text) {
         Ok(()) => Status::Done,
         Err(_) => {

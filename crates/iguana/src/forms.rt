@@ -29,7 +29,7 @@ fn output(
     let mut out = MemorySink::new(alloc, ROOM)?;
     let mut notes = MemorySink::new(alloc, ROOM)?;
     iguana(alloc, words.as_slice(), &mut shelf, &mut out, &mut notes);
-    if notes.bytes() != b"".as_slice() && notes.bytes() != b"no parse\n".as_slice() {
+    if !notes.bytes().is_empty() && !notes.bytes().starts_with(b"no parse at ") {
         out = MemorySink::new(alloc, 100)?;
         let _ = out.put(b"refused");
     }

@@ -1,11 +1,13 @@
-//! The program Iguana: it checks a grammar, shows it, or prints the forest of a grammar and an
-//! input.
+//! The program Iguana: it checks a grammar, shows it, prints the forest of a grammar and an input,
+//! or lists the trees of that forest.
 //!
 //! `iguana forest GRAMMAR INPUT` reads the two files that it names. The forest goes to standard
 //! output, a note on why there is none to standard error, and the exit status says which it was.
-//! `--budget N` says how many items may be reachable. `iguana check GRAMMAR` prints `ok`,
+//! `--budget N` says how many items may be reachable. `iguana trees GRAMMAR INPUT` prints a line
+//! for each tree: its cursor, a space and the tree. `iguana check GRAMMAR` prints `ok`,
 //! `iguana show GRAMMAR` the canonical text, and `iguana core GRAMMAR` the text of its core
 //! grammar.
+//!
 //! What the program does with its words is the top call of `ig_tool`; here are the adapters that it
 //! runs over: a shelf over files and a sink over a stream, each proved against its trait.
 #![tactic(auto)]

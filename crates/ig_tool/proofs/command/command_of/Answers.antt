@@ -1,24 +1,31 @@
-use Rattle.std.proofs.Common.{◌∙◌, ◌≡◌, ap, map, refl, sym, subst, None, arith, length}
+use Rattle.std.proofs.Common.{◌∙◌, None, map, ap, sym, subst}
 use Rattle.std.specs.Prelude.{string_bytes}
-use Rattle.ig_tool.specs.Commands.{Reads}
-use Rattle.ig_tool.specs.WordParts.{found_parts}
-use Rattle.ig_tool.proofs.Requests.{no_request, none_found, read, of_words, refuted_of_words, counted}
+use Rattle.ig_tool.specs.Rows.{Answers, row_of}
+use Rattle.ig_tool.specs.Words.{parts_of}
+use Rattle.ig_tool.proofs.Requests.{matched, not_matched, not_standing, reads}
 use Rattle.ig_tool.proofs.command.command_of.Goals as goal
 
-pub returns-then-others-gt-MOST_WORDS : goal.returns-then-others-gt-MOST_WORDS
-returns-then-others-gt-MOST_WORDS c =
-    refuted_of_words string_bytes c.args.words.now c.in-Some.name.now c.in-Some.others.now c.in-Some.ensures.cases.0
-    (no_request (string_bytes c.in-Some.name.now) (map string_bytes c.in-Some.others.now)
-    (counted string_bytes c.in-Some.others.now c.if-others-gt-MOST_WORDS.true))
+pub returns-in-None : goal.returns-in-None
+returns-in-None c =
+    reads (map string_bytes c.args.words.now) (string_bytes c.in-Some.name.now) (map string_bytes c.in-Some.others.now) None
+    (ap (map string_bytes) c.in-Some.ensures.cases.0)
+    (sym (not_matched (string_bytes c.in-Some.name.now) (map string_bytes c.in-Some.others.now) c.in-Some-row_named.row
+    (ap row_of (sym c.as_str.ensures.value) ∙ sym c.in-Some-row_named.ensures)
+    (subst (Answers c.in-Some-row_named.row (parts_of (map string_bytes c.in-Some.others.now))) c.in-None.is c.in_ok-matches.ensures)))
 
-pub returns-in_default-find_parts : goal.returns-in_default-find_parts
-returns-in_default-find_parts c =
-    refuted_of_words string_bytes c.args.words.now c.in-Some.name.now c.in-Some.others.now c.in-Some.ensures.cases.0
-    (none_found (string_bytes c.in-Some.name.now) (map string_bytes c.in-Some.others.now) None c.in_default-find_parts.ensures refl)
+pub returns-then-not-all_may_stand : goal.returns-then-not-all_may_stand
+returns-then-not-all_may_stand c =
+    reads (map string_bytes c.args.words.now) (string_bytes c.in-Some.name.now) (map string_bytes c.in-Some.others.now) None
+    (ap (map string_bytes) c.in-Some.ensures.cases.0)
+    (sym (not_standing (string_bytes c.in-Some.name.now) (map string_bytes c.in-Some.others.now) c.in-Some-row_named.row
+    (ap row_of (sym c.as_str.ensures.value) ∙ sym c.in-Some-row_named.ensures)
+    (sym c.all_may_stand.ensures ∙ c.if-not-all_may_stand.true)))
 
-pub returns : goal.returns
-returns c =
-    of_words string_bytes c.args.words.now c.in-Some.name.now c.in-Some.others.now c.command_with.result c.in-Some.ensures.cases.0
-    (read (string_bytes c.in-Some.name.now) (map string_bytes c.in-Some.others.now) _ c.in-Some-find_parts.ensures
-    (found_parts c.in-Some-find_parts.found) refl c.command_with.result
-    (rw c.as_str.ensures.value at c.command_with.ensures))
+pub returns-in-Some-2 : goal.returns-in-Some-2
+returns-in-Some-2 c =
+    reads (map string_bytes c.args.words.now) (string_bytes c.in-Some.name.now) (map string_bytes c.in-Some.others.now) c.command_in.result
+    (ap (map string_bytes) c.in-Some.ensures.cases.0)
+    (c.command_in.ensures ∙
+    matched (string_bytes c.in-Some.name.now) (map string_bytes c.in-Some.others.now) c.in-Some-row_named.row c.in-Some-2.matches
+    (ap row_of (sym c.as_str.ensures.value) ∙ sym c.in-Some-row_named.ensures)
+    (subst (Answers c.in-Some-row_named.row (parts_of (map string_bytes c.in-Some.others.now))) c.in-Some-2.is c.in_ok-matches.ensures))

@@ -1,0 +1,29 @@
+-- What is done with a grammar, or with a grammar and an input.
+use Rattle.std.specs.Prelude.{ℕ, List}
+use Rattle.ig_tool.specs.Commands.{Request, check, show, core, forest, trees, Listing, stored_listing}
+use Rattle.ig_tool.specs.declared.job.Job.{Job as StoredJob}
+use Rattle.ig_tool.specs.declared.job.Job.TheVariants as stored
+use Rattle.ig_tool.specs.declared.job.Task.{Task}
+use Rattle.ig_tool.specs.declared.job.Task.TheVariants as task
+
+-- the request for a task, with the name of the grammar
+abbrev pub task_request : Task → List ℕ → Request
+task_request task.Check grammar = check grammar
+task_request task.Show grammar = show grammar
+task_request task.Core grammar = core grammar
+
+pub data Job : Type 0 where
+  -- the forest is printed
+  print : Job
+  -- its trees are listed
+  list : (listing : Listing) → Job
+
+-- the request for it, with the names of the grammar and the input, and the budget
+abbrev pub request_for : Job → List ℕ → List ℕ → ℕ → Request
+request_for print grammar input budget = forest grammar input budget
+request_for (list listing) grammar input budget = trees grammar input budget listing
+
+-- what a stored job does
+abbrev pub stored_job : StoredJob → Job
+stored_job stored.Print = print
+stored_job (stored.List listing) = list (stored_listing listing)
