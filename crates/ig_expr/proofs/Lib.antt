@@ -6,3 +6,5 @@ pub mod Numbers
 pub mod KindsOfValues
 pub mod Worked
 pub mod Orders
+pub mod TreeOrder
+pub mod Transitivity

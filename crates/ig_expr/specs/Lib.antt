@@ -11,4 +11,6 @@ pub mod Blocks
 pub mod Evaluation
 pub mod Laws
 pub mod ValueOrder
+pub mod ValuedTree
+pub mod TreeOrder
 pub mod Examples

@@ -5,7 +5,8 @@
 //! defines, and [`evaluate`] the value of `specs/Evaluation.antt`, over whole numbers without
 //! bound. Neither takes memory, and both leave a wrong kind without an answer. [`Values`] is a
 //! short list of values that are kept inline; values, and such lists, are ordered as
-//! `specs/ValueOrder.antt` says. `specs/Examples.antt` has worked values at the edges.
+//! `specs/ValueOrder.antt` says, trees whose nodes have values as `specs/TreeOrder.antt` says.
+//! `specs/Examples.antt` has worked values at the edges.
 #![tactic(auto)]
 
 mod blocks;
@@ -19,6 +20,7 @@ mod operator;
 mod reading;
 #[cfg(test)]
 mod tests;
+mod tree_order;
 mod value;
 
 pub use evaluation::{
@@ -28,4 +30,5 @@ pub use evaluation::{
 pub use expression::{Expr, Exprs, Operand};
 pub use kind::{Kind, Kinds, kind_of};
 pub use operator::{Function, Op};
+pub use tree_order::{last_child_starts_decide, trees_are_ordered};
 pub use value::{Value, Values, values_are_ordered};

@@ -22,7 +22,8 @@ use Rattle.ig_item.proofs.Dots.{names_step, alone}
 use Rattle.ig_item.proofs.Lists.{stands, at_end}
 use Rattle.ig_item.specs.Induction.{kept}
 use Rattle.ig_item.proofs.Reachability.{reach}
-use Rattle.ig_item.proofs.ItemTrees.{item_at, join_join, join-none, comes_tree}
+use Rattle.ig_item.proofs.ItemTrees.{item_at, comes_tree}
+use Rattle.ig_text.proofs.Trees.{join_join, join-none}
 
 module _ (core : List Nonterminal) (text : List ℕ) where
   -- a reachable complete item of the instance at j

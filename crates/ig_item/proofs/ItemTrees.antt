@@ -1,6 +1,7 @@
 -- The steps before an item's dot and those behind it lead from the start of its instance; so a complete item has a tree.
 use Rattle.std.proofs.Common.{◌≡◌, ℕ, suc, ◌≤◌, List, [], ◌∷◌, ◌++◌, Some, length, take, slice_get, refl, sym, ap, ◌∙◌, subst, take_all, le_of_eq, append_assoc}
 use Rattle.std.proofs.lemmas.List.{append-nil}
+use Rattle.ig_text.proofs.Trees.{join_join, join-none}
 use Rattle.ig_text.specs.Tree.{Trees, Leaf, Node, none, more, one, join}
 use Rattle.ig_expr.specs.declared.value.Value.{Value}
 use Rattle.ig_item.specs.Step.{Step, Test, Bind, Term, Call, names_of}
@@ -16,14 +17,6 @@ use Rattle.ig_item.specs.declared.core_grammar.CoreAlt.{CoreAlt}
 use Rattle.ig_item.specs.declared.items.Instance.{Instance}
 use Rattle.ig_item.proofs.Dots.{names_step, same_alternative}
 use Rattle.ig_item.proofs.Lists.{take_step}
-
-pub join_join : (ts us vs : Trees) → join (join ts us) vs ≡ join ts (join us vs)
-join_join none us vs = refl
-join_join (more t ts) us vs = ap (more t) (join_join ts us vs)
-
-pub join-none : (ts : Trees) → join ts none ≡ ts
-join-none none = refl
-join-none (more t ts) = ap (more t) (join-none ts)
 
 -- an item of an instance
 abbrev pub item_at : Instance → ℕ → ℕ → List Value → ℕ → Item

@@ -9,6 +9,7 @@ pub mod Growing
 pub mod Environments
 pub mod ItemTrees
 pub mod Coming
+pub mod Annotations
 pub mod Roots
 pub mod Fitting
 pub mod Examples

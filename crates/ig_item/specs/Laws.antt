@@ -1,19 +1,24 @@
 -- Laws of core grammars and of reachable items.
-use Rattle.std.specs.Prelude.{◌≡◌, ◌↔◌, ℕ, suc, ◌+◌, ◌≤◌, List, ◌++◌, map, length, Contains, Bool, IsTrue, Some, slice_get}
+use Rattle.std.specs.Prelude.{◌≡◌, ◌↔◌, ℕ, suc, ◌+◌, ◌≤◌, List, [], ◌∷◌, ◌++◌, map, length, take, Contains, Bool, IsTrue, Some, slice_get}
 use Rattle.std.specs.List.{flat_map}
+use Rattle.ig_text.specs.Tree as plain
 use Rattle.ig_text.specs.Tree.{Tree, Trees}
 use Rattle.ig_expr.specs.declared.value.Value.{Value}
 use Rattle.ig_expr.specs.declared.kind.Kind.{Kind}
 use Rattle.ig_expr.specs.Kinds.{kind_of_value}
+use Rattle.ig_expr.specs.Evaluation.{value_of}
+use Rattle.ig_expr.specs.ValuedTree as valued
+use Rattle.ig_expr.specs.ValuedTree.{bare_trees}
 use Rattle.ig_item.specs.Core.{IsAlternative}
-use Rattle.ig_item.specs.Step.{Step, names_of}
+use Rattle.ig_item.specs.Step.{Step, Test, Bind, Term, Call, names_of}
 use Rattle.ig_item.specs.Visible.{names_at, names_at_dots, kinds_at}
 use Rattle.ig_item.specs.WellKinded.{IsWellKinded, NoneTwice, StepFits}
 use Rattle.ig_item.specs.Fitting.{AreFit}
 use Rattle.ig_item.specs.Behind.{Next, End, behind_item}
 use Rattle.ig_item.specs.CoreTrees.{HasTree, CoreTree}
+use Rattle.ig_item.specs.Annotated.{Leaves, Within}
 use Rattle.ig_item.specs.ItemTrees.{Comes, Completes}
-use Rattle.ig_item.specs.Items.{Item, first, Follows, Reachable, StandsBefore, IsComplete, RootIsComplete}
+use Rattle.ig_item.specs.Items.{Item, first, span_of, Follows, Reachable, StandsBefore, IsComplete, RootIsComplete}
 use Rattle.ig_item.specs.declared.core_grammar.Nonterminal.{Nonterminal}
 use Rattle.ig_item.specs.declared.core_grammar.CoreAlt.{CoreAlt}
 use Rattle.ig_item.specs.declared.items.Instance.{Instance}
@@ -160,3 +165,43 @@ CompleteRootsAreOne =
     (core : List Nonterminal) (text : List ℕ) (x y : Item) → IsWellKinded core → Reachable core text x →
     Reachable core text y → x.instance.nonterminal ≡ 0 → y.instance ≡ x.instance → y.position ≡ x.position →
     IsComplete core x → IsComplete core y → x ≡ y
+
+module _ (core : List Nonterminal) (text : List ℕ) (names : List (List ℕ)) (env : List Value) where
+  -- what one step alone leaves, and which trees it has
+  abbrev pub LeavesAlone : Step → ℕ → ℕ → valued.Trees → List Value → Type 0
+  LeavesAlone (Test e) i j ts after = (j ≡ i) × (ts ≡ valued.none) × (after ≡ env)
+  LeavesAlone (Bind name e) i j ts after =
+      (v : Value) × (value_of text names env i e ≡ Some v) × (j ≡ i) × (ts ≡ valued.none) × (after ≡ env ++ v ∷ [])
+  LeavesAlone (Term what label excluded) i j ts after =
+      (ts ≡ valued.one (valued.Leaf i j)) × (after ≡ env ++ span_of label i j)
+  LeavesAlone (Call callee arguments label excluded) i j ts after =
+      (vs : List Value) × (t : valued.Tree) × (map (value_of text names env i) arguments ≡ map Some vs) ×
+      Within core text callee vs i j t × (ts ≡ valued.one t) × (after ≡ env ++ span_of label i j)
+
+-- what the steps before the last one leave, and what the last one leaves from there
+pub record LeaveInTurn (core : List Nonterminal) (text : List ℕ) (names : List (List ℕ)) (env : List Value)
+    (steps : List Step) (last : Step) (i j : ℕ) (ts : valued.Trees) (after : List Value) : Type 0 where
+  pub between : List Value
+  pub h : ℕ
+  pub us : valued.Trees
+  pub vs : valued.Trees
+  pub first : Leaves core text names env steps i h us between
+  pub alone : LeavesAlone core text (names ++ flat_map names_of steps) between last h j vs after
+  pub joined : ts ≡ valued.join us vs
+  pub bare : bare_trees ts ≡ plain.join (bare_trees us) (bare_trees vs)
+
+abbrev pub StepsLeaveInTurn : Type 0
+StepsLeaveInTurn =
+    (core : List Nonterminal) (text : List ℕ) (names : List (List ℕ)) (env : List Value) (steps : List Step) (last : Step)
+    (i j : ℕ) (ts : valued.Trees) (after : List Value) → Leaves core text names env (steps ++ last ∷ []) i j ts after →
+    LeaveInTurn core text names env steps last i j ts after
+
+-- where the steps before an item's dot lead to it with some trees, and leave values with those, they come to the item's
+-- position and leave its environment
+abbrev pub StepsLeaveEnvironments : Type 0
+StepsLeaveEnvironments =
+    (core : List Nonterminal) (text : List ℕ) (x : Item) (us : Trees) (nonterminal : Nonterminal) (alternative : CoreAlt)
+    (j : ℕ) (ts : valued.Trees) (after : List Value) →
+    IsAlternative core x.instance.nonterminal x.alternative nonterminal alternative → Comes core text x us →
+    Leaves core text nonterminal.params x.instance.values (take x.dot alternative.steps) x.instance.start j ts after →
+    bare_trees ts ≡ us → (j ≡ x.position) × (after ≡ x.env)

@@ -11,6 +11,8 @@ pub mod Behind
 pub mod Parts
 pub mod Tables
 pub mod CoreTrees
+pub mod Annotated
+pub mod TagOrder
 pub mod ItemTrees
 pub mod Report
 pub mod Induction

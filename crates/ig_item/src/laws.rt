@@ -8,6 +8,7 @@ ghost use Rattle.ig_item.specs.Laws.{MoreGivesNoLess, ItemsAreInText};
 ghost use Rattle.ig_item.specs.Laws.{EnvironmentsGrow, EnvironmentsFit, TreesByItems};
 ghost use Rattle.ig_item.specs.Laws.{ItemsByTrees, InstanceTrees, AlternativesBegin};
 ghost use Rattle.ig_item.specs.Laws.{CompleteRootsAreOne};
+ghost use Rattle.ig_item.specs.Laws.{StepsLeaveInTurn, StepsLeaveEnvironments};
 
 use ig_expr::value_is_of_kind;
 
@@ -122,6 +123,18 @@ pub fn complete_root_items_are_one()
 {
     environments_fit();
 }
+
+/// Steps leave what those before the last one leave, and then what the last one does from there.
+/// This law computes nothing.
+pub fn steps_leave_in_turn()
+    ensures { StepsLeaveInTurn }
+{}
+
+/// Where the steps before an item's dot lead to it with some trees, the values that they leave with
+/// these trees are the item's environment, at the item's position. This law computes nothing.
+pub fn steps_leave_environments()
+    ensures { StepsLeaveEnvironments }
+{}
 
 /// Of the core grammar of `start S; syntax S = "a";` and the text `a` four items are reachable:
 /// those of the root and of `S`, each at both of its dots. This law computes nothing.

@@ -8,10 +8,11 @@
 //!
 //! `specs/Items.antt` defines which items of a core grammar and a text are reachable,
 //! `specs/CoreTrees.antt` the trees of a core grammar without items, `specs/ItemTrees.antt` which
-//! trees stand before the dot of an item, and `specs/Report.antt` the furthest position and what is
-//! expected there. Nonterminals, dots and positions are numbered from 0, and the alternatives of a
-//! nonterminal from 1. The laws between them are the functions of `src/laws.rt`; induction over
-//! reachable items is in `specs/Induction.antt`.
+//! trees stand before the dot of an item, `specs/Annotated.antt` which values stand in the nodes of
+//! trees, and `specs/Report.antt` the furthest position and what is expected there. Nonterminals,
+//! dots and positions are numbered from 0, and the alternatives of a nonterminal from 1. The laws
+//! between them are the functions of `src/laws.rt`; induction over reachable items is in
+//! `specs/Induction.antt`.
 #![tactic(auto)]
 
 mod core_grammar;
@@ -35,7 +36,7 @@ pub use laws::{
     countdown_is_well_kinded, environments_fit, environments_grow, four_items_are_reachable,
     items_are_in_text, items_are_reached_by_trees, more_known_gives_no_less, names_are_at_dots,
     names_differ, names_grow, reachable_follows, reachable_is_closed, reachable_is_least,
-    stands_before_one, steps_fit,
+    stands_before_one, steps_fit, steps_leave_environments, steps_leave_in_turn,
 };
 pub use run_fault::RunFault;
 pub use step::{Step, Steps};

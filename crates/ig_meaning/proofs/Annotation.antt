@@ -10,7 +10,8 @@ use Rattle.ig_grammar.specs.Numbering.{tag_of}
 use Rattle.ig_meaning.specs.Derivation.{Covers, Derives, Lists, Items, Instance, Trails}
 use Rattle.ig_meaning.specs.Derivation as d
 use Rattle.ig_meaning.specs.Permitted.{Permitted}
-use Rattle.ig_meaning.specs.Annotated.{Trees, Tree, Leaf, Node, none, more, one, join, bare_tree, bare_trees, bound_between, HasParts, Bind, Binds, BindApart, Within, Behind, Annotates}
+use Rattle.ig_expr.specs.ValuedTree.{Trees, Tree, Leaf, Node, none, more, one, join, bare_tree, bare_trees}
+use Rattle.ig_meaning.specs.Annotated.{bound_between, HasParts, Bind, Binds, BindApart, Within, Behind, Annotates}
 use Rattle.ig_meaning.specs.Annotated as a
 use Rattle.ig_meaning.specs.AnnotatedLaws.{DerivationsAreAnnotated}
 use Rattle.ig_grammar.specs.declared.declaration.DeclKind.{DeclKind}

@@ -9,7 +9,8 @@ use Rattle.ig_grammar.specs.Symbol.{Symbols, listed}
 use Rattle.ig_meaning.specs.Environment.{Environment, HasValue, HaveValues, AreBound, replaced}
 use Rattle.ig_grammar.specs.Numbering.{Levelled, Declares, IsAlternative, IsChoice, tag_of, layout_among}
 use Rattle.ig_meaning.specs.Derivation.{span_value}
-use Rattle.ig_meaning.specs.Annotated.{Tree, Trees, Leaf, Node, none, more, one, join, bound_between, IsRound, HasParts, Bind, Binds, BindApart, Within, Behind}
+use Rattle.ig_expr.specs.ValuedTree.{Tree, Trees, Leaf, Node, none, more, one, join}
+use Rattle.ig_meaning.specs.Annotated.{bound_between, IsRound, HasParts, Bind, Binds, BindApart, Within, Behind}
 use Rattle.ig_meaning.specs.Annotated as a
 use Rattle.ig_grammar.specs.declared.declaration.DeclKind.{DeclKind}
 use Rattle.ig_grammar.specs.declared.declaration.DeclKind.TheVariants.{Syntax, Lexical}

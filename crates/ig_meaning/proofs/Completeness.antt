@@ -10,7 +10,8 @@ use Rattle.ig_grammar.specs.Subterms.{bound_names}
 use Rattle.ig_meaning.specs.Environment.{Environment, values}
 use Rattle.ig_meaning.specs.Derivation.{span_value}
 use Rattle.ig_meaning.specs.Laws.{GrowsBy}
-use Rattle.ig_meaning.specs.Annotated.{Tree, Trees, bound_between, IsRound, HasParts, Bind, Binds, BindApart, Within}
+use Rattle.ig_expr.specs.ValuedTree.{Tree, Trees}
+use Rattle.ig_meaning.specs.Annotated.{bound_between, IsRound, HasParts, Bind, Binds, BindApart, Within}
 use Rattle.ig_meaning.specs.Annotated as a
 use Rattle.ig_meaning.specs.AnnotatedLaws.{AreOf, HasValues, AnnotationsAreComplete}
 use Rattle.ig_grammar.specs.declared.declaration.DeclKind.{DeclKind}

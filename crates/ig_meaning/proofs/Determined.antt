@@ -11,7 +11,8 @@ use Rattle.ig_meaning.specs.Environment.{Environment, names, values, HaveValues,
 use Rattle.ig_grammar.specs.Names as declared_names
 use Rattle.ig_grammar.specs.Numbering.{Levelled, Declares, IsAlternative, tag_of, layout_among}
 use Rattle.ig_meaning.specs.Derivation.{span_value}
-use Rattle.ig_meaning.specs.Annotated.{Tree, Trees, Leaf, Node, none, more, one, join, bare_tree, bare_trees, bound_between, HasParts, Bind, Binds, BindApart, Within, Behind}
+use Rattle.ig_expr.specs.ValuedTree.{Tree, Trees, Leaf, Node, none, more, one, join, bare_tree, bare_trees}
+use Rattle.ig_meaning.specs.Annotated.{bound_between, HasParts, Bind, Binds, BindApart, Within, Behind}
 use Rattle.ig_meaning.specs.Annotated as a
 use Rattle.ig_grammar.specs.declared.declaration.DeclKind.{DeclKind}
 use Rattle.ig_grammar.specs.declared.declaration.DeclKind.TheVariants.{Syntax, Lexical}

@@ -12,13 +12,15 @@ use Rattle.ig_grammar.specs.Symbol.{Symbol, Call}
 use Rattle.ig_grammar.specs.Names.{names, AreDistinct}
 use Rattle.ig_grammar.specs.Numbering.{Levelled, Declares, layout_among}
 use Rattle.ig_meaning.specs.Derivation.{Covers, Derives, Instance}
-use Rattle.ig_meaning.specs.Annotated.{Tree, Trees, Leaf, Node, none, more, bare_tree, bare_trees, bound_between, Bind, Binds, Annotates}
+use Rattle.ig_expr.specs.ValuedTree.{Tree, Trees, Leaf, Node, none, more, bare_tree, bare_trees}
+use Rattle.ig_meaning.specs.Annotated.{bound_between, Bind, Binds, Annotates}
 use Rattle.ig_meaning.specs.AnnotatedLaws.{AnnotationsAreUnique}
 use Rattle.ig_meaning.specs.Environment.{Environment}
 use Rattle.ig_meaning.specs.Laws as laws
 use Rattle.ig_text.specs.TagNumber.{number_of}
 use Rattle.ig_expr.specs.ValueOrder.{value_cmp}
-use Rattle.ig_meaning.specs.Order.{begin_of, starts_cmp, tree_cmp, trees_cmp, children_cmp, UndifferingTreesAreEqual}
+use Rattle.ig_expr.specs.TreeOrder.{begin_of, starts_cmp, tree_cmp, trees_cmp, children_cmp}
+use Rattle.ig_meaning.specs.Order.{UndifferingTreesAreEqual}
 use Rattle.ig_meaning.proofs.Tags.{TagsTellAlternatives, fitting_shapes_tell}
 use Rattle.ig_meaning.specs.Permitted.{Permitted, IsRootAlternative, written, declared, behind_layout}
 use Rattle.ig_grammar.specs.declared.declaration.DeclKind.{DeclKind}

@@ -5,12 +5,10 @@ pub mod Clean
 pub mod Labels
 pub mod Roots
 pub mod Annotation
-pub mod Order
 mod Tags
 mod Tiling
 mod Telling
 mod Equality
-mod Transitivity
 mod BindingInversion
 mod Determined
 mod Completeness

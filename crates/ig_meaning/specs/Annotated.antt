@@ -1,4 +1,4 @@
--- Trees whose nodes have the values that their alternatives bind by labels and lets, and which such tree a tree is.
+-- The values that alternatives bind by labels and lets, and which tree with values a tree is.
 use Rattle.std.specs.Prelude.{◌≡◌, ℕ, List, [], ◌∷◌, ◌++◌, map, length, drop, Some, None}
 use Rattle.ig_text.specs.declared.class.Class.{Class}
 use Rattle.ig_text.specs.declared.tag.Tag.{Tag}
@@ -6,6 +6,7 @@ use Rattle.ig_text.specs.declared.tag.Tag.TheVariants as tag
 use Rattle.ig_text.specs.Tree as plain
 use Rattle.ig_expr.specs.Expression.{Expression}
 use Rattle.ig_expr.specs.declared.value.Value.{Value}
+use Rattle.ig_expr.specs.ValuedTree.{Tree, Trees, Leaf, Node, none, more, one, join, bare_tree, bare_trees}
 use Rattle.ig_grammar.specs.Binding.{Binding}
 use Rattle.ig_grammar.specs.Symbol.{Symbol, Literal, OneOf, Call, Label, Guard, Let, Opt, Star, Plus, SepStar, SepPlus, Group, Offside, Ignore, Align, Filtered, Seq, Entry}
 use Rattle.ig_grammar.specs.Symbol.{Symbols, Alternatives, listed}
@@ -19,33 +20,6 @@ use Rattle.ig_grammar.specs.declared.declaration.DeclKind.TheVariants.{Syntax, L
 use Rattle.ig_grammar.specs.declared.declaration.Decl.{Decl}
 use Rattle.ig_grammar.specs.declared.grammar.Grammar.{Grammar}
 use Rattle.ig_grammar.specs.declared.place.Shape.{Shape}
-
-mutual
-  -- a leaf, or a node with the values that its alternative binds, in order of binding
-  pub data Tree : Type 0 where
-    Leaf : (i j : ℕ) → Tree
-    Node : (tag : Tag) (bound : List Value) (i j : ℕ) (children : Trees) → Tree
-
-  pub data Trees : Type 0 where
-    none : Trees
-    more : (first : Tree) (others : Trees) → Trees
-
-abbrev pub one : Tree → Trees
-one t = more t none
-
-abbrev pub join : Trees → Trees → Trees
-join none us = us
-join (more t ts) us = more t (join ts us)
-
-abbrev mutual
-  -- without the values
-  pub bare_tree : Tree → plain.Tree
-  bare_tree (Leaf i j) = plain.Leaf i j
-  bare_tree (Node tag bound i j children) = plain.Node tag i j (bare_trees children)
-
-  pub bare_trees : Trees → plain.Trees
-  bare_trees none = plain.none
-  bare_trees (more t ts) = plain.more (bare_tree t) (bare_trees ts)
 
 -- the values that symbols bound, which led from the first environment to the second
 abbrev pub bound_between : Environment → Environment → List Value

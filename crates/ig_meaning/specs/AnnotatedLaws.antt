@@ -12,7 +12,8 @@ use Rattle.ig_meaning.specs.Environment as environment
 use Rattle.ig_meaning.specs.Environment.{Environment, values}
 use Rattle.ig_meaning.specs.Derivation.{Covers, Derives, Instance}
 use Rattle.ig_meaning.specs.Permitted.{Permitted}
-use Rattle.ig_meaning.specs.Annotated.{Tree, Trees, Node, bare_tree, bare_trees, Bind, Binds, BindApart, Within, Annotates}
+use Rattle.ig_expr.specs.ValuedTree.{Tree, Trees, Node, bare_tree, bare_trees}
+use Rattle.ig_meaning.specs.Annotated.{Bind, Binds, BindApart, Within, Annotates}
 use Rattle.ig_meaning.specs.Laws.{GrowsBy}
 use Rattle.ig_grammar.specs.declared.declaration.DeclKind.{DeclKind}
 use Rattle.ig_grammar.specs.declared.declaration.Decl.{Decl}

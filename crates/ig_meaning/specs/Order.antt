@@ -1,12 +1,10 @@
--- The order of derivation trees of one symbol with the same span, from the same environment, by their first difference.
-use Rattle.std.specs.Prelude.{◌≡◌, ◌⊎◌, ℕ, suc, List}
-use Rattle.std.specs.declared.cmp.Ordering.{Ordering}
-use Rattle.std.specs.declared.cmp.Ordering.TheVariants.{Less, Equal, Greater}
-use Rattle.std.specs.Ordering.{ordering_then, ordering_reverse, nat_cmp}
-use Rattle.ig_text.specs.TagNumber.{number_of}
+-- The order in which permitted trees are listed: that of trees with the values that their alternatives bind.
+use Rattle.std.specs.Prelude.{◌≡◌, ◌⊎◌, ℕ, List}
+use Rattle.std.specs.declared.cmp.Ordering.TheVariants.{Less, Equal}
 use Rattle.ig_text.specs.Tree as plain
-use Rattle.ig_expr.specs.ValueOrder.{values_cmp}
-use Rattle.ig_meaning.specs.Annotated.{Tree, Trees, Leaf, Node, none, more, one, join, bare_tree, bare_trees, Annotates}
+use Rattle.ig_expr.specs.TreeOrder.{tree_cmp, children_cmp}
+use Rattle.ig_expr.specs.ValuedTree.{Tree, Trees, bare_tree, bare_trees}
+use Rattle.ig_meaning.specs.Annotated.{Annotates}
 use Rattle.ig_grammar.specs.Names.{names, AreDistinct}
 use Rattle.ig_grammar.specs.Checked.{FitShapes}
 use Rattle.ig_expr.specs.declared.value.Value.{Value}
@@ -18,37 +16,6 @@ use Rattle.ig_grammar.specs.declared.declaration.DeclKind.{DeclKind}
 use Rattle.ig_grammar.specs.declared.grammar.Grammar.{Grammar}
 use Rattle.ig_grammar.specs.declared.place.Shape.{Shape}
 
-abbrev pub begin_of : Tree → ℕ
-begin_of (Leaf i j) = i
-begin_of (Node tag bound i j children) = i
-
--- lists of children by where these start, the last child first
-abbrev pub starts_cmp : Trees → Trees → Ordering
-starts_cmp none none = Equal
-starts_cmp none (more u us) = Less
-starts_cmp (more t ts) none = Greater
-starts_cmp (more t ts) (more u us) = ordering_then (starts_cmp ts us) (nat_cmp (begin_of t) (begin_of u))
-
-abbrev mutual
-  -- by the tag's number, then by the bound values, then by where the children start, then by the children in order
-  pub tree_cmp : Tree → Tree → Ordering
-  tree_cmp (Leaf i j) (Leaf k l) = Equal
-  tree_cmp (Leaf i j) (Node tag bound k l us) = Less
-  tree_cmp (Node tag bound i j ts) (Leaf k l) = Greater
-  tree_cmp (Node tag bound i j ts) (Node other values k l us) =
-      ordering_then (nat_cmp (number_of tag) (number_of other))
-      (ordering_then (values_cmp bound values) (ordering_then (starts_cmp ts us) (trees_cmp ts us)))
-
-  pub trees_cmp : Trees → Trees → Ordering
-  trees_cmp none none = Equal
-  trees_cmp none (more u us) = Less
-  trees_cmp (more t ts) none = Greater
-  trees_cmp (more t ts) (more u us) = ordering_then (tree_cmp t u) (trees_cmp ts us)
-
--- lists of children: where they start decides before what they are
-abbrev pub children_cmp : Trees → Trees → Ordering
-children_cmp ts us = ordering_then (starts_cmp ts us) (trees_cmp ts us)
-
 -- the first of two permitted trees stands before the second in a listing: with their values it is less
 pub record Precedes (g : Grammar) (shapes : List Shape) (text : List ℕ) (t u : plain.Tree) : Type 0 where
   pub first : Permitted g shapes text t
@@ -58,27 +25,6 @@ pub record Precedes (g : Grammar) (shapes : List Shape) (text : List ℕ) (t u :
   pub of_first : Annotates g shapes text t one
   pub of_second : Annotates g shapes text u other
   pub less : tree_cmp one other ≡ Less
-
--- the number of trees
-abbrev pub count_of : Trees → ℕ
-count_of none = 0
-count_of (more t ts) = suc (count_of ts)
-
--- of two lists of children as long as each other the start of the last child decides first, then the children before
--- it, by this same rule, and then the last child
-abbrev pub LastChildStartsDecide : Type 0
-LastChildStartsDecide =
-    (ts us : Trees) (t u : Tree) → count_of ts ≡ count_of us →
-    children_cmp (join ts (one t)) (join us (one u)) ≡
-    ordering_then (nat_cmp (begin_of t) (begin_of u)) (ordering_then (children_cmp ts us) (tree_cmp t u))
-
--- a tree doesn't differ from itself, of two trees that differ one stands before the other, what stands before a tree
--- stands before all behind that one, and trees that don't differ stand alike to each other tree
-pub record IsAnOrder : Type 0 where
-  pub itself : (t : Tree) → tree_cmp t t ≡ Equal
-  pub turned : (t u : Tree) → tree_cmp t u ≡ ordering_reverse (tree_cmp u t)
-  pub onward : (t u v : Tree) → tree_cmp t u ≡ Less → tree_cmp u v ≡ Less → tree_cmp t v ≡ Less
-  pub alike : (t u v : Tree) → tree_cmp t u ≡ Equal → tree_cmp t v ≡ tree_cmp u v
 
 -- two trees of one symbol, over one span, that don't differ with values beside them are equal, and so are two of one
 -- list of symbols, of one nonterminal, and two permitted trees

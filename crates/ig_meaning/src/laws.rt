@@ -4,8 +4,9 @@ ghost use Rattle.ig_meaning.specs.Inversion.{DerivationsInvert};
 ghost use Rattle.ig_meaning.specs.Laws.{EnvironmentsGrow, LabelsBindOwnSpans};
 ghost use Rattle.ig_meaning.specs.Laws.{PermittedTreesAreWhole, SpansAreInOrder};
 ghost use Rattle.ig_meaning.specs.Laws.{TreesWithoutOperatorsAreClean};
-ghost use Rattle.ig_meaning.specs.Order.{IsAnOrder, LastChildStartsDecide};
 ghost use Rattle.ig_meaning.specs.Order.{PermittedTreesAreOrdered, UndifferingTreesAreEqual};
+
+use ig_expr::trees_are_ordered;
 
 /// A derivation of each form of symbol consists of what the rules of derivations say of this form.
 /// This law, proved of every derivation, computes nothing.
@@ -64,18 +65,6 @@ pub fn annotations_are_complete()
     ensures { AnnotationsAreComplete }
 {}
 
-/// Of the children of two trees the start of the last one decides first, then, by the same rule,
-/// the children before it, and then the last one. This law, proved of all trees, computes nothing.
-pub fn last_child_starts_decide()
-    ensures { LastChildStartsDecide }
-{}
-
-/// A tree doesn't differ from itself, of two trees that differ one stands before the other, and the
-/// order is transitive. This law, proved of all trees, computes nothing.
-pub fn trees_are_ordered()
-    ensures { IsAnOrder }
-{}
-
 /// Trees of one symbol over one span, and permitted trees, are equal where they don't differ, if no
 /// name is declared twice and each declaration is of its shape, as in every checked grammar. This
 /// law, proved of every derivation, computes nothing.
@@ -88,4 +77,6 @@ pub fn undiffering_trees_are_equal()
 /// every derivation, computes nothing.
 pub fn permitted_trees_are_ordered()
     ensures { PermittedTreesAreOrdered }
-{}
+{
+    trees_are_ordered();
+}

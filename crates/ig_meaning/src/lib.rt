@@ -10,7 +10,7 @@ mod laws;
 
 pub use laws::{
     annotations_are_complete, annotations_are_unique, derivations_are_annotated,
-    derivations_invert, environments_grow, labels_bind_own_spans, last_child_starts_decide,
-    permitted_trees_are_ordered, permitted_trees_are_whole, spans_are_in_order, trees_are_ordered,
-    trees_without_operators_are_clean, undiffering_trees_are_equal,
+    derivations_invert, environments_grow, labels_bind_own_spans, permitted_trees_are_ordered,
+    permitted_trees_are_whole, spans_are_in_order, trees_without_operators_are_clean,
+    undiffering_trees_are_equal,
 };

@@ -12,3 +12,4 @@ pub mod Trees
 pub mod Booleans
 pub mod Numbers
 pub mod Tables
+pub mod Positions

@@ -18,6 +18,13 @@ module _ {X : Type 0} where
   pub none_in_nil : (x : X) → Contains [] x → ⊥
   none_in_nil x h = omega (arith, h.1)
 
+  -- the first member is one, and so is each of the others
+  pub contains_first : (x : X) (xs : List X) → Contains (x ∷ xs) x
+  contains_first x xs = contains_from_at (x ∷ xs) 0 x refl
+
+  pub contains_later : (x : X) (xs : List X) (y : X) → Contains xs y → Contains (x ∷ xs) y
+  contains_later x xs y m = let at = at_from_contains xs y m in contains_from_at (x ∷ xs) (suc at.0) y at.1
+
   -- a list of one has no other member
   pub contains_one : (x y : X) → Contains (x ∷ []) y → y ≡ x
   contains_one x y h = one_at h.0 h.1 h.2

@@ -8,10 +8,10 @@ use Rattle.std.specs.declared.cmp.Ordering.TheVariants.{Less, Equal, Greater}
 use Rattle.std.specs.Ordering.{ordering_then, ordering_reverse, nat_cmp, int_cmp, bool_cmp}
 use Rattle.ig_expr.specs.declared.value.Value.{Value}
 use Rattle.ig_expr.specs.declared.value.Value.TheVariants as value
-use Rattle.ig_meaning.specs.Annotated.{Tree, Trees, Leaf, Node, none, more}
+use Rattle.ig_expr.specs.ValuedTree.{Tree, Trees, Leaf, Node, none, more}
 use Rattle.ig_text.specs.TagNumber.{number_of}
 use Rattle.ig_expr.specs.ValueOrder.{value_cmp}
-use Rattle.ig_meaning.specs.Order.{begin_of, starts_cmp, tree_cmp, trees_cmp}
+use Rattle.ig_expr.specs.TreeOrder.{begin_of, starts_cmp, tree_cmp, trees_cmp}
 
 -- what two comparisons, of a with b and of b with c, say of the one of a with c
 abbrev Chains : Ordering → Ordering → Ordering → Type 0

@@ -1,6 +1,0 @@
-use Rattle.ig_meaning.proofs.Order.{no_difference, turned_tree}
-use Rattle.ig_meaning.proofs.Transitivity.{onward, alike}
-use Rattle.ig_meaning.proofs.laws.trees_are_ordered.Goals as goal
-
-pub returns : goal.returns
-returns k = record { itself = no_difference; turned = turned_tree; onward = onward; alike = alike }

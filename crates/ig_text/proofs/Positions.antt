@@ -1,0 +1,60 @@
+-- The first place of a list at which a test passes, by the members in order.
+use Rattle.std.proofs.Common.{◌≡◌, ℕ, suc, ◌+◌, List, [], ◌∷◌, ◌++◌, Option, Some, None, Bool, cond, true, false, refl, sym, ◌∙◌, ap, arith, length}
+use Rattle.std.specs.Prelude.{nat_lt, not, position, option_map, option_and_then, slice_get}
+use Rattle.std.specs.List.{prefix_len}
+use Rattle.std.proofs.lemmas.Bool.Decides.{nat_tests}
+
+-- the first place in a list that begins with x, from that in the others
+abbrev pub place_after : {X : Type 0} → (X → Bool) → X → Option ℕ → Option ℕ
+place_after p x others = cond (p x) (Some 0) (option_map (λ k. k + 1) others)
+
+one_further : (k n : ℕ) → cond (nat_lt (1 + k) (suc n)) (Some (1 + k)) None ≡ option_map (λ k. k + 1) (cond (nat_lt k n) (Some k) None)
+one_further k n = go (nat_lt k n) refl
+  where
+    go : (b : Bool) → nat_lt k n ≡ b → cond (nat_lt (1 + k) (suc n)) (Some (1 + k)) None ≡ option_map (λ k. k + 1) (cond b (Some k) None)
+    go true e = let h : nat_lt (1 + k) (suc n) ≡ true = grind (arith, nat_tests) in rw h (ap Some (omega arith))
+    go false e = let h : nat_lt (1 + k) (suc n) ≡ false = grind (arith, nat_tests) in rw h refl
+
+zero_first : (n : ℕ) → cond {A = Option ℕ} (nat_lt 0 (suc n)) (Some 0) None ≡ Some 0
+zero_first n = let h : nat_lt 0 (suc n) ≡ true = grind (arith, nat_tests) in rw h refl
+
+-- the first place is that of the first member, or one behind that in the others
+pub position-cons : {X : Type 0} (p : X → Bool) (x : X) (xs : List X) → position p (x ∷ xs) ≡ place_after p x (position p xs)
+position-cons p x xs = go (p x) refl
+  where
+    go : (b : Bool) → p x ≡ b → position p (x ∷ xs) ≡ cond b (Some 0) (option_map (λ k. k + 1) (position p xs))
+    go true e = rw e (zero_first (length xs))
+    go false e = rw e (one_further (prefix_len (λ y. not (p y)) xs) (length xs))
+
+at_place : {A : Type 0} (b : Bool) (a : A) (others : List A) (r : Option ℕ) →
+    option_and_then (slice_get (a ∷ others)) (cond b (Some 0) (option_map (λ k. k + 1) r)) ≡
+    cond b (Some a) (option_and_then (slice_get others) r)
+at_place true a others r = refl
+at_place false a others None = refl
+at_place false a others (Some k) = let e : k + 1 ≡ suc k = omega arith in ap (slice_get (a ∷ others)) e
+
+-- what stands in a second list at the first place of the first one
+pub beside-cons : {X A : Type 0} (p : X → Bool) (x : X) (xs : List X) (a : A) (others : List A) →
+    option_and_then (slice_get (a ∷ others)) (position p (x ∷ xs)) ≡
+    cond (p x) (Some a) (option_and_then (slice_get others) (position p xs))
+beside-cons p x xs a others =
+    ap (option_and_then (slice_get (a ∷ others))) (position-cons p x xs) ∙ at_place (p x) a others (position p xs)
+
+-- where a list had no place, a new last member that passes has the last one
+abbrev pub or_last : Option ℕ → Bool → ℕ → Option ℕ
+or_last (Some k) b n = Some k
+or_last None b n = cond b (Some n) None
+
+or_last-after : (b c : Bool) (r : Option ℕ) (n : ℕ) →
+    cond b (Some 0) (option_map (λ k. k + 1) (or_last r c n)) ≡ or_last (cond b (Some 0) (option_map (λ k. k + 1) r)) c (suc n)
+or_last-after true c r n = refl
+or_last-after false c (Some k) n = refl
+or_last-after false true None n = ap Some (omega arith)
+or_last-after false false None n = refl
+
+-- the first place in a list with one more at the end
+pub position-push : {X : Type 0} (p : X → Bool) (xs : List X) (y : X) → position p (xs ++ y ∷ []) ≡ or_last (position p xs) (p y) (length xs)
+position-push p [] y = position-cons p y []
+position-push p (x ∷ xs) y =
+    position-cons p x (xs ++ y ∷ []) ∙ ap (place_after p x) (position-push p xs y) ∙
+    or_last-after (p x) (p y) (position p xs) (length xs) ∙ ap (λ r. or_last r (p y) (suc (length xs))) (sym (position-cons p x xs))
