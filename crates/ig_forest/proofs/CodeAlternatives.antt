@@ -18,7 +18,7 @@ use Rattle.ig_forest.specs.CodeChoices.{AddsChoice}
 use Rattle.ig_forest.specs.declared.entry.Choice.{Choice}
 use Rattle.ig_forest.specs.declared.rows.ItemRow.{ItemRow}
 use Rattle.ig_forest.specs.declared.rows.NodeRow.{NodeRow}
-use Rattle.ig_forest.specs.declared.stored.StoredNode.{StoredNode}
+use Rattle.ig_forest.specs.CodeNodeParts.{StoredNode}
 use Rattle.ig_forest.proofs.CodeGives.{same_alternative}
 use Rattle.ig_forest.proofs.CodeKeeping.{less_number, strict_push, strict_none}
 use Rattle.ig_forest.proofs.CodeEnvironments.{take_next}
@@ -122,17 +122,17 @@ module _ (core : List Nonterminal) (rows : List ItemRow) where
     pub rows_are : map (λ n. n.row) stored ≡ take k nodes
     pub choices : (n : StoredNode) → Contains stored n → HasChoices core rows n.row n.alternatives
 
-  pub stored_next : (nodes : List NodeRow) (k : ℕ) (stored more : List StoredNode) (d : NodeRow) (alternatives : List Choice) → k < length nodes →
-      HasChoices core rows (get_or nodes k d) alternatives → more ≡ stored ++ record { row = get_or nodes k d; alternatives = alternatives } ∷ [] →
+  pub stored_next : (nodes : List NodeRow) (k : ℕ) (stored more : List StoredNode) (d : NodeRow) (alternatives found : List Choice) →
+      k < length nodes → HasChoices core rows (get_or nodes k d) alternatives → found ≡ alternatives → more ≡ stored ++ record { row = get_or nodes k d; alternatives = found } ∷ [] →
       Stored nodes k stored → Stored nodes (k + 1) more
-  stored_next nodes k stored more d alternatives lt has is so_far = record {
+  stored_next nodes k stored more d alternatives found lt has same is so_far = record {
     rows_are =
-        ap (map (λ (n : StoredNode). n.row)) is ∙ map-append (λ (n : StoredNode). n.row) stored (record { row = get_or nodes k d; alternatives = alternatives } ∷ []) ∙
+        ap (map (λ (n : StoredNode). n.row)) is ∙ map-append (λ (n : StoredNode). n.row) stored (record { row = get_or nodes k d; alternatives = found } ∷ []) ∙
         ap (λ (z : List NodeRow). z ++ get_or nodes k d ∷ []) so_far.rows_are ∙ sym (take_next nodes k (get_or nodes k d) (slice_get-get_or nodes k d lt));
     choices =
-        λ n c. elim (Contains-push_cases stored (record { row = get_or nodes k d; alternatives = alternatives }) n (subst (λ (z : List StoredNode). Contains z n) is c)) [
+        λ n c. elim (Contains-push_cases stored (record { row = get_or nodes k d; alternatives = found }) n (subst (λ (z : List StoredNode). Contains z n) is c)) [
           | inl old ↦ so_far.choices n old
-          | inr new ↦ subst (λ (z : StoredNode). HasChoices core rows z.row z.alternatives) new has
+          | inr new ↦ subst (λ (z : StoredNode). HasChoices core rows z.row z.alternatives) new (subst (HasChoices core rows (get_or nodes k d)) (sym same) has)
         ];
   }
 

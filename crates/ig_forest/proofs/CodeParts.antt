@@ -14,19 +14,19 @@ use Rattle.ig_forest.proofs.CodeSorted.{map_at}
 
 module _ {X : Type 0} where
   -- a range of a list that grows stays
-  range_left : (xs ys : List X) (a b : ℕ) → a ≤ b → b ≤ length xs → slice_range (xs ++ ys) a b ≡ slice_range xs a b
+  pub range_left : (xs ys : List X) (a b : ℕ) → a ≤ b → b ≤ length xs → slice_range (xs ++ ys) a b ≡ slice_range xs a b
   range_left xs ys a b onward within =
       let few : b - a ≤ length (drop a xs) = omega (arith, length-drop a xs, within) in
       ap (take (b - a)) (drop-append-le a xs ys (omega (arith, onward, within))) ∙ take-append-le (b - a) (drop a xs) ys few
 
   -- the range of what was added
-  range_right : (xs ys : List X) (a b : ℕ) → a ≡ length xs → b ≡ length xs + length ys → slice_range (xs ++ ys) a b ≡ ys
+  pub range_right : (xs ys : List X) (a b : ℕ) → a ≡ length xs → b ≡ length xs + length ys → slice_range (xs ++ ys) a b ≡ ys
   range_right xs ys a b a_is b_is =
       let d : drop a (xs ++ ys) ≡ ys = ap (λ n. drop n (xs ++ ys)) a_is ∙ drop-append_seam xs ys in
       let n : b - a ≡ length ys = omega (arith, a_is, b_is) in
       ap (take (b - a)) d ∙ ap (λ m. take m ys) n ∙ take-length ys
 
-  same_images : {Y : Type 0} (f g : X → Y) (xs : List X) → ((x : X) → Contains xs x → f x ≡ g x) → map f xs ≡ map g xs
+  pub same_images : {Y : Type 0} (f g : X → Y) (xs : List X) → ((x : X) → Contains xs x → f x ≡ g x) → map f xs ≡ map g xs
   same_images f g [] same = refl
   same_images f g (x ∷ xs) same =
       ap₂ (λ y ys. y ∷ ys) (same x (contains_from_at (x ∷ xs) 0 x refl))

@@ -17,7 +17,7 @@ use Rattle.ig_forest.specs.declared.entry.Choice.{Choice}
 use Rattle.ig_forest.specs.declared.rows.ItemRow.{ItemRow}
 use Rattle.ig_forest.specs.declared.rows.NodeRow.{NodeRow}
 use Rattle.ig_forest.specs.declared.entries.Kept.{Kept}
-use Rattle.ig_forest.specs.declared.stored.StoredNode.{StoredNode}
+use Rattle.ig_forest.specs.CodeNodeParts.{StoredNode}
 use Rattle.ig_forest.specs.CodeParts.{StoredItem}
 use Rattle.ig_forest.proofs.Lists.{contains_from_at, at_from_contains}
 use Rattle.ig_forest.proofs.Liveness.{live_is_reachable}

@@ -3,7 +3,8 @@ use Rattle.std.proofs.Common.{◌≡◌, ℕ, suc, ◌++◌, List, Some, length,
 use Rattle.std.proofs.lemmas.Option.{same_Some}
 use Rattle.ig_text.specs.declared.tag.Tag.{Tag}
 use Rattle.ig_text.specs.declared.text.Span.{Span}
-use Rattle.ig_text.specs.Tree.{Tree, Trees, Leaf, Node, none, more, one, join}
+use Rattle.ig_text.specs.Tree.{Tree, Trees, Leaf, Node, one, join}
+use Rattle.ig_text.proofs.Trees.{parted}
 use Rattle.ig_item.specs.Core.{IsAlternative}
 use Rattle.ig_item.specs.Items.{Item, first}
 use Rattle.ig_item.specs.WellKinded.{IsWellKinded}
@@ -33,26 +34,6 @@ use Rattle.ig_forest.proofs.Steps.{given_dot, begin_only, pass_only, leaf_only, 
 use Rattle.ig_forest.proofs.Targets.{Alike, alike_before, same_form, same_target, one_callee}
 use Rattle.ig_forest.proofs.Unfolding.{live_at}
 
--- the last tree, and those before it
-never_none : (ts : Trees) (t : Tree) → join ts (one t) ≡ none → ⊥
-never_none none t e = cc
-never_none (more s ts) t e = cc
-
-record Parted (ts us : Trees) (t u : Tree) : Type 0 where
-  before : ts ≡ us
-  last : t ≡ u
-
-more_parts : (s r : Tree) (ts us : Trees) → more s ts ≡ more r us → (s ≡ r) × (ts ≡ us)
-more_parts s r ts us e = (cc, cc)
-
-parted : (ts us : Trees) (t u : Tree) → join ts (one t) ≡ join us (one u) → Parted ts us t u
-parted none none t u e = record { before = refl; last = (more_parts t u none none e).0 }
-parted none (more r us) t u e = absurd (never_none us u (sym (more_parts t r none (join us (one u)) e).1))
-parted (more s ts) none t u e = absurd (never_none ts t (more_parts s u (join ts (one t)) none e).1)
-parted (more s ts) (more r us) t u e =
-    let p = more_parts s r (join ts (one t)) (join us (one u)) e in
-    let h = parted ts us t u p.1 in record { before = ap₂ more p.0 h.before; last = h.last }
-
 same_span : (s r : Span) → Leaf s.begin s.end ≡ Leaf r.begin r.end → s ≡ r
 same_span s r e =
     let begin : s.begin ≡ r.begin = cc in
@@ -62,11 +43,11 @@ abbrev end_of_tree : Tree → ℕ
 end_of_tree (Leaf i j) = j
 end_of_tree (Node tag i j ts) = j
 
-record NodeParts (a b : Tag) (ts us : Trees) : Type 0 where
-  tag : a ≡ b
-  children : ts ≡ us
+pub record NodeParts (a b : Tag) (ts us : Trees) : Type 0 where
+  pub tag : a ≡ b
+  pub children : ts ≡ us
 
-node_parts : (a b : Tag) (i j h k : ℕ) (ts us : Trees) → Node a i j ts ≡ Node b h k us → NodeParts a b ts us
+pub node_parts : (a b : Tag) (i j h k : ℕ) (ts us : Trees) → Node a i j ts ≡ Node b h k us → NodeParts a b ts us
 node_parts a b i j h k ts us e = record { tag = cc; children = cc }
 
 module _ (core : List Nonterminal) (text : List ℕ) where
@@ -78,18 +59,18 @@ module _ (core : List Nonterminal) (text : List ℕ) where
 module _ (given : Given) (core : List Nonterminal) (text : List ℕ) (f : Forest) (r : IsReduced core text f)
     (w : IsWellKinded core) where
   -- an item's place, with one entry of it, and what the cursor has behind that choice
-  record Entered (k : ℕ) (entry : Entry) (rest cs : List ℕ) : Type 0 where
-    it : ItemNode
-    there : slice_get f.items k ≡ Some it
-    i : ℕ
-    among : slice_get it.entries i ≡ Some entry
-    cursor : cs ≡ noted (length it.entries) i ++ rest
+  pub record Entered (k : ℕ) (entry : Entry) (rest cs : List ℕ) : Type 0 where
+    pub it : ItemNode
+    pub there : slice_get f.items k ≡ Some it
+    pub i : ℕ
+    pub among : slice_get it.entries i ≡ Some entry
+    pub cursor : cs ≡ noted (length it.entries) i ++ rest
 
-  item_number : (k m : ℕ) (x y : Item) → slice_get r.items k ≡ Some x → slice_get r.items m ≡ Some y → x ≡ y → k ≡ m
+  pub item_number : (k m : ℕ) (x y : Item) → slice_get r.items k ≡ Some x → slice_get r.items m ≡ Some y → x ≡ y → k ≡ m
   item_number k m x y at_x at_y same =
       one_place item_cmp item_total r.items k m x r.are_items.order at_x (at_y ∙ ap Some (sym same))
 
-  same_item : (k m : ℕ) (x y : Item) → slice_get r.items k ≡ Some x → slice_get r.items m ≡ Some y → k ≡ m → x ≡ y
+  pub same_item : (k m : ℕ) (x y : Item) → slice_get r.items k ≡ Some x → slice_get r.items m ≡ Some y → k ≡ m → x ≡ y
   same_item k m x y at_x at_y same = same_Some x y (sym at_x ∙ ap (slice_get r.items) same ∙ at_y)
 
   -- one entry of one item has one place there, so one choice
@@ -112,52 +93,52 @@ module _ (given : Given) (core : List Nonterminal) (text : List ℕ) (f : Forest
       (same_choice k m x p.it q.it p.i q.i e d at p.there q.there p.among q.among same alike) behind ∙ sym q.cursor
 
   -- what an item behind a step unfolds to, by the form of the step
-  record ByPass (m e : ℕ) (ds : List ℕ) (us : Trees) (y : Item) : Type 0 where
-    prev : Item
-    number : ℕ
-    at : slice_get r.items number ≡ Some prev
-    gives : Gives core text prev live.nothing y
-    rest : List ℕ
-    unfolds : OfItem f number e rest us
-    entered : Entered m (Pass number) rest ds
+  pub record ByPass (m e : ℕ) (ds : List ℕ) (us : Trees) (y : Item) : Type 0 where
+    pub prev : Item
+    pub number : ℕ
+    pub at : slice_get r.items number ≡ Some prev
+    pub gives : Gives core text prev live.nothing y
+    pub rest : List ℕ
+    pub unfolds : OfItem f number e rest us
+    pub entered : Entered m (Pass number) rest ds
 
-  record ByLeaf (m e : ℕ) (ds : List ℕ) (us : Trees) (y : Item) : Type 0 where
-    prev : Item
-    number : ℕ
-    span : Span
-    at : slice_get r.items number ≡ Some prev
-    gives : Gives core text prev (live.leaf span) y
-    rest : List ℕ
-    trees : Trees
-    unfolds : OfItem f number e rest trees
-    entered : Entered m (Take number (child.Leaf span)) rest ds
-    joins : us ≡ join trees (one (Leaf span.begin span.end))
+  pub record ByLeaf (m e : ℕ) (ds : List ℕ) (us : Trees) (y : Item) : Type 0 where
+    pub prev : Item
+    pub number : ℕ
+    pub span : Span
+    pub at : slice_get r.items number ≡ Some prev
+    pub gives : Gives core text prev (live.leaf span) y
+    pub rest : List ℕ
+    pub trees : Trees
+    pub unfolds : OfItem f number e rest trees
+    pub entered : Entered m (Take number (child.Leaf span)) rest ds
+    pub joins : us ≡ join trees (one (Leaf span.begin span.end))
 
-  record ByNode (m e : ℕ) (ds : List ℕ) (us : Trees) (y : Item) : Type 0 where
-    prev : Item
-    number : ℕ
-    node : ℕ
-    key : NodeKey
-    at : slice_get r.items number ≡ Some prev
-    at_key : slice_get r.keys node ≡ Some key
-    gives : Gives core text prev (live.tree key) y
-    first : List ℕ
-    rest : List ℕ
-    trees : Trees
-    tree : Tree
-    unfolds : OfItem f number e first trees
-    of_node : OfNode f node e rest tree
-    entered : Entered m (Take number (child.Node node)) (first ++ rest) ds
-    joins : us ≡ join trees (one tree)
+  pub record ByNode (m e : ℕ) (ds : List ℕ) (us : Trees) (y : Item) : Type 0 where
+    pub prev : Item
+    pub number : ℕ
+    pub node : ℕ
+    pub key : NodeKey
+    pub at : slice_get r.items number ≡ Some prev
+    pub at_key : slice_get r.keys node ≡ Some key
+    pub gives : Gives core text prev (live.tree key) y
+    pub first : List ℕ
+    pub rest : List ℕ
+    pub trees : Trees
+    pub tree : Tree
+    pub unfolds : OfItem f number e first trees
+    pub of_node : OfNode f node e rest tree
+    pub entered : Entered m (Take number (child.Node node)) (first ++ rest) ds
+    pub joins : us ≡ join trees (one tree)
 
-  pass_entry : (k i prev : ℕ) (it : ItemNode) (x : Item) → slice_get r.items k ≡ Some x → slice_get f.items k ≡ Some it →
+  pub pass_entry : (k i prev : ℕ) (it : ItemNode) (x : Item) → slice_get r.items k ≡ Some x → slice_get f.items k ≡ Some it →
       slice_get it.entries i ≡ Some (Pass prev) → Passed core text r.items r.keys x prev
   pass_entry k i prev it x has at among =
       let n = both_at r.item_nodes k x it has at in
       pass_only core text r.items r.keys ((n.entries (Pass prev)).0 (contains_from_at it.entries i (Pass prev) among)) prev
       refl
 
-  leaf_entry : (k i prev : ℕ) (span : Span) (it : ItemNode) (x : Item) → slice_get r.items k ≡ Some x →
+  pub leaf_entry : (k i prev : ℕ) (span : Span) (it : ItemNode) (x : Item) → slice_get r.items k ≡ Some x →
       slice_get f.items k ≡ Some it → slice_get it.entries i ≡ Some (Take prev (child.Leaf span)) →
       TookLeaf core text r.items r.keys x prev span
   leaf_entry k i prev span it x has at among =
@@ -165,7 +146,7 @@ module _ (given : Given) (core : List Nonterminal) (text : List ℕ) (f : Forest
       let entry = Take prev (child.Leaf span) in
       leaf_only core text r.items r.keys ((n.entries entry).0 (contains_from_at it.entries i entry among)) prev span refl
 
-  node_entry : (k i prev v : ℕ) (it : ItemNode) (x : Item) → slice_get r.items k ≡ Some x → slice_get f.items k ≡ Some it →
+  pub node_entry : (k i prev v : ℕ) (it : ItemNode) (x : Item) → slice_get r.items k ≡ Some x → slice_get f.items k ≡ Some it →
       slice_get it.entries i ≡ Some (Take prev (child.Node v)) → TookNode core text r.items r.keys x prev v
   node_entry k i prev v it x has at among =
       let n = both_at r.item_nodes k x it has at in
@@ -179,7 +160,7 @@ module _ (given : Given) (core : List Nonterminal) (text : List ℕ) (f : Forest
       begin_only core text r.items r.keys ((n.entries Begin).0 (contains_from_at it.entries i Begin among)) refl
 
   -- the second of two alike items unfolds as the first one does: by its form
-  as_pass : {m e : ℕ} {ds : List ℕ} {us : Trees} → OfItem f m e ds us → (p x y : Item) → Gives core text p live.nothing x →
+  pub as_pass : {m e : ℕ} {ds : List ℕ} {us : Trees} → OfItem f m e ds us → (p x y : Item) → Gives core text p live.nothing x →
       Alike x y → slice_get r.items m ≡ Some y → ByPass m e ds us y
   as_pass (ways.begin k d i it cs at among c) p x y g a has =
       let further : x.dot ≡ suc p.dot = given_dot core text g in
@@ -202,7 +183,7 @@ module _ (given : Given) (core : List Nonterminal) (text : List ℕ) (f : Forest
       let h = node_entry k i prev v it y has at among in
       absurd (omega (arith, same_form core text given g h.gives (alike_before core text g h.gives a)))
 
-  as_leaf : {m e : ℕ} {ds : List ℕ} {us : Trees} → OfItem f m e ds us → (span : Span) (p x y : Item) →
+  pub as_leaf : {m e : ℕ} {ds : List ℕ} {us : Trees} → OfItem f m e ds us → (span : Span) (p x y : Item) →
       Gives core text p (live.leaf span) x → Alike x y → slice_get r.items m ≡ Some y → ByLeaf m e ds us y
   as_leaf (ways.begin k d i it cs at among c) span p x y g a has =
       let further : x.dot ≡ suc p.dot = given_dot core text g in
@@ -228,7 +209,7 @@ module _ (given : Given) (core : List Nonterminal) (text : List ℕ) (f : Forest
       let h = node_entry k i prev v it y has at among in
       absurd (omega (arith, same_form core text given g h.gives (alike_before core text g h.gives a)))
 
-  as_node : {m e : ℕ} {ds : List ℕ} {us : Trees} → OfItem f m e ds us → (key : NodeKey) (p x y : Item) →
+  pub as_node : {m e : ℕ} {ds : List ℕ} {us : Trees} → OfItem f m e ds us → (key : NodeKey) (p x y : Item) →
       Gives core text p (live.tree key) x → Alike x y → slice_get r.items m ≡ Some y → ByNode m e ds us y
   as_node (ways.begin k d i it cs at among c) key p x y g a has =
       let further : x.dot ≡ suc p.dot = given_dot core text g in
@@ -266,7 +247,7 @@ module _ (given : Given) (core : List Nonterminal) (text : List ℕ) (f : Forest
       let nd = both_at r.nodes v key n has at in ap end_of_tree is ∙ nd.end
 
   -- items at dot 0 that are alike are one, with one entry
-  as_begin : {m e : ℕ} {ds : List ℕ} {us : Trees} → OfItem f m e ds us → (k i : ℕ) (it : ItemNode) (cs : List ℕ) (x y : Item) →
+  pub as_begin : {m e : ℕ} {ds : List ℕ} {us : Trees} → OfItem f m e ds us → (k i : ℕ) (it : ItemNode) (cs : List ℕ) (x y : Item) →
       slice_get f.items k ≡ Some it → slice_get it.entries i ≡ Some Begin → cs ≡ noted (length it.entries) i → Alike x y →
       slice_get r.items k ≡ Some x → slice_get r.items m ≡ Some y → (k ≡ m) × (cs ≡ ds)
   as_begin (ways.begin m e j other ds second beside c) k i it cs x y there among b a has has_y =

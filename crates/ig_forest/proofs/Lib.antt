@@ -7,6 +7,9 @@ pub mod Trim
 pub mod Unfolding
 pub mod Targets
 pub mod Cursors
+pub mod CursorOrders
+pub mod Annotating
+pub mod OrderedTrees
 pub mod Usage
 pub mod Uniqueness
 pub mod CodeSorted
@@ -40,3 +43,4 @@ pub mod CodeBuilding
 pub mod CodeReading
 pub mod TreeTags
 pub mod ShortCursors
+pub mod CodeNodeParts

@@ -1,5 +1,6 @@
 -- What the rules and the entries of items say, one by one.
 use Rattle.std.proofs.Common.{◌≡◌, ℕ, suc, ◌≤◌, List, [], ◌∷◌, Some, slice_get, refl, sym, ap, subst, arith}
+use Rattle.ig_text.proofs.Trees.{join-none}
 use Rattle.ig_text.specs.Tree.{Tree, Trees, Leaf, none, more, one, join, height, greatest_height}
 use Rattle.ig_text.specs.declared.text.Span.{Span}
 use Rattle.ig_item.specs.Items.{Item, span_of}
@@ -14,10 +15,6 @@ use Rattle.ig_forest.specs.declared.entry.Entry.TheVariants.{Begin, Pass, Take}
 use Rattle.ig_forest.specs.declared.entry.Child.TheVariants as child
 use Rattle.ig_item.specs.ItemTrees as reached
 use Rattle.ig_item.specs.ItemTrees.{Comes}
-
-pub join-none : (ts : Trees) → join ts none ≡ ts
-join-none none = refl
-join-none (more t ts) = ap (more t) (join-none ts)
 
 pub joined_height : (ts : Trees) (t : Tree) (d : ℕ) → greatest_height ts ≤ d → height t ≤ d →
     greatest_height (join ts (one t)) ≤ d

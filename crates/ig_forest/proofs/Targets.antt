@@ -32,7 +32,7 @@ step_form (Term what label excluded) = 1
 step_form (Call callee arguments label excluded) = 2
 
 -- to where the item comes that takes this
-abbrev end_of : Item → Taken → ℕ
+abbrev pub end_of : Item → Taken → ℕ
 end_of prev live.nothing = prev.position
 end_of prev (live.leaf span) = span.end
 end_of prev (live.tree key) = key.end
@@ -145,7 +145,7 @@ module _ (core : List Nonterminal) (text : List ℕ) where
         let same : own ≡ key = cc in
         (label, (excluded, subst (λ (k : NodeKey). Calls core text prev k.instance label excluded) same calls))
 
-    same_values : (us vs : List Value) → map Some us ≡ map Some vs → us ≡ vs
+    pub same_values : (us vs : List Value) → map Some us ≡ map Some vs → us ≡ vs
     same_values [] [] e = refl
     same_values [] (v ∷ vs) e = cc
     same_values (u ∷ us) [] e = cc

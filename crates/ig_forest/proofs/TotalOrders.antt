@@ -1,5 +1,5 @@
 -- The orders of values, items, nodes, alternatives and entries are total.
-use Rattle.std.proofs.Common.{◌≡◌, ℕ, refl, sym, subst}
+use Rattle.std.proofs.Common.{◌≡◌, ℕ, refl, subst}
 use Rattle.std.specs.Prelude.{Bool, false, ℤ, pos}
 use Rattle.std.specs.Cmp.{IsTotalOrder}
 use Rattle.std.specs.Ordering.{nat_cmp, int_cmp, bool_cmp, ordering_then}
@@ -11,7 +11,8 @@ use Rattle.ig_expr.specs.declared.value.Value.{Value}
 use Rattle.ig_expr.specs.declared.value.Value.TheVariants.{Int, Bool as Truth, Span}
 use Rattle.ig_item.specs.Items.{Item}
 use Rattle.ig_forest.specs.Live.{NodeKey}
-use Rattle.ig_forest.specs.Orders.{value_cmp, item_cmp, node_cmp, choice_cmp, entry_cmp, previous}
+use Rattle.ig_expr.specs.ValueOrder.{value_cmp}
+use Rattle.ig_forest.specs.Orders.{item_cmp, node_cmp, choice_cmp, entry_cmp, previous}
 use Rattle.ig_forest.specs.declared.entry.Choice.{Choice}
 
 -- a value as numbers: its kind, and what it consists of
@@ -54,17 +55,17 @@ parts_total =
     (then_total (on_total truth_of bool_cmp_total)
     (then_total (on_total begin_of nat_cmp_total) (on_total end_of nat_cmp_total))))
 
-then_nothing : (o : Ordering) → o ≡ ordering_then o Equal
+pub then_nothing : (o : Ordering) → ordering_then o Equal ≡ o
 then_nothing Less = refl
 then_nothing Equal = refl
 then_nothing Greater = refl
 
 by_parts : (x y : Value) → parts_cmp x y ≡ value_cmp x y
-by_parts (Int a) (Int b) = sym (then_nothing (int_cmp a b))
+by_parts (Int a) (Int b) = then_nothing (int_cmp a b)
 by_parts (Int a) (Truth b) = refl
 by_parts (Int a) (Span b) = refl
 by_parts (Truth a) (Int b) = refl
-by_parts (Truth a) (Truth b) = sym (then_nothing (bool_cmp a b))
+by_parts (Truth a) (Truth b) = then_nothing (bool_cmp a b)
 by_parts (Truth a) (Span b) = refl
 by_parts (Span a) (Int b) = refl
 by_parts (Span a) (Truth b) = refl

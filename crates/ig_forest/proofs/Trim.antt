@@ -1,11 +1,9 @@
 -- The reduced forest is a forest, and its items stand behind the previous ones.
 use Rattle.std.proofs.Common.{◌≡◌, ◌⊎◌, inl, inr, ℕ, zero, suc, ◌+◌, ◌<◌, ◌≤◌, List, [], ◌∷◌, Some, slice_get, sym, ap, ◌∙◌, subst, arith}
 use Rattle.std.specs.Ordering.{nat_cmp, ordering_then}
-use Rattle.std.specs.Cmp.Lexicographic.{slice_cmp}
 use Rattle.std.specs.declared.cmp.Ordering.{Ordering}
 use Rattle.std.specs.declared.cmp.Ordering.TheVariants.{Less, Equal}
 use Rattle.std.proofs.lemmas.Cmp.{nat_cmp_total, lists_total, tied_itself}
-use Rattle.std.proofs.lemmas.Bool.Decides.{nat_tests}
 use Rattle.std.proofs.lemmas.Option.{slice_get_within, same_Some}
 use Rattle.ig_text.specs.Pattern.{Matches}
 use Rattle.ig_text.specs.declared.pattern.Pattern.{Pattern}
@@ -17,7 +15,8 @@ use Rattle.ig_item.specs.Laws.{ItemsAreInText}
 use Rattle.ig_forest.specs.Forest.{Forest, ItemNode, IsForest, IsPrevious, EntryFits, PreviousIsBefore, PreviousAreBefore, item_of}
 use Rattle.ig_forest.specs.Live as live
 use Rattle.ig_forest.specs.Live.{Taken, Gives}
-use Rattle.ig_forest.specs.Orders.{value_cmp, item_cmp, entry_cmp}
+use Rattle.ig_expr.specs.ValueOrder.{values_cmp}
+use Rattle.ig_forest.specs.Orders.{item_cmp, entry_cmp}
 use Rattle.ig_forest.specs.Reduced as reduced
 use Rattle.ig_forest.specs.Reduced.{IsReduced, IsEntry, IsItemNode}
 use Rattle.ig_forest.specs.declared.entry.Entry.{Entry}
@@ -25,6 +24,7 @@ use Rattle.ig_forest.specs.declared.entry.Entry.TheVariants.{Begin}
 use Rattle.ig_forest.proofs.Lists.{at_from_contains, contains_from_at, key_at, partner, same_length, same_members, one_sorted, stands_before}
 use Rattle.ig_forest.proofs.TotalOrders.{value_total, item_total, entry_total}
 use Rattle.ig_forest.proofs.Steps.{given_dot}
+use Rattle.ig_forest.proofs.CursorOrders.{lower}
 
 -- a match goes onward
 onward : (text : List ℕ) (pattern : Pattern) (i j : ℕ) → Matches text pattern i j → i ≤ j
@@ -37,9 +37,6 @@ then_tied a b p q = ap (λ (o : Ordering). ordering_then o b) p ∙ q
 then_lower : (a b : Ordering) → a ≡ Less → ordering_then a b ≡ Less
 then_lower a b p = ap (λ (o : Ordering). ordering_then o b) p
 
-lower : (a b : ℕ) → a < b → nat_cmp a b ≡ Less
-lower a b h = grind (arith, nat_tests)
-
 tied : (a : ℕ) → nat_cmp a a ≡ Equal
 tied a = tied_itself nat_cmp_total a
 
@@ -49,7 +46,7 @@ tied_or_lower a b h = grind arith
 -- an item is below those behind it
 below_past : (x : Item) (bound : List Value) (j : ℕ) → x.position ≤ j → item_cmp x (past x bound j) ≡ Less
 below_past x bound j h =
-    let dots = then_lower (nat_cmp x.dot (suc x.dot)) (slice_cmp value_cmp x.env (past x bound j).env) (lower x.dot (suc x.dot) (omega arith)) in
+    let dots = then_lower (nat_cmp x.dot (suc x.dot)) (values_cmp x.env (past x bound j).env) (lower x.dot (suc x.dot) (omega arith)) in
     let rest = then_tied _ _ (tied x.instance.nonterminal) (then_tied _ _ (tied_itself (lists_total value_total) x.instance.values) (then_tied _ _ (tied x.alternative) dots)) in
     then_tied _ _ (tied x.instance.start)
     (elim (tied_or_lower x.position j h) [

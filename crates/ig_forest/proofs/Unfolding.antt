@@ -3,6 +3,7 @@ use Rattle.std.proofs.Common.{◌≡◌, ℕ, zero, suc, ◌≤◌, ◌++◌, Li
 use Rattle.ig_text.specs.declared.pattern.Pattern.{Pattern}
 use Rattle.ig_text.specs.declared.tag.Tag.{Tag}
 use Rattle.ig_text.specs.declared.text.Span.{Span}
+use Rattle.ig_text.proofs.Trees.{join-none}
 use Rattle.ig_text.specs.Tree.{Tree, Trees, Leaf, Node, none, one, join, height, greatest_height}
 use Rattle.ig_expr.specs.declared.value.Value.{Value}
 use Rattle.ig_item.specs.Core.{IsAlternative}
@@ -29,7 +30,7 @@ use Rattle.ig_item.specs.ItemTrees as reached
 use Rattle.ig_item.specs.ItemTrees.{Comes, Passes}
 use Rattle.ig_forest.proofs.Lists.{at_from_contains, contains_from_at, both_at, partner}
 use Rattle.ig_forest.proofs.Liveness.{live_is_reachable}
-use Rattle.ig_forest.proofs.Steps.{join-none, joined_height, parted_height, comes_by_nothing, comes_by_leaf, comes_by_tree, HasKeyTree, begin_only, pass_only, leaf_only, node_only}
+use Rattle.ig_forest.proofs.Steps.{joined_height, parted_height, comes_by_nothing, comes_by_leaf, comes_by_tree, HasKeyTree, begin_only, pass_only, leaf_only, node_only}
 
 same_tree : (a b : Tag) (i j h k : ℕ) (ts : Trees) → a ≡ b → i ≡ h → j ≡ k → Node a i j ts ≡ Node b h k ts
 same_tree a b i j h k ts p q r = cc

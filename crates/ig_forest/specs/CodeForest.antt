@@ -12,7 +12,7 @@ use Rattle.ig_forest.specs.CodeSteps.{StandsLast}
 use Rattle.ig_forest.specs.declared.entry.Choice.{Choice}
 use Rattle.ig_forest.specs.declared.rows.ItemRow.{ItemRow}
 use Rattle.ig_forest.specs.declared.rows.NodeRow.{NodeRow}
-use Rattle.ig_forest.specs.declared.stored.StoredNode.{StoredNode}
+use Rattle.ig_forest.specs.CodeNodeParts.{StoredNode}
 use Rattle.ig_forest.specs.CodeParts.{StoredItem}
 
 abbrev pub name_at : List (List ℕ) → ℕ → List ℕ

@@ -8,7 +8,7 @@ use Rattle.ig_expr.specs.declared.value.Value.{Value}
 use Rattle.ig_item.specs.Items.{Item, IsComplete}
 use Rattle.ig_item.specs.declared.core_grammar.Nonterminal.{Nonterminal}
 use Rattle.ig_forest.specs.Live.{NodeKey}
-use Rattle.ig_forest.specs.Orders.{value_cmp}
+use Rattle.ig_expr.specs.ValueOrder.{value_cmp}
 use Rattle.ig_forest.specs.declared.rows.ItemRow.{ItemRow}
 use Rattle.ig_forest.specs.declared.rows.NodeRow.{NodeRow}
 

@@ -1,14 +1,20 @@
 -- Laws of reduced forests.
 use Rattle.std.specs.Prelude.{◌≡◌, ◌↔◌, ℕ, ◌≤◌, List, length, Bool, IsTrue, Some, slice_get}
+use Rattle.std.specs.declared.cmp.Ordering.TheVariants as ordering
 use Rattle.ig_text.specs.Tree.{Tree, height}
+use Rattle.ig_expr.specs.ValuedTree as valued
+use Rattle.ig_expr.specs.TreeOrder.{tree_cmp}
+use Rattle.ig_item.specs.Annotated.{Annotates}
 use Rattle.ig_item.specs.CoreTrees.{CoreTree}
 use Rattle.ig_item.specs.Items.{Item, IsCompleteRoot, Reachable, RootIsComplete}
+use Rattle.ig_item.specs.TagOrder.{TagsRise}
 use Rattle.ig_item.specs.WellKinded.{IsWellKinded}
 use Rattle.ig_item.specs.declared.core_grammar.Nonterminal.{Nonterminal}
 use Rattle.ig_forest.specs.Forest.{Forest, Node, ItemNode, item_of}
 use Rattle.ig_forest.specs.Unfold.{Unfold, Unfolds, HasNoDeadPart, HasTrees, IsTrim}
 use Rattle.ig_forest.specs.Live.{NodeKey, Taken, tree, Completes, Gives, IsLive}
 use Rattle.ig_forest.specs.Reduced.{IsReduced}
+use Rattle.ig_forest.specs.Cursors.{Less}
 
 -- the reduced forest unfolds, to a depth, to exactly the core trees that are no higher
 abbrev pub UnfoldsToCoreTrees : Type 0
@@ -21,6 +27,13 @@ abbrev pub HasOneCursor : Type 0
 HasOneCursor =
     (core : List Nonterminal) (text : List ℕ) (f : Forest) (d e : ℕ) (cs ds : List ℕ) (t : Tree) → IsWellKinded core →
     IsReduced core text f → Unfold f d cs t → Unfold f e ds t → cs ≡ ds
+
+-- where the tags of each nonterminal rise, the cursors of trees are in the order of the trees with their values
+abbrev pub CursorsAreOrderedAsTrees : Type 0
+CursorsAreOrderedAsTrees =
+    (core : List Nonterminal) (text : List ℕ) (f : Forest) (d e : ℕ) (cs ds : List ℕ) (t u : Tree) (a b : valued.Tree) →
+    IsWellKinded core → TagsRise core → IsReduced core text f → Unfold f d cs t → Unfold f e ds u →
+    Annotates core text t a → Annotates core text u b → Less cs ds ↔ (tree_cmp a b ≡ ordering.Less)
 
 -- the reduced forest is a forest, no part of it is dead, and items come behind the previous ones
 abbrev pub ReducedIsTrim : Type 0

@@ -23,3 +23,4 @@ pub mod CodeBuilder
 pub mod CodePlaces
 pub mod CodeOnce
 pub mod CodeParts
+pub mod CodeNodeParts

@@ -6,13 +6,13 @@ ghost use Rattle.ig_forest.specs.CodeTables.{row_cmp};
 ghost use Rattle.ig_forest.specs.CodeSteps.{StandsLast};
 ghost use Rattle.ig_forest.specs.CodeForest.{HasChoices, IsTagged};
 ghost use Rattle.ig_forest.specs.CodeChoices.{AddsChoice};
-ghost use Rattle.ig_forest.specs.declared.stored.StoredNode.{StoredNode};
+ghost use Rattle.ig_forest.specs.CodeNodeParts.{StoredNode};
 
 use crate::done::run_of_node;
 use crate::dots::is_complete;
 use crate::entry::Choice;
+use crate::node_table::NodeTable;
 use crate::rows::{ItemRow, NodeRow};
-use crate::stored::{Choices, StoredNode};
 use ig_item::Core;
 use ig_text::Tag;
 use std::alloc::{AllocError, Global};
@@ -23,45 +23,44 @@ pub(crate) fn with_alternatives(
     core: &Core,
     rows: &[ItemRow],
     nodes: &[NodeRow],
-) -> Result<Vec<StoredNode>, AllocError>
+) -> Result<NodeTable, AllocError>
     requires order { IsStrictlySortedBy row_cmp rows.now }
     requires few { length rows.now < 4294967296 }
-    ensures rows { IfOk result (λ stored. map (λ n. n.row) stored.items ≡ nodes.now) }
-    ensures choices { IfOk result (λ stored. (n : StoredNode) → Contains stored.items n →
+    ensures rows { IfOk result (λ stored. map (λ n. n.row) stored ≡ nodes.now) }
+    ensures choices { IfOk result (λ stored. (n : StoredNode) → Contains stored n →
         HasChoices core.now rows.now n.row n.alternatives) }
 {
-    let mut stored = Vec::with_capacity(alloc, nodes.len())?;
+    let mut stored = NodeTable::with_capacity(alloc, nodes.len(), nodes.len())?;
     let mut near = 0;
+    let mut choices = Vec::new(alloc);
     for node in nodes {
-        let alternatives = choices_of(alloc, core, rows, near, *node)?;
-        near = behind(near, alternatives.as_slice());
-        stored.push(StoredNode {
-            row: *node,
-            alternatives,
-        })?;
+        choose(core, rows, &mut choices, near, *node)?;
+        let found = choices.as_slice();
+        near = behind(near, found);
+        stored.push(*node, found)?;
     }
     Ok(stored)
 }
 
-/// The alternatives of a node: its complete items, in order. They are looked for from the place
-/// `near` on first.
-fn choices_of(
-    alloc: Global,
+/// Makes these the alternatives of a node: its complete items, in order. They are looked for from
+/// the place `near` on first.
+fn choose(
     core: &Core,
     rows: &[ItemRow],
+    choices: &mut Vec<Choice>,
     near: u32,
     node: NodeRow,
-) -> Result<Choices, AllocError>
+) -> Result<(), AllocError>
     requires order { IsStrictlySortedBy row_cmp rows.now }
     requires few { length rows.now < 4294967296 }
-    ensures { IfOk result (λ choices. HasChoices core.now rows.now node choices) }
+    ensures { OnOk result (HasChoices core.now rows.now node choices.new.items) }
 {
-    let mut choices = Choices::new(alloc);
+    choices.clear();
     let (first, end) = run_of_node(rows, near, node);
     for place in first..end {
-        add_choice(core, rows, &mut choices, place as u32)?;
+        add_choice(core, rows, choices, place as u32)?;
     }
-    Ok(choices)
+    Ok(())
 }
 
 /// The place behind the last choice; `near` where there is none.
@@ -76,11 +75,12 @@ fn behind(near: u32, choices: &[Choice]) -> u32 {
 fn add_choice(
     core: &Core,
     rows: &[ItemRow],
-    choices: &mut Choices,
+    choices: &mut Vec<Choice>,
     place: u32,
 ) -> Result<(), AllocError>
     requires place { place < length rows.now }
-    ensures { OnOk result (AddsChoice core.now rows.now place choices.old choices.new) }
+    ensures { OnOk result
+        (AddsChoice core.now rows.now place choices.old.items choices.new.items) }
 {
     match tag_of(core, &rows[place as usize]) {
         Some(tag) => push_choice(choices, Choice { tag, item: place }),
@@ -89,10 +89,11 @@ fn add_choice(
 }
 
 /// Adds a choice at the end.
-fn push_choice(choices: &mut Choices, choice: Choice) -> Result<(), AllocError>
-    ensures { OnOk result (choices.new ≡ choices.old ++ choice ∷ []) }
+fn push_choice(choices: &mut Vec<Choice>, choice: Choice) -> Result<(), AllocError>
+    ensures { OnOk result (choices.new.items ≡ choices.old.items ++ choice ∷ []) }
 {
-    choices.push(choice).map_err(|(_, error)| error)
+    choices.push(choice)?;
+    Ok(())
 }
 
 /// The tag of a complete item's alternative; `None` exactly where the item isn't complete.

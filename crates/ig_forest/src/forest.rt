@@ -17,7 +17,7 @@ use crate::item_rows::rows_of;
 use crate::item_table::ItemTable;
 use crate::links::Sources;
 use crate::names::names_of_core;
-use crate::stored::StoredNode;
+use crate::node_table::NodeTable;
 use ig_expr::Value;
 use ig_item::{Core, EnvironmentTable, Items, environments_fit, reachable_is_closed};
 use ig_text::{Span, Text, Word, Words};
@@ -30,7 +30,7 @@ pub struct Forest {
     pub(crate) root: u32,
     pub(crate) names: Words,
     pub(crate) lists: EnvironmentTable,
-    pub(crate) nodes: Vec<StoredNode>,
+    pub(crate) nodes: NodeTable,
     pub(crate) items: ItemTable,
 }
 
@@ -40,9 +40,9 @@ impl Model for Forest {
 
     ghost Value = { parts.Forest };
 
-    ghost view = { λ s. forest_by s.root s.names s.lists s.nodes.items s.items };
+    ghost view = { λ s. forest_by s.root s.names s.lists s.nodes s.items };
 
-    ghost invariant = { λ s. FitsForest s.root s.names s.lists s.nodes.items s.items };
+    ghost invariant = { λ s. FitsForest s.root s.names s.lists s.nodes s.items };
 }
 
 /// A node that is borrowed from a forest.
@@ -134,7 +134,7 @@ impl Forest {
     pub fn node(&self, k: u32) -> Option<Node<'_>>
         ensures { option_map node_view result ≡ slice_get self.now.nodes k }
     {
-        let Some(stored) = node_at(self.nodes.as_slice(), k) else {
+        let Some(stored) = self.nodes.get(k) else {
             return None;
         };
         let Some(name) = word_at(self.names.as_slice(), stored.row.nonterminal) else {
@@ -151,7 +151,7 @@ impl Forest {
                 begin: stored.row.start,
                 end: stored.row.end,
             },
-            alternatives: stored.alternatives.as_slice(),
+            alternatives: stored.alternatives,
         })
     }
 
@@ -184,13 +184,6 @@ impl Forest {
             entries: stored.entries,
         })
     }
-}
-
-/// A stored node by its number.
-fn node_at(nodes: &[StoredNode], k: u32) -> Option<&StoredNode>
-    ensures { option_copied result ≡ slice_get nodes.now k }
-{
-    nodes.get(k as usize)
 }
 
 /// A word by its number.

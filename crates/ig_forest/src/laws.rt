@@ -1,11 +1,13 @@
 //! What the reduced forest keeps to. The functions do nothing: their contracts are the laws.
-ghost use Rattle.ig_forest.specs.Laws.{HasOneCursor, LiveIsLeast, LiveIsReachable, OnlyOne};
+ghost use Rattle.ig_forest.specs.Laws.{CursorsAreOrderedAsTrees, HasOneCursor, LiveIsLeast, LiveIsReachable, OnlyOne};
 ghost use Rattle.ig_forest.specs.Laws.{ReducedHasNoKeyTwice, ReducedIsTrim, RootIsThere};
 ghost use Rattle.ig_forest.specs.Laws.{TrimHasTrees, UnfoldsToCoreTrees};
 
+use ig_expr::last_child_starts_decide;
 use ig_item::{
-    alternatives_are_one, alternatives_begin_together, complete_items_are_trees, items_are_in_text,
-    items_are_reached_by_trees, reachable_is_closed, stands_before_one,
+    alternatives_are_one, alternatives_begin_together, complete_items_are_trees, environments_fit,
+    environments_grow, items_are_in_text, items_are_reached_by_trees, reachable_is_closed,
+    stands_before_one, steps_leave_environments, steps_leave_in_turn,
 };
 
 /// A core grammar and a text have one reduced forest at most, so one text of it. This law
@@ -64,6 +66,26 @@ pub fn tree_has_one_cursor()
     alternatives_begin_together();
     stands_before_one();
     alternatives_are_one();
+}
+
+/// In the reduced forest of a well-kinded core grammar and a text the cursors of trees are in the
+/// order of the trees with their values, where of the alternatives of a nonterminal each later one
+/// has a greater tag. This law computes nothing.
+pub fn cursors_are_ordered_as_trees()
+    ensures { CursorsAreOrderedAsTrees }
+{
+    reachable_is_closed();
+    items_are_in_text();
+    items_are_reached_by_trees();
+    complete_items_are_trees();
+    alternatives_begin_together();
+    stands_before_one();
+    alternatives_are_one();
+    environments_fit();
+    environments_grow();
+    steps_leave_in_turn();
+    steps_leave_environments();
+    last_child_starts_decide();
 }
 
 /// The reduced forest of a well-kinded core grammar and a text is a forest, each node,

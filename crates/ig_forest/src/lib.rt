@@ -5,8 +5,9 @@
 //! with its cursor. `specs/Live.antt` says which items some tree of the whole text uses, and
 //! `specs/Reduced.antt` which forest is the reduced one: it has the live items and no others, in
 //! the orders of `specs/Orders.antt`. The laws say that a core grammar and a text have one such
-//! forest at most, that it unfolds to exactly their trees, each with one cursor, and that no part
-//! of it is dead.
+//! forest at most, that it unfolds to exactly their trees, each with one cursor, that cursors are
+//! in the order of the trees with their values where tags rise with the alternatives, and that no
+//! part of it is dead.
 //!
 //! [`Forest::build`] gives exactly that forest, `None` exactly where the root isn't complete; every
 //! `Forest` is trim. It numbers lists of values in order, so that items and nodes are rows of
@@ -29,6 +30,7 @@ mod laws;
 mod links;
 mod live;
 mod names;
+mod node_table;
 mod ordered;
 mod places;
 mod placing;
@@ -42,9 +44,9 @@ mod tree_laws;
 pub use entry::{Child, Choice, Entry};
 pub use forest::{Forest, ItemNode, Node};
 pub use laws::{
-    live_items_are_least, live_items_are_reachable, no_key_stands_twice, reduced_forest_has_root,
-    reduced_forest_is_trim, reduced_forest_is_unique, reduced_forest_unfolds_to_core_trees,
-    tree_has_one_cursor, trim_forest_has_trees,
+    cursors_are_ordered_as_trees, live_items_are_least, live_items_are_reachable,
+    no_key_stands_twice, reduced_forest_has_root, reduced_forest_is_trim, reduced_forest_is_unique,
+    reduced_forest_unfolds_to_core_trees, tree_has_one_cursor, trim_forest_has_trees,
 };
 pub use stored::{Choices, Entries};
 pub use tree::{Cursor, Part, Tree};

@@ -33,7 +33,7 @@ use ig_text::{Pattern, Patterns, Sequence, Span, Text, Word, Words};
 use std::alloc::{AllocError, Global};
 
 /// How many rows count as next to a place, and how many as near it.
-const FEW: usize = 8;
+const FEW: usize = 16;
 
 const NEAR: usize = 32;
 
@@ -434,12 +434,13 @@ impl<'a, 'v> Sources<'a, 'v> {
     }
 }
 
-/// The row that is mostly near to the target of the next link from that item: the target of the
-/// link before, where that is from the same item, and otherwise the item itself.
+/// The row from which on the target of the next link from that item mostly stands: the one behind
+/// the target of the link before, where that is from the same item, and otherwise the one behind
+/// the item.
 fn near_target(links: &[Link], number: u32) -> u32 {
     match links.last() {
-        Some(link) if link.prev == number => link.target,
-        _ => number,
+        Some(link) if link.prev == number => link.target.saturating_add(1),
+        _ => number.saturating_add(1),
     }
 }
 

@@ -10,7 +10,8 @@ use Rattle.ig_forest.specs.Unfold.{Unfold}
 use Rattle.ig_forest.specs.declared.tree.Part.{Part}
 use Rattle.ig_walker.specs.Laws.{ListingsGrow, ListingIsOne}
 use Rattle.ig_walker.specs.Listed.{Listed, AreListed, HasGiven, IsListing, IsReached}
-use Rattle.ig_walker.specs.Listing.{Less, Listing, IsBehind, GivesTree, IsOver}
+use Rattle.ig_forest.specs.Cursors.{Less}
+use Rattle.ig_walker.specs.Listing.{Listing, IsBehind, GivesTree, IsOver}
 use Rattle.ig_walker.proofs.Cursors.{less_same}
 use Rattle.ig_walker.proofs.Flatness.{parts_one}
 use Rattle.ig_walker.proofs.Orders.{onward, total}

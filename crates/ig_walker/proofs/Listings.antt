@@ -2,7 +2,8 @@
 use Rattle.std.proofs.Common.{◌≡◌, ℕ, List, [], ◌∷◌, Option, Some, inl, inr, refl, sym, ap, ◌∙◌, subst}
 use Rattle.ig_forest.specs.Forest.{Forest}
 use Rattle.ig_forest.specs.Unfold.{Unfold}
-use Rattle.ig_walker.specs.Listing.{Less, Listing, GivesTree, IsOver, HasTree, HasNoTree}
+use Rattle.ig_forest.specs.Cursors.{Less}
+use Rattle.ig_walker.specs.Listing.{Listing, GivesTree, IsOver, HasTree, HasNoTree}
 use Rattle.ig_walker.specs.Options.{options, root_goal}
 use Rattle.ig_walker.specs.States.{HasWalked, HasNoNext, IsNextWalk, IsAlong, IsWalkOf, last_cursor, listing_of}
 use Rattle.ig_walker.specs.Walks.{Walk, cursor, Least, Next}

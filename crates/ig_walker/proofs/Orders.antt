@@ -2,8 +2,8 @@
 use Rattle.std.proofs.Common.{◌≡◌, ℕ, ◌<◌, List, [], ◌∷◌, ◌⊎◌, inl, inr, refl, sym, ap₂, subst, arith}
 use Rattle.std.proofs.lemmas.Bool.{cases_order}
 use Rattle.ig_walker.specs.Laws.{CursorsAreInOrder}
-use Rattle.ig_walker.specs.Listing.{Less}
-use Rattle.ig_walker.specs.Listing as order
+use Rattle.ig_forest.specs.Cursors.{Less}
+use Rattle.ig_forest.specs.Cursors as order
 use Rattle.ig_walker.proofs.Cursors.{less_same}
 
 onward_short : {ds es : List ℕ} → Less ds es → (j : ℕ) (bs : List ℕ) → ds ≡ j ∷ bs → Less [] es

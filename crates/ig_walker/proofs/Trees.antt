@@ -4,7 +4,7 @@ use Rattle.ig_text.specs.Tree.{Tree}
 use Rattle.ig_forest.specs.Forest.{Forest}
 use Rattle.ig_forest.specs.Unfold.{OfNode, Unfold}
 use Rattle.ig_forest.specs.Flat.{flat}
-use Rattle.ig_walker.specs.Listing.{Less}
+use Rattle.ig_forest.specs.Cursors.{Less}
 use Rattle.ig_walker.specs.Walks.{Walk, cursor, Next, Last}
 use Rattle.ig_walker.specs.Options.{options}
 use Rattle.ig_walker.specs.Written.{emits}

@@ -5,7 +5,8 @@ use Rattle.ig_forest.specs.Forest.{Forest}
 use Rattle.ig_forest.specs.Unfold.{Unfold}
 use Rattle.ig_forest.specs.Flat.{flat}
 use Rattle.ig_forest.specs.declared.tree.Part.{Part}
-use Rattle.ig_walker.specs.Listing.{Less, Listing, GivesTree, IsOver}
+use Rattle.ig_forest.specs.Cursors.{Less}
+use Rattle.ig_walker.specs.Listing.{Listing, GivesTree, IsOver}
 use Rattle.ig_walker.specs.Listed.{Listed, HasGiven, IsListing}
 
 -- the order of cursors is a strict total order, so a listing in this order gives no cursor twice

@@ -4,7 +4,8 @@ use Rattle.std.specs.List.{AllPairs}
 use Rattle.ig_text.specs.Tree.{Tree}
 use Rattle.ig_forest.specs.Forest.{Forest}
 use Rattle.ig_forest.specs.Unfold.{Unfold}
-use Rattle.ig_walker.specs.Listing.{Less, Listing, IsBehind}
+use Rattle.ig_forest.specs.Cursors.{Less}
+use Rattle.ig_walker.specs.Listing.{Listing, IsBehind}
 
 -- a tree with its cursor
 pub record Listed : Type 0 where

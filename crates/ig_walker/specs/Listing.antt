@@ -1,16 +1,11 @@
 -- The listing of the trees of a forest to a depth, in the order of their cursors.
-use Rattle.std.specs.Prelude.{◌≡◌, ◌⊎◌, ℕ, ◌<◌, List, [], ◌∷◌, Option, Some, None}
+use Rattle.std.specs.Prelude.{◌≡◌, ◌⊎◌, ℕ, List, Option, Some, None}
 use Rattle.ig_text.specs.Tree.{Tree}
 use Rattle.ig_forest.specs.Forest.{Forest}
 use Rattle.ig_forest.specs.Unfold.{Unfold}
 use Rattle.ig_forest.specs.Flat.{flat}
+use Rattle.ig_forest.specs.Cursors.{Less}
 use Rattle.ig_forest.specs.declared.tree.Part.{Part}
-
--- the order of lists of numbers: the first difference decides, and a list that goes on comes behind one that ends
-pub data Less : List ℕ → List ℕ → Type 0 where
-  shorter : (j : ℕ) (ds : List ℕ) → Less [] (j ∷ ds)
-  here : (i j : ℕ) (cs ds : List ℕ) → i < j → Less (i ∷ cs) (j ∷ ds)
-  later : (i j : ℕ) (cs ds : List ℕ) → i ≡ j → Less cs ds → Less (i ∷ cs) (j ∷ ds)
 
 -- how far a listing has come: the cursor of the last tree, where one was given or gone on from
 pub record Listing : Type 0 where

@@ -6,7 +6,7 @@ use Rattle.ig_forest.proofs.forest.Forest.item.Goals as goal
 
 pub returns-in_default : goal.returns-in_default
 returns-in_default c =
-    item_absent c.self.inside.root c.self.inside.names c.self.inside.lists c.self.inside.nodes.items c.self.inside.items c.args.self.now c.self.view_is
+    item_absent c.self.inside.root c.self.inside.names c.self.inside.lists c.self.inside.nodes c.self.inside.items c.args.self.now c.self.view_is
     c.self.invariant c.args.k (sym c.in_default.ensures)
 
 pub unreachable-requires : goal.unreachable-requires
@@ -32,7 +32,7 @@ unreachable-requires-in_default-get-2 c =
 
 pub returns : goal.returns
 returns c =
-    item_read c.self.inside.root c.self.inside.names c.self.inside.lists c.self.inside.nodes.items c.self.inside.items c.args.self.now c.self.view_is
+    item_read c.self.inside.root c.self.inside.names c.self.inside.lists c.self.inside.nodes c.self.inside.items c.args.self.now c.self.view_is
     c.self.invariant c.args.k (stored_view c.in-Some.stored) c.in-Some-word_at.name.now c.in-Some-get.values.now c.in-Some-get-2.env.now c.in-Some.stored.entries.now
     (sym c.in-Some.ensures)
     (sym (read_at c.self.inside.names _ c.in-Some.stored.row.nonterminal c.in-Some-word_at.name.now c.as_slice.ensures c.in-Some-word_at.ensures))
