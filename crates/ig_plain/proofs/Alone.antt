@@ -201,23 +201,6 @@ complete_at core it n f n_is e =
     last (x ∷ xs) zero l e = cc
     last (x ∷ xs) (suc n) l e = ap suc (last xs n (omega (arith, l)) e)
 
-map_take : {A B : Type 0} (f : A → B) (n : ℕ) (xs : List A) → map f (take n xs) ≡ take n (map f xs)
-map_take f zero [] = refl
-map_take f (suc n) [] = refl
-map_take f zero (x ∷ xs) = refl
-map_take f (suc n) (x ∷ xs) = ap (λ z. f x ∷ z) (map_take f n xs)
-
--- the names at a dot, of what was read
-pub names_read : (core : List Nonterminal) (n a dot : ℕ) (params : List (List ℕ)) (steps : List Step) (xs before : List step.Step) (names : List (List ℕ)) →
-    Some params ≡ option_map (λ (m : Nonterminal). m.params) (slice_get core n) →
-    Some steps ≡ option_map (λ (m : CoreAlt). m.steps) (alternative_at core n a) → map step_of xs ≡ steps → before ≡ take dot xs →
-    names ≡ params ++ flat_map names_of (map step_of before) → (m : Nonterminal) (c : CoreAlt) → IsAlternative core n a m c → names ≡ names_at m c dot
-names_read core n a dot params steps xs before names p s x b e m c has =
-    let params_are : params ≡ m.params = same_Some params m.params (p ∙ ap (option_map (λ (z : Nonterminal). z.params)) has.there) in
-    let steps_are : steps ≡ c.steps = same_Some steps c.steps (s ∙ ap (option_map (λ (z : CoreAlt). z.steps)) (alternative_there core n a m c has)) in
-    let fronts : map step_of before ≡ take dot c.steps = ap (map step_of) b ∙ map_take step_of dot xs ∙ ap (take dot) (x ∙ steps_are) in
-    e ∙ ap (λ (z : List (List ℕ)). z ++ flat_map names_of (map step_of before)) params_are ∙ ap (λ (z : List Step). m.params ++ flat_map names_of z) fronts
-
 pub names_are : (core : List Nonterminal) (it : Item) (step : Step) (n : ℕ) (names : List (List ℕ)) → (h : Stands core it step) → n ≡ it.instance.nonterminal →
     ((m : Nonterminal) (c : CoreAlt) → IsAlternative core n it.alternative m c → names ≡ names_at m c it.dot) → names ≡ h.names
 names_are core it step n names h n_is all =

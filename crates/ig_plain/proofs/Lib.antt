@@ -20,3 +20,4 @@ pub mod Arrivals
 pub mod Starts
 pub mod Fewer
 pub mod Ends
+pub mod DotNames

@@ -1,17 +1,17 @@
 -- What inserting into a set makes of its keys, where `==` decides whether keys are the same.
-use Rattle.std.proofs.Common.{◌≡◌, ⊎_elim, ℕ, ◌+◌, ◌≤◌, length-append, ◌<◌, List, [], ◌∷◌, ◌++◌, length, Bool, true, false, refl, sym, ◌∙◌, ap, subst, arith, Some, Contains, if◌then◌else◌, slice_get}
+use Rattle.std.proofs.Common.{◌≡◌, ⊎_elim, ℕ, ◌+◌, ◌≤◌, length-append, ◌<◌, List, [], ◌∷◌, ◌++◌, length, Bool, true, false, refl, sym, ◌∙◌, ap, subst, arith, Some, Contains, if◌then◌else◌, slice_get, get_or}
 use Rattle.std.specs.Prelude.{not}
 use Rattle.std.specs.List.{IsDistinct, list_any}
 use Rattle.std.specs.Bool.{Decides}
 use Rattle.std.proofs.lemmas.List.{append-nil}
 use Rattle.std.proofs.lemmas.Bool.{cases_lt}
-use Rattle.std.proofs.lemmas.Option.{slice_get_within, get_or_from_slice_get}
+use Rattle.std.proofs.lemmas.Option.{slice_get_within, get_or_from_slice_get, slice_get-get_or}
 use Rattle.std.proofs.lemmas.Map.Made.{AllPairs-from_IsDistinct}
 use Rattle.std.proofs.lemmas.Map.Views.{Contains-from_any}
 use Rattle.std.proofs.lemmas.List.Folds.{list_any_at}
 use Rattle.indexmap.specs.IndexSet.{insert_key}
 use Rattle.ig_item.specs.WellKinded.{NoneTwice}
-use Rattle.ig_plain.specs.Tables.{Extends, AddsOnly, IsNew}
+use Rattle.ig_plain.specs.Tables.{Extends, AddsOnly, Enters, IsNew}
 use Rattle.ig_plain.proofs.Lists.{none_in, one_in, right_contains, it_is_in, right_at}
 
 module _ {X : Type 0} where
@@ -102,3 +102,12 @@ module _ {X : Type 0} {eq : X → X → Bool} (decides : (x y : X) → Decides (
           let at : slice_get after (length before) ≡ Some x =
           subst (λ (z : List X). slice_get z (length before) ≡ Some x) (sym is) (right_at before (x ∷ []) (length before) 0 x (omega arith) refl) in
           record { new = absent before x f; added = is; last = once_from_distinct after d k (length before) x there at }
+
+-- a value that stands in the list is entered without a change
+pub stands_there : {X : Type 0} (list lent : List X) (k : ℕ) (found x : X) → lent ≡ list → k < length list →
+    found ≡ get_or lent k found → found ≡ x → Enters list list x k
+stands_there list lent k found x whole there at same =
+    record {
+      extends = record { more = []; is = sym (append-nil list) };
+      there = slice_get-get_or list k found there ∙ ap Some (sym (at ∙ ap (λ z. get_or z k found) whole) ∙ same);
+    }

@@ -4,3 +4,4 @@ pub mod Found
 pub mod Waiting
 pub mod Run
 pub mod Arrival
+pub mod Names

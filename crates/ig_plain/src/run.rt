@@ -1,36 +1,33 @@
 //! An item is taken: all that follows from it and those before it is added.
 ghost use Rattle.std.specs.Prelude.{◌≡◌, ◌<◌, ◌↔◌, ◌≤◌, ◌+◌, Contains, IfErr, IfOk, MatchResult};
-ghost use Rattle.std.specs.Prelude.{Some, length, map, option_map, slice_get, take, IfSome};
+ghost use Rattle.std.specs.Prelude.{Some, length, map, option_map, slice_get, take};
 ghost use Rattle.ig_item.specs.Items.{IsComplete, MoreThan, Reachable};
 ghost use Rattle.ig_item.specs.WellKinded.{NoneTwice};
 ghost use Rattle.ig_item.specs.Tables.{items_of};
 ghost use Rattle.ig_item.specs.Tables.{instance_by};
 ghost use Rattle.ig_item.specs.Items.{StandsBefore};
 ghost use Rattle.ig_expr.specs.View.{expression_of};
-ghost use Rattle.ig_item.specs.Core.{IsAlternative};
-ghost use Rattle.ig_item.specs.Visible.{names_at};
 ghost use Rattle.ig_item.specs.WellKinded.{IsWellKinded};
-ghost use Rattle.ig_item.specs.declared.core_grammar.Nonterminal.{Nonterminal};
-ghost use Rattle.ig_item.specs.declared.core_grammar.CoreAlt.{CoreAlt};
 ghost use Rattle.ig_item.specs.Step.{Call};
 ghost use Rattle.ig_item.specs.View.{step_of};
 ghost use Rattle.ig_plain.specs.Found.{Adds, AreNamed, Named, means};
 ghost use Rattle.ig_plain.specs.Rules.{IsFirstOf, IsReturn, Stands, StandsAtCall, step_at};
+ghost use Rattle.ig_plain.specs.Names.{all_names};
 ghost use Rattle.ig_plain.specs.Run.{EntersInstance, IsChainOf, IsReturnToOne, IsRun, Refuses};
 ghost use Rattle.ig_plain.specs.Run.{Taking, Takes};
 
 use crate::found::{Found, add, go_on};
-use crate::interning::{enter_key, enter_values};
+use crate::interning::{enter_arguments, enter_key};
 use crate::moves::{go_behind, take_bind, take_terminal, take_test, values_at};
-use crate::names::names_behind;
+use crate::names::names_at;
 use crate::steps::argument_values;
 use crate::waiting::{Caller, Waiting, add_called, add_caller, add_end, has_end, last_caller};
 use ig_expr::{Expr, Values};
 use ig_item::{
-    Core, EnvironmentTable, InstanceKey, Item, Items, RunFault, Step, environments_fit,
-    items_are_in_text, reachable_is_closed,
+    Core, EnvironmentTable, InstanceKey, Item, Items, RunFault, Step, VisibleNames,
+    environments_fit, items_are_in_text, reachable_is_closed,
 };
-use ig_text::{Pattern, Text, Word, Words};
+use ig_text::{Pattern, Sequence, Text, Word};
 use indexmap::IndexSet;
 use std::alloc::{AllocError, Global};
 
@@ -211,7 +208,7 @@ fn take_call(
     let Some(values) = argument_values(alloc, args, names, values, item.position, text)? else {
         return Ok(());
     };
-    let env = enter_values(&mut found.envs, values)?;
+    let env = enter_arguments(&mut found.envs, values, item.env)?;
     let start = item.position;
     let key = InstanceKey {
         nonterminal,
@@ -248,37 +245,12 @@ fn call_instance(
     Ok(callee)
 }
 
-/// The names that are visible at the dot of an item of that nonterminal. `None` where there is no
-/// such dot.
-fn names_at(alloc: Global, core: &Core, nonterminal: u32, item: Item) -> Result<Words, AllocError>
-    ensures { IfOk result (λ names. (n : Nonterminal) (a : CoreAlt) → IsAlternative core.now
-        nonterminal item.alternative n a → names ≡ names_at n a item.dot) }
-{
-    let Some(params) = core.params(nonterminal) else {
-        return Err(AllocError);
-    };
-    let Some(steps) = core.steps(nonterminal, item.alternative) else {
-        return Err(AllocError);
-    };
-    let Some(before) = front(steps.as_slice(), item.dot) else {
-        return Err(AllocError);
-    };
-    let names = names_behind(alloc, params, before)?;
-    Ok(names)
-}
-
-/// The first steps, of that number.
-fn front(steps: &[Step], count: u32) -> Option<&[Step]>
-    ensures { IfSome result (λ r. r.now ≡ take count steps.now) }
-{
-    steps.get(..count as usize)
-}
-
 /// Takes an item before a step.
 fn take_step(
     alloc: Global,
     core: &Core,
     text: &Text,
+    names: &[Sequence<VisibleNames>],
     nonterminal: u32,
     step: &Step,
     found: &mut Found,
@@ -287,6 +259,7 @@ fn take_step(
     budget: u32,
 ) -> Result<(), RunFault>
     requires taking { Taking core.now text.now budget item found.old waiting.old }
+    requires names { names.now ≡ all_names core.now }
     requires nonterminal { nonterminal ≡ (means found.old item).instance.nonterminal }
     requires stands { Stands core.now (means found.old item) (step_of step.now) }
     ensures { Takes core.now text.now budget item found.old found.new waiting.new result }
@@ -306,28 +279,16 @@ fn take_step(
             )
         }
         Step::Test(condition) => {
-            let names = names_at(alloc, core, nonterminal, item)?;
-            take_test(
-                alloc,
-                text,
-                names.as_slice(),
-                condition,
-                found,
-                item,
-                budget,
-            )
+            let Some(names) = names_at(names, nonterminal, item) else {
+                return Err(RunFault::Memory);
+            };
+            take_test(alloc, text, names, condition, found, item, budget)
         }
         Step::Bind(_, expression) => {
-            let names = names_at(alloc, core, nonterminal, item)?;
-            take_bind(
-                alloc,
-                text,
-                names.as_slice(),
-                expression,
-                found,
-                item,
-                budget,
-            )
+            let Some(names) = names_at(names, nonterminal, item) else {
+                return Err(RunFault::Memory);
+            };
+            take_bind(alloc, text, names, expression, found, item, budget)
         }
         Step::Call {
             nonterminal: callee,
@@ -335,8 +296,9 @@ fn take_step(
             label,
             not,
         } => {
-            let names = names_at(alloc, core, nonterminal, item)?;
-            let names = names.as_slice();
+            let Some(names) = names_at(names, nonterminal, item) else {
+                return Err(RunFault::Memory);
+            };
             let args = args.as_slice();
             let not = not.as_slice();
             take_call(
@@ -358,6 +320,7 @@ pub(crate) fn take(
     alloc: Global,
     core: &Core,
     text: &Text,
+    names: &[Sequence<VisibleNames>],
     found: &mut Found,
     waiting: &mut Waiting,
     number: usize,
@@ -366,6 +329,7 @@ pub(crate) fn take(
 ) -> Result<(), RunFault>
     requires run { IsRun core.now text.now budget position number found.old waiting.old }
     requires there { number < length found.old.here.keys }
+    requires names { names.now ≡ all_names core.now }
     ensures { MatchResult result (λ _. IsRun core.now text.now budget position (number + 1)
         found.new waiting.new) (Refuses core.now text.now budget) }
 {
@@ -379,6 +343,7 @@ pub(crate) fn take(
                 alloc,
                 core,
                 text,
+                names,
                 nonterminal,
                 step,
                 found,

@@ -6,18 +6,20 @@ ghost use Rattle.ig_item.specs.Tables.{HaveValues, items_of, tables_by};
 ghost use Rattle.ig_plain.specs.Found.{AllNamed};
 ghost use Rattle.ig_item.specs.WellKinded.{NoneTwice};
 ghost use Rattle.ig_plain.specs.Run.{AreReachable, IsRun, Refuses};
+ghost use Rattle.ig_plain.specs.Names.{all_names};
 ghost use Rattle.ig_plain.specs.Arrival.{ArrivesWith, IsNothing, IsParted, IsSorted};
 
 use crate::found::Found;
 use crate::interning::{enter_item, enter_key, enter_values};
+use crate::names::names_of_core;
 use crate::run::{add_firsts, keep_well_kinded, take};
 use crate::waiting::{Waiting, add_called};
 use ig_expr::Values;
 use ig_item::{
-    Core, EnvironmentTable, InstanceKey, Item, Items, RunFault, items_are_in_text,
+    Core, EnvironmentTable, InstanceKey, Item, Items, RunFault, VisibleNames, items_are_in_text,
     reachable_is_closed,
 };
-use ig_text::Text;
+use ig_text::{Sequence, Text};
 use indexmap::IndexSet;
 use std::alloc::{AllocError, Global};
 
@@ -26,18 +28,22 @@ fn take_all(
     alloc: Global,
     core: &Core,
     text: &Text,
+    names: &[Sequence<VisibleNames>],
     found: &mut Found,
     waiting: &mut Waiting,
     position: u32,
     budget: u32,
 ) -> Result<(), RunFault>
-    requires { IsRun core.now text.now budget position 0 found.old waiting.old }
+    requires run { IsRun core.now text.now budget position 0 found.old waiting.old }
+    requires names { names.now ≡ all_names core.now }
     ensures { MatchResult result (λ _. IsRun core.now text.now budget position (length
         found.new.here.keys) found.new waiting.new) (Refuses core.now text.now budget) }
 {
     let mut number = 0;
     while number < found.here.len() {
-        take(alloc, core, text, found, waiting, number, position, budget)?;
+        take(
+            alloc, core, text, names, found, waiting, number, position, budget,
+        )?;
         number += 1;
     }
     Ok(())
@@ -119,19 +125,21 @@ fn run_to_end(
     alloc: Global,
     core: &Core,
     text: &Text,
+    names: &[Sequence<VisibleNames>],
     found: &mut Found,
     waiting: &mut Waiting,
     budget: u32,
 ) -> Result<(), RunFault>
-    requires { IsNothing found.old waiting.old }
+    requires nothing { IsNothing found.old waiting.old }
+    requires names { names.now ≡ all_names core.now }
     ensures { MatchResult result (λ _. IsRun core.now text.now budget (length text.now) (length
         found.new.here.keys) found.new waiting.new) (Refuses core.now text.now budget) }
 {
     start(alloc, core, found, waiting, budget)?;
-    take_all(alloc, core, text, found, waiting, 0, budget)?;
+    take_all(alloc, core, text, names, found, waiting, 0, budget)?;
     for before in 0..text.len() {
         arrive(alloc, found, before + 1)?;
-        take_all(alloc, core, text, found, waiting, before + 1, budget)?;
+        take_all(alloc, core, text, names, found, waiting, before + 1, budget)?;
     }
     Ok(())
 }
@@ -206,6 +214,15 @@ pub fn saturate(alloc: Global, core: &Core, text: &Text, budget: u32) -> Result<
         called: Vec::new(alloc),
         callers: Vec::new(alloc),
     };
-    run_to_end(alloc, core, text, &mut found, &mut waiting, budget)?;
+    let names = names_of_core(alloc, core)?;
+    run_to_end(
+        alloc,
+        core,
+        text,
+        names.as_slice(),
+        &mut found,
+        &mut waiting,
+        budget,
+    )?;
     Ok(finish(alloc, found)?)
 }

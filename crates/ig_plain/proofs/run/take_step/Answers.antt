@@ -1,4 +1,4 @@
-use Rattle.std.proofs.Common.{refl, ap, subst, ◌∙◌, ◌≡◌, [], ◌∷◌, true}
+use Rattle.std.proofs.Common.{refl, ap, subst, ◌≡◌, [], ◌∷◌, true}
 use Rattle.ig_expr.specs.View.{expression_of}
 use Rattle.ig_expr.specs.declared.value.Value.{Value}
 use Rattle.ig_expr.specs.declared.value.Value.TheVariants.{Bool as truth}
@@ -26,16 +26,16 @@ returns-in-Term c =
     (subst (λ z. AddsTerminal c.args.text.now c.in-Term.what c.in-Term.label z c.args.budget c.args.item.position (means c.args.found.now c.args.item) c.args.found.now c.take_terminal.new.found c.take_terminal.result)
     c.as_slice.ensures c.take_terminal.ensures)
 
-pub returns-in_ok-names-in-Test : goal.returns-in_ok-names-in-Test
-returns-in_ok-names-in-Test c =
+pub returns-in-Some : goal.returns-in-Some
+returns-in-Some c =
     λ k e.
     takes_test c.args.core.now c.args.text.now c.reachable_is_closed.ensures c.args.budget c.args.item.position k c.args.found.now c.args.waiting.now c.args.item refl (run_at c.args.core.now c.args.text.now c.args.budget c.args.item c.args.found.now c.args.waiting.now c.requires.taking k e) e c.requires.stands.names (expression_of c.in-Test.condition) (subst (StandsBefore c.args.core.now (means c.args.found.now c.args.item) c.requires.stands.names) (ap step_of c.in-Test.is) c.requires.stands.before) c.take_test.new.found c.take_test.result
     (subst (λ z. Adds c.args.item.position (λ x. HasValue c.args.text.now (means c.args.found.now c.args.item) z (expression_of c.in-Test.condition) (truth true) × (x ≡ past (means c.args.found.now c.args.item) [] c.args.item.position)) c.args.budget c.args.found.now c.take_test.new.found c.take_test.result)
-    (c.as_slice-in-Test.ensures ∙ names_are c.args.core.now (means c.args.found.now c.args.item) _ c.args.nonterminal _ c.requires.stands c.requires.nonterminal c.in_ok-names-in-Test.ensures) c.take_test.ensures)
+    (names_are c.args.core.now (means c.args.found.now c.args.item) _ c.args.nonterminal _ c.requires.stands c.requires.nonterminal (λ m d. c.in-Some.ensures c.args.core.now m d c.requires.names)) c.take_test.ensures)
 
-pub returns-in_ok-names-in-Bind : goal.returns-in_ok-names-in-Bind
-returns-in_ok-names-in-Bind c =
+pub returns-in-Some-names_at : goal.returns-in-Some-names_at
+returns-in-Some-names_at c =
     λ k e.
     takes_bind c.args.core.now c.args.text.now c.reachable_is_closed.ensures c.args.budget c.args.item.position k c.args.found.now c.args.waiting.now c.args.item refl (run_at c.args.core.now c.args.text.now c.args.budget c.args.item c.args.found.now c.args.waiting.now c.requires.taking k e) e c.requires.stands.names c.in-Bind.field-0 (expression_of c.in-Bind.expression) (subst (StandsBefore c.args.core.now (means c.args.found.now c.args.item) c.requires.stands.names) (ap step_of c.in-Bind.is) c.requires.stands.before) c.take_bind.new.found c.take_bind.result
     (subst (λ z. Adds c.args.item.position (λ x. (v : Value) × HasValue c.args.text.now (means c.args.found.now c.args.item) z (expression_of c.in-Bind.expression) v × (x ≡ past (means c.args.found.now c.args.item) (v ∷ []) c.args.item.position)) c.args.budget c.args.found.now c.take_bind.new.found c.take_bind.result)
-    (c.as_slice-in-Bind.ensures ∙ names_are c.args.core.now (means c.args.found.now c.args.item) _ c.args.nonterminal _ c.requires.stands c.requires.nonterminal c.in_ok-names-in-Bind.ensures) c.take_bind.ensures)
+    (names_are c.args.core.now (means c.args.found.now c.args.item) _ c.args.nonterminal _ c.requires.stands c.requires.nonterminal (λ m d. c.in-Some-names_at.ensures c.args.core.now m d c.requires.names)) c.take_bind.ensures)

@@ -8,8 +8,8 @@ pub returns-in_err-start : goal.returns-in_err-start
 returns-in_err-start c =
     at_exit c.from_residual.result _ _ c.in_err-start.field-0.0 c.from_residual.ensures.1 (c.in_err-start.ensures c.args.text.now)
 
-pub take_all-requires-in-loop-before : goal.take_all-requires-in-loop-before
-take_all-requires-in-loop-before c =
+pub take_all-requires-in-loop-before-clause-run : goal.take_all-requires-in-loop-before-clause-run
+take_all-requires-in-loop-before-clause-run c =
     arrives c.args.core.now c.args.text.now c.args.budget c.loop-before.before c.loop-before.found c.arrive.new.found c.loop-before.waiting c.loop-before.invariant c.in_ok-arrive.ensures
 
 pub returns : goal.returns
