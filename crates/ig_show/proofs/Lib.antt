@@ -1,4 +1,5 @@
 pub mod Numerals
+pub mod Pieces
 pub mod Steps
 pub mod Falling
 pub mod ReadsBack

@@ -8,12 +8,14 @@ mod expressions;
 mod forest_text;
 mod grammar;
 mod laws;
+mod piece;
 mod query_text;
 mod report;
 mod spelling;
 mod symbols;
 mod tags;
 mod tree_text;
+mod value_lists;
 mod values;
 
 pub use core_text::show_core;

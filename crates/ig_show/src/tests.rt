@@ -1,5 +1,5 @@
-//! Texts, written by hand: each call once. A table of every form stands in the tests of
-//! the top call.
+//! Texts, written by hand: each call once. A table of every form is tried on the
+//! program.
 ghost use Rattle.std.specs.Prelude.{◌≡◌, [], ◌∷◌, IfOk, List};
 ghost use Rattle.ig_forest.specs.Tags.{TagsAreNamed};
 ghost use Rattle.ig_item.specs.Examples.{lone_root};

@@ -1,9 +1,9 @@
 use Rattle.std.proofs.Common.{◌≡◌, ◌++◌, drop}
-use Rattle.std.specs.Prelude.{flat_map, string_bytes}
+use Rattle.std.specs.Prelude.{flat_map}
 use Rattle.ig_show.specs.ForestText.{entry_text}
 use Rattle.ig_show.proofs.forest_text.push_entries.Given as goal
 
 abbrev pub invariant-loop-entry : goal.invariant-loop-entry
 invariant-loop-entry l =
-    string_bytes l.out ++ flat_map entry_text (drop l.entry-index l.entries) ≡
-    string_bytes l.fn.out ++ flat_map entry_text l.entries
+    l.out.items ++ flat_map entry_text (drop l.entry-index l.entries) ≡
+    l.fn.out.items ++ flat_map entry_text l.entries

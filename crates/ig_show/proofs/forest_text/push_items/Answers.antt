@@ -1,5 +1,5 @@
 use Rattle.std.proofs.Common.{◌∙◌, ap, sym}
-use Rattle.std.specs.Prelude.{string_bytes, option_map}
+use Rattle.std.specs.Prelude.{option_map}
 use Rattle.ig_forest.specs.CodeViews.{item_node_view}
 use Rattle.ig_show.specs.ForestText.{item_text}
 use Rattle.ig_show.proofs.Listing.{next_numbered}
@@ -7,5 +7,5 @@ use Rattle.ig_show.proofs.forest_text.push_items.Goals as goal
 
 pub loop-number-preserved : goal.loop-number-preserved
 loop-number-preserved c =
-    next_numbered item_text c.args.forest.now.items c.loop-number.number (item_node_view c.in-Some.item) (string_bytes c.loop-number.out)
+    next_numbered item_text c.args.forest.now.items c.loop-number.number (item_node_view c.in-Some.item) c.loop-number.out.items
     (sym c.item.ensures ∙ ap (option_map item_node_view) c.in-Some.is) c.loop-number.invariant c.in_ok-push_item.ensures

@@ -1,5 +1,5 @@
 use Rattle.std.proofs.Common.{◌∙◌, ap, sym}
-use Rattle.std.specs.Prelude.{string_bytes, option_map}
+use Rattle.std.specs.Prelude.{option_map}
 use Rattle.ig_forest.specs.CodeViews.{node_view}
 use Rattle.ig_show.specs.ForestText.{node_text}
 use Rattle.ig_show.proofs.Listing.{next_numbered}
@@ -7,5 +7,5 @@ use Rattle.ig_show.proofs.forest_text.push_nodes.Goals as goal
 
 pub loop-number-preserved : goal.loop-number-preserved
 loop-number-preserved c =
-    next_numbered node_text c.args.forest.now.nodes c.loop-number.number (node_view c.in-Some.node) (string_bytes c.loop-number.out)
+    next_numbered node_text c.args.forest.now.nodes c.loop-number.number (node_view c.in-Some.node) c.loop-number.out.items
     (sym c.node.ensures ∙ ap (option_map node_view) c.in-Some.is) c.loop-number.invariant c.in_ok-push_node.ensures

@@ -1,7 +1,6 @@
 use Rattle.std.proofs.Common.{◌≡◌, ◌++◌, take}
-use Rattle.std.specs.Prelude.{string_bytes}
 use Rattle.ig_show.specs.QueryText.{spans_text}
 use Rattle.ig_show.proofs.query_text.push_spans.Given as goal
 
 abbrev pub invariant-loop-span : goal.invariant-loop-span
-invariant-loop-span l = string_bytes l.out ≡ string_bytes l.fn.out ++ spans_text (take l.span-index l.spans)
+invariant-loop-span l = l.out.items ≡ l.fn.out.items ++ spans_text (take l.span-index l.spans)
