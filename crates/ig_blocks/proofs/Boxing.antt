@@ -8,7 +8,7 @@ use Rattle.ig_grammar.specs.Visible.{Visible, kind_at, with_kind, replaced}
 use Rattle.ig_blocks.specs.Setting.{Setting, Pair, lacking, carried, opened, cleared, inner, pair_bindings, column_bindings}
 use Rattle.ig_blocks.proofs.Reading.{IsWritten, AreApart, BindingsRead}
 use Rattle.ig_blocks.proofs.Looking.{find, if_true, if_false, same_word, other_word}
-use Rattle.ig_blocks.proofs.Sights.{SeeSame, IsPair, no_pair, handed_pair, opened_pair, cleared_pair, Sight, HasColumn, find_with, kind_same, margin_typed, first_typed}
+use Rattle.ig_blocks.proofs.Sights.{SeeSame, IsPair, no_pair, handed_pair, opened_pair, cleared_pair, Sight, HasColumn, find_with, kind_same, margin_kind, first_kind}
 
 found_other : (v : Visible) (n : List ℕ) (k : Kind) (y : List ℕ) → n ≢ y → find (with_kind v n (Some k)) y ≡ find v y
 found_other v n k y ne = find_with v n k y ∙ if_false (is_word n y) _ _ (other_word n y ne)
@@ -54,9 +54,8 @@ module _ (s : Setting) where
     pair_sight lacking v w u i a = record { seen = a.seen; pair = no_pair }
     pair_sight carried v w u i a = record { seen = a.seen; pair = a.pair }
     pair_sight (opened x y) v w u i a =
-        let m = margin_typed s w (opened x y) i in
-        let f = first_typed s w (opened x y) i in
-        subst (λ z. Sight s carried v z) (sym (ap₂ (λ j k. with_kind (with_kind u s.m j) s.f k) m.kinded f.kinded)) (with_pair v u a.seen)
+        subst (λ z. Sight s carried v z)
+        (sym (ap₂ (λ j k. with_kind (with_kind u s.m j) s.f k) (margin_kind s w (opened x y) i) (first_kind s w (opened x y) i))) (with_pair v u a.seen)
     pair_sight cleared v w u i a = with_pair v u a.seen
 
     pub column_sight : (al : Bool) (p : Pair) (v w u : Visible) → Sight s p v u → Sight s p v (replaced w u (column_bindings s al)) × HasColumn s al (replaced w u (column_bindings s al))

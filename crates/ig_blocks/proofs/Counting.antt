@@ -1,13 +1,10 @@
 -- The pass adds nothing that binds a name of the notation.
-use Rattle.std.proofs.Common.{◌≡◌, ◌∙◌, ◌+◌, List, [], ◌∷◌, ◌++◌, Bool, true, false, refl, sym, ap, ap₂, arith}
-use Rattle.std.specs.Prelude.{count_by}
+use Rattle.std.proofs.Common.{◌≡◌, ◌∙◌, ◌+◌, List, [], ◌∷◌, ◌++◌, Bool, true, false, refl, ap, ap₂, arith}
 use Rattle.ig_grammar.specs.Name.{is_name}
 use Rattle.ig_grammar.specs.Binding.{Binding}
 use Rattle.ig_grammar.specs.Symbol.{Symbol, Literal, OneOf, Call, Label, Guard, Let, Opt, Star, Plus, SepStar, SepPlus, Group, Offside, Ignore, Align, Filtered, Seq, Entry}
 use Rattle.ig_grammar.specs.Symbol.{Symbols, no_symbols, next_symbol, gathered, Alternatives, no_alternatives, next_alternative}
-use Rattle.ig_grammar.specs.Visible.{Visible, inside_sequence}
-use Rattle.ig_grammar.specs.Condition.{binds_name}
-use Rattle.ig_rewrite.specs.Binders.{one_if, binders, binders_of_symbols, binders_of_choices, BindersAreCounted}
+use Rattle.ig_rewrite.specs.Binders.{one_if, binders, binders_of_symbols, binders_of_choices}
 use Rattle.ig_blocks.specs.Setting.{Setting, Pair, opened_by, cleared_by, inner, pair_bindings, column_bindings, column_guards, wrapped, entered}
 use Rattle.ig_blocks.specs.Body.{tests_of, body_of, sequence_of, choices_of}
 use Rattle.ig_blocks.proofs.Forms.{AreTests, tests_are, column_tests_are}
@@ -63,8 +60,3 @@ module _ (s : Setting) where
     choices_count : (xs : Alternatives) (p : Pair) → binders_of_choices (choices_of s p xs) ≡ binders_of_choices xs
     choices_count no_alternatives p = refl
     choices_count (next_alternative xs others) p = ap₂ (λ m n. m + n) (sequence_count xs p) (choices_count others p)
-
-  -- as many labels and lets as before
-  pub same_count : BindersAreCounted → (xs : Symbols) (p : Pair) (v w : Visible) →
-      count_by (λ o. binds_name o.symbol) (inside_sequence w (sequence_of s p xs)) ≡ count_by (λ o. binds_name o.symbol) (inside_sequence v xs)
-  same_count counted xs p v w = counted (sequence_of s p xs) w ∙ sequence_count xs p ∙ sym (counted xs v)

@@ -1,5 +1,5 @@
 -- What the source derives with allowed starts, the lowered grammar derives under the pair.
-use Rattle.std.proofs.Common.{◌≡◌, ◌≢◌, ◌⊎◌, ◌<◌, ◌≤◌, ◌∙◌, ℕ, zero, suc, ◌+◌, Bool, true, false, List, [], ◌∷◌, ◌++◌, map, length, Option, Some, None, Contains, refl, sym, ap, subst, inl, inr, arith}
+use Rattle.std.proofs.Common.{◌≡◌, ◌≢◌, ◌⊎◌, ◌<◌, ◌≤◌, ◌∙◌, ℕ, ◌+◌, Bool, true, false, List, [], ◌∷◌, ◌++◌, map, length, Option, Some, None, Contains, refl, sym, ap, subst, inl, inr, arith}
 use Rattle.std.proofs.lemmas.Option.{slice_get_within}
 use Rattle.std.proofs.lemmas.List.{append-nil, map-append}
 use Rattle.ig_text.specs.Lines.{column_of}
@@ -7,9 +7,9 @@ use Rattle.ig_text.specs.Tree.{Tree, Trees, Node, none, more, one, join}
 use Rattle.ig_expr.specs.Expression.{Expression}
 use Rattle.ig_expr.specs.declared.value.Value.{Value}
 use Rattle.ig_grammar.specs.Binding.{Binding}
-use Rattle.ig_grammar.specs.Symbol.{Symbol, Call, Opt, Star, Plus, SepStar, SepPlus, Group, Entry, Guard, Symbols, listed, gathered, Alternatives}
+use Rattle.ig_grammar.specs.Symbol.{Symbol, Call, Opt, Star, Plus, SepStar, SepPlus, Group, Entry, Guard, listed, gathered}
 use Rattle.ig_meaning.specs.Environment.{Environment, HaveValues, no_values, next_value, AreBound, replaced}
-use Rattle.ig_grammar.specs.Numbering.{Levelled, Declares, IsAlternative, IsChoice, choice, tag_of}
+use Rattle.ig_grammar.specs.Numbering.{Levelled, Declares, IsAlternative, tag_of}
 use Rattle.ig_meaning.specs.Blocks.{AreAligned}
 use Rattle.ig_meaning.specs.Derivation.{exposed, span_value, Covers, Derives, Lists, Items, Instance, Trails}
 use Rattle.ig_meaning.specs.Derivation.{empty, symbol, literal, one_of, token, call, label, guard, let_be, absent, present, star, plus, sep_star, sep_plus, group, offside, ignore, align, filtered, sequence, entry}
@@ -30,6 +30,7 @@ use Rattle.ig_blocks.proofs.Takes.{Takes, IsRemade}
 use Rattle.ig_blocks.proofs.Columns.{all_allowed, allows_block}
 use Rattle.ig_blocks.proofs.Values.{agree_bound, keep_all, keep_then, keep_bound, value_agrees, have_forth}
 use Rattle.ig_blocks.proofs.Starts.{Each, each_left, each_right, each_none, contains_one, derives_after, items_begin}
+use Rattle.ig_blocks.proofs.Wholes.{choose}
 use Rattle.ig_blocks.proofs.Situations.{int, start_int, pair_values, column_values, Holds, Situated, situated_later, situated_opened, situated_cleared, have_append, pair_values_had, HasColumn, inside_box, box_values, inside_entry, inner_steady}
 use Rattle.ig_blocks.proofs.Tests.{AreTrue, true_join, allowed_guards, column_true, pair_bound, pair_args, pair_params, bound_forth, situated_first}
 
@@ -166,22 +167,6 @@ module _ (s : Setting) (apart : AreApart s) (g g2 : Grammar) (shapes shapes2 : L
   list_in c p env other x y i j t agree (low.sep_pluses al2 p2 x2 z sep sep2 steady it it2) r =
       record { left = other; exposes = r.exposes; derived = sep_plus c z sep2 other i j t r.exposes r.begins r.listed; agrees = agree; keeps = keep_all s other; tests = tt }
 
-  -- the lowered alternative of a group
-  pub record Chosen (c : DeclKind) (p : Pair) (k : ℕ) (xs : Symbols) (cs : Alternatives) : Type 0 where
-    pub symbols : Symbols
-    pub chosen : IsChoice cs k symbols
-    pub covered : Covered s c p (listed xs) (listed symbols)
-
-  choose : (c : DeclKind) (p : Pair) (cs ds : Alternatives) (before k : ℕ) (xs : Symbols) → Choices s c p cs ds → k ≡ suc before → choice cs before ≡ Some xs →
-      Chosen c p k xs ds
-  choose c p cs ds before k xs (low.no_choices p2) is e = absurd (cc)
-  choose c p cs ds zero k xs (low.next_choice p2 ys zs others more2 first rest) is e =
-      let same : ys ≡ xs = cc in
-      record { symbols = zs; chosen = (0, is, refl); covered = subst (λ q. Covered s c p (listed q) (listed zs)) same first }
-  choose c p cs ds (suc before) k xs (low.next_choice p2 ys zs others more2 first rest) is e =
-      let r = choose c p others more2 before (suc before) xs rest refl e in
-      record { symbols = r.symbols; chosen = (suc (r.chosen.0), is ∙ ap suc r.chosen.1, r.chosen.2); covered = r.covered }
-
   -- the values of arguments, with the pair behind them
   pub extra_had : (b : Bool) (p : Pair) (m : ℕ) (f : Option ℕ) (other : Environment) (i : ℕ) → Holds s text p m f other i →
       HaveValues text other i (extra_by b (m_of s p) (f_of s p)) (pair_args s text b m f)
@@ -210,7 +195,7 @@ module _ (s : Setting) (apart : AreApart s) (g g2 : Grammar) (shapes shapes2 : L
   pub no_extra : (vs : List Value) (b : Bool) (m : ℕ) (f : Option ℕ) → b ≡ false → vs ++ pair_args s text b m f ≡ vs
   no_extra vs b m f e = ap (λ z. vs ++ pair_args s text z m f) e ∙ append-nil vs
 
-  no_extra_more : (vs : List Value) (b : Bool) (m m2 : ℕ) (f f2 : Option ℕ) → b ≡ false → vs ++ pair_args s text b m f ≡ vs ++ pair_args s text b m2 f2
+  pub no_extra_more : (vs : List Value) (b : Bool) (m m2 : ℕ) (f f2 : Option ℕ) → b ≡ false → vs ++ pair_args s text b m f ≡ vs ++ pair_args s text b m2 f2
   no_extra_more vs b m m2 f f2 e = no_extra vs b m f e ∙ sym (no_extra vs b m2 f2 e)
 
   remade : (kind kd : DeclKind) (name : List ℕ) (vs : List Value) (d k : ℕ) (decl new : Decl) (shape : Shape) (a b : Levelled) (env : Environment) (m : ℕ) (f : Option ℕ)
@@ -373,13 +358,13 @@ module _ (s : Setting) (apart : AreApart s) (g g2 : Grammar) (shapes shapes2 : L
         let ll : Listing s c false (setting.inner p) (SepPlus x separator) (SepPlus z z2) = low.sep_pluses false (setting.inner p) x z separator z2 (inner_steady s text apart p) it it2 in
         list_box c false p m f env other bs (SepPlus x separator) (SepPlus z z2) i j t is at ll (to_lists list false (setting.inner p) m f _ (SepPlus z z2) ll b.situated (column_of text i) b.column (λ e. absurd (cc)) all)
     to_derives (group c choices k xs env between i j ts starts chosen inside) p m f other gs y (low.group_in p2 choices2 others2 steady ch) at all =
-        let w = choose c p choices others2 chosen.0 k xs ch chosen.1 chosen.2 in
+        let w = choose s c p choices others2 chosen.0 k xs ch chosen.1 chosen.2 in
         let r = to_covers inside p m f other (listed w.symbols) steady w.covered at all in
         record { left = other; exposes = r.exposes; derived = group c others2 k w.symbols other r.left i j ts r.exposes w.chosen r.covered; agrees = at.agree; keeps = keep_all s other; tests = tt }
     to_derives (group c choices k xs env between i j ts starts chosen inside) p m f other gs y (low.group_box p2 bs choices2 others2 ch is) at all =
         let b = inside_box s text apart env other false p m f i at in
         let home = replaced other (pair_bindings s p ++ column_bindings s false) (pair_values p m f ++ column_values false (column_of text i)) in
-        let w = choose c (setting.inner p) choices others2 chosen.0 k xs ch chosen.1 chosen.2 in
+        let w = choose s c (setting.inner p) choices others2 chosen.0 k xs ch chosen.1 chosen.2 in
         let r = to_covers inside (setting.inner p) m f home (listed w.symbols) (inner_steady s text apart p) w.covered b.situated all in
         box_forth c false p m f env other home bs (Group others2) i j j _ r.exposes is at (group c others2 k w.symbols home r.left i j ts r.exposes w.chosen r.covered)
     to_derives (offside c x env after i e j ts starts inside right) p m f other gs y l at all =

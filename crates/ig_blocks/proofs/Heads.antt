@@ -12,7 +12,7 @@ use Rattle.ig_expr.specs.declared.kind.Kind.TheVariants as kind
 use Rattle.ig_expr.specs.declared.operator.Op.TheVariants.{Equal}
 use Rattle.ig_grammar.specs.Binding.{Binding}
 use Rattle.ig_grammar.specs.Regular.{patterns_in, HasNoEmptyLiteral, IsPlaced, IsNoMark, MayHaveEntry}
-use Rattle.ig_grammar.specs.Visible.{Visible, binds, all_bind, replaced}
+use Rattle.ig_grammar.specs.Visible.{Visible, binds, all_bind, replaced, kind_at}
 use Rattle.ig_grammar.specs.Symbol.{Symbol, Literal, OneOf, Call, Label, Guard, Offside, Ignore, Align, Filtered, Seq, Entry}
 use Rattle.ig_grammar.specs.Symbol.{gathered}
 use Rattle.ig_grammar.specs.declared.declaration.DeclKind.{DeclKind}
@@ -27,8 +27,9 @@ use Rattle.ig_blocks.specs.Setting.{Setting, Pair, lacking, carried, opened, cle
 use Rattle.ig_blocks.specs.Body.{call_tests, tests_of}
 use Rattle.ig_blocks.specs.Blocks.{setting_of}
 use Rattle.ig_rewrite.specs.Throughout.{Placed, PlacedSymbols}
-use Rattle.ig_blocks.proofs.Meeting.{IsQuiet, Fine, quiet_fine, test_fine, entry_fine, inside_typed, box_typed}
-use Rattle.ig_blocks.proofs.Sights.{Typed, IsPair, no_pair, handed_pair, opened_pair, cleared_pair, HasColumn, found_typed, number_typed, two_typed, pair_cleared}
+use Rattle.ig_rewrite.specs.Asked.{Asks}
+use Rattle.ig_blocks.proofs.Meeting.{IsQuiet, quiet_asks, inside_kind, box_kinded}
+use Rattle.ig_blocks.proofs.Sights.{IsPair, no_pair, handed_pair, opened_pair, cleared_pair, HasColumn, pair_cleared}
 
 no_literal : (ps : List Pattern) → ps ≡ [] → All HasNoEmptyLiteral ps
 no_literal ps e = subst (All HasNoEmptyLiteral) (sym e) (All-nil HasNoEmptyLiteral)
@@ -61,7 +62,7 @@ flat_join (e ∷ es) ds = ap (λ z. patterns_in e ++ z) (flat_join es ds) ∙ sy
 
 -- a symbol of the lowered grammar
 pub record IsSoundAt (g : Grammar) (shapes : List Shape) (decls : List Decl) (c : DeclKind) (w : Visible) (y : Symbol) : Type 0 where
-  pub fine : Fine decls c w y
+  pub asks : Asks decls c w y
   pub unmarked : IsNoMark y
   pub uncalled : (n : ℕ) (decl : Decl) (arguments : List Expression) → slice_get g.decls n ≡ Some decl → slice_get shapes n ≡ Some shape.Root →
       y ≢ Call decl.name arguments
@@ -85,7 +86,7 @@ module _ (g : Grammar) (shapes : List Shape) (decls : List Decl) (c : DeclKind) 
   pub quiet_sound : (w : Visible) (y : Symbol) → IsQuiet y → IsPlaced y → Sound w y
   quiet_sound w y q placed =
       record {
-        fine = quiet_fine decls c w y q;
+        asks = quiet_asks decls c w y q;
         unmarked = quiet_unmarked y q;
         uncalled = λ n decl arguments at root e. subst IsQuiet e q;
         placed = placed;
@@ -95,10 +96,10 @@ module _ (g : Grammar) (shapes : List Shape) (decls : List Decl) (c : DeclKind) 
   abbrev s : Setting
   s = setting_of g.decls shapes
 
-  pub test_sound : (w : Visible) (e : Expression) → Typed s w e kind.Bool → patterns_in e ≡ [] → Sound w (Guard e)
-  test_sound w e typed plain =
+  pub test_sound : (w : Visible) (e : Expression) → kind_at w e ≡ Some kind.Bool → patterns_in e ≡ [] → Sound w (Guard e)
+  test_sound w e kinded plain =
       record {
-        fine = test_fine decls c s w e typed;
+        asks = kinded;
         unmarked = tt;
         uncalled = λ n decl arguments at root f. cc;
         placed = (no_literal (patterns_in e ++ []) (append-nil (patterns_in e) ∙ plain), tt);
@@ -114,7 +115,7 @@ module _ (g : Grammar) (shapes : List Shape) (decls : List Decl) (c : DeclKind) 
   inside_sound : (w : Visible) (p : Pair) → IsPair s w p → Sound w (Guard (expression.Inside (m_of s p) (f_of s p)))
   inside_sound w p i =
       let r = pair_plain s w p i in
-      test_sound w (expression.Inside (m_of s p) (f_of s p)) (inside_typed s w p i) (ap₂ (λ x y. x ++ y) r.0 r.1)
+      test_sound w (expression.Inside (m_of s p) (f_of s p)) (inside_kind s w p i) (ap₂ (λ x y. x ++ y) r.0 r.1)
 
   guards_sound : (w : Visible) (p : Pair) → IsPair s w p → SoundTests w (guards s p)
   guards_sound w lacking i = tt
@@ -143,8 +144,7 @@ module _ (g : Grammar) (shapes : List Shape) (decls : List Decl) (c : DeclKind) 
   column_sound w false gs h t = t
   column_sound w true gs h t = (
     test_sound w (expression.Binary Equal column_here (expression.Variable s.c))
-        (two_typed s w column_here (expression.Variable s.c) (expression.Binary Equal column_here (expression.Variable s.c)) kind.Bool refl
-        (ap (of_equals (Some kind.Int)) h) (number_typed s w column_here refl refl) (found_typed s w s.c kind.Int h)) refl,
+        (ap (of_equals (Some kind.Int)) h) refl,
     t,
   )
 
@@ -192,7 +192,7 @@ module _ (g : Grammar) (shapes : List Shape) (decls : List Decl) (c : DeclKind) 
       (al ≡ true → needs column_name y ≡ true) → Sound w (Entry (pair_bindings s p ++ column_bindings s al) y)
   box_sound w p al y i round m f k =
       record {
-        fine = entry_fine decls c s w (pair_bindings s p ++ column_bindings s al) y (box_typed s w p al i);
+        asks = box_kinded s w p al i;
         unmarked = tt;
         uncalled = λ n decl arguments at root e. cc;
         placed = (no_literal _ (bindings_plain s w p al i), round);

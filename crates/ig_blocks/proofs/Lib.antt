@@ -9,7 +9,10 @@ pub mod Values
 pub mod Starts
 pub mod Situations
 pub mod Tests
+pub mod Wholes
 pub mod Forth
+pub mod Ordered
+pub mod ValuesForth
 pub mod Standing
 pub mod Back
 pub mod Same
@@ -18,7 +21,6 @@ pub mod Remaking
 pub mod Taking
 pub mod Around
 pub mod Parts
-pub mod Everywhere
 pub mod Rooting
 pub mod Marking
 pub mod Suiting
@@ -40,6 +42,6 @@ pub mod Sounding
 pub mod Counting
 pub mod Located
 pub mod Whole
-pub mod Scoped
+pub mod Giving
 pub mod Shaped
 pub mod Kept

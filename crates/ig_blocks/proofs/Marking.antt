@@ -13,7 +13,8 @@ use Rattle.ig_grammar.specs.declared.declaration.Level.{Level}
 use Rattle.ig_grammar.specs.declared.grammar.Grammar.{Grammar}
 use Rattle.ig_rewrite.specs.Sound.{IsUnmarked}
 use Rattle.ig_blocks.specs.Blocks.{has_block, symbols_have_block, choices_have_block, levels_have_block, is_marked}
-use Rattle.ig_blocks.proofs.Parts.{contains_first, contains_later, own_part, inner_parts, parts_of_symbols, parts_of_alternatives, all_parts}
+use Rattle.ig_blocks.proofs.Parts.{own_part, inner_parts, parts_of_symbols, parts_of_alternatives, all_parts}
+use Rattle.ig_text.proofs.Lists.{contains_first, contains_later}
 
 -- no block
 abbrev pub IsNoBlock : Symbol → Type 0

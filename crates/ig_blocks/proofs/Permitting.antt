@@ -12,15 +12,17 @@ use Rattle.ig_meaning.specs.Inversion.{DerivationsInvert}
 use Rattle.ig_meaning.specs.Laws.{HasNoOperators, SpansAreInOrder, TreesWithoutOperatorsAreClean}
 use Rattle.ig_rewrite.specs.Added.{AddedNamesAreNew}
 use Rattle.ig_rewrite.specs.Found.{DeclarationsAreFound}
-use Rattle.ig_rewrite.specs.Binders.{BindersAreCounted}
+use Rattle.ig_rewrite.specs.Asked.{SymbolsAsk, AsksElsewhere}
+use Rattle.ig_rewrite.specs.Passing.{ResultsAreReady}
 use Rattle.ig_rewrite.specs.KeptByRoot.{RootAt, RootKeeps}
 use Rattle.ig_rewrite.specs.Rooted.{is_root}
 use Rattle.ig_rewrite.specs.SameTrees.{PermitSame, SameTreesIsAnEquivalence}
+use Rattle.ig_rewrite.specs.SameValues.{KeepsValues}
 use Rattle.ig_rewrite.specs.Sound.{IsFree}
 use Rattle.ig_blocks.specs.Setting.{Setting, Pair, lacking, pair_for}
 use Rattle.ig_blocks.specs.Blocks.{setting_of, level_by, declaration_by, root_by, lowered_declaration, lowered_declarations, lowered_grammar, lowered_of}
 use Rattle.ig_blocks.proofs.Reading.{AreApart}
-use Rattle.ig_blocks.proofs.Same.{same_trees}
+use Rattle.ig_blocks.proofs.Same.{same_trees, same_values}
 use Rattle.ig_blocks.proofs.Taking.{Zipped, zip_back, takes, takes_root}
 use Rattle.ig_blocks.proofs.Rooting.{IsPrepared}
 use Rattle.ig_blocks.proofs.Readiness.{ready}
@@ -34,7 +36,9 @@ pub record Given : Type 0 where
   pub found : DeclarationsAreFound
   pub new : AddedNamesAreNew
   pub root : RootKeeps
-  pub counted : BindersAreCounted
+  pub ask : SymbolsAsk
+  pub elsewhere : AsksElsewhere
+  pub passes : ResultsAreReady
   pub equivalence : SameTreesIsAnEquivalence
 
 other_letters : (a b : ℕ) → 46 ∷ a ∷ [] ≡ 46 ∷ b ∷ [] → (a ≡ b → ⊥) → ⊥
@@ -82,10 +86,21 @@ pub lowered_permits : Given → (c : CheckedGrammar) → IsPrepared c → RootAt
 lowered_permits given c prepared at =
     let g = c.grammar in
     let shapes = c.shapes in
-    let is = ready given.found c prepared at in
+    let is = ready given.found c prepared given.ask at in
     record {
       same = λ text t.
           same_trees (setting_of g.decls shapes) g (lowered_grammar g shapes) shapes shapes text t (apart g.decls shapes)
           (takes given.forms given.in_order given.inverts g shapes is) (takes_root given.forms given.in_order given.inverts g shapes is)
           ((λ k. given.cleans (lowered_grammar g shapes) (lowered_is_free g shapes prepared.free) t), (λ k. given.cleans g prepared.free t));
+    }
+
+pub lowered_keeps_values : Given → (c : CheckedGrammar) → IsPrepared c → RootAt c → KeepsValues c (lowered_of c)
+lowered_keeps_values given c prepared at =
+    let g = c.grammar in
+    let shapes = c.shapes in
+    let is = ready given.found c prepared given.ask at in
+    record {
+      values = λ text t u.
+          same_values (setting_of g.decls shapes) g (lowered_grammar g shapes) shapes shapes text t u (apart g.decls shapes)
+          (takes given.forms given.in_order given.inverts g shapes is) (takes_root given.forms given.in_order given.inverts g shapes is);
     }

@@ -1,16 +1,12 @@
 -- A prepared grammar in which a declaration stands for the root is ready.
-use Rattle.std.proofs.Common.{◌≡◌, ◌∙◌, ℕ, suc, ◌+◌, List, [], ◌∷◌, Some, Bool, true, false, refl, sym, ap, subst, length, map}
-use Rattle.std.specs.Prelude.{◌≢◌, All, Contains, slice_get, option_map}
-use Rattle.std.proofs.lemmas.List.{map-append}
-use Rattle.std.proofs.lemmas.Option.{slice_get-map}
+use Rattle.std.proofs.Common.{◌≡◌, ◌∙◌, ℕ, suc, List, Some, Bool, true, false, refl, sym, ap, subst, length, map}
+use Rattle.std.specs.Prelude.{◌≢◌, All, Contains, slice_get}
 use Rattle.ig_text.proofs.Lists.{at_from_contains, contains_from_at}
 use Rattle.ig_grammar.specs.Checked.{CheckedGrammar, IsRoot}
 use Rattle.ig_grammar.specs.Regular.{IsPlaced}
-use Rattle.ig_grammar.specs.declared.declaration.Level.{Level}
-use Rattle.ig_grammar.specs.declared.symbol.Alt.{Alt}
 use Rattle.ig_grammar.specs.Condition.{symbols_of}
 use Rattle.ig_grammar.specs.Condition as meets
-use Rattle.ig_grammar.specs.Numbering.{Levelled, IsAlternative, by_level, alternatives}
+use Rattle.ig_grammar.specs.Numbering.{Levelled, IsAlternative, alternatives}
 use Rattle.ig_grammar.specs.Subterms.{subterms_of_symbols}
 use Rattle.ig_grammar.specs.Symbol.{Symbol, Offside}
 use Rattle.ig_grammar.specs.Symbol.{gathered}
@@ -21,6 +17,7 @@ use Rattle.ig_grammar.specs.declared.declaration.Decl.{Decl}
 use Rattle.ig_grammar.specs.declared.grammar.Grammar.{Grammar}
 use Rattle.ig_grammar.specs.declared.place.Shape.{Shape}
 use Rattle.ig_grammar.specs.declared.place.Shape.TheVariants as shape
+use Rattle.ig_rewrite.specs.Asked.{SymbolsAsk}
 use Rattle.ig_rewrite.specs.Found.{DeclarationsAreFound}
 use Rattle.ig_rewrite.specs.KeptByRoot.{RootAt}
 use Rattle.ig_rewrite.specs.Unbound.{LacksName}
@@ -32,7 +29,7 @@ use Rattle.ig_blocks.proofs.Ready.{IsReady}
 use Rattle.ig_blocks.proofs.Parts.{all_also, all_both, all_always}
 use Rattle.ig_rewrite.specs.Throughout.{PlacedSymbols}
 use Rattle.ig_rewrite.specs.Throughout.{placed_symbols}
-use Rattle.ig_blocks.proofs.Everywhere.{everywhere}
+use Rattle.ig_rewrite.specs.EachLevel.{alternative_at, everywhere}
 use Rattle.ig_blocks.proofs.Marking.{IsNoBlock, unmarked_is, none_blocked}
 use Rattle.ig_blocks.proofs.Remaking.{name_at}
 use Rattle.ig_blocks.proofs.Rooting.{IsPrepared}
@@ -42,21 +39,6 @@ use Rattle.ig_rewrite.specs.Added.{margin_name, first_name, column_name}
 -- a name stands at one place
 pub one_place : DeclarationsAreFound → (g : Grammar) → IsWellScoped g → (n k : ℕ) (d e : Decl) → slice_get g.decls n ≡ Some d → slice_get g.decls k ≡ Some e → d.name ≡ e.name → n ≡ k
 one_place found g scoped n k d e a b same = found.distinct g scoped n k d.name (name_at g.decls n d a) (name_at g.decls k e b ∙ ap Some (sym same))
-
-map_twice : {X Y : Type 0} (f : X → Y) (r : Y → X) → ((x : X) → r (f x) ≡ x) → (xs : List X) → map r (map f xs) ≡ xs
-map_twice f r e [] = refl
-map_twice f r e (x ∷ xs) = rw (e x, map_twice f r e xs) refl
-
-pub alternatives_by_level : (levels : List Level) → map (λ a. a.alternative) (by_level levels) ≡ alternatives levels
-alternatives_by_level [] = refl
-alternatives_by_level (level ∷ others) =
-    let f : Alt → Levelled = λ a. record { alternative = a; level = length others + 1; assoc = level.assoc } in
-    map-append (λ a. a.alternative) (map f level.alts) (by_level others) ∙
-    (rw (map_twice f (λ a. a.alternative) (λ x. refl) level.alts, alternatives_by_level others) refl)
-
-pub alternative_at : (levels : List Level) (k : ℕ) (a : Levelled) → slice_get (by_level levels) k ≡ Some a → slice_get (alternatives levels) k ≡ Some a.alternative
-alternative_at levels k a h =
-    ap (λ xs. slice_get xs k) (sym (alternatives_by_level levels)) ∙ slice_get-map (λ a. a.alternative) (by_level levels) k ∙ ap (option_map (λ a. a.alternative)) h
 
 module _ (found : DeclarationsAreFound) (c : CheckedGrammar) (prepared : IsPrepared c) where
   abbrev g : Grammar
@@ -77,25 +59,6 @@ module _ (found : DeclarationsAreFound) (c : CheckedGrammar) (prepared : IsPrepa
   -- a declaration that stands for the root
   pub root_of : (n : ℕ) (decl : Decl) → slice_get g.decls n ≡ Some decl → slice_get shapes n ≡ Some shape.Root → IsRoot g shapes n decl
   root_of n decl at shaped = let q = prepared.sound.fit.each n decl shape.Root at shaped in q.root refl
-
-  good : (b k : ℕ) (decl : Decl) (a : Levelled) → slice_get g.decls b ≡ Some decl → IsAlternative decl k a → (o : Occurrence) →
-      Contains (symbols_of decl a.alternative) o → IsGood g shapes decl.kind o.visible o.symbol
-  good b k decl a declared numbered o m =
-      let there = at_from_contains (symbols_of decl a.alternative) o m in
-      let at = alternative_at decl.levels numbered.0 a numbered.2 in
-      record {
-        fine = λ condition met. prepared.sound.scoped (record { decl = suc b; alt = suc numbered.0; symbol = suc there.0 }) condition
-            (decl, declared, (a.alternative, at, (o, there.1, met)));
-        uncalled = λ n root arguments e f.
-            let r = root_of n root e f in
-            r.uncalled decl a.alternative o arguments (contains_from_at g.decls b decl declared) (contains_from_at (alternatives decl.levels) numbered.0 a.alternative at) m;
-      }
-
-  -- each symbol of an alternative is so
-  pub all_good : (b k : ℕ) (decl : Decl) (a : Levelled) → slice_get g.decls b ≡ Some decl → IsAlternative decl k a →
-      PlacedSymbols (IsGood g shapes decl.kind) (gathered a.alternative.symbols) (parameters decl.params)
-  all_good b k decl a declared numbered =
-      placed_symbols (IsGood g shapes decl.kind) (gathered a.alternative.symbols) (parameters decl.params) (λ o m. good b k decl a declared numbered o m)
 
   -- a declaration of a marked grammar isn't plain
   pub marked_kind : (b : ℕ) (decl : Decl) → slice_get g.decls b ≡ Some decl → is_marked g.decls ≡ true → decl.kind ≢ Plain
@@ -128,14 +91,6 @@ module _ (found : DeclarationsAreFound) (c : CheckedGrammar) (prepared : IsPrepa
       let o = everywhere (LacksName column_name) g prepared.column.symbols b k decl a at numbered in
       (m n d within, f n d within, o n d within)
 
-  pub all_fit : (b k : ℕ) (decl : Decl) (a : Levelled) → slice_get g.decls b ≡ Some decl → IsAlternative decl k a →
-      AreFit s decl.kind (gathered a.alternative.symbols)
-  all_fit b k decl a at numbered =
-      symbols_fit found g shapes counted place decl.kind (marked_kind b decl at) (gathered a.alternative.symbols) (parameters decl.params)
-      (all_good b k decl a at numbered)
-      (all_both (LacksAdded s) (MayBlock found g shapes counted place decl.kind) (subterms_of_symbols (gathered a.alternative.symbols))
-      (all_lack b k decl a at numbered) (may_block b k decl a at numbered))
-
   pub parameters_written : (b : ℕ) (decl : Decl) → slice_get g.decls b ≡ Some decl → AreWritten s decl.params
   parameters_written b decl at =
       let m = contains_from_at g.decls b decl at in
@@ -146,14 +101,43 @@ module _ (found : DeclarationsAreFound) (c : CheckedGrammar) (prepared : IsPrepa
         not_c = λ e. prepared.column.parameters decl m (subst (Contains (map (λ p. p.name) decl.params)) e has);
       })
 
-  pub ready : RootAt c → IsReady g shapes
-  ready at =
-      record {
-        distinct = found.distinct g prepared.sound.scoped;
-        as_many = counted;
-        params = parameters_written;
-        well = λ n d k a declared numbered. everywhere IsPlaced g prepared.sound.well n k d a declared numbered;
-        fit = λ n d k a declared numbered. all_fit n k d a declared numbered;
-        layout_no_root = λ n d declared kind shaped. let q = root_of n d declared shaped in q.no_layout kind;
-        rooted = (at.decl.name, at.before, at.decl, at.start, at.declared, refl, at.shaped);
-      }
+  module _ (ask : SymbolsAsk) where
+    good : (b k : ℕ) (decl : Decl) (a : Levelled) → slice_get g.decls b ≡ Some decl → IsAlternative decl k a → (o : Occurrence) →
+        Contains (symbols_of decl a.alternative) o → IsGood g shapes decl.kind o.visible o.symbol
+    good b k decl a declared numbered o m =
+        let there = at_from_contains (symbols_of decl a.alternative) o m in
+        let at = alternative_at decl.levels numbered.0 a numbered.2 in
+        record {
+          asks = ask.asks g.decls decl.kind o.visible o.symbol (λ condition met.
+              prepared.sound.scoped (record { decl = suc b; alt = suc numbered.0; symbol = suc there.0 }) condition
+              (decl, declared, (a.alternative, at, (o, there.1, met))));
+          uncalled = λ n root arguments e f.
+              let r = root_of n root e f in
+              r.uncalled decl a.alternative o arguments (contains_from_at g.decls b decl declared) (contains_from_at (alternatives decl.levels) numbered.0 a.alternative at) m;
+        }
+
+    -- each symbol of an alternative is so
+    pub all_good : (b k : ℕ) (decl : Decl) (a : Levelled) → slice_get g.decls b ≡ Some decl → IsAlternative decl k a →
+        PlacedSymbols (IsGood g shapes decl.kind) (gathered a.alternative.symbols) (parameters decl.params)
+    all_good b k decl a declared numbered =
+        placed_symbols (IsGood g shapes decl.kind) (gathered a.alternative.symbols) (parameters decl.params) (λ o m. good b k decl a declared numbered o m)
+
+    pub all_fit : (b k : ℕ) (decl : Decl) (a : Levelled) → slice_get g.decls b ≡ Some decl → IsAlternative decl k a →
+        AreFit s decl.kind (gathered a.alternative.symbols)
+    all_fit b k decl a at numbered =
+        symbols_fit found g shapes counted place decl.kind (marked_kind b decl at) (gathered a.alternative.symbols) (parameters decl.params)
+        (all_good b k decl a at numbered)
+        (all_both (LacksAdded s) (MayBlock found g shapes counted place decl.kind) (subterms_of_symbols (gathered a.alternative.symbols))
+        (all_lack b k decl a at numbered) (may_block b k decl a at numbered))
+
+    pub ready : RootAt c → IsReady g shapes
+    ready at =
+        record {
+          distinct = found.distinct g prepared.sound.scoped;
+          as_many = counted;
+          params = parameters_written;
+          well = λ n d k a declared numbered. everywhere IsPlaced g prepared.sound.well n k d a declared numbered;
+          fit = λ n d k a declared numbered. all_fit n k d a declared numbered;
+          layout_no_root = λ n d declared kind shaped. let q = root_of n d declared shaped in q.no_layout kind;
+          rooted = (at.decl.name, at.before, at.decl, at.start, at.declared, refl, at.shaped);
+        }

@@ -8,7 +8,7 @@ use Rattle.ig_grammar.specs.Checked.{CheckedGrammar, FitShapes, FitsShape, IsRoo
 use Rattle.ig_grammar.specs.Condition.{symbols_of}
 use Rattle.ig_grammar.specs.Numbering.{alternatives}
 use Rattle.ig_grammar.specs.Symbol.{Symbol, Call, Seq, Symbols, no_symbols, next_symbol, gathered, listed}
-use Rattle.ig_grammar.specs.Visible.{Occurrence, parameters}
+use Rattle.ig_grammar.specs.Visible.{Occurrence}
 use Rattle.ig_grammar.specs.declared.declaration.DeclKind.{DeclKind}
 use Rattle.ig_grammar.specs.declared.declaration.DeclKind.TheVariants.{Syntax, Lexical, Layout, Plain}
 use Rattle.ig_grammar.specs.declared.declaration.Decl.{Decl}
@@ -17,20 +17,21 @@ use Rattle.ig_grammar.specs.declared.grammar.Grammar.{Grammar}
 use Rattle.ig_grammar.specs.declared.place.Shape.{Shape}
 use Rattle.ig_grammar.specs.declared.place.Shape.TheVariants as shape
 use Rattle.ig_grammar.specs.declared.symbol.Alt.{Alt}
+use Rattle.ig_rewrite.specs.Asked.{SymbolsAsk, AsksElsewhere}
 use Rattle.ig_rewrite.specs.Found.{DeclarationsAreFound}
 use Rattle.ig_blocks.specs.Setting.{Setting, Pair, lacking, wrapped}
 use Rattle.ig_blocks.specs.Body.{call_tests, tests_of, body_of, sequence_of}
 use Rattle.ig_blocks.specs.Blocks.{setting_of, symbols_by, alternative_by, level_by, lowered_declaration, lowered_declarations, lowered_grammar}
-use Rattle.ig_rewrite.specs.Throughout.{of_placed_symbols}
-use Rattle.ig_blocks.proofs.Heads.{IsSoundAt}
-use Rattle.ig_blocks.proofs.Located.{made_alternative, among_alternatives}
+use Rattle.ig_blocks.proofs.Located.{made_alternative}
+use Rattle.ig_rewrite.specs.EachLevel.{in_levels}
+use Rattle.ig_text.proofs.Lists.{at_from_contains}
 use Rattle.ig_blocks.proofs.Rooting.{IsPrepared}
 use Rattle.ig_blocks.proofs.Readiness.{root_of}
 use Rattle.ig_blocks.proofs.Taking.{zip_back}
-use Rattle.ig_blocks.proofs.Permitting.{pair_at, levels_are, made_of}
-use Rattle.ig_blocks.proofs.Whole.{alternative_sound}
+use Rattle.ig_blocks.proofs.Permitting.{pair_at, levels_are}
+use Rattle.ig_blocks.proofs.Whole.{sound_there}
 
-length_lowered : (s : Setting) (shapes : List Shape) (ds : List Decl) → length shapes ≡ length ds → length (lowered_declarations s shapes ds) ≡ length ds
+pub length_lowered : (s : Setting) (shapes : List Shape) (ds : List Decl) → length shapes ≡ length ds → length (lowered_declarations s shapes ds) ≡ length ds
 length_lowered s [] [] e = refl
 length_lowered s [] (d ∷ ds) e = absurd (omega (arith, e))
 length_lowered s (x ∷ shapes) [] e = refl
@@ -79,7 +80,7 @@ module _ (s : Setting) where
   pub all_kept : (P : Symbol → Type 0) → ((x : Symbol) → P x → P (written x)) → (xs : List Symbol) → All P xs → All P (symbols_by s lacking xs)
   all_kept P f xs all = each_kept P f (gathered xs) (subst (All P) (sym (listed_back xs)) all)
 
-module _ (found : DeclarationsAreFound) (c : CheckedGrammar) (prepared : IsPrepared c) where
+module _ (ask : SymbolsAsk) (elsewhere : AsksElsewhere) (found : DeclarationsAreFound) (c : CheckedGrammar) (prepared : IsPrepared c) where
   abbrev g : Grammar
   g = c.grammar
 
@@ -97,20 +98,13 @@ module _ (found : DeclarationsAreFound) (c : CheckedGrammar) (prepared : IsPrepa
       ((a : Alt) → Contains (alternatives d.levels) a → All P a.symbols) → (a : Alt) → Contains (alternatives (lowered_declaration s shape.Root d).levels) a → All P a.symbols
   root_alternatives P f d each a m =
       let r = made_alternative s lacking d.levels a m in
-      subst (λ (z : Alt). All P z.symbols) r.4 (all_kept s P f r.1.symbols (each r.1 (among_alternatives d.levels r.0 r.1 r.2 r.3)))
+      subst (λ (z : Alt). All P z.symbols) r.4 (all_kept s P f r.1.symbols (each r.1 (in_levels d.levels r.0 r.1 r.2 r.3)))
 
   uncalled : (n : ℕ) (root : Decl) → slice_get g.decls n ≡ Some root → slice_get shapes n ≡ Some shape.Root → (other : Decl) (a : Alt) (o : Occurrence) (arguments : List Expression) →
       Contains h.decls other → Contains (alternatives other.levels) a → Contains (symbols_of other a) o → o.symbol ≢ Call root.name arguments
   uncalled n root at shaped other a o arguments among has occurs =
-      let z = made_of s shapes g.decls other among in
-      let d = z.1 in
-      let p = pair_at s d.shape d.d in
-      let r = made_alternative s p d.d.levels a (subst (λ ls. Contains (alternatives ls) a) (levels_are s d.shape d.d) (subst (λ (q : Decl). Contains (alternatives q.levels) a) (sym d.made) has)) in
-      let there : Contains (symbols_of (lowered_declaration s d.shape d.d) (alternative_by s p r.1)) o =
-      subst (λ q. Contains (symbols_of (lowered_declaration s d.shape d.d) q) o) (sym r.4) (subst (λ q. Contains (symbols_of q a) o) (sym d.made) occurs) in
-      let sound = of_placed_symbols (IsSoundAt g shapes h.decls d.d.kind) (gathered (alternative_by s p r.1).symbols) (parameters (lowered_declaration s d.shape d.d).params)
-      (alternative_sound found c prepared z.0 d.shape d.d r.0 r.1 d.has r.2 r.3) o there in
-      sound.uncalled n root arguments at shaped
+      let k = at_from_contains h.decls other among in
+      let sound = sound_there ask elsewhere found c prepared k.0 other a k.1 has o occurs in sound.uncalled n root arguments at shaped
 
   root_kept : (n : ℕ) (d : Decl) → slice_get g.decls n ≡ Some d → slice_get shapes n ≡ Some shape.Root → IsRoot h shapes n (lowered_declaration s shape.Root d)
   root_kept n d at shaped =

@@ -17,21 +17,23 @@ use Rattle.ig_grammar.specs.declared.declaration.Decl.{Decl}
 use Rattle.ig_grammar.specs.declared.grammar.Grammar.{Grammar}
 use Rattle.ig_grammar.specs.declared.place.Shape.{Shape}
 use Rattle.ig_rewrite.specs.Added.{margin_name, first_name, column_name}
+use Rattle.ig_rewrite.specs.Asked.{IsNew, IsKinded, AsksElsewhere}
 use Rattle.ig_rewrite.specs.Found.{DeclarationsAreFound}
 use Rattle.ig_rewrite.specs.Needs.{is_pair, needs, alternatives_need, AreWanted, IsEntered}
 use Rattle.ig_blocks.specs.Setting.{Setting, Pair, lacking, carried, opened, cleared, opened_by, cleared_by, inner, pair_bindings, column_bindings, column_guards, extra, m_of, f_of, wrapped}
 use Rattle.ig_blocks.specs.Body.{tests_of, arguments_of, body_of, sequence_of, choices_of}
 use Rattle.ig_blocks.specs.Blocks.{setting_of, lowered_declarations}
-use Rattle.ig_blocks.proofs.Reading.{AreApart, BindingsRead}
-use Rattle.ig_blocks.proofs.Parts.{own_part, inner_parts, parts_of_symbols, parts_of_alternatives, all_also, contains_first}
+use Rattle.ig_blocks.proofs.Reading.{AreApart, BindingsRead, IsWritten, Reads}
+use Rattle.ig_blocks.proofs.Parts.{own_part, inner_parts, parts_of_symbols, parts_of_alternatives, all_also}
+use Rattle.ig_text.proofs.Lists.{contains_first}
 use Rattle.ig_rewrite.specs.Throughout.{Placed, PlacedSymbols, PlacedChoices}
 use Rattle.ig_blocks.proofs.Suiting.{IsGood, LacksAdded, binder_written, read_in, arguments_read, entry_read}
 use Rattle.ig_blocks.proofs.Forms.{label_form, filters_form, sign_form, separated_form, entry_form, tests_are, column_tests_are, wrapped_sign, wrapped_separated, wrapped_bound, bound_kept}
-use Rattle.ig_blocks.proofs.Sights.{Sight, IsPair, opened_pair, pair_cleared, sight_joined, HasColumn, kind_same}
+use Rattle.ig_blocks.proofs.Sights.{SeeSame, Sight, IsPair, opened_pair, pair_cleared, sight_joined, HasColumn, kind_same}
 use Rattle.ig_blocks.proofs.Boxing.{box_sight, entry_sight}
 use Rattle.ig_blocks.proofs.Wanting.{needs_kept, pair_unbound, unbound_more}
-use Rattle.ig_blocks.proofs.Meeting.{AllTyped, both_typed, pair_typed, expression_typed, guard_fine, let_fine, label_fine, entry_fine}
-use Rattle.ig_blocks.proofs.Calling.{call_fine, arguments_are}
+use Rattle.ig_blocks.proofs.Meeting.{AllKinded, both_kinded, pair_kinded}
+use Rattle.ig_blocks.proofs.Calling.{call_asks, arguments_are}
 use Rattle.ig_blocks.proofs.Heads.{IsSoundAt, quiet_sound, tests_sound, column_sound, wrapped_sound, wrapped_binds, entered_sound, entered_binds, box_sound, flat_join, extra_plain, bindings_plain}
 
 -- a list, an option or a group wants the pair
@@ -44,7 +46,7 @@ pair_wanted n e (SepPlus x separator) h = ap (λ z. z || (needs n x || needs n s
 pair_wanted n e (Group choices) h = ap (λ z. z || alternatives_need n choices) e
 pair_wanted n e y h = absurd h
 
-module _ (found : DeclarationsAreFound) (g : Grammar) (shapes : List Shape) (counted : length shapes ≡ length g.decls)
+module _ (elsewhere : AsksElsewhere) (found : DeclarationsAreFound) (g : Grammar) (shapes : List Shape) (counted : length shapes ≡ length g.decls)
     (place : (n k : ℕ) (d e : Decl) → slice_get g.decls n ≡ Some d → slice_get g.decls k ≡ Some e → d.name ≡ e.name → n ≡ k)
     (apart : AreApart (setting_of g.decls shapes)) (c : DeclKind) where
   abbrev s : Setting
@@ -110,7 +112,7 @@ module _ (found : DeclarationsAreFound) (g : Grammar) (shapes : List Shape) (cou
       Sound w (Call name (arguments_of s p (s.kind_of name) arguments))
   call_sound name arguments p v w sight good info =
       record {
-        fine = call_fine found g shapes counted place c p v w sight.seen sight.pair name arguments (arguments_read s name arguments info.0) good;
+        asks = call_asks elsewhere found g shapes counted place c p v w sight.seen sight.pair name arguments (arguments_read s name arguments info.0) good;
         unmarked = tt;
         uncalled = λ n decl others at root e. good.uncalled n decl arguments at root (call_named name decl.name (arguments_of s p (s.kind_of name) arguments) others arguments e);
         placed = arguments_plain p w sight.pair name arguments info.1;
@@ -120,10 +122,16 @@ module _ (found : DeclarationsAreFound) (g : Grammar) (shapes : List Shape) (cou
       call_named : (a d : List ℕ) (xs ys zs : List Expression) → Call a xs ≡ Call d ys → Call a zs ≡ Call d zs
       call_named a d xs ys zs e = let same : a ≡ d = cc in ap (λ z. Call z zs) same
 
+  still_new : (name : List ℕ) (v w : Visible) → SeeSame s v w → IsWritten s name → IsNew v name → IsNew w name
+  still_new name v w seen written new = elsewhere.still_new v w name (sym (seen.same name written)) new
+
+  kinded_still : (v w : Visible) → SeeSame s v w → (e : Expression) → Reads s e → IsKinded v e → IsKinded w e
+  kinded_still v w seen e read kinded = (kinded.0, sym (kind_same s v w seen e read) ∙ kinded.1)
+
   guard_sound : (e : Expression) (p : Pair) (v w : Visible) → Sight s p v w → Good v (Guard e) → Info (Guard e) → Sound w (Guard e)
   guard_sound e p v w sight good info =
       record {
-        fine = guard_fine s g.decls c v w sight.seen lowered e (read_in s (Guard e) e info.0 (contains_first e [])) good.fine;
+        asks = sym (kind_same s v w sight.seen e (read_in s (Guard e) e info.0 (contains_first e []))) ∙ good.asks;
         unmarked = tt;
         uncalled = λ n decl arguments at root f. cc;
         placed = info.1;
@@ -133,8 +141,10 @@ module _ (found : DeclarationsAreFound) (g : Grammar) (shapes : List Shape) (cou
   let_sound : (name : List ℕ) (e : Expression) (p : Pair) (v w : Visible) → Sight s p v w → Good v (Let name e) → Info (Let name e) → Sound w (Let name e)
   let_sound name e p v w sight good info =
       record {
-        fine = let_fine s g.decls c v w sight.seen lowered name e (binder_written s (Let name e) name info.0 (contains_first name []))
-            (read_in s (Let name e) e info.0 (contains_first e [])) good.fine;
+        asks = (
+          still_new name v w sight.seen (binder_written s (Let name e) name info.0 (contains_first name [])) good.asks.0,
+          kinded_still v w sight.seen e (read_in s (Let name e) e info.0 (contains_first e [])) good.asks.1,
+        );
         unmarked = tt;
         uncalled = λ n decl arguments at root f. cc;
         placed = info.1;
@@ -145,8 +155,7 @@ module _ (found : DeclarationsAreFound) (g : Grammar) (shapes : List Shape) (cou
       Sound w (Label name (body_of s false p x))
   label_sound name x p v w sight good all =
       record {
-        fine = label_fine s g.decls c v w sight.seen lowered name x (body_of s false p x)
-            (binder_written s (Label name x) name (lacks_of (Label name x) all) (contains_first name [])) good.fine;
+        asks = still_new name v w sight.seen (binder_written s (Label name x) name (lacks_of (Label name x) all) (contains_first name [])) good.asks;
         unmarked = tt;
         uncalled = λ n decl arguments at root f. cc;
         placed = (All-nil HasNoEmptyLiteral, label_form s x false p (all_placed x (inner_parts Info (Label name x) all)) (round_of (Label name x) all));
@@ -175,11 +184,10 @@ module _ (found : DeclarationsAreFound) (g : Grammar) (shapes : List Shape) (cou
       let read = entry_read s bs x own.0 in
       let form = entry_form s x p own.1.1 in
       record {
-        fine = entry_fine lowered c s w (bs ++ pair_bindings s p) (body_of s false (inner p) x)
-            (subst (AllTyped s w) (sym (map-append (λ b. b.value) bs (pair_bindings s p)))
-            (both_typed s w (map (λ b. b.value) bs) (map (λ b. b.value) (pair_bindings s p))
-            (λ e m. expression_typed s g.decls c v w sight.seen (Entry bs x) good.fine e m (read_in s (Entry bs x) e own.0 m))
-            (pair_typed s w p sight.pair)));
+        asks = subst (AllKinded w) (sym (map-append (λ b. b.value) bs (pair_bindings s p)))
+            (both_kinded w (map (λ b. b.value) bs) (map (λ b. b.value) (pair_bindings s p))
+            (λ e m. kinded_still v w sight.seen e (read_in s (Entry bs x) e own.0 m) (good.asks e m))
+            (pair_kinded s w p sight.pair));
         unmarked = tt;
         uncalled = λ n decl arguments at root f. cc;
         placed = (plain own.1.0, form);

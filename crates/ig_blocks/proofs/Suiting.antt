@@ -10,7 +10,7 @@ use Rattle.ig_text.specs.Words.{is_word}
 use Rattle.ig_expr.specs.Expression.{Expression}
 use Rattle.ig_expr.specs.Expression as expression
 use Rattle.ig_grammar.specs.Binding.{Binding}
-use Rattle.ig_grammar.specs.Condition.{Condition, IsListed, SymbolMeets, IsInLexical, declaration_of, expressions, variables}
+use Rattle.ig_grammar.specs.Condition.{IsInLexical, declaration_of, expressions, variables}
 use Rattle.ig_grammar.specs.Condition as meets
 use Rattle.ig_grammar.specs.Subterms.{subterms, subterms_of_symbols, subterms_of_alternatives}
 use Rattle.ig_grammar.specs.Symbol.{Symbol, Literal, OneOf, Call, Label, Guard, Let, Opt, Star, Plus, SepStar, SepPlus, Group, Offside, Ignore, Align, Filtered, Seq, Entry}
@@ -23,7 +23,9 @@ use Rattle.ig_grammar.specs.declared.declaration.Param.{Param}
 use Rattle.ig_grammar.specs.declared.grammar.Grammar.{Grammar}
 use Rattle.ig_grammar.specs.declared.place.Shape.{Shape}
 use Rattle.ig_grammar.specs.declared.place.Shape.TheVariants as shape
+use Rattle.ig_rewrite.specs.Asked.{Asks}
 use Rattle.ig_rewrite.specs.Found.{DeclarationsAreFound}
+use Rattle.std.proofs.lemmas.Option.{same_Some}
 use Rattle.ig_rewrite.specs.Rooted.{is_root}
 use Rattle.ig_rewrite.specs.Unbound.{LacksName, own_binders, own_variables}
 use Rattle.ig_blocks.specs.Setting.{Setting}
@@ -31,7 +33,8 @@ use Rattle.ig_blocks.specs.Blocks.{is_marked, kind_called, setting_of}
 use Rattle.ig_blocks.proofs.Reading.{IsWritten, Reads, AllRead, BindingsRead}
 use Rattle.ig_blocks.proofs.Fitting.{IsKnown, IsFit, AreFit, AreFitChoices}
 use Rattle.ig_blocks.proofs.Takes.{AreWritten}
-use Rattle.ig_blocks.proofs.Parts.{contains_first, contains_later, own_part, inner_parts, parts_of_symbols, parts_of_alternatives}
+use Rattle.ig_blocks.proofs.Parts.{own_part, inner_parts, parts_of_symbols, parts_of_alternatives}
+use Rattle.ig_text.proofs.Lists.{contains_first, contains_later}
 use Rattle.ig_rewrite.specs.Throughout.{Placed, PlacedSymbols, PlacedChoices}
 use Rattle.ig_blocks.proofs.Looking.{if_true, if_false}
 use Rattle.ig_blocks.proofs.Taking.{called_from, root_or_not}
@@ -109,14 +112,6 @@ module _ (s : Setting) where
       bindings_read s bs (λ b m.
       (binder_written s (Entry bs x) b.name l (mapped (λ d. d.name) bs b m), read_in (Entry bs x) b.value l (mapped (λ d. d.value) bs b m)))
 
-listed_by : (x : Symbol) → ((IsListed x → ⊥) → ⊥) → IsListed x
-listed_by (Star x) f = tt
-listed_by (Plus x) f = tt
-listed_by (SepStar x separator) f = tt
-listed_by (SepPlus x separator) f = tt
-listed_by (Filtered x filters) f = listed_by x f
-listed_by x f = absurd (f (λ h. h))
-
 is_syntax : (c : DeclKind) → (IsInLexical c → ⊥) → c ≢ Plain → c ≡ Syntax
 is_syntax Syntax f h = refl
 is_syntax Lexical f h = absurd (f tt)
@@ -139,9 +134,9 @@ module _ (found : DeclarationsAreFound) where
       go false t f later =
           let r = later (sym (if_false (is_word x.name name) (Some x) (declaration_of ds name) t) ∙ f) in (suc r.0, r.1, r.2)
 
--- a symbol at which no condition holds, and that calls no declaration that stands for the root
+-- a symbol that gets what it asks, and that calls no declaration that stands for the root
 pub record IsGood (g : Grammar) (shapes : List Shape) (c : DeclKind) (v : Visible) (x : Symbol) : Type 0 where
-  pub fine : (k : Condition) → SymbolMeets g.decls c v x k → ⊥
+  pub asks : Asks g.decls c v x
   pub uncalled : (n : ℕ) (decl : Decl) (arguments : List Expression) → slice_get g.decls n ≡ Some decl → slice_get shapes n ≡ Some shape.Root →
       x ≢ Call decl.name arguments
 
@@ -153,8 +148,10 @@ module _ (found : DeclarationsAreFound) (g : Grammar) (shapes : List Shape) (cou
   into : (c : DeclKind) (v : Visible) (name : List ℕ) (arguments : List Expression) (d : Decl) → IsGood g shapes c v (Call name arguments) →
       declaration_of g.decls name ≡ Some d → (is_marked g.decls ≡ true → c ≢ Plain) → is_marked g.decls ≡ true → d.kind ≡ Syntax → c ≡ Syntax
   into Syntax v name arguments d good e plain marked k = refl
-  into Lexical v name arguments d good e plain marked k = absurd (good.fine meets.SyntaxInLexical (meets.syntax_in_lexical name arguments d tt e k))
-  into Layout v name arguments d good e plain marked k = absurd (good.fine meets.SyntaxInLexical (meets.syntax_in_lexical name arguments d tt e k))
+  into Lexical v name arguments d good e plain marked k =
+      let asks = good.asks in absurd (asks.allowed tt (ap (λ (z : Decl). z.kind) (same_Some asks.callee d (sym asks.declared ∙ e)) ∙ k))
+  into Layout v name arguments d good e plain marked k =
+      let asks = good.asks in absurd (asks.allowed tt (ap (λ (z : Decl). z.kind) (same_Some asks.callee d (sym asks.declared ∙ e)) ∙ k))
   into Plain v name arguments d good e plain marked k = absurd (plain marked refl)
 
   -- a called declaration doesn't stand for the root
@@ -175,7 +172,7 @@ module _ (found : DeclarationsAreFound) (g : Grammar) (shapes : List Shape) (cou
   known c v name arguments good plain = go (declaration_of g.decls name) refl
     where
       go : (o : Option Decl) → declaration_of g.decls name ≡ o → IsKnown s c name
-      go None e = absurd (good.fine meets.UnknownName (meets.unknown_name name arguments e))
+      go None e = let asks = good.asks in let clash : Some asks.callee ≡ None = sym asks.declared ∙ e in absurd (cc)
       go (Some d) e = (d.kind, called_kind c v name arguments d good e, λ marked k. into c v name arguments d good e plain marked k)
 
   -- where an `offside` may stand
@@ -213,10 +210,10 @@ module _ (found : DeclarationsAreFound) (g : Grammar) (shapes : List Shape) (cou
       fits (Group choices) v p all = choices_fit choices v p.1 (inner_parts (Facts c) (Group choices) all)
       fits (Offside x) v p all =
           let own = own_part (Facts c) (Offside x) all in
-          (is_syntax c (λ l. p.0.fine meets.MarkInLexical (meets.offside_in_lexical x l)) own.1.1, own.1.0, fits x v p.1 (inner_parts (Facts c) (Offside x) all))
+          (is_syntax c p.0.asks own.1.1, own.1.0, fits x v p.1 (inner_parts (Facts c) (Offside x) all))
       fits (Ignore x) v p all = fits x v p.1 (inner_parts (Facts c) (Ignore x) all)
       fits (Align x) v p all =
-          (listed_by x (λ f. p.0.fine meets.AlignNotList (meets.align_not_list x f)), fits x v p.1 (inner_parts (Facts c) (Align x) all))
+          (p.0.asks.0, fits x v p.1 (inner_parts (Facts c) (Align x) all))
       fits (Filtered x filters) v p all = fits x v p.1 (inner_parts (Facts c) (Filtered x filters) all)
       fits (Seq xs) v p all = symbols_fit xs v p.1 (inner_parts (Facts c) (Seq xs) all)
       fits (Entry bindings x) v p all =

@@ -1,16 +1,15 @@
 -- Each alternative of the lowered grammar is sound.
-use Rattle.std.proofs.Common.{◌≡◌, ◌≢◌, ◌∙◌, ℕ, suc, Bool, true, false, List, [], ◌∷◌, ◌++◌, map, length, Option, Some, None, refl, sym, ap, subst, if◌then◌else◌}
+use Rattle.std.proofs.Common.{◌≡◌, ◌≢◌, ◌∙◌, ℕ, suc, Bool, true, false, List, [], ◌∷◌, ◌++◌, length, Option, Some, None, refl, sym, ap, subst, if◌then◌else◌}
 use Rattle.std.specs.Prelude.{All, Contains, slice_get}
 use Rattle.std.proofs.lemmas.List.{map-append, append-nil}
 use Rattle.ig_text.proofs.Lists.{at_from_contains, contains_from_at}
 use Rattle.ig_text.specs.Words.{is_word}
 use Rattle.ig_expr.specs.declared.kind.Kind.TheVariants as kind
-use Rattle.ig_grammar.specs.Alternative.{gathered_alternatives}
 use Rattle.ig_grammar.specs.Checked.{CheckedGrammar}
 use Rattle.ig_grammar.specs.Condition.{symbols_of}
 use Rattle.ig_grammar.specs.Numbering.{alternatives}
 use Rattle.ig_grammar.specs.Regular.{IsPlaced}
-use Rattle.ig_grammar.specs.Subterms.{subterms_of_symbols, subterms_of_alternatives}
+use Rattle.ig_grammar.specs.Subterms.{subterms_of_symbols}
 use Rattle.ig_grammar.specs.Symbol.{Symbol, gathered}
 use Rattle.ig_grammar.specs.Visible.{Visible, Occurrence, parameters}
 use Rattle.ig_grammar.specs.declared.declaration.Decl.{Decl}
@@ -20,26 +19,29 @@ use Rattle.ig_grammar.specs.declared.grammar.Grammar.{Grammar}
 use Rattle.ig_grammar.specs.declared.place.Shape.{Shape}
 use Rattle.ig_grammar.specs.declared.symbol.Alt.{Alt}
 use Rattle.ig_rewrite.specs.Added.{margin_name, first_name, column_name}
+use Rattle.ig_rewrite.specs.Asked.{SymbolsAsk, AsksElsewhere}
 use Rattle.ig_rewrite.specs.Found.{DeclarationsAreFound}
 use Rattle.ig_rewrite.specs.Needs.{IsEntered}
 use Rattle.ig_rewrite.specs.Rooted.{is_root}
 use Rattle.ig_rewrite.specs.Unbound.{LacksName}
 use Rattle.ig_blocks.specs.Setting.{Setting, lacking, carried, pair_for, pair_by, extra_by}
-use Rattle.ig_blocks.specs.Blocks.{setting_of, int_param, alternative_by, level_by, declaration_by, root_by, lowered_declaration, lowered_declarations}
+use Rattle.ig_blocks.specs.Blocks.{setting_of, int_param, alternative_by, declaration_by, root_by, lowered_declaration, lowered_declarations}
 use Rattle.ig_blocks.proofs.Reading.{IsWritten, AreApart}
 use Rattle.ig_blocks.proofs.Takes.{AreWritten}
 use Rattle.ig_blocks.proofs.Looking.{find, find_cons, or_else, if_true, if_false, same_word, other_word}
 use Rattle.ig_blocks.proofs.Gathering.{gathered_by}
 use Rattle.ig_rewrite.specs.Throughout.{PlacedSymbols}
-use Rattle.ig_rewrite.specs.Throughout.{placed_symbols}
+use Rattle.ig_rewrite.specs.Throughout.{placed_symbols, of_placed_symbols}
 use Rattle.ig_blocks.proofs.Suiting.{IsGood}
 use Rattle.ig_blocks.proofs.Sights.{Sight, no_pair, handed_pair, find_join}
 use Rattle.ig_blocks.proofs.Heads.{IsSoundAt}
 use Rattle.ig_blocks.proofs.Sounding.{Info, symbols_sound}
-use Rattle.ig_blocks.proofs.Located.{among_alternatives, in_alternative, of_alternatives, symbols_of_placed, back_from}
+use Rattle.ig_blocks.proofs.Located.{made_alternative}
+use Rattle.ig_rewrite.specs.EachLevel.{in_levels, in_alternative}
 use Rattle.ig_blocks.proofs.Rooting.{IsPrepared}
 use Rattle.ig_blocks.proofs.Readiness.{one_place, root_of, parameters_written}
-use Rattle.ig_blocks.proofs.Permitting.{apart, pair_at, levels_are, made_of}
+use Rattle.ig_blocks.proofs.Permitting.{apart, pair_at, levels_are}
+use Rattle.ig_blocks.proofs.Taking.{zip_back, kind_kept}
 
 or_none : {A : Type 0} (o : Option A) → or_else o None ≡ o
 or_none None = refl
@@ -83,7 +85,7 @@ module _ (s : Setting) where
       } in
       subst (λ z. Sight s carried v z) (sym (map-append (λ (p : Param). (p.name, p.kind)) ps (int_param s.m ∷ int_param s.f ∷ []))) there
 
-module _ (found : DeclarationsAreFound) (c : CheckedGrammar) (prepared : IsPrepared c) where
+module _ (ask : SymbolsAsk) (elsewhere : AsksElsewhere) (found : DeclarationsAreFound) (c : CheckedGrammar) (prepared : IsPrepared c) where
   abbrev g : Grammar
   g = c.grammar
 
@@ -115,19 +117,21 @@ module _ (found : DeclarationsAreFound) (c : CheckedGrammar) (prepared : IsPrepa
           let k = at_from_contains (alternatives d.levels) a m in
           let there = at_from_contains (symbols_of d a) o h in
           record {
-            fine = λ condition met. prepared.sound.scoped (record { decl = suc n; alt = suc k.0; symbol = suc there.0 }) condition (d, at, (a, k.1, (o, there.1, met)));
+            asks = ask.asks g.decls d.kind o.visible o.symbol (λ condition met.
+                prepared.sound.scoped (record { decl = suc n; alt = suc k.0; symbol = suc there.0 }) condition (d, at, (a, k.1, (o, there.1, met))));
             uncalled = λ j root arguments e f. let r = root_of found c prepared j root e f in r.uncalled d a o arguments (contains_from_at g.decls n d at) m h;
           }
 
   info : (n : ℕ) (d : Decl) (level : Level) (a : Alt) → slice_get g.decls n ≡ Some d → Contains d.levels level → Contains level.alts a →
-      All (Info found g shapes counted place (apart g.decls shapes) d.kind) (subterms_of_symbols (gathered a.symbols))
+      All (Info elsewhere found g shapes counted place (apart g.decls shapes) d.kind) (subterms_of_symbols (gathered a.symbols))
   info n d level a at l m k e within =
       let here = contains_from_at g.decls n d at in
-      let margin = in_alternative (LacksName margin_name) level.alts a (prepared.margin.symbols d level here l) m in
-      let first = in_alternative (LacksName first_name) level.alts a (prepared.first.symbols d level here l) m in
-      let column = in_alternative (LacksName column_name) level.alts a (prepared.column.symbols d level here l) m in
-      let well = in_alternative IsPlaced level.alts a (prepared.sound.well d level here l) m in
-      let entered = in_alternative IsEntered level.alts a (prepared.sound.entered d level here l) m in
+      let among = in_levels d.levels level a l m in
+      let margin = in_alternative (LacksName margin_name) g prepared.margin.symbols d a here among in
+      let first = in_alternative (LacksName first_name) g prepared.first.symbols d a here among in
+      let column = in_alternative (LacksName column_name) g prepared.column.symbols d a here among in
+      let well = in_alternative IsPlaced g prepared.sound.well d a here among in
+      let entered = in_alternative IsEntered g prepared.sound.entered d a here among in
       ((margin k e within, first k e within, column k e within), well k e within, entered k e within)
 
   -- the parameters, and the pair
@@ -146,24 +150,21 @@ module _ (found : DeclarationsAreFound) (c : CheckedGrammar) (prepared : IsPrepa
   pub alternative_sound : (n : ℕ) (shape : Shape) (d : Decl) (level : Level) (a : Alt) → slice_get g.decls n ≡ Some d → Contains d.levels level → Contains level.alts a →
       PlacedSymbols (Sound d) (gathered (alternative_by s (pair_at s shape d) a).symbols) (parameters (lowered_declaration s shape d).params)
   alternative_sound n shape d level a at l m =
-      let r = symbols_sound found g shapes counted place (apart g.decls shapes) d.kind (gathered a.symbols) (pair_at s shape d) (parameters d.params)
-      (parameters (lowered_declaration s shape d).params) (sight_at n shape d at) (good n d a at (among_alternatives d.levels level a l m)) (info n d level a at l m) in
+      let r = symbols_sound elsewhere found g shapes counted place (apart g.decls shapes) d.kind (gathered a.symbols) (pair_at s shape d) (parameters d.params)
+      (parameters (lowered_declaration s shape d).params) (sight_at n shape d at) (good n d a at (in_levels d.levels level a l m)) (info n d level a at l m) in
       subst (λ z. PlacedSymbols (Sound d) z (parameters (lowered_declaration s shape d).params)) (sym (gathered_by s (pair_at s shape d) a.symbols)) r.0
 
-  -- what sound symbols have holds in each level
-  pub of_each_level : (P : Symbol → Type 0) → ((d : Decl) (w : Visible) (y : Symbol) → Sound d w y → P y) →
-      (decl : Decl) (level : Level) → Contains lowered decl → Contains decl.levels level → All P (subterms_of_alternatives (gathered_alternatives level.alts))
-  of_each_level P gives decl level m l =
-      let z = made_of s shapes g.decls decl m in
-      let d = z.1 in
-      let p = pair_at s d.shape d.d in
-      let there : Contains (map (level_by s p) d.d.levels) level =
-      subst (λ ls. Contains ls level) (levels_are s d.shape d.d) (subst (λ (q : Decl). Contains q.levels level) (sym d.made) l) in
-      let before = back_from (level_by s p) d.d.levels level there in
-      subst (λ (q : Level). All P (subterms_of_alternatives (gathered_alternatives q.alts))) before.2
-      (of_alternatives P (map (alternative_by s p) before.0.alts)
-      (λ b n.
-      let a = back_from (alternative_by s p) before.0.alts b n in
-      subst (λ (q : Alt). All P (subterms_of_symbols (gathered q.symbols))) a.2
-      (symbols_of_placed (Sound d.d) P (gives d.d) (gathered (alternative_by s p a.0).symbols) (parameters (lowered_declaration s d.shape d.d).params)
-      (alternative_sound z.0 d.shape d.d before.0 a.0 d.has before.1 a.1))))
+  -- so is each symbol of the lowered grammar
+  pub sound_there : (n : ℕ) (other : Decl) (b : Alt) → slice_get lowered n ≡ Some other → Contains (alternatives other.levels) b →
+      (o : Occurrence) → Contains (symbols_of other b) o → IsSoundAt g shapes lowered other.kind o.visible o.symbol
+  sound_there n other b at m =
+      let z = zip_back s shapes g.decls n other at in
+      let p = pair_at s z.shape z.d in
+      let r = made_alternative s p z.d.levels b
+      (subst (λ ls. Contains (alternatives ls) b) (levels_are s z.shape z.d) (subst (λ (q : Decl). Contains (alternatives q.levels) b) (sym z.made) m)) in
+      subst (λ (q : Decl). (o : Occurrence) → Contains (symbols_of q b) o → IsSoundAt g shapes lowered q.kind o.visible o.symbol) z.made
+      (subst (λ k. (o : Occurrence) → Contains (symbols_of (lowered_declaration s z.shape z.d) b) o → IsSoundAt g shapes lowered k o.visible o.symbol)
+      (sym (kind_kept s z.shape z.d))
+      (subst (λ a. (o : Occurrence) → Contains (symbols_of (lowered_declaration s z.shape z.d) a) o → Sound z.d o.visible o.symbol) r.4
+      (of_placed_symbols (Sound z.d) (gathered (alternative_by s p r.1).symbols) (parameters (lowered_declaration s z.shape z.d).params)
+      (alternative_sound n z.shape z.d r.0 r.1 z.has r.2 r.3))))

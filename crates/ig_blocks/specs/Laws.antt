@@ -9,14 +9,16 @@ use Rattle.ig_grammar.specs.declared.declaration.Decl.{Decl}
 use Rattle.ig_grammar.specs.declared.grammar.Grammar.{Grammar}
 use Rattle.ig_rewrite.specs.Added.{margin_name, first_name, column_name}
 use Rattle.ig_rewrite.specs.SameTrees.{PermitSame}
+use Rattle.ig_rewrite.specs.SameValues.{KeepsValues}
 use Rattle.ig_rewrite.specs.Sound.{IsSound, IsFree, IsUnmarked}
 use Rattle.ig_rewrite.specs.Unbound.{IsUnbound}
 use Rattle.ig_blocks.specs.Allowed.{start_value, innermost, inner_column, AreAround}
 use Rattle.ig_blocks.specs.Blocks.{BlocksOf}
 
--- without marks the grammar permits the same trees, and is as sound as it was
+-- without marks the grammar permits the same trees, with the same values, and is as sound as it was
 pub record KeptByBlocks (c : CheckedGrammar) : Type 0 where
   pub same : PermitSame c (BlocksOf c)
+  pub values : KeepsValues c (BlocksOf c)
   pub sound : IsSound (BlocksOf c)
   pub free : IsFree (BlocksOf c).grammar
   pub unmarked : IsUnmarked (BlocksOf c).grammar

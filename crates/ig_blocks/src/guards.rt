@@ -11,6 +11,7 @@ use crate::guide::{Guide, kind_of};
 use crate::pairs::{Pair, cleared_by, opened_by};
 use ig_expr::{Expr, Function, Op, Operand};
 use ig_grammar::{DeclKind, Symbol, Symbols};
+use ig_rewrite::push_symbol;
 use ig_text::Copied;
 use std::alloc::{AllocError, Global};
 
@@ -110,11 +111,4 @@ fn push_guard(guards: &mut Symbols, condition: Expr) -> Result<(), AllocError>
         guards.old ++ tree.Guard (expression_of condition) ∷ []) }
 {
     push_symbol(guards, Symbol::Guard(condition))
-}
-
-/// Adds the symbol at the end.
-pub(crate) fn push_symbol(all: &mut Symbols, symbol: Symbol) -> Result<(), AllocError>
-    ensures { OnOk result (all.new ≡ all.old ++ symbol_of symbol ∷ []) }
-{
-    all.push(symbol).map_err(|refused| refused.1)
 }

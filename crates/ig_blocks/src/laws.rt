@@ -2,9 +2,9 @@
 
 ghost use Rattle.ig_blocks.specs.Laws.{BlocksKeep, PairsTellOfBlocks};
 
-/// Without marks a grammar permits the same trees, and is as sound as it was, where levels are
-/// gone, the added names are new, and no plain declaration stands beside a mark. This law, proved
-/// of all such grammars, computes nothing.
+/// Without marks a grammar permits the same trees, with the same values, and is as sound as it was,
+/// where levels are gone, the added names are new, and no plain declaration stands beside a mark.
+/// This law, proved of all such grammars, computes nothing.
 pub fn blocks_keep()
     ensures { BlocksKeep }
 {
@@ -14,7 +14,9 @@ pub fn blocks_keep()
     ig_meaning::trees_without_operators_are_clean();
     ig_rewrite::declarations_are_found();
     ig_rewrite::added_names_are_new();
-    ig_rewrite::binders_are_counted();
+    ig_rewrite::symbols_ask();
+    ig_rewrite::asks_elsewhere();
+    ig_rewrite::results_are_ready();
     ig_rewrite::root_keeps();
     ig_rewrite::same_trees_is_an_equivalence();
 }

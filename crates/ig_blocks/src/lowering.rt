@@ -1,7 +1,7 @@
 //! What the pass makes of declarations and grammars.
-ghost use Rattle.std.specs.Prelude.{◌≡◌, [], ◌∷◌, ◌++◌, length, map, IfOk, OnOk};
+ghost use Rattle.std.specs.Prelude.{◌≡◌, ◌++◌, length, map, IfOk};
 ghost use Rattle.ig_rewrite.specs.Added.{margin_name, first_name, column_name};
-ghost use Rattle.ig_rewrite.specs.Rooted.{has_root, is_root};
+ghost use Rattle.ig_rewrite.specs.Rooted.{is_root};
 ghost use Rattle.ig_rewrite.specs.Sound.{IsSound, IsFree};
 ghost use Rattle.ig_rewrite.specs.Unbound.{IsUnbound};
 ghost use Rattle.ig_blocks.specs.Setting.{extra_by, pair_by};
@@ -15,12 +15,9 @@ use crate::guide::{Guide, guide_of, is_paired, is_root};
 use crate::laws::blocks_keep;
 use crate::pairs::Pair;
 use crate::symbols::choices;
-use ig_expr::Kind;
-use ig_grammar::{
-    Alts, Checked, Decl, DeclKind, Decls, Grammar, Level, Levels, Param, Params, Shape,
-};
-use ig_rewrite::{copy_of_shapes, root};
-use ig_text::{Copied, Word};
+use ig_grammar::{Alts, Checked, Decl, DeclKind, Decls, Grammar, Level, Levels, Params, Shape};
+use ig_rewrite::{copy_of_shapes, copy_of_start, push_declaration, push_integer, push_level, root};
+use ig_text::Copied;
 use std::alloc::{AllocError, Global};
 
 /// The grammar without `offside`, `ignore` and `align`, exactly as `specs/Blocks.antt` says;
@@ -113,18 +110,10 @@ fn parameters_of(
 {
     let mut params = decl.params.copy(alloc)?;
     if paired {
-        push_parameter(&mut params, guide.margin.copy(alloc)?)?;
-        push_parameter(&mut params, guide.first.copy(alloc)?)?;
+        push_integer(&mut params, guide.margin.copy(alloc)?)?;
+        push_integer(&mut params, guide.first.copy(alloc)?)?;
     }
     Ok(params)
-}
-
-/// Adds an integer parameter of the name at the end.
-fn push_parameter(all: &mut Params, name: Word) -> Result<(), AllocError>
-    ensures { OnOk result (all.new ≡ all.old ++ int_param name ∷ []) }
-{
-    let kind = Kind::Int;
-    all.push(Param { name, kind }).map_err(|refused| refused.1)
 }
 
 /// The levels of a declaration with the pair or without one, without marks.
@@ -166,28 +155,4 @@ fn lower_alternatives(
     } else {
         choices(alternatives, alloc, guide, &Pair::Lacking)
     }
-}
-
-/// An equal start line.
-fn copy_of_start(alloc: Global, start: &Option<Word>) -> Result<Option<Word>, AllocError>
-    ensures { IfOk result (λ r. r ≡ start.now) }
-{
-    match start {
-        Some(name) => Ok(Some(name.copy(alloc)?)),
-        None => Ok(None),
-    }
-}
-
-/// Adds the level at the end.
-fn push_level(all: &mut Levels, level: Level) -> Result<(), AllocError>
-    ensures { OnOk result (all.new ≡ all.old ++ level ∷ []) }
-{
-    all.push(level).map_err(|refused| refused.1)
-}
-
-/// Adds the declaration at the end.
-fn push_declaration(all: &mut Decls, decl: Decl) -> Result<(), AllocError>
-    ensures { OnOk result (all.new ≡ all.old ++ decl ∷ []) }
-{
-    all.push(decl).map_err(|refused| refused.1)
 }

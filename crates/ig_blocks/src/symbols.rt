@@ -1,19 +1,19 @@
 //! What the pass makes of symbols.
-ghost use Rattle.std.specs.Prelude.{◌≡◌, [], ◌∷◌, ◌++◌, map, IfOk, OnOk, false};
-ghost use Rattle.ig_expr.specs.View.{expression_of};
+ghost use Rattle.std.specs.Prelude.{◌≡◌, ◌++◌, map, IfOk, false};
 ghost use Rattle.ig_grammar.specs.View.{symbol_of};
 ghost use Rattle.ig_blocks.specs.Setting.{column_guards, wrapped, entered};
 ghost use Rattle.ig_blocks.specs.Body.{tests_of, arguments_of, body_of};
 ghost use Rattle.ig_blocks.specs.Blocks.{symbols_by, alternative_by};
 ghost use Rattle.ig_blocks.specs.Code.{pair_of, setting_by, kind_by};
 
-use crate::guards::{behind, push_column_test, push_symbol, push_tests};
+use crate::guards::{behind, push_column_test, push_tests};
 use crate::guide::{Guide, is_paired, kind_of};
 use crate::pairs::{
     Pair, bindings_of, cleared_by, column_of, inner_of, opened_by, push_pair, start_of,
 };
-use ig_expr::{Expr, Exprs};
+use ig_expr::Exprs;
 use ig_grammar::{Alt, Alts, Inner, Lets, Symbol, Symbols};
+use ig_rewrite::{push_alternative, push_expression, push_symbol};
 use ig_text::{Copied, Word};
 use std::alloc::{AllocError, Global};
 
@@ -240,8 +240,8 @@ fn arguments_of(
     let mut all = arguments.copy(alloc)?;
     if let Some(kind) = kind_of(guide, name) {
         if is_paired(guide, kind) {
-            push_argument(&mut all, column_of(alloc, guide, pair)?)?;
-            push_argument(&mut all, start_of(alloc, guide, pair)?)?;
+            push_expression(&mut all, column_of(alloc, guide, pair)?)?;
+            push_expression(&mut all, start_of(alloc, guide, pair)?)?;
         }
     }
     Ok(all)
@@ -255,18 +255,4 @@ fn entered_by(alloc: Global, bindings: Lets, symbol: Symbol) -> Result<Symbol, A
         return Ok(symbol);
     }
     Ok(Symbol::Entry(bindings, Inner::new(alloc, symbol)?))
-}
-
-/// Adds the argument at the end.
-fn push_argument(all: &mut Exprs, argument: Expr) -> Result<(), AllocError>
-    ensures { OnOk result (all.new ≡ all.old ++ expression_of argument ∷ []) }
-{
-    all.push(argument).map_err(|refused| refused.1)
-}
-
-/// Adds the alternative at the end.
-fn push_alternative(all: &mut Alts, alternative: Alt) -> Result<(), AllocError>
-    ensures { OnOk result (all.new ≡ all.old ++ alternative ∷ []) }
-{
-    all.push(alternative).map_err(|refused| refused.1)
 }

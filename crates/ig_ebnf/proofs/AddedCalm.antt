@@ -1,6 +1,4 @@
--- In the declarations that are added no condition holds.
-use Rattle.ig_grammar.specs.Condition.{expressions}
-use Rattle.std.specs.Prelude.{Contains}
+-- The symbols of the declarations that are added get what they ask.
 use Rattle.std.proofs.Common.{◌≡◌, ℕ, suc, ◌+◌, Bool, true, false, List, [], ◌∷◌, ◌++◌, map, refl, sym, ◌∙◌, ap}
 use Rattle.std.proofs.Common.{subst, cond}
 use Rattle.std.specs.Prelude.{◌||◌, option_map}
@@ -14,7 +12,7 @@ use Rattle.ig_text.specs.Words.{is_word}
 use Rattle.ig_rewrite.specs.Needs.{is_added}
 use Rattle.std.specs.Prelude.{◌&&◌, not}
 use Rattle.ig_ebnf.specs.Lists.{keep}
-use Rattle.ig_ebnf.proofs.VisibleKinds.{narrower, entered_narrow, nothing_in}
+use Rattle.ig_ebnf.proofs.VisibleKinds.{narrower, entered_narrow}
 use Rattle.ig_ebnf.proofs.Occurrences.{Calm, AllCalm, of_first, of_second}
 use Rattle.ig_ebnf.proofs.Elements.{elements_need, elements_want, all_elements_want, elements_need_append}
 use Rattle.ig_ebnf.proofs.Elements.{declared_first, declared_second, ready}
@@ -25,11 +23,7 @@ use Rattle.ig_ebnf.specs.Lists.{Made, params_for, params_of, alts_of, new_symbol
 use Rattle.ig_ebnf.specs.Lists.{sep_plus_alternatives, new_declaration, added, added_symbols, added_alternatives}
 use Rattle.ig_ebnf.specs.Lists.{Element, element, elements}
 use Rattle.ig_ebnf.specs.Lists.{all_elements, count, count_symbols}
-use Rattle.ig_grammar.specs.Condition.{Condition, SymbolMeets, IsInLexical, declaration_of, unknown_name, wrong_arity}
-use Rattle.ig_grammar.specs.Condition.{unknown_variable}
-use Rattle.ig_grammar.specs.Condition.{duplicate_label, duplicate_let, no_kind, guard_kind, argument_kind}
-use Rattle.ig_grammar.specs.Condition.{align_not_list, offside_in_lexical}
-use Rattle.ig_grammar.specs.Condition.{ignore_in_lexical, align_in_lexical, syntax_in_lexical}
+use Rattle.ig_grammar.specs.Condition.{IsInLexical, declaration_of}
 use Rattle.ig_grammar.specs.Names.{names, AreDistinct}
 use Rattle.ig_grammar.specs.Symbol.{Symbol, Literal, OneOf, Call, Label, Guard, Let, Opt, Star, Plus, SepStar}
 use Rattle.ig_grammar.specs.Symbol.{SepPlus, Group, Offside, Ignore, Align}
@@ -37,7 +31,6 @@ use Rattle.ig_grammar.specs.Symbol.{Filtered, Seq, Entry, gathered, Symbols, no_
 use Rattle.ig_grammar.specs.Symbol.{no_alternatives, next_alternative}
 use Rattle.ig_grammar.specs.Visible.{Visible, binds, replaced, parameters, inside, inside_sequence, inside_choices}
 use Rattle.ig_grammar.specs.Visible.{at}
-use Rattle.ig_grammar.specs.declared.declaration.Decl.{Decl}
 use Rattle.ig_grammar.specs.declared.declaration.DeclKind.{DeclKind}
 use Rattle.ig_grammar.specs.declared.declaration.DeclKind.TheVariants.{Plain}
 use Rattle.ig_grammar.specs.declared.declaration.Level.{Level}
@@ -45,6 +38,7 @@ use Rattle.ig_grammar.specs.declared.grammar.Grammar.{Grammar}
 use Rattle.ig_grammar.specs.declared.place.Shape.{Shape}
 use Rattle.ig_grammar.specs.declared.symbol.Alt.{Alt}
 use Rattle.ig_rewrite.specs.Needs.{needs, alternatives_need, symbols_need, is_pair}
+use Rattle.ig_rewrite.specs.Asked.{AsksElsewhere}
 
 same_parameters : (ps : Visible) → parameters (params_of ps) ≡ ps
 same_parameters [] = refl
@@ -85,24 +79,6 @@ distinct_params v wanted d =
 named : (v : Visible) (wanted : List ℕ → Bool) → Distinct v → Distinct (parameters (params_of (params_for v wanted)))
 named v wanted d = subst Distinct (sym (same_parameters (params_for v wanted))) (distinct_params v wanted d)
 
--- a separated list itself meets nothing
-quiet_plus : {decls : List Decl} {k : DeclKind} {v : Visible} {y : Symbol} {c : Condition} →
-    SymbolMeets decls k v y c → (x s : Symbol) → y ≡ SepPlus x s → ⊥
-quiet_plus (unknown_name name args none) x s e = absurd (cc)
-quiet_plus (wrong_arity name args callee some wrong) x s e = absurd (cc)
-quiet_plus (unknown_variable y e1 among unknown) x s e =
-    nothing_in e1 (subst (λ z. Contains (expressions z) e1) e among)
-quiet_plus (duplicate_label name y among) x s e = absurd (cc)
-quiet_plus (duplicate_let name e1 among) x s e = absurd (cc)
-quiet_plus (no_kind y e1 among none) x s e = nothing_in e1 (subst (λ z. Contains (expressions z) e1) e among)
-quiet_plus (guard_kind e1 other) x s e = absurd (cc)
-quiet_plus (argument_kind name args callee n e1 q some a b other) x s e = absurd (cc)
-quiet_plus (align_not_list y not_list) x s e = absurd (cc)
-quiet_plus (offside_in_lexical y is) x s e = absurd (cc)
-quiet_plus (ignore_in_lexical y is) x s e = absurd (cc)
-quiet_plus (align_in_lexical y is) x s e = absurd (cc)
-quiet_plus (syntax_in_lexical name args callee is some syntax) x s e = absurd (cc)
-
 module _ (g' : Grammar) where
   abbrev pub AltsCalm : Visible → List Alt → Type 0
   AltsCalm w [] = Unit {0}
@@ -112,14 +88,14 @@ module _ (g' : Grammar) where
   LevelsCalm w [] = Unit {0}
   LevelsCalm w (level ∷ levels) = AltsCalm w level.alts × LevelsCalm w levels
 
-  -- in an added declaration no condition holds, and its parameters have names that differ
+  -- each symbol of an added declaration gets what it asks, and its parameters have names that differ
   abbrev pub IsCalm : Made → Type 0
   IsCalm m = Distinct (parameters m.decl.params) × LevelsCalm (parameters m.decl.params) m.decl.levels
 
   abbrev pub AllMadeCalm : List Made → Type 0
   AllMadeCalm = OfAdded IsCalm
 
-module _ (g g' : Grammar) (shapes' : List Shape) (k : DeclKind) (May : List ℕ → Type 0)
+module _ (elsewhere : AsksElsewhere) (g g' : Grammar) (shapes' : List Shape) (k : DeclKind) (May : List ℕ → Type 0)
     (declared : (name : List ℕ) → May name →
     declaration_of g'.decls name ≡ option_map new_declaration (declaration_of g.decls name))
     (distinct : AreDistinct (names g'.decls)) (of : List ℕ) where
@@ -137,7 +113,7 @@ module _ (g g' : Grammar) (shapes' : List Shape) (k : DeclKind) (May : List ℕ 
   alt_calm es v u wanted r calm sub =
       subst (λ z. AllCalm g' Plain (inside_sequence z (gathered (map (new_element of) es))))
       (sym (same_parameters (params_for v wanted)))
-      (elements_calm g g' shapes' k Plain lexical May declared distinct of es v (params_for v wanted) u r calm
+      (elements_calm elsewhere g g' shapes' k Plain lexical May declared distinct of es v (params_for v wanted) u r calm
       (narrower (entered_narrow v wanted) sub))
 
   need_first : (n : List ℕ) (x : Symbol) (es : List Element) (wanted : Bool) →
@@ -197,7 +173,7 @@ module _ (g g' : Grammar) (shapes' : List Shape) (k : DeclKind) (May : List ℕ 
             x_ready),
       ) (
         dis,
-        (λ c meets. quiet_plus meets x s refl),
+        tt,
         all,
         calm_append g k (elements v l s) (elements v (suc m) x) s_calm x_calm,
       )
@@ -316,7 +292,7 @@ module _ (g g' : Grammar) (shapes' : List Shape) (k : DeclKind) (May : List ℕ 
             tt,
             (
               alt_calm (element v (suc m) (SepPlus x s) ∷ []) v _ (λ n. needs n (SepStar x s))
-                  (refl, tt, p, d.1, refl) (dis, (λ c meets. quiet_plus meets x s refl), all, tt)
+                  (refl, tt, p, d.1, refl) (dis, tt, all, tt)
                   (λ n u. need_first n (SepPlus x s) [] (needs n (SepPlus x s)) u (λ e. e) (λ e. absurd (cc))),
               tt,
             ),

@@ -1,15 +1,13 @@
 -- In what is lowered no more labels and lets stand than in the source.
 use Rattle.std.proofs.Common.{◌≡◌, ℕ, ◌+◌, List, [], ◌∷◌, ◌++◌, ap, arith}
-use Rattle.std.specs.Prelude.{count_by}
 use Rattle.ig_grammar.specs.Symbol.{Symbol, Literal, OneOf, Call, Label, Guard, Let, Opt, Star, Plus, SepStar}
 use Rattle.ig_grammar.specs.Symbol.{SepPlus, Group, Offside, Ignore, Align, Filtered, Seq, Entry}
 use Rattle.ig_grammar.specs.Symbol.{Symbols, no_symbols, next_symbol}
 use Rattle.ig_grammar.specs.Symbol.{gathered}
-use Rattle.ig_grammar.specs.Visible.{Visible, inside_sequence, binds}
-use Rattle.ig_grammar.specs.Condition.{binds_name}
+use Rattle.ig_grammar.specs.Visible.{Visible, binds}
 use Rattle.std.proofs.lemmas.List.{map-append}
 use Rattle.std.specs.Prelude.{◌≤◌}
-use Rattle.ig_rewrite.specs.Binders.{binders, binders_of_symbols, BindersAreCounted}
+use Rattle.ig_rewrite.specs.Binders.{binders, binders_of_symbols}
 use Rattle.ig_ebnf.specs.Lists.{count as added_count, elements, all_elements, new_symbol, new_element, new}
 use Rattle.ig_ebnf.specs.Lists.{new_symbols}
 
@@ -63,7 +61,8 @@ module _ (of : List ℕ) where
     fewer (Seq xs) v k = all_fewer xs v k
     fewer (Entry bs x) v k = one_fewer (Entry bs x) v k
 
-    all_fewer : (xs : Symbols) (v : Visible) (k : ℕ) →
+    -- no more labels and lets in an alternative than before
+    pub all_fewer : (xs : Symbols) (v : Visible) (k : ℕ) →
         binders_of_symbols (gathered (new_symbols of v k xs)) ≤ binders_of_symbols xs
     all_fewer no_symbols v k = omega arith
     all_fewer (next_symbol x xs) v k =
@@ -76,13 +75,3 @@ module _ (of : List ℕ) where
         ap (λ z. binders_of_symbols (gathered z))
         (map-append (new_element of) (elements v k x) (all_elements u (k + added_count x) xs)) in
         omega (arith, first, rest, both, split)
-
-  -- no more labels and lets in an alternative than before
-  pub fewer_binders : BindersAreCounted → (xs : List Symbol) (v w : Visible) (k : ℕ) →
-      count_by (λ o. binds_name o.symbol) (inside_sequence w (gathered (new_symbols of v k (gathered xs)))) ≤ count_by
-      (λ o. binds_name o.symbol) (inside_sequence v (gathered xs))
-  fewer_binders counted xs v w k =
-      let below = all_fewer (gathered xs) v k in
-      let there = counted (gathered (new_symbols of v k (gathered xs))) w in
-      let here = counted (gathered xs) v in
-      omega (arith, below, there, here)

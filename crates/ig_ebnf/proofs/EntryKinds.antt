@@ -1,24 +1,21 @@
 -- The arguments that an entry gives fit; and lowered symbols bind what the source's do.
-use Rattle.ig_ebnf.proofs.VisibleKinds.{later_in}
-use Rattle.std.proofs.Common.{◌≡◌, ◌⊎◌, inl, inr, ℕ, Bool, true, false, List, [], ◌∷◌, ◌++◌, map, refl, sym, ◌∙◌, ap}
-use Rattle.std.proofs.Common.{subst, cond, Some, arith}
-use Rattle.std.specs.Prelude.{◌||◌, ◌&&◌, not, Contains}
+use Rattle.std.proofs.Common.{◌≡◌, ℕ, Bool, true, false, List, [], ◌∷◌, ◌++◌, refl, sym, ◌∙◌, ap}
+use Rattle.std.proofs.Common.{cond, Some}
+use Rattle.std.specs.Prelude.{◌||◌, ◌&&◌, not}
 use Rattle.std.specs.Cmp.Lexicographic.{bytes_decides}
-use Rattle.ig_ebnf.proofs.Definitions.{has, is_some, BindingsFit, IsSingle, Proper}
+use Rattle.ig_ebnf.proofs.Definitions.{has, BindingsFit, IsSingle, Proper}
 use Rattle.ig_ebnf.proofs.Environments.{itself, or_left, or_right, and_both}
-use Rattle.ig_ebnf.proofs.VisibleKinds.{look, look_cons, has_look, has_named, in_rest, nothing_in, Narrow, narrower}
-use Rattle.ig_ebnf.proofs.VisibleKinds.{same_kind, unknown_from, Entries}
-use Rattle.ig_ebnf.proofs.VisibleKinds.{Fits}
-use Rattle.ig_ebnf.specs.Lists.{argument, arguments, new_symbol}
-use Rattle.ig_expr.specs.Expression.{Expression}
+use Rattle.ig_ebnf.proofs.VisibleKinds.{look, look_cons, Narrow, narrower}
+use Rattle.ig_ebnf.proofs.VisibleKinds.{same_kind, Entries}
+use Rattle.ig_rewrite.specs.Asked.{Fit}
+use Rattle.ig_ebnf.specs.Lists.{argument, arguments, new_symbol, params_of}
 use Rattle.ig_expr.specs.declared.kind.Kind.{Kind}
 use Rattle.ig_expr.specs.declared.kind.Kind.TheVariants.{Span}
 use Rattle.ig_grammar.specs.Binding.{Binding}
-use Rattle.ig_grammar.specs.Condition.{NamesUnknown}
 use Rattle.ig_grammar.specs.Symbol.{Symbol, Literal, OneOf, Call, Label, Guard, Let, Opt, Star, Plus, SepStar}
 use Rattle.ig_grammar.specs.Symbol.{SepPlus, Group, Offside, Ignore, Align}
 use Rattle.ig_grammar.specs.Symbol.{Filtered, Seq, Entry}
-use Rattle.ig_grammar.specs.Visible.{Visible, names, kind_at, with_kind, replaced, binds, bound}
+use Rattle.ig_grammar.specs.Visible.{Visible, kind_at, with_kind, replaced, binds, bound}
 use Rattle.ig_rewrite.specs.Needs.{needs, uses, bindings_use, is_bound}
 use Rattle.ig_text.specs.Words.{is_word}
 
@@ -100,47 +97,21 @@ argument_kind outer wanted (b ∷ bs) v w n fit s other =
         (λ o. look_with v b.name fit.0.0 n ∙ ap (λ z. cond z (Some fit.0.0) (look v n)) f ∙
         other (ap (λ z. z || is_bound n bs) f ∙ o))
 
-argument_known : (outer : Visible) (bs : List Binding) (w : Visible) (n : List ℕ) →
-    ((e : Expression) → Contains (map (λ b. b.value) bs) e → NamesUnknown outer e → ⊥) →
-    Narrow (λ m. bindings_use m bs) outer w → (is_bound n bs ≡ false → has w n ≡ true) →
-    NamesUnknown w (argument bs n) → ⊥
-argument_known outer [] w n known s other unknown = go (in_rest n [] unknown.0 unknown.1)
-  where
-    go : (n ≡ unknown.0) ⊎ Contains [] unknown.0 → ⊥
-    go (inl e) = unknown.2 (subst (Contains (names w)) e (has_named w n (other refl)))
-    go (inr i) = nothing_in unknown.0 i
-argument_known outer (b ∷ bs) w n known s other unknown =
-    go (is_word b.name n) refl
-    (λ o. argument_known outer bs w n (λ e among. known e (later_in b.value (map (λ b. b.value) bs) e among))
-    (narrower s (λ m u. or_right (uses m b.value) (bindings_use m bs) u)) o) unknown
-  where
-    go : (t : Bool) → is_word b.name n ≡ t →
-        ((is_bound n bs ≡ false → has w n ≡ true) → NamesUnknown w (argument bs n) → ⊥) →
-        NamesUnknown w (cond t b.value (argument bs n)) → ⊥
-    go true f below unknown =
-        known b.value (0, omega arith, refl)
-        (unknown_from b.value (narrower s (λ m u. or_left (uses m b.value) (bindings_use m bs) u)) unknown)
-    go false f below unknown = below (λ o. other (ap (λ z. z || is_bound n bs) f ∙ o)) unknown
-
 -- the arguments of a call that stands for an entry fit
 pub entry_fits : (v w : Visible) (wanted : List ℕ → Bool) (bs : List Binding) → BindingsFit v wanted bs →
-    ((e : Expression) → Contains (map (λ b. b.value) bs) e → NamesUnknown v e → ⊥) →
     Narrow (λ n. bindings_use n bs || (not (is_bound n bs) && wanted n)) v w → (ps : Visible) →
     Entries ps (replaced v v bs) → ((n : List ℕ) → has ps n ≡ true → wanted n ≡ true) →
-    Fits w (arguments bs ps) ps
-entry_fits v w wanted bs fit known s [] own sub = tt
-entry_fits v w wanted bs fit known s (p ∷ ps) own sub =
+    Fit w (arguments bs ps) (params_of ps)
+entry_fits v w wanted bs fit s [] own sub = tt
+entry_fits v w wanted bs fit s (p ∷ ps) own sub =
     let s1 = narrower s (λ n u. or_left (bindings_use n bs) (not (is_bound n bs) && wanted n) u) in
     let yes : wanted p.0 ≡ true = sub p.0 (or_left (is_word p.0 p.0) (has ps p.0) (itself p.0)) in
     let outside : is_bound p.0 bs ≡ false → look v p.0 ≡ look w p.0 =
     λ o. s.at p.0
     (or_right (bindings_use p.0 bs) (not (is_bound p.0 bs) && wanted p.0)
     (and_both (not (is_bound p.0 bs)) (wanted p.0) (ap not o) yes)) in (
-      argument_known v bs w p.0 known s1
-          (λ o. sym (has_look w p.0) ∙
-          ap is_some (sym (outside o) ∙ sym (look_other v wanted bs v p.0 fit o) ∙ own.0)),
       argument_kind v wanted bs v w p.0 fit s1 outside ∙ own.0,
-      entry_fits v w wanted bs fit known s ps own.1 (λ n e. sub n (or_right (is_word p.0 n) (has ps n) e)),
+      entry_fits v w wanted bs fit s ps own.1 (λ n e. sub n (or_right (is_word p.0 n) (has ps n) e)),
     )
 
 -- what is bound stays, where no mark stands in it and labels and filters stand well

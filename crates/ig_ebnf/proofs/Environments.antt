@@ -1,9 +1,9 @@
 -- Environments, by the names that are looked up in them.
-use Rattle.std.proofs.Common.{◌≡◌, ℕ, suc, ◌+◌, Bool, true, false, List, [], ◌∷◌, ◌++◌, refl, sym, ◌∙◌, ap}
-use Rattle.std.proofs.Common.{cond, Option, Some, None, arith}
-use Rattle.std.specs.Prelude.{◌≢◌, ◌||◌, ◌&&◌, not, option_and_then, option_map, slice_get, position}
+use Rattle.std.proofs.Common.{◌≡◌, ℕ, ◌+◌, Bool, true, false, List, [], ◌∷◌, ◌++◌, refl, sym, ◌∙◌, ap}
+use Rattle.std.proofs.Common.{cond, Option, Some, None}
+use Rattle.std.specs.Prelude.{◌≢◌, ◌||◌, ◌&&◌, not, option_and_then}
 use Rattle.std.specs.Cmp.Lexicographic.{bytes_decides}
-use Rattle.ig_ebnf.proofs.CodeOfFirst.{position-cons}
+use Rattle.ig_text.proofs.Positions.{beside-cons}
 use Rattle.ig_ebnf.proofs.Definitions.{has, is_some, find, Binds, Agree, Keeps}
 use Rattle.ig_ebnf.specs.Lists.{keep, params_for, params_of, arguments}
 use Rattle.ig_expr.specs.Blocks.{outer, inside}
@@ -24,19 +24,11 @@ use Rattle.ig_meaning.specs.Environment.{no_parameters, next_parameter}
 use Rattle.ig_rewrite.specs.Needs.{uses, any_uses, is_added}
 use Rattle.ig_text.specs.Words.{is_word}
 
-at_place : {A : Type 0} (b : Bool) (members : List A) (v : A) (r : Option ℕ) →
-    option_and_then (slice_get (v ∷ members)) (cond b (Some 0) (option_map (λ k. k + 1) r)) ≡
-    cond b (Some v) (option_and_then (slice_get members) r)
-at_place true members v r = refl
-at_place false members v None = refl
-at_place false members v (Some k) = let e : k + 1 ≡ suc k = omega arith in ap (slice_get (v ∷ members)) e
-
 -- what stands beside the first place of a name, by the names in order
 pub look_up_next : {A : Type 0} (n : List ℕ) (v : A) (ns : List (List ℕ)) (vs : List A) (x : List ℕ) →
     look_up (n ∷ ns) (v ∷ vs) x ≡ cond (is_word n x) (Some v) (look_up ns vs x)
 look_up_next n v ns vs x =
-    ap (option_and_then (slice_get (v ∷ vs))) (position-cons (λ z. is_word z x) n ns) ∙
-    at_place (is_word n x) vs v (position (λ z. is_word z x) ns)
+    beside-cons (λ z. is_word z x) n ns v vs
 
 pub find_cons : (n : List ℕ) (v : Value) (rest : Environment) (x : List ℕ) →
     find ((n, v) ∷ rest) x ≡ cond (is_word n x) (Some v) (find rest x)

@@ -39,7 +39,7 @@ use Rattle.ig_text.specs.Tree.{Tree, Trees, Node, none, more, one}
 use Rattle.ig_grammar.specs.Visible as visible
 use Rattle.ig_grammar.specs.declared.place.Shape.TheVariants as shape
 
-form_single : (x : Symbol) → IsForm x → IsSingle x
+pub form_single : (x : Symbol) → IsForm x → IsSingle x
 form_single (Opt x) f = tt
 form_single (Star x) f = tt
 form_single (Plus x) f = tt

@@ -13,7 +13,8 @@ use Rattle.ig_grammar.specs.declared.declaration.Decl.{Decl}
 use Rattle.ig_grammar.specs.declared.place.Shape.TheVariants.{Root}
 use Rattle.ig_meaning.specs.Laws.{HasNoOperators, TreesWithoutOperatorsAreClean}
 use Rattle.ig_rewrite.specs.Added.{AddedNamesAreNew, root_name}
-use Rattle.ig_rewrite.specs.Binders.{BindersAreCounted}
+use Rattle.ig_rewrite.specs.Asked.{SymbolsAsk, AsksElsewhere}
+use Rattle.ig_rewrite.specs.Passing.{ResultsAreReady}
 use Rattle.ig_rewrite.specs.Found.{DeclarationsAreFound}
 use Rattle.ig_rewrite.specs.KeptByRoot.{RootKeeps}
 use Rattle.ig_rewrite.specs.Remaining.{IsRemaining, Remains}
@@ -24,7 +25,7 @@ use Rattle.ig_ebnf.specs.Laws.{KeptByLists, KeptByLowering, ListsKeep, LoweringK
 use Rattle.ig_ebnf.specs.Lists.{all_added, decls_of, lowered}
 use Rattle.ig_ebnf.proofs.Definitions.{MayBeLowered}
 use Rattle.ig_ebnf.proofs.LoweredGrammar.{takes_of, new_free}
-use Rattle.ig_ebnf.proofs.SameTrees.{lowering_is_the_same}
+use Rattle.ig_ebnf.proofs.SameTrees.{lowering_is_the_same, lowering_keeps_values}
 use Rattle.ig_ebnf.proofs.Premises.{Given, may_be_lowered}
 use Rattle.ig_ebnf.proofs.Remaining.{AllRemain}
 use Rattle.ig_ebnf.proofs.LoweredScoped.{lowered_is_well_scoped, added_at, added_plainly}
@@ -46,6 +47,7 @@ module _ (clean : TreesWithoutOperatorsAreClean) (c : CheckedGrammar) (given : G
   lowering_kept =
       record {
         same = lowering_is_the_same clean c may;
+        values = lowering_keeps_values clean c may;
         scoped = lowered_is_well_scoped c given;
         fit = lowered_fits c given;
         fresh = root_is_fresh c given;
@@ -95,6 +97,7 @@ module _ (clean : TreesWithoutOperatorsAreClean) (c : CheckedGrammar) (given : G
       let kept = root.kept (lowered c) lowering_kept.fit in
       record {
         same = trees.chained c (lowered c) (rooted Syntax (lowered c)) lowering_kept.same to.same;
+        values = trees.values_chained c (lowered c) (rooted Syntax (lowered c)) lowering_kept.same lowering_kept.values to.values;
         scoped = to.scoped;
         fit = to.fit;
         remaining = kept.remaining lowered_remains;
@@ -106,7 +109,9 @@ module _ (clean : TreesWithoutOperatorsAreClean) (c : CheckedGrammar) (given : G
 pub record Laws : Type 0 where
   pub clean : TreesWithoutOperatorsAreClean
   pub new : AddedNamesAreNew
-  pub counted : BindersAreCounted
+  pub ask : SymbolsAsk
+  pub elsewhere : AsksElsewhere
+  pub passes : ResultsAreReady
   pub found : DeclarationsAreFound
 
 pub all_lists_kept : Laws → RootKeeps → SameTreesIsAnEquivalence → ListsKeep
@@ -114,7 +119,9 @@ all_lists_kept laws root trees c sound free unmarked no_layout excluding few =
     lists_kept laws.clean c
     (record {
       new = laws.new;
-      counted = laws.counted;
+      ask = laws.ask;
+      elsewhere = laws.elsewhere;
+      passes = laws.passes;
       found = laws.found;
       sound = sound;
       free = free;
@@ -129,7 +136,9 @@ all_lowering_kept laws c sound free unmarked no_layout excluding few =
     lowering_kept laws.clean c
     (record {
       new = laws.new;
-      counted = laws.counted;
+      ask = laws.ask;
+      elsewhere = laws.elsewhere;
+      passes = laws.passes;
       found = laws.found;
       sound = sound;
       free = free;

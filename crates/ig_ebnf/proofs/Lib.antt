@@ -8,9 +8,10 @@ pub mod Forth
 pub mod InstanceParts
 pub mod HigherDerivations
 pub mod Back
+pub mod ValuedParts
+pub mod ValuedForth
 pub mod AddedNames
 pub mod VisibleKinds
-pub mod Unmet
 pub mod EntryKinds
 pub mod LoweredGrammar
 pub mod SameTrees
@@ -33,7 +34,6 @@ pub mod LoweredShaped
 pub mod Keeping
 pub mod CodeOfZipped
 pub mod CodeOfBound
-pub mod CodeOfFirst
 pub mod CodeOfPlaced
 pub mod CodeOfSizes
 pub mod CodeOfForms

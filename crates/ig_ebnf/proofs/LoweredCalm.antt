@@ -1,4 +1,4 @@
--- In what is lowered no condition holds.
+-- What is lowered gets what it asks.
 use Rattle.ig_grammar.specs.Visible.{at}
 use Rattle.std.proofs.Common.{◌≡◌, ℕ, suc, Bool, true, false, List, [], ◌∷◌, ◌++◌, map, refl, sym, ◌∙◌, ap, subst}
 use Rattle.std.proofs.Common.{cond, Some}
@@ -7,19 +7,26 @@ use Rattle.std.specs.Cmp.Lexicographic.{bytes_decides}
 use Rattle.ig_ebnf.proofs.EntryKinds.{entry_fits, same_binds}
 use Rattle.ig_ebnf.proofs.Definitions.{has, Proper, Ready, AllDeclared, IsSingle, IsForm, BindingsFit}
 use Rattle.ig_ebnf.proofs.Environments.{itself, differs, or_left, or_right, has_params, and_parts}
-use Rattle.ig_ebnf.proofs.VisibleKinds.{look, look_cons, Narrow, narrower, narrow_more, Entries, entries_params, Fits}
+use Rattle.ig_ebnf.proofs.VisibleKinds.{look, look_cons, Narrow, narrower, narrow_more, Entries, entries_params}
 use Rattle.ig_ebnf.proofs.VisibleKinds.{call_fits}
 use Rattle.ig_ebnf.proofs.Occurrences.{Calm, AllCalm, of_both}
 use Rattle.ig_ebnf.proofs.Declarations.{declared_by}
 use Rattle.ig_ebnf.proofs.Elements.{elements_need}
-use Rattle.ig_ebnf.proofs.Unmet.{kept_unmet, call_unmet}
+use Rattle.ig_rewrite.specs.Asked.{IsNew, Fit, AsksElsewhere}
+use Rattle.ig_rewrite.specs.Needs.{uses, any_uses}
+use Rattle.ig_ebnf.specs.Lists.{params_of}
+use Rattle.ig_ebnf.proofs.VisibleKinds.{same_kind, named_has, has_named}
+use Rattle.ig_text.proofs.Lists.{at_from_contains}
+use Rattle.std.proofs.lemmas.Option.{same_Some}
+use Rattle.std.specs.Prelude.{Contains, slice_get}
+use Rattle.std.proofs.Common.{zero}
 use Rattle.ig_ebnf.specs.Lists.{made, params_for, new, new_symbol, new_element, new_alternatives}
 use Rattle.ig_ebnf.specs.Lists.{sep_plus_alternatives}
 use Rattle.ig_ebnf.specs.Lists.{new_declaration, added, Element}
 use Rattle.ig_expr.specs.Expression.{Expression}
 use Rattle.ig_expr.specs.declared.kind.Kind.{Kind}
 use Rattle.ig_grammar.specs.Binding.{Binding}
-use Rattle.ig_grammar.specs.Condition.{SymbolMeets, IsInLexical, declaration_of, NamesUnknown}
+use Rattle.ig_grammar.specs.Condition.{IsInLexical, declaration_of}
 use Rattle.ig_grammar.specs.Names.{names, AreDistinct}
 use Rattle.ig_grammar.specs.Numbering.{Declares}
 use Rattle.ig_grammar.specs.Symbol.{Symbol, Literal, OneOf, Call, Label, Guard, Let, Opt, Star, Plus, SepStar}
@@ -96,12 +103,24 @@ distinct_replaced outer wanted (b ∷ bs) v fit d =
     subst (λ z. Distinct (replaced outer (with_kind v b.name z) bs)) (sym fit.0.1)
     (distinct_replaced outer wanted bs (with_kind v b.name (Some fit.0.0)) fit.3 (distinct_with v b.name fit.0.0 d))
 
--- elements whose source meets nothing, each with names that differ
+-- elements whose source gets what it asks, each with names that differ
 abbrev pub AreCalm : Grammar → DeclKind → List Element → Type 0
 AreCalm g k [] = Unit {0}
 AreCalm g k (e ∷ es) = Distinct e.v × Calm g k e.v e.x × AllCalm g k (inside e.v e.x) × AreCalm g k es
 
-module _ (g g' : Grammar) (shapes' : List Shape) (k k' : DeclKind) (lexical : IsInLexical k' → IsInLexical k)
+-- what an argument names, a call needs
+all_used : (es : List Expression) (e : Expression) → Contains es e → (n : List ℕ) → uses n e ≡ true → any_uses n es ≡ true
+all_used es e among n u = let at = at_from_contains es e among in go es at.0 at.1
+  where
+    go : (ds : List Expression) (k : ℕ) → slice_get ds k ≡ Some e → any_uses n ds ≡ true
+    go [] k h = absurd (cc)
+    go (d ∷ ds) zero h = or_left (uses n d) (any_uses n ds) (ap (uses n) (same_Some d e h) ∙ u)
+    go (d ∷ ds) (suc k) h = or_right (uses n d) (any_uses n ds) (go ds k h)
+
+still_new : {wanted : List ℕ → Bool} {v w : Visible} → Narrow wanted v w → (n : List ℕ) → IsNew v n → IsNew w n
+still_new {v = v} {w = w} s n new i = new (has_named v n (s.less n (named_has w n i)))
+
+module _ (elsewhere : AsksElsewhere) (g g' : Grammar) (shapes' : List Shape) (k k' : DeclKind) (lexical : IsInLexical k' → IsInLexical k)
     (May : List ℕ → Type 0)
     (declared : (name : List ℕ) → May name →
     declaration_of g'.decls name ≡ option_map new_declaration (declaration_of g.decls name))
@@ -143,37 +162,38 @@ module _ (g g' : Grammar) (shapes' : List Shape) (k k' : DeclKind) (lexical : Is
   head_of of v m (Entry _ _) is all = absurd is
 
   form_calm : (of : List ℕ) (v w : Visible) (m : ℕ) (x : Symbol) → Head of v m x → (args : List Expression) →
-      Fits w args (params_for v (λ n. needs n x)) → Calm g' k' w (Call (added_name of m) args)
-  form_calm of v w m x h args fits c meets =
+      Fit w args (params_of (params_for v (λ n. needs n x))) → Calm g' k' w (Call (added_name of m) args)
+  form_calm of v w m x h args fits =
       let decl : Decl = (made (added_name of m) (params_for v (λ n. needs n x)) h.sh h.alts).decl in
-      call_unmet meets (added_name of m) args (params_for v (λ n. needs n x)) refl decl
-      (declared_by g'.decls distinct h.head.1.numbered.0 decl h.head.1.numbered.2) refl refl fits
+      record {
+        callee = decl;
+        declared = declared_by g'.decls distinct h.head.1.numbered.0 decl h.head.1.numbered.2;
+        fit = fits;
+        allowed = λ l e. absurd (cc);
+      }
 
   single_calm : (of : List ℕ) (v w : Visible) (m : ℕ) (x : Symbol) → IsSingle x → Proper May v x →
       AllDeclared g' shapes' (added of v m x) → Distinct v →
       Narrow (λ n. needs n x) v w → Calm g k v x → AllCalm g k (inside v x) →
       Calm g' k' w (new_symbol of v m x) × AllCalm g' k' (inside w (new_symbol of v m x))
-  single_calm of v w m (Literal a) single p all d s calm within = (
-    λ c meets. kept_unmet g.decls g'.decls k k' lexical May declared meets of v m (Literal a) tt refl tt s calm,
+  single_calm of v w m (Literal a) single p all d s calm within = (tt, tt)
+  single_calm of v w m (OneOf a) single p all d s calm within = (tt, tt)
+  single_calm of v w m (Call a es) single p all d s calm within = (
+    record {
+      callee = new_declaration calm.callee;
+      declared = declared a p ∙ ap (option_map new_declaration) calm.declared;
+      fit = elsewhere.fit_still v w es calm.callee.params (λ e among. sym (same_kind e (narrower s (all_used es e among)))) calm.fit;
+      allowed = λ l is. calm.allowed (lexical l) is;
+    },
     tt,
   )
-  single_calm of v w m (OneOf a) single p all d s calm within =
-      (λ c meets. kept_unmet g.decls g'.decls k k' lexical May declared meets of v m (OneOf a) tt refl tt s calm, tt)
-  single_calm of v w m (Call a es) single p all d s calm within =
-      (λ c meets. kept_unmet g.decls g'.decls k k' lexical May declared meets of v m (Call a es) tt refl p s calm, tt)
-  single_calm of v w m (Guard a) single p all d s calm within =
-      (λ c meets. kept_unmet g.decls g'.decls k k' lexical May declared meets of v m (Guard a) tt refl tt s calm, tt)
+  single_calm of v w m (Guard a) single p all d s calm within = (sym (same_kind a s) ∙ calm, tt)
   single_calm of v w m (Let a e) single p all d s calm within =
-      (λ c meets. kept_unmet g.decls g'.decls k k' lexical May declared meets of v m (Let a e) tt refl tt s calm, tt)
-  single_calm of v w m (Label a x) single p all d s calm within = (
-    λ c meets. kept_unmet g.decls g'.decls k k' lexical May declared meets of v m (Label a x) tt refl tt s calm,
-    single_calm of v w m x p.0 p.1 all d s within.0 within.1,
-  )
-  single_calm of v w m (Filtered x fs) single p all d s calm within = (
-    λ c meets. kept_unmet g.decls g'.decls k k' lexical May declared meets of v m (Filtered x fs) tt refl tt s
-        calm,
-    single_calm of v w m x p.0 p.1 all d s within.0 within.1,
-  )
+      ((still_new s a calm.0, (calm.1.0, sym (same_kind e s) ∙ calm.1.1)), tt)
+  single_calm of v w m (Label a x) single p all d s calm within =
+      (still_new s a calm, single_calm of v w m x p.0 p.1 all d s within.0 within.1)
+  single_calm of v w m (Filtered x fs) single p all d s calm within =
+      (tt, single_calm of v w m x p.0 p.1 all d s within.0 within.1)
   single_calm of v w m (Opt x) single p all d s calm within = (
     form_calm of v w m (Opt x) (head_of of v m (Opt x) tt all) _
         (call_fits v w (λ n. needs n (Opt x)) (distinct_entries v d) s),
@@ -213,9 +233,7 @@ module _ (g g' : Grammar) (shapes' : List Shape) (k k' : DeclKind) (lexical : Is
       let wanted : List ℕ → Bool = λ n. needs n x in
       let own = distinct_entries u (distinct_replaced v wanted bs v p.1 d) in (
         form_calm of u w m x (head_of of u m x p.0 all) _
-            (entry_fits v w wanted bs p.1
-            (λ e among unknown. calm met.UnknownVariable (met.unknown_variable (Entry bs x) e among unknown)) s
-            (params_for u wanted) (entries_params u wanted own)
+            (entry_fits v w wanted bs p.1 s (params_for u wanted) (entries_params u wanted own)
             (λ n h. (and_parts (has u n) (needs n x) (sym (has_params u wanted n) ∙ h)).1)),
         tt,
       )

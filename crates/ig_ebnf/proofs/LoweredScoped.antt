@@ -1,22 +1,22 @@
 -- What is lowered is well scoped.
-use Rattle.std.proofs.Common.{◌≡◌, ◌∙◌, ℕ, zero, suc, ◌+◌, ◌<◌, ◌⊎◌, inl, inr, Bool, true, false, List, [], ◌∷◌, map}
+use Rattle.std.proofs.Common.{◌≡◌, ◌∙◌, ℕ, zero, suc, ◌+◌, inl, false, List, [], ◌∷◌, map}
 use Rattle.std.proofs.Common.{length, Some, refl, sym, ap, subst, arith}
-use Rattle.std.specs.Prelude.{slice_get, count_by}
-use Rattle.std.proofs.lemmas.Option.{same_Some}
-use Rattle.std.proofs.lemmas.List.{append-nil}
-use Rattle.ig_text.proofs.Lists.{left_at}
+use Rattle.std.specs.Prelude.{◌≤◌, ◌++◌, Contains, slice_get}
+use Rattle.std.proofs.lemmas.Option.{same_Some, slice_get_within}
+use Rattle.std.proofs.lemmas.List.{append-nil, length-map, map-append}
+use Rattle.ig_text.proofs.Lists.{at_from_contains, contains_from_at, contains_one, none_in_nil, left_at, right_at}
 use Rattle.ig_grammar.specs.Name.{is_name}
 use Rattle.ig_grammar.specs.Names.{names, AreDistinct}
 use Rattle.ig_grammar.specs.Checked.{CheckedGrammar}
-use Rattle.ig_grammar.specs.Condition.{Condition, StartMeets, declaration_of, symbols_of, binds_name}
-use Rattle.ig_grammar.specs.Condition.{named_parameters, most_variables}
+use Rattle.ig_grammar.specs.Condition.{symbols_of}
 use Rattle.ig_grammar.specs.Condition as meets
 use Rattle.ig_grammar.specs.Numbering.{Levelled, by_level, alternatives}
 use Rattle.ig_grammar.specs.Symbol.{gathered}
 use Rattle.ig_grammar.specs.Visible.{Visible, inside_sequence, parameters}
-use Rattle.ig_grammar.specs.WellScoped.{IsWellScoped, GrammarHas, DeclarationHas, AlternativeHas}
+use Rattle.ig_grammar.specs.WellScoped.{IsWellScoped}
 use Rattle.ig_grammar.specs.declared.symbol.Alt.{Alt}
 use Rattle.ig_grammar.specs.declared.declaration.Assoc.{Assoc}
+use Rattle.ig_grammar.specs.declared.declaration.Assoc.TheVariants.{Free}
 use Rattle.ig_grammar.specs.declared.declaration.DeclKind.TheVariants.{Plain, Layout}
 use Rattle.ig_grammar.specs.declared.declaration.Level.{Level}
 use Rattle.ig_grammar.specs.declared.declaration.Decl.{Decl}
@@ -26,9 +26,9 @@ use Rattle.ig_meaning.specs.Laws.{HasNoOperators}
 use Rattle.ig_ebnf.specs.Lists.{Made, new_declaration, new_levels, new_symbols, added_symbols, added_by, all_added}
 use Rattle.ig_ebnf.specs.Lists.{decls_of, all_elements, lowered}
 use Rattle.ig_ebnf.proofs.Definitions.{IsOld, MayBeLowered, AllDeclared}
-use Rattle.ig_ebnf.proofs.AddedNames.{IsPlainly, all_plain, either_place, title_at}
+use Rattle.ig_ebnf.proofs.AddedNames.{IsPlainly, all_plain, title_at}
 use Rattle.ig_ebnf.proofs.LoweredGrammar.{new_free, distinct, present, from_map, into_map, levels_from}
-use Rattle.ig_ebnf.proofs.OldNames.{declared_old, from_option, no_option}
+use Rattle.ig_ebnf.proofs.OldNames.{declared_old}
 use Rattle.ig_ebnf.proofs.Premises.{Given, may_be_lowered, calm_alternative, clear_alternative, proper_alternative}
 use Rattle.ig_ebnf.proofs.Premises.{alternative_there}
 use Rattle.ig_ebnf.proofs.Elements.{all_ready}
@@ -37,8 +37,10 @@ use Rattle.ig_ebnf.proofs.LoweredCalm.{Distinct, elements_calm}
 use Rattle.ig_ebnf.proofs.SourceCalm.{all_source_calm}
 use Rattle.ig_ebnf.proofs.AddedCalm.{IsCalm, AltsCalm, LevelsCalm, symbols_calm}
 use Rattle.ig_ebnf.proofs.OfAdded.{OfAdded, of_added_at, by_levels, by_declarations}
-use Rattle.ig_ebnf.proofs.Binders.{fewer_binders}
-use Rattle.ig_ebnf.proofs.Heads.{named_once, distinct_parameters, not_repeated, no_layout_at, counted_before}
+use Rattle.ig_ebnf.proofs.Binders.{all_fewer}
+use Rattle.ig_rewrite.specs.Binders.{binders_of_symbols}
+use Rattle.ig_rewrite.specs.Passing.{GetAll, IsRemade, IsAdded, Remakes, IsGivenFrom, Gives, parameter_names}
+use Rattle.ig_ebnf.proofs.Heads.{distinct_parameters, different}
 
 -- where no declaration has operators, an alternative by its level
 in_level : (assoc : Assoc) (alts : List Alt) (m : ℕ) (a : Alt) → slice_get alts m ≡ Some a →
@@ -72,6 +74,21 @@ levels_calm_at h w [] free calm m a e = absurd (cc)
 levels_calm_at h w (level ∷ []) free calm m a e =
     alts_calm_at h w level.alts calm.0 m a (ap (λ z. slice_get z m) (sym (append-nil level.alts)) ∙ e)
 levels_calm_at h w (level ∷ next ∷ others) free calm m a e = absurd free
+
+-- where no declaration has operators, each level is free, and as many are made
+each_free : (levels : List Level) → HasNoOperators levels → (level : Level) → Contains levels level → level.assoc ≡ Free
+each_free [] free level m = absurd (none_in_nil level m)
+each_free (first ∷ []) free level m = ap (λ (z : Level). z.assoc) (contains_one first level m) ∙ free
+each_free (first ∷ next ∷ others) free level m = absurd free
+
+as_many : (of : List ℕ) (v : Visible) (levels : List Level) → HasNoOperators levels → length (new_levels of v 1 levels) ≤ length levels
+as_many of v [] free = omega arith
+as_many of v (level ∷ []) free = omega arith
+as_many of v (level ∷ next ∷ others) free = absurd free
+
+same_names : (ds : List Decl) → names (map new_declaration ds) ≡ names ds
+same_names [] = refl
+same_names (d ∷ ds) = ap (λ ns. d.name ∷ ns) (same_names ds)
 
 module _ (c : CheckedGrammar) (given : Given c) where
   abbrev g : Grammar
@@ -134,7 +151,7 @@ module _ (c : CheckedGrammar) (given : Given c) where
       (calm_alternative c given n decl m from.a e from.there)
       (clear_alternative c given n decl m from.a e from.there) in
       subst (λ z. AllCalm h decl.kind (inside_sequence v (gathered z))) (sym from.same)
-      (elements_calm g h shapes' decl.kind decl.kind (λ l. l) (IsOld g) (declared_old g) once decl.name
+      (elements_calm given.elsewhere g h shapes' decl.kind decl.kind (λ l. l) (IsOld g) (declared_old g) once decl.name
       (all_elements v from.k xs) v v _
       (all_ready h shapes' (IsOld g) decl.name xs v from.k proper from.present) source.0
       (record { at = λ n u. refl; less = λ n u. u }))
@@ -148,7 +165,7 @@ module _ (c : CheckedGrammar) (given : Given c) where
           AllDeclared h shapes' (added_symbols decl.name (parameters decl.params) k (gathered a.symbols)) →
           OfAdded (IsCalm h) (added_symbols decl.name (parameters decl.params) k (gathered a.symbols))
       by_alternative n decl e m a f k d =
-          symbols_calm g h shapes' decl.kind (IsOld g) (declared_old g) once decl.name (gathered a.symbols)
+          symbols_calm given.elsewhere g h shapes' decl.kind (IsOld g) (declared_old g) once decl.name (gathered a.symbols)
           (parameters decl.params) k
           (proper_alternative c given n decl m a e f) d (distinct_source n decl e)
           (calm_alternative c given n decl m a e f)
@@ -185,116 +202,125 @@ module _ (c : CheckedGrammar) (given : Given c) where
   added_calm : (decl : Decl) (at : AddedAt decl) → IsCalm h at.made
   added_calm decl at = of_added_at (IsCalm h) (all_added g.decls) made_calm at.place at.made at.there
 
-  no_both : (b : Bool) → b ≡ true → b ≡ false → ⊥
-  no_both b p q = let bad : true ≡ false = sym p ∙ q in absurd (cc)
+  -- a declaration of the source without lists
+  remade : (n : ℕ) (decl : Decl) → slice_get g.decls n ≡ Some decl → IsRemade [] decl (new_declaration decl)
+  remade n decl e =
+      record {
+        named = refl;
+        kinded = inl refl;
+        more = [];
+        longer = sym (append-nil decl.params);
+        apart = λ p m. absurd (none_in_nil p m);
+        distinct = λ i j name p q. absurd (cc);
+        unnamed = λ p m. absurd (none_in_nil p m);
+        lacks = λ p m. absurd (none_in_nil p m);
+        layout = λ f. refl;
+        levels = as_many decl.name (parameters decl.params) decl.levels (may.free n decl e);
+        associated = λ level m.
+            inl (each_free (new_levels decl.name (parameters decl.params) 1 decl.levels)
+            (new_free decl.name (parameters decl.params) decl.levels (may.free n decl e)) level m);
+      }
 
-  added_alternative : (b : ℕ) (decl : Decl) (k : ℕ) (a : Alt) (s : ℕ) (met : Condition) → AddedAt decl →
-      slice_get (alternatives decl.levels) k ≡ Some a →
-      AlternativeHas h.decls decl a s met → ⊥
-  added_alternative b decl k a zero met at e (meets.too_many_variables n l) =
-      no_both (is_name decl.name) n (added_is_no_name decl at)
-  added_alternative b decl k a (suc s) met at e m =
+  -- and one that is added
+  new : (decl : Decl) → Contains (decls_of (all_added g.decls)) decl → IsAdded [] decl
+  new decl m =
+      let b = at_from_contains (decls_of (all_added g.decls)) decl m in
+      let at = added_at b.0 decl b.1 in
+      record {
+        unnamed = added_is_no_name decl at;
+        kinded = λ f. (let bad : Plain ≡ Layout = sym (added_plainly decl at).kind ∙ ap (λ (z : Decl). z.kind) (sym at.same) ∙ f in absurd (cc));
+        distinct = subst (λ (z : Decl). AreDistinct (parameter_names z.params)) (sym at.same)
+            (different at.made.decl.params (added_calm decl at).0);
+        lacks = λ p among l. none_in_nil p.name l;
+      }
+
+  abbrev titles : List (List ℕ)
+  titles = names (decls_of (all_added g.decls))
+
+  all_once : AreDistinct (names g.decls ++ titles)
+  all_once =
+      subst AreDistinct
+      (map-append (λ (z : Decl). z.name) (map new_declaration g.decls) (decls_of (all_added g.decls)) ∙
+      ap (λ ns. ns ++ titles) (same_names g.decls)) once
+
+  new_at : (k : ℕ) (d e : Decl) → slice_get g.decls k ≡ Some d → slice_get (map new_declaration g.decls) k ≡ Some e → new_declaration d ≡ e
+  new_at k d e before after = same_Some (new_declaration d) e (sym (into_map new_declaration g.decls k d before) ∙ after)
+
+  pub remakes : Remakes [] g h
+  remakes =
+      record {
+        remade = map new_declaration g.decls;
+        added = decls_of (all_added g.decls);
+        decls = refl;
+        counted = length-map g.decls new_declaration;
+        each = λ k d e before after. subst (IsRemade [] d) (new_at k d e before after) (remade k d before);
+        new = new;
+        fresh = fresh;
+        apart = λ i j name p q.
+            (let n = length (names g.decls) in
+            let same = all_once (n + i) (n + j) name (right_at (names g.decls) titles (n + i) i name refl p)
+            (right_at (names g.decls) titles (n + j) j name refl q) in omega (arith, same));
+        start = refl;
+        bare = λ k d e before after started. ap (λ (z : Decl). z.params) (sym (new_at k d e before after));
+      }
+    where
+      fresh : (e : Decl) → Contains (decls_of (all_added g.decls)) e → Contains (names g.decls) e.name → ⊥
+      fresh e m l =
+          let i = at_from_contains (names g.decls) e.name l in
+          let j = at_from_contains (decls_of (all_added g.decls)) e m in
+          let there = into_map (λ (z : Decl). z.name) (decls_of (all_added g.decls)) j.0 e j.1 in
+          let same =
+          all_once i.0 (length (names g.decls) + j.0) e.name (left_at (names g.decls) titles i.0 e.name i.1)
+          (right_at (names g.decls) titles (length (names g.decls) + j.0) j.0 e.name refl there) in
+          let within = slice_get_within (names g.decls) i.0 e.name i.1 in omega (arith, same, within)
+
+  -- an alternative of a declaration of the source
+  alternative : (n : ℕ) (decl : Decl) (b : Alt) → slice_get g.decls n ≡ Some decl → Contains (alternatives (new_declaration decl).levels) b →
+      (a : Alt) × Contains (alternatives decl.levels) a × IsGivenFrom g.decls h.decls decl (new_declaration decl) a b
+  alternative n decl b e among =
+      let m = at_from_contains (alternatives (new_declaration decl).levels) b among in
+      let from = lowered_from n decl m.0 b e m.1 in
+      let fewer = all_fewer decl.name (gathered from.a.symbols) (parameters decl.params) from.k in
+      let same = ap (λ xs. binders_of_symbols (gathered xs)) from.same in (
+        from.a,
+        contains_from_at (alternatives decl.levels) m.0 from.a from.there,
+        record {
+          bound = omega (arith, fewer, same);
+          gets = λ before o there.
+              let k = at_from_contains (symbols_of (new_declaration decl) b) o there in
+              of_at (Calm h decl.kind) (symbols_of (new_declaration decl) b) (calm_lowered n decl m.0 b e m.1) k.0 o k.1;
+        },
+      )
+
+  -- and of one that is added
+  added_gets : (decl : Decl) (b : Alt) → Contains (decls_of (all_added g.decls)) decl → Contains (alternatives decl.levels) b →
+      GetAll h.decls decl b
+  added_gets decl b m among o there =
+      let place = at_from_contains (decls_of (all_added g.decls)) decl m in
+      let at = added_at place.0 decl place.1 in
       let plain : decl.kind ≡ Plain = ap (λ (z : Decl). z.kind) at.same ∙ (added_plainly decl at).kind in
+      let k = at_from_contains (alternatives decl.levels) b among in
       let calm =
       levels_calm_at h (parameters at.made.decl.params) at.made.decl.levels (added_plainly decl at).free
-      (added_calm decl at).1 k a
-      (ap (λ (z : Decl). slice_get (alternatives z.levels) k) (sym at.same) ∙ e) in
+      (added_calm decl at).1 k.0 b
+      (ap (λ (z : Decl). slice_get (alternatives z.levels) k.0) (sym at.same) ∙ k.1) in
       let here =
-      subst (λ (z : Decl). AllCalm h Plain (inside_sequence (parameters z.params) (gathered a.symbols)))
+      subst (λ (z : Decl). AllCalm h Plain (inside_sequence (parameters z.params) (gathered b.symbols)))
       (sym at.same) calm in
-      of_at (Calm h Plain) (symbols_of decl a) here s m.0 m.1 met
-      (subst (λ z. meets.SymbolMeets h.decls z m.0.visible m.0.symbol met) plain m.2)
+      let s = at_from_contains (symbols_of decl b) o there in
+      subst (λ z. Calm h z o.visible o.symbol) (sym plain) (of_at (Calm h Plain) (symbols_of decl b) here s.0 o s.1)
 
-  added_unmet : (b : ℕ) (decl : Decl) (a s : ℕ) (met : Condition) → slice_get h.decls b ≡ Some decl → AddedAt decl →
-      DeclarationHas h.decls b decl a s met → ⊥
-  added_unmet b decl zero zero met e at (meets.duplicate_name among) = named_once h.decls once b decl e among
-  added_unmet b decl zero zero met e at (meets.duplicate_parameter k p f among) =
-      not_repeated decl.params
-      (subst (λ (z : Decl). Distinct (parameters z.params)) (sym at.same) (added_calm decl at).0) k p f among
-  added_unmet b decl zero zero met e at (meets.layout_not_plain is_layout n) =
-      let bad : Plain ≡ Layout = sym (added_plainly decl at).kind ∙ ap (λ (z : Decl). z.kind) (sym at.same) ∙
-      is_layout in absurd (cc)
-  added_unmet b decl zero zero met e at (meets.too_many_nonterminals n f) =
-      no_both (is_name decl.name) n (added_is_no_name decl at)
-  added_unmet b decl zero zero met e at (meets.too_many_parameters n l) =
-      no_both (is_name decl.name) n (added_is_no_name decl at)
-  added_unmet b decl zero (suc s) met e at bad = bad
-  added_unmet b decl (suc k) s met e at has = added_alternative b decl k has.0 s met at has.1 has.2
-
-  source_alternative : (b : ℕ) (decl : Decl) (k : ℕ) (lower : Alt) (s : ℕ) (met : Condition) →
-      slice_get g.decls b ≡ Some decl →
-      slice_get (alternatives (new_declaration decl).levels) k ≡ Some lower →
-      AlternativeHas h.decls (new_declaration decl) lower s met → ⊥
-  source_alternative b decl k lower zero met e f (meets.too_many_variables n l) =
-      let from = lowered_from b decl k lower e f in
-      let v = parameters decl.params in
-      let fewer = fewer_binders decl.name given.counted from.a.symbols v v from.k in
-      let more : most_variables < named_parameters decl + count_by (λ o. binds_name o.symbol)
-      (inside_sequence v (gathered (new_symbols decl.name v from.k (gathered from.a.symbols)))) =
-      subst
-      (λ z. most_variables < named_parameters decl + count_by (λ o. binds_name o.symbol)
-      (inside_sequence v (gathered z))) from.same l in
-      given.sound.scoped (record { decl = suc b; alt = suc k; symbol = 0 }) (meets.TooMany meets.Variables)
-      (decl, e, (from.a, from.there, meets.too_many_variables n (omega (arith, more, fewer))))
-  source_alternative b decl k lower (suc s) met e f m =
-      of_at (Calm h decl.kind) (symbols_of (new_declaration decl) lower) (calm_lowered b decl k lower e f) s m.0 m.1
-      met m.2
-
-  source_unmet : (b : ℕ) (decl : Decl) (a s : ℕ) (met : Condition) → slice_get g.decls b ≡ Some decl →
-      DeclarationHas h.decls b (new_declaration decl) a s met → ⊥
-  source_unmet b decl zero zero met e (meets.duplicate_name among) =
-      named_once h.decls once b (new_declaration decl)
-      (left_at (map new_declaration g.decls) (decls_of (all_added g.decls)) b (new_declaration decl)
-      (into_map new_declaration g.decls b decl e)) among
-  source_unmet b decl zero zero met e (meets.duplicate_parameter k p f among) =
-      given.sound.scoped (record { decl = suc b; alt = 0; symbol = 0 }) meets.DuplicateVariable
-      (decl, e, meets.duplicate_parameter k p f among)
-  source_unmet b decl zero zero met e (meets.layout_not_plain is_layout n) =
-      no_layout_at g.decls given.no_layout b decl e is_layout
-  source_unmet b decl zero zero met e (meets.too_many_nonterminals n f) =
-      given.sound.scoped (record { decl = suc b; alt = 0; symbol = 0 }) (meets.TooMany meets.Nonterminals) (
-        decl,
-        e,
-        meets.too_many_nonterminals n (sym (counted_before g.decls (decls_of (all_added g.decls)) b decl e) ∙ f),
-      )
-  source_unmet b decl zero zero met e (meets.too_many_parameters n l) =
-      given.sound.scoped (record { decl = suc b; alt = 0; symbol = 0 }) (meets.TooMany meets.Parameters)
-      (decl, e, meets.too_many_parameters n l)
-  source_unmet b decl zero (suc s) met e bad = bad
-  source_unmet b decl (suc k) s met e has = source_alternative b decl k has.0 s met e has.1 has.2
-
-  start_unmet : (met : Condition) → StartMeets h met → ⊥
-  start_unmet met (meets.unknown_start name started none) =
-      let same : may.started.0 ≡ name = same_Some may.started.0 name (sym may.started.1 ∙ started) in
-      given.sound.scoped (record { decl = 0; alt = 0; symbol = 0 }) meets.UnknownName
-      (meets.unknown_start name started
-      (no_option (declaration_of g.decls name)
-      (sym (declared_old g name (subst (IsOld g) same may.started.2)) ∙ none)))
-  start_unmet met (meets.no_start none) =
-      given.sound.scoped (record { decl = 0; alt = 0; symbol = 0 }) meets.NoStart (meets.no_start none)
-  start_unmet met (meets.start_has_parameters name decl started found some) =
-      let same : may.started.0 ≡ name = same_Some may.started.0 name (sym may.started.1 ∙ started) in
-      let from =
-      from_option (declaration_of g.decls name) decl
-      (sym (declared_old g name (subst (IsOld g) same may.started.2)) ∙ found) in
-      given.sound.scoped (record { decl = 0; alt = 0; symbol = 0 }) meets.StartHasParameters
-      (meets.start_has_parameters name from.0 started from.1 (λ e. some (ap (λ (z : Decl). z.params) from.2 ∙ e)))
+  gives : Gives [] g h
+  unfolding remakes
+  gives =
+      record {
+        remakes = remakes;
+        each = λ k d e b before after m.
+            let same = new_at k d e before after in
+            subst (λ (y : Decl). (a : Alt) × Contains (alternatives d.levels) a × IsGivenFrom g.decls h.decls d y a b) same
+            (alternative k d b before (subst (λ (y : Decl). Contains (alternatives y.levels) b) (sym same) m));
+        gets = added_gets;
+      }
 
   pub lowered_is_well_scoped : IsWellScoped h
-  lowered_is_well_scoped place met has = go place.decl place.alt place.symbol has
-    where
-      at : (b a s : ℕ) (decl : Decl) → DeclarationHas h.decls b decl a s met → slice_get h.decls b ≡ Some decl →
-          (slice_get (map new_declaration g.decls) b ≡ Some decl) ⊎
-          ((m : ℕ) × (slice_get (decls_of (all_added g.decls)) m ≡ Some decl) ×
-          (b ≡ length (map new_declaration g.decls) + m)) → ⊥
-      at b a s decl m e (inl f) =
-          let from = from_map new_declaration g.decls b decl f in
-          source_unmet b from.0 a s met from.1 (subst (λ z. DeclarationHas h.decls b z a s met) from.2 m)
-      at b a s decl m e (inr f) = added_unmet b decl a s met e (added_at f.0 decl f.1) m
-
-      go : (d a s : ℕ) → GrammarHas h d a s met → ⊥
-      go zero zero zero m = start_unmet met m
-      go zero zero (suc s) m = m
-      go zero (suc a) s m = m
-      go (suc b) a s m =
-          at b a s m.0 m.2 m.1 (either_place (map new_declaration g.decls) (decls_of (all_added g.decls)) b m.0 m.1)
+  lowered_is_well_scoped = given.passes.scoped [] g h given.sound.scoped gives

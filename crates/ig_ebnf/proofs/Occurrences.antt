@@ -1,10 +1,10 @@
--- What holds of each occurrence; and that no condition holds at it.
+-- What holds of each occurrence; and that its symbol gets what it asks.
 use Rattle.std.proofs.Common.{◌≡◌, ℕ, zero, suc, List, [], ◌∷◌, ◌++◌, refl, subst, Some}
 use Rattle.std.specs.Prelude.{slice_get}
 use Rattle.std.proofs.lemmas.Option.{same_Some}
 use Rattle.ig_grammar.specs.Symbol.{Symbol}
 use Rattle.ig_grammar.specs.Visible.{Visible, Occurrence}
-use Rattle.ig_grammar.specs.Condition.{Condition, SymbolMeets}
+use Rattle.ig_rewrite.specs.Asked.{Asks}
 use Rattle.ig_grammar.specs.declared.declaration.DeclKind.{DeclKind}
 use Rattle.ig_grammar.specs.declared.grammar.Grammar.{Grammar}
 
@@ -37,9 +37,9 @@ module _ (N : Visible → Symbol → Type 0) where
   of_at (p ∷ os) h (suc n) o e = of_at os h.1 n o e
 
 module _ (g : Grammar) (within : DeclKind) where
-  -- no condition holds at the symbol
+  -- the symbol gets what it asks
   abbrev pub Calm : Visible → Symbol → Type 0
-  Calm v x = (c : Condition) → SymbolMeets g.decls within v x c → ⊥
+  Calm v x = Asks g.decls within v x
 
   abbrev pub AllCalm : List Occurrence → Type 0
   AllCalm = OfAll Calm

@@ -23,7 +23,8 @@ use Rattle.ig_grammar.specs.declared.grammar.Grammar.{Grammar}
 use Rattle.ig_grammar.specs.declared.place.Shape.{Shape}
 use Rattle.ig_grammar.specs.declared.place.Shape.TheVariants.{Root}
 use Rattle.ig_meaning.specs.Laws.{HasNoOperators}
-use Rattle.ig_rewrite.specs.Binders.{BindersAreCounted}
+use Rattle.ig_rewrite.specs.Asked.{SymbolsAsk, AsksElsewhere}
+use Rattle.ig_rewrite.specs.Passing.{ResultsAreReady}
 use Rattle.ig_rewrite.specs.Found.{DeclarationsAreFound}
 use Rattle.ig_rewrite.specs.Added.{AddedNamesAreNew, HasNoSign}
 use Rattle.ig_rewrite.specs.Sound.{IsSound, IsFree, IsUnmarked, HasExclusionsAlone}
@@ -67,7 +68,9 @@ clear_there (level ∷ next ∷ others) free each m a e = absurd free
 -- the laws and premises
 pub record Given (c : CheckedGrammar) : Type 0 where
   pub new : AddedNamesAreNew
-  pub counted : BindersAreCounted
+  pub ask : SymbolsAsk
+  pub elsewhere : AsksElsewhere
+  pub passes : ResultsAreReady
   pub found : DeclarationsAreFound
   pub sound : IsSound c
   pub free : IsFree c.grammar
@@ -136,9 +139,10 @@ module _ (c : CheckedGrammar) (given : Given c) where
       slice_get (alternatives decl.levels) m ≡ Some a →
       AllCalm g decl.kind (inside_sequence (parameters decl.params) (gathered a.symbols))
   calm_alternative n decl m a e there =
-      of_all (Calm g decl.kind) (symbols_of decl a) (λ s o f met meets.
+      of_all (Calm g decl.kind) (symbols_of decl a) (λ s o f.
+      given.ask.asks g.decls decl.kind o.visible o.symbol (λ met meets.
       given.sound.scoped (record { decl = suc n; alt = suc m; symbol = suc s }) met
-      (decl, e, (a, there, (o, f, meets))))
+      (decl, e, (a, there, (o, f, meets)))))
 
   pub clear_alternative : (n : ℕ) (decl : Decl) (m : ℕ) (a : Alt) → slice_get g.decls n ≡ Some decl →
       slice_get (alternatives decl.levels) m ≡ Some a →
@@ -158,7 +162,7 @@ module _ (c : CheckedGrammar) (given : Given c) where
       SymbolsProper (IsOld g) (parameters decl.params) (gathered a.symbols)
   proper_alternative n decl m a e there =
       symbols_proper g decl.kind (Calm g decl.kind) (λ v x calm. calm) (IsOld g)
-      (λ v name es calm. called name (λ none. calm condition.UnknownName (condition.unknown_name name es none)))
+      (λ v name es calm. called name (λ none. let clash : Some calm.callee ≡ None = sym calm.declared ∙ none in absurd (cc)))
       (gathered a.symbols) (parameters decl.params) (calm_alternative n decl m a e there)
       (clear_alternative n decl m a e there)
 

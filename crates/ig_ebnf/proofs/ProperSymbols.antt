@@ -1,5 +1,5 @@
 -- Symbols that are well scoped and clear are proper.
-use Rattle.std.proofs.Common.{◌≡◌, ℕ, suc, Bool, List, [], ◌∷◌, ◌++◌, map, Option, Some, None, refl, ap, arith, false}
+use Rattle.std.proofs.Common.{◌≡◌, ℕ, suc, Bool, List, [], ◌∷◌, ◌++◌, map, Some, refl, ap, arith, false}
 use Rattle.std.specs.Prelude.{Contains}
 use Rattle.ig_expr.specs.Expression.{Expression}
 use Rattle.ig_expr.specs.declared.kind.Kind.{Kind}
@@ -10,7 +10,6 @@ use Rattle.ig_grammar.specs.Symbol.{Filtered, Seq, Entry, Symbols, no_symbols, n
 use Rattle.ig_grammar.specs.Symbol.{no_alternatives, next_alternative}
 use Rattle.ig_grammar.specs.Regular.{MayHaveLabel, MayHaveFilters, MayHaveEntry}
 use Rattle.ig_grammar.specs.Visible.{Visible, at, binds, replaced, kind_at, inside, inside_sequence, inside_choices}
-use Rattle.ig_grammar.specs.Condition.{expressions}
 use Rattle.ig_grammar.specs.Condition as condition
 use Rattle.ig_grammar.specs.declared.declaration.DeclKind.{DeclKind}
 use Rattle.ig_grammar.specs.declared.grammar.Grammar.{Grammar}
@@ -84,19 +83,6 @@ module _ (g : Grammar) (within : DeclKind) (N : Visible → Symbol → Type 0)
     (fine : (v : Visible) (x : Symbol) → N v x → Calm g within v x)
     (May : List ℕ → Type 0)
     (called : (v : Visible) (name : List ℕ) (es : List Expression) → N v (Call name es) → May name) where
-  -- each expression of the symbol has a kind
-  kinded : (v : Visible) (x : Symbol) → N v x → (e : Expression) → Contains (expressions x) e →
-      (k : Kind) × (kind_at v e ≡ Some k)
-  kinded v x calm e among = go (kind_at v e) refl
-    where
-      go : (o : Option Kind) → kind_at v e ≡ o → (k : Kind) × (kind_at v e ≡ Some k)
-      go None is =
-          absurd
-          (fine v x calm condition.KindMismatch
-          (condition.no_kind x e among
-          ((λ unknown. fine v x calm condition.UnknownVariable (condition.unknown_variable x e among unknown)), is)))
-      go (Some k) is = (k, is)
-
   fitting : (v : Visible) (wanted : List ℕ → Bool) (bs : List Binding) →
       ((e : Expression) → Contains (map (λ b. b.value) bs) e → (k : Kind) × (kind_at v e ≡ Some k)) →
       AreWanted wanted bs → BindingsFit v wanted bs
@@ -118,7 +104,7 @@ module _ (g : Grammar) (within : DeclKind) (N : Visible → Symbol → Type 0)
     proper (Call m es) v calm all clear = called v m es calm
     proper (Label m x) v calm all clear = (may_label x clear.0, proper x v all.0 all.1 clear.1)
     proper (Guard e) v calm all clear = tt
-    proper (Let m e) v calm all clear = kinded v (Let m e) calm e (0, omega arith, refl)
+    proper (Let m e) v calm all clear = (fine v (Let m e) calm).1
     proper (Opt x) v calm all clear = proper x v all.0 all.1 clear
     proper (Star x) v calm all clear = proper x v all.0 all.1 clear
     proper (Plus x) v calm all clear = proper x v all.0 all.1 clear
@@ -144,7 +130,7 @@ module _ (g : Grammar) (within : DeclKind) (N : Visible → Symbol → Type 0)
     proper (Seq xs) v calm all clear = symbols_proper xs v all clear
     proper (Entry bs x) v calm all clear = (
       may_entry x clear.0,
-      fitting v (λ n. needs n x) bs (kinded v (Entry bs x) calm) clear.1,
+      fitting v (λ n. needs n x) bs (fine v (Entry bs x) calm) clear.1,
       proper x (replaced v v bs) all.0 all.1 clear.2,
     )
 

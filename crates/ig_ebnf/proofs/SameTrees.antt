@@ -11,9 +11,13 @@ use Rattle.ig_text.specs.declared.tag.Tag.TheVariants as tag
 use Rattle.ig_ebnf.proofs.Back.{covers_from}
 use Rattle.ig_grammar.specs.Checked.{CheckedGrammar}
 use Rattle.ig_rewrite.specs.SameTrees.{PermitSame}
+use Rattle.ig_rewrite.specs.SameValues.{KeepsValues}
+use Rattle.ig_expr.specs.ValuedTree as valued
+use Rattle.ig_meaning.specs.Annotated.{Annotates}
 use Rattle.ig_meaning.specs.Laws.{TreesWithoutOperatorsAreClean}
 use Rattle.ig_ebnf.proofs.Definitions.{SymbolsProper, AllDeclared, Takes, Binds, Quiet, IsOld, MayBeLowered}
 use Rattle.ig_ebnf.proofs.Forth.{covers_to}
+use Rattle.ig_ebnf.proofs.ValuedForth.{bind_to, same_values}
 use Rattle.ig_ebnf.proofs.LoweredGrammar.{takes_of, from_map}
 use Rattle.ig_ebnf.proofs.AddedNames.{either_place, all_plain}
 use Rattle.ig_ebnf.proofs.InstanceParts.{nothing_of}
@@ -81,77 +85,84 @@ module _ (clean_tree : TreesWithoutOperatorsAreClean) (g : Grammar) (shapes : Li
   start_old : (start : List ℕ) → g.start ≡ Some start → IsOld g start
   start_old start starts = subst (IsOld g) (same_Some may.started.0 start (sym may.started.1 ∙ starts)) may.started.2
 
-  start_to : (start : List ℕ) → g.start ≡ Some start →
-      ((d : ℕ) (decl : Decl) → Declares g shapes start d decl shape.Root → ⊥) →
-      (children : Trees) (after : Environment) (starts : List ℕ) →
-      Covers g shapes text Syntax (Call start [] ∷ []) [] 0 (length text) children after starts →
-      Permitted g' shapes' text (Node tag.Root 0 (length text) children)
-  start_to start starts undeclared children after ks covers =
-      let lower =
-      covers_to g g' shapes shapes' (IsOld g) text takes covers [] [] 1 Syntax (quiet Syntax) (quiet' Syntax)
-      (start_old start starts, tt) tt binds_nothing [] (record { at = λ n u. refl }) in
-      record {
-        kind = Syntax;
-        symbols = Call start [] ∷ [];
-        children = children;
-        after = lower.left;
-        starts = lower.starts;
+  -- the root alternative without lists
+  pub record RootTo (kind : DeclKind) (symbols : List Symbol) : Type 0 where
+    pub of : List ℕ
+    pub v : Visible
+    pub k : ℕ
+    pub root : IsRootAlternative g' shapes' kind (new_symbols of v k (gathered symbols))
+    pub proper : SymbolsProper (IsOld g) v (gathered symbols)
+    pub present : AllDeclared g' shapes' (added_symbols of v k (gathered symbols))
+    pub nothing : Binds v []
+
+  root_to : {kind : DeclKind} {symbols : List Symbol} → IsRootAlternative g shapes kind symbols → RootTo kind symbols
+  root_to (written start symbols starts undeclared same) =
+      subst (RootTo Syntax) (sym (same ∙ ap (λ z. behind_layout z (Call start [] ∷ [])) may.no_layout))
+      (record {
+        of = [];
+        v = [];
+        k = 1;
         root =
             written start _ starts
             (λ d decl declares. let from = takes.back start d decl shape.Root (start_old start starts) declares in
             undeclared d from.decl from.declares)
             (ap (λ z. behind_layout z (Call start [] ∷ [])) (sym (takes.layout ∙ may.no_layout)));
-        covered = lower.covers;
-        whole = refl;
-        clean = clean_tree g' free' (Node tag.Root 0 (length text) children);
-      }
-
-  declared_to : (start : List ℕ) (d : ℕ) (decl : Decl) (a : Levelled) → g.start ≡ Some start →
-      Declares g shapes start d decl shape.Root → IsAlternative decl 1 a →
-      (children : Trees) (after : Environment) (starts : List ℕ) →
-      Covers g shapes text decl.kind a.alternative.symbols [] 0 (length text) children after starts →
-      decl.params ≡ [] → Permitted g' shapes' text (Node tag.Root 0 (length text) children)
-  declared_to start d decl a starts declares numbered children after ks covers no_params =
+        proper = (start_old start starts, tt);
+        present = tt;
+        nothing = binds_nothing;
+      })
+  root_to (declared start d decl a kind symbols starts declares numbered kinds same) =
       let num = takes.numbered_to start d decl shape.Root declares 1 a numbered in
-      let lower =
-      covers_to g g' shapes shapes' (IsOld g) text takes covers decl.name (parameters decl.params) num.begins.k
-      decl.kind (quiet decl.kind) (quiet' decl.kind)
-      num.begins.proper num.begins.present (subst (λ z. Binds (parameters z) []) (sym no_params) binds_nothing) []
-      (record { at = λ n u. refl }) in
-      record {
-        kind = decl.kind;
-        symbols = num.lower.alternative.symbols;
-        children = children;
-        after = lower.left;
-        starts = lower.starts;
-        root = declared start d (new_declaration decl) num.lower decl.kind _ starts
-            (takes.forth start d decl shape.Root declares) num.numbered refl refl;
-        covered =
-            subst
-            (λ (z : List Symbol). Covers g' shapes' text decl.kind z [] 0 (length text) children lower.left
-            lower.starts) (sym num.same) lower.covers;
-        whole = refl;
-        clean = clean_tree g' free' (Node tag.Root 0 (length text) children);
-      }
+      let no_params =
+      may.bare declares.numbered.0 decl declares.numbered.2 (starts ∙ ap Some (sym declares.named)) in
+      subst (RootTo kind) (sym same)
+      (record {
+        of = decl.name;
+        v = parameters decl.params;
+        k = num.begins.k;
+        root = declared start d (new_declaration decl) num.lower kind _ starts
+            (takes.forth start d decl shape.Root declares) num.numbered kinds (sym num.same);
+        proper = num.begins.proper;
+        present = num.begins.present;
+        nothing = subst (λ z. Binds (parameters z) []) (sym no_params) binds_nothing;
+      })
 
   forth : (t : Tree) → Permitted g shapes text t → Permitted g' shapes' text t
-  forth t permitted = subst (Permitted g' shapes' text) (sym permitted.whole) (go permitted.root permitted.covered)
-    where
-      go : {kind : DeclKind} {symbols : List Symbol} {children : Trees} {after : Environment} {starts : List ℕ} →
-          IsRootAlternative g shapes kind symbols →
-          Covers g shapes text kind symbols [] 0 (length text) children after starts →
-          Permitted g' shapes' text (Node tag.Root 0 (length text) children)
-      go {children = children} {after = after} {starts = starts} (written start symbols start_here undeclared same)
-          covers =
-          start_to start start_here undeclared children after starts
-          (subst (λ z. Covers g shapes text Syntax z [] 0 (length text) children after starts)
-          (same ∙ ap (λ z. behind_layout z (Call start [] ∷ [])) may.no_layout) covers)
-      go {children = children} {after = after} {starts = starts}
-          (declared start d decl a kind symbols start_here declares numbered kinds same) covers =
-          declared_to start d decl a start_here declares numbered children after starts
-          (subst (λ z. Covers g shapes text z a.alternative.symbols [] 0 (length text) children after starts) kinds
-          (subst (λ z. Covers g shapes text kind z [] 0 (length text) children after starts) same covers))
-          (may.bare declares.numbered.0 decl declares.numbered.2 (start_here ∙ ap Some (sym declares.named)))
+  forth t permitted =
+      let to = root_to permitted.root in
+      let lower =
+      covers_to g g' shapes shapes' (IsOld g) text takes permitted.covered to.of to.v to.k permitted.kind
+      (quiet permitted.kind) (quiet' permitted.kind) to.proper to.present to.nothing [] (record { at = λ n u. refl }) in
+      record {
+        kind = permitted.kind;
+        symbols = new_symbols to.of to.v to.k (gathered permitted.symbols);
+        children = permitted.children;
+        after = lower.left;
+        starts = lower.starts;
+        root = to.root;
+        covered = lower.covers;
+        whole = permitted.whole;
+        clean = clean_tree g' free' t;
+      }
+
+  -- and with values
+  annotated : (t : Tree) (u : valued.Tree) → Annotates g shapes text t u → Annotates g' shapes' text t u
+  annotated t u annotates =
+      let to = root_to annotates.root in
+      let lower =
+      bind_to g g' shapes shapes' (IsOld g) text takes annotates.binds to.of to.v to.k annotates.kind
+      (quiet annotates.kind) (quiet' annotates.kind) to.proper to.present to.nothing [] (record { at = λ n u. refl }) in
+      record {
+        kind = annotates.kind;
+        symbols = new_symbols to.of to.v to.k (gathered annotates.symbols);
+        children = annotates.children;
+        after = lower.left;
+        root = to.root;
+        binds = lower.bind;
+        whole = annotates.whole ∙
+            ap (λ z. valued.Node tag.Root z 0 (length text) annotates.children) (same_values lower.grown);
+        same = annotates.same;
+      }
 
   -- back, from what elements cover
   pub record Backed (kind : DeclKind) (xs : List Symbol) (children : Trees) : Type 0 where
@@ -268,3 +279,8 @@ lowering_is_the_same clean_tree c may =
       same = λ text t.
           (forth clean_tree c.grammar c.shapes text may t, back clean_tree c.grammar c.shapes text may t);
     }
+
+pub lowering_keeps_values : TreesWithoutOperatorsAreClean → (c : CheckedGrammar) → MayBeLowered c.grammar c.shapes →
+    KeepsValues c (lowered c)
+lowering_keeps_values clean_tree c may =
+    record { values = λ text t u permitted. annotated clean_tree c.grammar c.shapes text may t u }

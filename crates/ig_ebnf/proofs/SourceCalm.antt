@@ -1,4 +1,4 @@
--- In the source the elements of an alternative meet nothing, each where names differ.
+-- In the source the elements of an alternative get what they ask, each where names differ.
 use Rattle.ig_grammar.specs.Visible.{names}
 use Rattle.std.proofs.Common.{◌≡◌, ℕ, ◌+◌, Bool, true, false, List, [], ◌∷◌, ◌++◌, refl, sym, ◌∙◌, ap, subst, Option}
 use Rattle.std.proofs.Common.{Some, None, append_assoc}
@@ -109,12 +109,12 @@ module _ (g : Grammar) (k : DeclKind) where
     source_calm (Label n x) v m d calm all clear = (
       (d, calm, all, tt),
       subst (λ z. Distinct (v ++ (z ++ (n, Span) ∷ []))) (sym (unlabelled x v clear.0 clear.1))
-          (distinct_one v n Span d (unseen v n (λ i. calm met.DuplicateVariable (met.duplicate_label n x i)))),
+          (distinct_one v n Span d (unseen v n calm)),
     )
     source_calm (Guard e) v m d calm all clear = ((d, calm, all, tt), same_distinct v [] d refl)
     source_calm (Let n e) v m d calm all clear = (
       (d, calm, all, tt),
-      bound_distinct v n (kind_at v e) d (unseen v n (λ i. calm met.DuplicateVariable (met.duplicate_let n e i))),
+      bound_distinct v n (kind_at v e) d (unseen v n calm.0),
     )
     source_calm (Opt x) v m d calm all clear = ((d, calm, all, tt), same_distinct v [] d refl)
     source_calm (Star x) v m d calm all clear = ((d, calm, all, tt), same_distinct v [] d refl)

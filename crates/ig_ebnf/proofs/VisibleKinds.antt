@@ -1,6 +1,6 @@
 -- Kinds of what is visible in the source, and in an added declaration.
 use Rattle.std.proofs.Common.{◌≡◌, ◌⊎◌, inl, inr, ℕ, zero, suc, ◌<◌, Bool, true, false, List, [], ◌∷◌, ◌++◌, length}
-use Rattle.std.proofs.Common.{refl, sym, ◌∙◌, ap, subst, cond, Option, Some, None, arith}
+use Rattle.std.proofs.Common.{refl, sym, ◌∙◌, ap, cond, Option, Some, None, arith}
 use Rattle.std.specs.Prelude.{◌||◌, ◌&&◌, not, Contains}
 use Rattle.std.specs.Cmp.Lexicographic.{bytes_decides}
 use Rattle.std.proofs.lemmas.List.Elements.{Contains-append_cases}
@@ -19,6 +19,8 @@ use Rattle.ig_grammar.specs.Visible.{Visible, names, kinds, kind_at}
 use Rattle.ig_rewrite.specs.Needs.{uses, is_added}
 use Rattle.ig_text.specs.Words.{is_word}
 use Rattle.ig_expr.specs.declared.kind.Kind.TheVariants as kind
+use Rattle.ig_rewrite.specs.Asked.{Fit}
+use Rattle.ig_ebnf.specs.Lists.{params_of}
 
 abbrev pub look : Visible → List ℕ → Option Kind
 look v x = look_up (names v) (kinds v) x
@@ -241,21 +243,10 @@ entries_params v wanted h =
     entries_append (keep (λ n. not (is_added n) && wanted n) v) (keep (λ n. is_added n && wanted n) v) v
     (entries_kept (λ n. not (is_added n) && wanted n) v v h) (entries_kept (λ n. is_added n && wanted n) v v h)
 
--- arguments fit parameters
-abbrev pub Fits : Visible → List Expression → Visible → Type 0
-Fits w [] [] = Unit {0}
-Fits w [] (p ∷ ps) = ⊥
-Fits w (e ∷ es) [] = ⊥
-Fits w (e ∷ es) (p ∷ ps) = (NamesUnknown w e → ⊥) × (kind_at w e ≡ Some p.1) × Fits w es ps
-
-pub fits_each : (w ps : Visible) → Entries ps w → Fits w (arguments [] ps) ps
+-- variables fit parameters of their kinds
+pub fits_each : (w ps : Visible) → Entries ps w → Fit w (arguments [] ps) (params_of ps)
 fits_each w [] h = tt
-fits_each w (p ∷ ps) h = ((λ unknown. go unknown (in_rest p.0 [] unknown.0 unknown.1)), h.0, fits_each w ps h.1)
-  where
-    go : (unknown : NamesUnknown w (Variable p.0)) → (p.0 ≡ unknown.0) ⊎ Contains [] unknown.0 → ⊥
-    go unknown (inl e) =
-        unknown.2 (subst (Contains (names w)) e (has_named w p.0 (sym (has_look w p.0) ∙ ap is_some h.0)))
-    go unknown (inr i) = nothing_in unknown.0 i
+fits_each w (p ∷ ps) h = (h.0, fits_each w ps h.1)
 
 entries_moved : (ps v w : Visible) (wanted : List ℕ → Bool) → Entries ps v → Narrow wanted v w →
     ((n : List ℕ) → has ps n ≡ true → wanted n ≡ true) → Entries ps w
@@ -267,7 +258,7 @@ entries_moved (p ∷ ps) v w wanted h s sub = (
 
 -- the arguments of the call of an added declaration fit its parameters
 pub call_fits : (v w : Visible) (wanted : List ℕ → Bool) → Entries v v → Narrow wanted v w →
-    Fits w (arguments [] (params_for v wanted)) (params_for v wanted)
+    Fit w (arguments [] (params_for v wanted)) (params_of (params_for v wanted))
 call_fits v w wanted own s =
     fits_each w (params_for v wanted) (entries_moved (params_for v wanted) v w wanted (entries_params v wanted own) s
     (λ n e. (and_parts (has v n) (wanted n) (sym (has_params v wanted n) ∙ e)).1))

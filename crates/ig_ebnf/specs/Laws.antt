@@ -4,15 +4,17 @@ use Rattle.ig_grammar.specs.Numbering.{layout_among}
 use Rattle.ig_grammar.specs.Checked.{CheckedGrammar, FitShapes}
 use Rattle.ig_grammar.specs.WellScoped.{IsWellScoped}
 use Rattle.ig_rewrite.specs.SameTrees.{PermitSame}
+use Rattle.ig_rewrite.specs.SameValues.{KeepsValues}
 use Rattle.ig_rewrite.specs.Added.{root_name, IsFresh}
 use Rattle.ig_rewrite.specs.Rooted.{has_root}
 use Rattle.ig_rewrite.specs.Sound.{IsSound, IsFree, IsUnmarked, HasExclusionsAlone, RootIsNamed}
 use Rattle.ig_rewrite.specs.Remaining.{IsRemaining}
 use Rattle.ig_ebnf.specs.Lists.{HasFewLists, ListsOf, lowered}
 
--- the same trees, and a checked grammar of the forms that remain, with a declaration that stands for the root
+-- the same trees, with the same values, and a checked grammar of the forms that remain, with a declaration that stands for the root
 pub record KeptByLists (c : CheckedGrammar) : Type 0 where
   pub same : PermitSame c (ListsOf c)
+  pub values : KeepsValues c (ListsOf c)
   pub scoped : IsWellScoped (ListsOf c).grammar
   pub fit : FitShapes (ListsOf c).grammar (ListsOf c).shapes
   pub remaining : IsRemaining (ListsOf c).grammar
@@ -26,9 +28,10 @@ ListsKeep =
     (c : CheckedGrammar) → IsSound c → IsFree c.grammar → IsUnmarked c.grammar → layout_among c.grammar.decls ≡ None →
     HasExclusionsAlone c.grammar → HasFewLists c.grammar → KeptByLists c
 
--- before the root is added: the same trees, and a checked grammar, to which the root may be added
+-- before the root is added: the same trees, with the same values, and a checked grammar, to which the root may be added
 pub record KeptByLowering (c : CheckedGrammar) : Type 0 where
   pub same : PermitSame c (lowered c)
+  pub values : KeepsValues c (lowered c)
   pub scoped : IsWellScoped (lowered c).grammar
   pub fit : FitShapes (lowered c).grammar (lowered c).shapes
   pub fresh : has_root (lowered c).shapes ≡ false → IsFresh (lowered c).grammar root_name

@@ -1,5 +1,5 @@
 //! Calls of added declarations.
-ghost use Rattle.std.specs.Prelude.{◌≡◌, [], ◌∷◌, ◌++◌, map, IfOk, OnOk};
+ghost use Rattle.std.specs.Prelude.{◌≡◌, map, IfOk};
 ghost use Rattle.ig_expr.specs.View.{expression_of};
 ghost use Rattle.ig_grammar.specs.Binding.{binding_of};
 ghost use Rattle.ig_grammar.specs.Symbol.{Call};
@@ -12,6 +12,7 @@ ghost use Rattle.ig_ebnf.specs.Lists.{argument, arguments, entering};
 use crate::variables::Variables;
 use ig_expr::{Expr, Exprs};
 use ig_grammar::{Lets, Param, Symbol};
+use ig_rewrite::push_expression;
 use ig_text::{Copied, Word};
 use std::alloc::{AllocError, Global};
 
@@ -62,7 +63,7 @@ fn arguments(alloc: Global, bindings: &Lets, params: &[Param]) -> Result<Exprs, 
 {
     let mut all = Exprs::new(alloc);
     for param in params {
-        push_argument(&mut all, argument(alloc, bindings.as_slice(), &param.name)?)?;
+        push_expression(&mut all, argument(alloc, bindings.as_slice(), &param.name)?)?;
     }
     Ok(all)
 }
@@ -78,11 +79,4 @@ fn argument(alloc: Global, bindings: &[(Word, Expr)], name: &Word) -> Result<Exp
         }
     }
     Ok(Expr::Var(name.copy(alloc)?))
-}
-
-/// Adds the argument at the end.
-fn push_argument(all: &mut Exprs, argument: Expr) -> Result<(), AllocError>
-    ensures { OnOk result (all.new ≡ all.old ++ expression_of argument ∷ []) }
-{
-    all.push(argument).map_err(|refused| refused.1)
 }

@@ -10,14 +10,14 @@ ghost use Rattle.ig_ebnf.specs.Lists.{count_levels, HasFewLists, ListsOf};
 ghost use Rattle.ig_ebnf.specs.Lists.{lowered_grammar, lowered};
 ghost use Rattle.ig_ebnf.specs.Growing.{Grows};
 
-use crate::growing::{Lowered, add_alternatives, push_declaration, push_level};
+use crate::growing::{Lowered, add_alternatives};
 use crate::laws::lowering_keeps;
 use crate::numbering::{count_alternatives, sum};
 use crate::placing::new_alternatives;
 use crate::variables::Variables;
 use ig_grammar::{Checked, Decl, Decls, Grammar, Level, Levels};
-use ig_rewrite::{copy_of_shapes, has_root, root};
-use ig_text::{Copied, Word};
+use ig_rewrite::{copy_of_shapes, copy_of_start, has_root, push_declaration, push_level, root};
+use ig_text::Copied;
 use std::alloc::{AllocError, Global};
 
 /// The levels of the declaration, with what stands for their symbols.
@@ -88,16 +88,6 @@ fn add_declarations(alloc: Global, decls: &[Decl], all: &mut Lowered) -> Result<
         add_levels(alloc, decl, all)?;
     }
     Ok(())
-}
-
-/// An equal start line.
-fn copy_of_start(alloc: Global, start: &Option<Word>) -> Result<Option<Word>, AllocError>
-    ensures { IfOk result (λ r. r ≡ start.now) }
-{
-    match start {
-        Some(name) => Ok(Some(name.copy(alloc)?)),
-        None => Ok(None),
-    }
 }
 
 /// The declarations of the grammar, with what stands for their symbols, and behind them those that

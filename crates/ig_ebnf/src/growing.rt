@@ -14,14 +14,13 @@ ghost use Rattle.ig_grammar.specs.declared.place.Shape.TheVariants as shape;
 
 use crate::entries::{added_name, call};
 use crate::numbering::{count, count_symbols, successor, sum};
-use crate::placing::{
-    new_alternatives, new_part, push_alternative, push_copies, push_new, push_symbol,
-};
+use crate::placing::{new_alternatives, new_part, push_copies, push_new};
 use crate::variables::{Variables, bind};
 use ig_grammar::{
     Alt, Alts, Assoc, Decl, DeclKind, Decls, Inner, Lets, Level, Levels, Params, Shape, Shapes,
     Symbol, Symbols,
 };
+use ig_rewrite::{push_alternative, push_declaration, push_level, push_shape, push_symbol};
 use ig_text::Word;
 use std::alloc::{AllocError, Global};
 
@@ -362,25 +361,4 @@ fn one_level(alloc: Global, alts: Alts) -> Result<Levels, AllocError>
         },
     )?;
     Ok(levels)
-}
-
-/// Adds the level at the end.
-pub(crate) fn push_level(all: &mut Levels, level: Level) -> Result<(), AllocError>
-    ensures { OnOk result (all.new ≡ all.old ++ level ∷ []) }
-{
-    all.push(level).map_err(|refused| refused.1)
-}
-
-/// Adds the declaration at the end.
-pub(crate) fn push_declaration(all: &mut Decls, decl: Decl) -> Result<(), AllocError>
-    ensures { OnOk result (all.new ≡ all.old ++ decl ∷ []) }
-{
-    all.push(decl).map_err(|refused| refused.1)
-}
-
-/// Adds the shape at the end.
-fn push_shape(all: &mut Shapes, shape: Shape) -> Result<(), AllocError>
-    ensures { OnOk result (all.new ≡ all.old ++ shape ∷ []) }
-{
-    all.push(shape).map_err(|refused| refused.1)
 }

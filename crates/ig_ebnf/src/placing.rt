@@ -1,5 +1,5 @@
 //! What stands for a symbol, in place.
-ghost use Rattle.std.specs.Prelude.{◌≡◌, [], ◌∷◌, ◌++◌, IfOk, OnOk};
+ghost use Rattle.std.specs.Prelude.{◌≡◌, ◌++◌, IfOk, OnOk};
 ghost use Rattle.ig_grammar.specs.View.{symbol_of};
 ghost use Rattle.ig_grammar.specs.Symbol.{gathered, Label};
 ghost use Rattle.ig_ebnf.specs.Lists.{new_symbol, new, new_symbols, new_alts};
@@ -8,6 +8,7 @@ use crate::entries::entering;
 use crate::numbering::{count, count_symbols, sum};
 use crate::variables::{Variables, bind};
 use ig_grammar::{Alt, Alts, Inner, Lets, Symbol, Symbols};
+use ig_rewrite::{push_alternative, push_symbol};
 use ig_text::{Copied, Word};
 use std::alloc::{AllocError, Global};
 
@@ -151,13 +152,6 @@ pub(crate) fn new_alternatives(
     Ok(all)
 }
 
-/// Adds the symbol at the end.
-pub(crate) fn push_symbol(all: &mut Symbols, symbol: Symbol) -> Result<(), AllocError>
-    ensures { OnOk result (all.new ≡ all.old ++ symbol_of symbol ∷ []) }
-{
-    all.push(symbol).map_err(|refused| refused.1)
-}
-
 /// Adds copies of the symbols at the end.
 pub(crate) fn push_copies(
     alloc: Global,
@@ -170,11 +164,4 @@ pub(crate) fn push_copies(
         push_symbol(all, symbol.copy(alloc)?)?;
     }
     Ok(())
-}
-
-/// Adds the alternative at the end.
-pub(crate) fn push_alternative(all: &mut Alts, alternative: Alt) -> Result<(), AllocError>
-    ensures { OnOk result (all.new ≡ all.old ++ alternative ∷ []) }
-{
-    all.push(alternative).map_err(|refused| refused.1)
 }

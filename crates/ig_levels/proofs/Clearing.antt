@@ -8,7 +8,6 @@ use Rattle.ig_text.proofs.Lists.{contains_from_at}
 use Rattle.ig_expr.specs.Expression.{Expression, Integer, Truth, Here, Variable, Not, Negative, Binary, Of, Same, Spells, Outer, Inside, FreeBefore, FreeAfter}
 use Rattle.ig_grammar.specs.Binding.{Binding}
 use Rattle.ig_grammar.specs.Condition.{variables}
-use Rattle.ig_grammar.specs.Numbering.{by_level}
 use Rattle.ig_grammar.specs.Subterms.{subterms, subterms_of_symbols, subterms_of_alternatives}
 use Rattle.ig_grammar.specs.Symbol.{Symbol, Literal, OneOf, Call, Label, Guard, Let, Opt, Star, Plus, SepStar, SepPlus, Group, Offside, Ignore, Align, Filtered, Seq, Entry}
 use Rattle.ig_grammar.specs.Symbol.{Symbols, no_symbols, next_symbol, Alternatives, no_alternatives, next_alternative, gathered}
@@ -17,7 +16,9 @@ use Rattle.ig_grammar.specs.declared.grammar.Grammar.{Grammar}
 use Rattle.ig_rewrite.specs.Added.{left_name, right_name}
 use Rattle.ig_rewrite.specs.Unbound.{IsUnbound, LacksName}
 use Rattle.ig_levels.proofs.Bounds.{IsSource, OfSource, AllOfSource, BindingsOfSource, ParametersOfSource, Clear, SymbolsClear, AlternativesClear, AllClear}
-use Rattle.ig_levels.proofs.Keeping.{all_first, all_others, contains_first, among_levels}
+use Rattle.ig_levels.proofs.Keeping.{all_first, all_others}
+use Rattle.ig_rewrite.specs.EachLevel.{everywhere}
+use Rattle.ig_text.proofs.Lists.{contains_first}
 use Rattle.ig_levels.proofs.Premises.{IsClear}
 
 -- neither name of a bound is among these
@@ -151,10 +152,8 @@ clear_of g left right =
           let m = contains_from_at g.decls at.0 decl at.2 in
           parameters_of_source decl.params (record { left = left.parameters decl m; right = right.parameters decl m });
       clear = λ d decl k a at numbered.
-          let m = contains_from_at g.decls at.0 decl at.2 in
-          let there = contains_from_at (by_level decl.levels) numbered.0 a numbered.2 in
           all_clear a.alternative.symbols (clear_symbols (gathered a.alternative.symbols)
           (both_lack (subterms_of_symbols (gathered a.alternative.symbols))
-          (among_levels (LacksName left_name) decl.levels (λ level. left.symbols decl level m) a there)
-          (among_levels (LacksName right_name) decl.levels (λ level. right.symbols decl level m) a there)));
+          (everywhere (LacksName left_name) g left.symbols at.0 k decl a at.2 numbered)
+          (everywhere (LacksName right_name) g right.symbols at.0 k decl a at.2 numbered)));
     }

@@ -1,13 +1,13 @@
 -- Expressions of the source have the same values beside bounds.
-use Rattle.std.proofs.Common.{◌≡◌, ℕ, suc, ◌+◌, ◌≤◌, Bool, true, false, List, [], ◌∷◌, ◌++◌, refl, sym, ◌∙◌, ap, subst, length, length-append, cond, Option, Some, None, append_assoc, arith}
-use Rattle.std.specs.Prelude.{◌≢◌, nat_lt, not, option_and_then, option_map, slice_get, position, pos, int_le}
-use Rattle.std.specs.List.{prefix_len}
+use Rattle.std.proofs.Common.{◌≡◌, ℕ, suc, ◌+◌, ◌≤◌, Bool, true, false, List, [], ◌∷◌, ◌++◌, refl, sym, ◌∙◌, ap, subst, length, length-append, cond, Option, Some, append_assoc, arith}
+use Rattle.std.specs.Prelude.{◌≢◌, option_and_then, pos, int_le}
 use Rattle.std.specs.Cmp.Lexicographic.{bytes_decides}
 use Rattle.std.proofs.lemmas.Bool.Decides.{nat_tests}
 use Rattle.std.proofs.lemmas.List.{append-nil}
 use Rattle.ig_expr.specs.Expression.{Expression, Integer, Truth, Here, Variable, Not, Negative, Binary, Of, Same, Spells, Outer, Inside, FreeBefore, FreeAfter}
 use Rattle.ig_expr.specs.Names.{look_up}
 use Rattle.ig_text.specs.Words.{is_word}
+use Rattle.ig_text.proofs.Positions.{beside-cons}
 use Rattle.ig_expr.specs.Evaluation.{value_of, with_two}
 use Rattle.ig_expr.specs.Operations.{negation, opposite, operation}
 use Rattle.ig_expr.specs.Reading.{applied, same, spells}
@@ -22,40 +22,13 @@ use Rattle.ig_levels.specs.Levels.{Pair, added_parameters, pair_arguments}
 use Rattle.ig_rewrite.specs.Added.{left_name, right_name}
 use Rattle.ig_levels.proofs.Bounds.{Bounds, unbounded, bounded, bounds_of, bound_values, bound_pairs, IsSource, Inserted, here, behind, PairHas, OfSource, AllOfSource, BindingsOfSource, ParametersOfSource}
 
-abbrev place_after : {X : Type 0} → (X → Bool) → X → Option ℕ → Option ℕ
-place_after p x others = cond (p x) (Some 0) (option_map (λ k. k + 1) others)
-
-one_further : (k n : ℕ) → cond (nat_lt (1 + k) (suc n)) (Some (1 + k)) None ≡ option_map (λ k. k + 1) (cond (nat_lt k n) (Some k) None)
-one_further k n = go (nat_lt k n) refl
-  where
-    go : (b : Bool) → nat_lt k n ≡ b → cond (nat_lt (1 + k) (suc n)) (Some (1 + k)) None ≡ option_map (λ k. k + 1) (cond b (Some k) None)
-    go true e = let h : nat_lt (1 + k) (suc n) ≡ true = grind (arith, nat_tests) in rw h (ap Some (omega arith))
-    go false e = let h : nat_lt (1 + k) (suc n) ≡ false = grind (arith, nat_tests) in rw h refl
-
-zero_first : (n : ℕ) → cond {A = Option ℕ} (nat_lt 0 (suc n)) (Some 0) None ≡ Some 0
-zero_first n = let h : nat_lt 0 (suc n) ≡ true = grind (arith, nat_tests) in rw h refl
-
-pub position-cons : {X : Type 0} (p : X → Bool) (x : X) (xs : List X) → position p (x ∷ xs) ≡ place_after p x (position p xs)
-position-cons p x xs = go (p x) refl
-  where
-    go : (b : Bool) → p x ≡ b → position p (x ∷ xs) ≡ cond b (Some 0) (option_map (λ k. k + 1) (position p xs))
-    go true e = rw e (zero_first (length xs))
-    go false e = rw e (one_further (prefix_len (λ y. not (p y)) xs) (length xs))
-
 -- the value of the name in the environment
 abbrev pub find : Environment → List ℕ → Option Value
 find env x = look_up (names env) (values env) x
 
-at_place : (b : Bool) (members : List Value) (v : Value) (r : Option ℕ) →
-    option_and_then (slice_get (v ∷ members)) (cond b (Some 0) (option_map (λ k. k + 1) r)) ≡ cond b (Some v) (option_and_then (slice_get members) r)
-at_place true members v r = refl
-at_place false members v None = refl
-at_place false members v (Some k) = let e : k + 1 ≡ suc k = omega arith in ap (slice_get (v ∷ members)) e
-
 find_cons : (n : List ℕ) (v : Value) (rest : Environment) (x : List ℕ) → find ((n, v) ∷ rest) x ≡ cond (is_word n x) (Some v) (find rest x)
 find_cons n v rest x =
-    ap (option_and_then (slice_get (v ∷ values rest))) (position-cons (λ z. is_word z x) n (names rest)) ∙
-    at_place (is_word n x) (values rest) v (position (λ z. is_word z x) (names rest))
+    beside-cons (λ z. is_word z x) n (names rest) v (values rest)
 
 pub differs : (a b : List ℕ) → a ≢ b → is_word a b ≡ false
 differs a b other = go (is_word a b) refl

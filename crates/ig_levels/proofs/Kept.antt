@@ -1,33 +1,34 @@
 -- What the pass keeps, from the laws of what it stands on.
-use Rattle.std.proofs.Common.{◌≡◌, ◌∙◌, ℕ, true, false, List, Some, sym, ap, subst}
-use Rattle.std.specs.Prelude.{slice_get}
+use Rattle.std.proofs.Common.{◌≡◌, ◌∙◌, ℕ, true, false, List, [], ◌∷◌, Some, sym, ap, subst}
+use Rattle.std.specs.Prelude.{◌≢◌, Contains, slice_get}
 use Rattle.std.proofs.lemmas.Option.{slice_get-map}
 use Rattle.ig_text.proofs.Options.{mapped, one_value}
 use Rattle.ig_grammar.specs.Checked.{CheckedGrammar}
 use Rattle.ig_grammar.specs.Condition.{declaration_of}
-use Rattle.ig_grammar.specs.Regular.{IsPlaced}
 use Rattle.ig_grammar.specs.declared.declaration.DeclKind.TheVariants.{Syntax}
 use Rattle.ig_grammar.specs.declared.declaration.Decl.{Decl}
 use Rattle.ig_grammar.specs.declared.place.Shape.TheVariants.{Root}
 use Rattle.ig_meaning.specs.Laws.{TreesWithoutOperatorsAreClean}
 use Rattle.ig_rewrite.specs.Added.{left_name, right_name, AddedNamesAreNew, HasNoSign}
 use Rattle.ig_rewrite.specs.Found.{DeclarationsAreFound}
-use Rattle.ig_rewrite.specs.Needs.{IsEntered}
 use Rattle.ig_rewrite.specs.KeptByRoot.{RootAt, RootKeeps}
 use Rattle.ig_rewrite.specs.Rooted.{rooted, has_root}
 use Rattle.ig_rewrite.specs.SameTrees.{PermitSame, SameTreesIsAnEquivalence}
+use Rattle.ig_rewrite.specs.SameValues.{KeepsValues}
 use Rattle.ig_rewrite.specs.Sound.{IsSound}
+use Rattle.ig_rewrite.specs.Unbound.{IsUnbound}
 use Rattle.ig_levels.specs.Levels.{is_levelled, names_levelled, lowered_declaration, lowered_grammar, LevelsOf}
 use Rattle.ig_levels.specs.Laws.{LevelsKeep}
 use Rattle.ig_levels.proofs.Clearing.{clear_of}
-use Rattle.ig_levels.proofs.Keeping.{in_map, kept_at_levels}
-use Rattle.ig_levels.proofs.Lacking.{stays_unbound}
-use Rattle.ig_levels.proofs.Permitting.{lowered_is_free, permits_same}
+use Rattle.ig_levels.proofs.Keeping.{in_map}
+use Rattle.ig_levels.proofs.Giving.{LawsBelow, gives, settles}
+use Rattle.ig_rewrite.specs.Asked.{AsksElsewhere}
+use Rattle.ig_rewrite.specs.Binders.{BindersAreCounted}
+use Rattle.ig_rewrite.specs.Passing.{IsReadyFor, ResultsAreReady}
+use Rattle.ig_text.proofs.Lists.{contains_first, contains_one, none_in_nil}
+use Rattle.ig_levels.proofs.Permitting.{lowered_is_free, permits_same, annotates_same}
 use Rattle.ig_levels.proofs.Premises.{Lowerable, lowerable, one_free}
-use Rattle.ig_levels.proofs.Scoped.{lowered_is_well_scoped}
 use Rattle.ig_levels.proofs.Shaped.{lowered_fits, root_calls_kept}
-use Rattle.ig_levels.proofs.Standing.{keeps_placed}
-use Rattle.ig_levels.proofs.Wanting.{keeps_entered}
 
 -- the laws that the proof stands on
 pub record Given : Type 0 where
@@ -36,6 +37,9 @@ pub record Given : Type 0 where
   pub root : RootKeeps
   pub equivalence : SameTreesIsAnEquivalence
   pub cleans : TreesWithoutOperatorsAreClean
+  pub elsewhere : AsksElsewhere
+  pub counts : BindersAreCounted
+  pub passes : ResultsAreReady
 
 abbrev lowered : CheckedGrammar → CheckedGrammar
 lowered c = record { grammar = lowered_grammar c.grammar; shapes = c.shapes }
@@ -56,13 +60,30 @@ module _ (given : Given) (c : CheckedGrammar) (sound : IsSound c) (has : has_roo
   permitted_same : PermitSame c (lowered c)
   permitted_same = record { same = λ text t. permits_same c.grammar c.shapes text given.cleans may at t }
 
-  sound_still : IsSound (lowered c)
+  -- what is ready for names stays so, if the bounds are none of them
+  ready_still : (later : List (List ℕ)) → (Contains later left_name → ⊥) → (Contains later right_name → ⊥) → IsReadyFor later c.grammar → IsReadyFor later (lowered c).grammar
+  ready_still later not_left not_right ready =
+      given.passes.result later c.grammar (lowered c).grammar ready (gives laws later not_left not_right c.grammar c.shapes may plain)
+      (settles laws later not_left not_right c.grammar c.shapes may plain (given.passes.settled later c.grammar ready))
+    where
+      laws : LawsBelow
+      laws = record { new = given.new; found = given.found; elsewhere = given.elsewhere; counts = given.counts }
+
+      plain : (k : ℕ) (d : Decl) → slice_get c.grammar.decls k ≡ Some d → c.grammar.start ≡ Some d.name → is_levelled d.levels ≡ false
+      plain k d there started = start_plain d.name d started (given.found.itself c.grammar k d sound.scoped there)
+
+  values_kept : KeepsValues c (lowered c)
+  values_kept = record { values = λ text t u p. annotates_same c.grammar c.shapes text given.cleans may at t u }
+
+  pub sound_still : IsSound (lowered c)
   sound_still =
+      let ready = ready_still [] (λ l. none_in_nil left_name l) (λ l. none_in_nil right_name l)
+      (record { scoped = sound.scoped; well = sound.well; entered = sound.entered; free = λ name l. absurd (none_in_nil name l) }) in
       record {
-        scoped = lowered_is_well_scoped given.new given.found c.grammar c.shapes sound.scoped may start_plain;
+        scoped = ready.scoped;
         fit = lowered_fits c.grammar c.shapes may sound.fit;
-        well = kept_at_levels c.grammar IsPlaced IsPlaced (keeps_placed (names_levelled c.grammar.decls)) sound.well;
-        entered = kept_at_levels c.grammar IsEntered IsEntered (keeps_entered (names_levelled c.grammar.decls)) sound.entered;
+        well = ready.well;
+        entered = ready.entered;
         fresh = λ m. has;
         root_named = λ before lower at shaped.
             let from = mapped (lowered_declaration (names_levelled c.grammar.decls)) (slice_get c.grammar.decls before) lower
@@ -76,6 +97,17 @@ module _ (given : Given) (c : CheckedGrammar) (sound : IsSound c) (has : has_roo
             subst (λ (z : Decl). HasNoSign z.name) (sym from.2) (sound.unsigned from.0 from.1);
       }
 
+  -- a name that is none of the bounds stays unbound
+  unbound_still : (name : List ℕ) → name ≢ left_name → name ≢ right_name → IsUnbound c.grammar name → IsUnbound (lowered c).grammar name
+  unbound_still name not_left not_right free =
+      (ready_still (name ∷ []) (λ l. not_left (sym (contains_one name left_name l))) (λ l. not_right (sym (contains_one name right_name l)))
+      (record {
+        scoped = sound.scoped;
+        well = sound.well;
+        entered = sound.entered;
+        free = λ other l. subst (IsUnbound c.grammar) (sym (contains_one name other l)) free;
+      })).free name (contains_first name [])
+
 pub levels_keep : Given → LevelsKeep
 levels_keep given c sound left right =
     let to = given.root.sound c sound in
@@ -84,7 +116,8 @@ levels_keep given c sound left right =
     let may = lowerable given.found r.grammar r.shapes to.sound.scoped to.sound.fit (clear_of r.grammar (kept.unbound left_name left) (kept.unbound right_name right)) in
     record {
       same = given.equivalence.chained c r (LevelsOf c) to.same (permitted_same given r to.sound kept.has may);
+      values = given.equivalence.values_chained c r (LevelsOf c) to.same to.values (values_kept given r to.sound kept.has may);
       sound = sound_still given r to.sound kept.has may;
       free = lowered_is_free r.grammar;
-      unbound = λ name not_left not_right u. stays_unbound r.grammar name not_left not_right (kept.unbound name u);
+      unbound = λ name not_left not_right u. unbound_still given r to.sound kept.has may name not_left not_right (kept.unbound name u);
     }

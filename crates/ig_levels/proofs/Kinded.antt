@@ -4,10 +4,10 @@ use Rattle.ig_expr.specs.declared.kind.Kind.{Kind}
 use Rattle.ig_expr.specs.declared.kind.Kind.TheVariants as kind
 use Rattle.ig_grammar.specs.Symbol.{Symbol}
 use Rattle.ig_grammar.specs.Visible.{Visible, kind_at, Occurrence, at}
-use Rattle.ig_grammar.specs.Condition.{NamesUnknown}
 use Rattle.ig_levels.specs.Levels.{Pair, with_pair}
 use Rattle.ig_rewrite.specs.Added.{left_name, right_name}
 use Rattle.ig_levels.proofs.Bounds.{IsSource, Clear}
+use Rattle.ig_levels.proofs.Keeping.{IsAddedPair}
 
 abbrev pub bound_kinds : Bool → Visible
 bound_kinds true = (left_name, kind.Int) ∷ (right_name, kind.Int) ∷ []
@@ -21,8 +21,7 @@ pub data InsertedKinds (m : Bool) : Visible → Visible → Type 0 where
 pub record PairFits (v : Visible) (p : Pair) : Type 0 where
   pub left_kind : kind_at v p.left ≡ Some kind.Int
   pub right_kind : kind_at v p.right ≡ Some kind.Int
-  pub left_known : NamesUnknown v p.left → ⊥
-  pub right_known : NamesUnknown v p.right → ⊥
+  pub own : IsAddedPair p
 
 -- occurrences in the source, and those in the grammar without levels
 pub data Paired (levelled : List ℕ → Bool) (m : Bool) : List Occurrence → List Occurrence → Type 0 where

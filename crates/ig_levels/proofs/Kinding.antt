@@ -1,9 +1,10 @@
 -- Each occurrence has its partner.
-use Rattle.std.proofs.Common.{◌≡◌, ℕ, suc, ◌+◌, ◌<◌, Bool, true, false, List, [], ◌∷◌, ◌++◌, refl, sym, ◌∙◌, ap, subst, cond, Option, Some, None, append_assoc, arith}
-use Rattle.std.specs.Prelude.{pos, ◌≢◌, Contains, option_and_then, option_map, slice_get}
+use Rattle.std.proofs.Common.{◌≡◌, ℕ, ◌+◌, Bool, true, false, List, [], ◌∷◌, ◌++◌, refl, sym, ◌∙◌, ap, subst, cond, Option, Some, None, append_assoc}
+use Rattle.std.specs.Prelude.{◌≢◌}
 use Rattle.ig_expr.specs.Expression.{Expression, Integer, Truth, Here, Variable, Not, Negative, Binary, Of, Same, Spells, Outer, Inside, FreeBefore, FreeAfter}
 use Rattle.ig_expr.specs.Names.{look_up}
 use Rattle.ig_text.specs.Words.{is_word}
+use Rattle.ig_text.proofs.Positions.{beside-cons}
 use Rattle.ig_expr.specs.Kinds.{of_one, of_two, kind_of_operation, argument_of}
 use Rattle.ig_expr.specs.declared.kind.Kind.{Kind}
 use Rattle.ig_expr.specs.declared.kind.Kind.TheVariants as kind
@@ -11,27 +12,20 @@ use Rattle.ig_grammar.specs.Binding.{Binding}
 use Rattle.ig_grammar.specs.Symbol.{Symbol, Literal, OneOf, Call, Label, Guard, Let, Opt, Star, Plus, SepStar, SepPlus, Group, Offside, Ignore, Align, Filtered, Seq, Entry}
 use Rattle.ig_grammar.specs.Symbol.{Symbols, no_symbols, next_symbol, Alternatives, no_alternatives, next_alternative}
 use Rattle.ig_grammar.specs.Visible.{Visible, names, kinds, kind_at, bound, binds, all_bind, with_kind, replaced, Occurrence, at, inside, inside_sequence, inside_choices}
-use Rattle.ig_grammar.specs.Condition.{NamesUnknown}
 use Rattle.ig_levels.specs.Levels.{Pair, no_pair, with_pair, in_symbols, in_alternatives}
 use Rattle.ig_rewrite.specs.Added.{left_name, right_name}
 use Rattle.ig_levels.proofs.Bounds.{IsSource, OfSource, BindingsOfSource}
+use Rattle.ig_levels.proofs.Keeping.{no_pair_added}
 use Rattle.ig_levels.proofs.Kinded.{bound_kinds, InsertedKinds, here, behind, PairFits, Paired, no_pairs, next_pair}
 use Rattle.ig_levels.proofs.Bounds.{Clear, SymbolsClear, AlternativesClear}
-use Rattle.ig_levels.proofs.Inserting.{differs, position-cons}
+use Rattle.ig_levels.proofs.Inserting.{differs}
 
 abbrev pub find : Visible → List ℕ → Option Kind
 find v x = look_up (names v) (kinds v) x
 
-at_place : (b : Bool) (members : List Kind) (k : Kind) (r : Option ℕ) →
-    option_and_then (slice_get (k ∷ members)) (cond b (Some 0) (option_map (λ n. n + 1) r)) ≡ cond b (Some k) (option_and_then (slice_get members) r)
-at_place true members k r = refl
-at_place false members k None = refl
-at_place false members k (Some n) = let e : n + 1 ≡ suc n = omega arith in ap (slice_get (k ∷ members)) e
-
 pub find_cons : (n : List ℕ) (k : Kind) (rest : Visible) (x : List ℕ) → find ((n, k) ∷ rest) x ≡ cond (is_word n x) (Some k) (find rest x)
 find_cons n k rest x =
-    ap (option_and_then (slice_get (k ∷ kinds rest))) (position-cons (λ z. is_word z x) n (names rest)) ∙
-    at_place (is_word n x) (kinds rest) k (Rattle.std.specs.Prelude.position (λ z. is_word z x) (names rest))
+    beside-cons (λ z. is_word z x) n (names rest) k (kinds rest)
 
 pub find_next : (n : List ℕ) (k : Kind) (rest : Visible) (x : List ℕ) → n ≢ x → find ((n, k) ∷ rest) x ≡ find rest x
 find_next n k rest x other = find_cons n k rest x ∙ ap (λ b. cond b (Some k) (find rest x)) (differs n x other)
@@ -98,11 +92,8 @@ all_renewed {m = m} (b ∷ bs) outer_v outer_w v w outer ins s =
     (subst (λ o. InsertedKinds m (with_kind v b.name (kind_at outer_v b.value)) (with_kind w b.name o)) (sym (same_kind b.value outer s.1))
     (renewed ins b.name (kind_at outer_v b.value) s.0)) s.2
 
-pub nothing_named : (v : Visible) (n : Rattle.std.specs.Prelude.ℤ) → NamesUnknown v (Integer n) → ⊥
-nothing_named v n h = let l : h.1.0 < 0 = h.1.1 in let f : ⊥ = omega (arith, l) in f
-
 pub no_pair_fits : (v : Visible) → PairFits v no_pair
-no_pair_fits v = record { left_kind = refl; right_kind = refl; left_known = nothing_named v (pos 0); right_known = nothing_named v (pos 0) }
+no_pair_fits v = record { left_kind = refl; right_kind = refl; own = no_pair_added }
 
 module _ (levelled : List ℕ → Bool) where
   pub paired_append : {m : Bool} {os us ps qs : List Occurrence} → Paired levelled m os us → Paired levelled m ps qs → Paired levelled m (os ++ ps) (us ++ qs)

@@ -1,21 +1,18 @@
 -- A name that nothing bound or read is not bound or read either in the grammar without levels, if it is none of the bounds.
-use Rattle.std.proofs.Common.{◌⊎◌, ℕ, Bool, true, false, List, [], ◌∷◌, ◌++◌, map, subst, inl, inr}
+use Rattle.std.proofs.Common.{◌⊎◌, ℕ, Bool, true, false, List, [], ◌++◌, subst, inl, inr}
 use Rattle.std.specs.Prelude.{◌≢◌, Contains}
 use Rattle.std.specs.List.{flat_map}
 use Rattle.std.proofs.lemmas.Grind.{flat_map-append}
-use Rattle.std.proofs.lemmas.List.{append-nil, map-append}
+use Rattle.std.proofs.lemmas.List.{append-nil}
 use Rattle.std.proofs.lemmas.List.Elements.{Contains-append_cases}
 use Rattle.ig_text.proofs.Lists.{contains_one, none_in_nil}
 use Rattle.ig_expr.specs.Expression.{Expression}
 use Rattle.ig_grammar.specs.Symbol.{Symbol, Literal, OneOf, Call, Label, Guard, Let, Opt, Star, Plus, SepStar, SepPlus, Group, Offside, Ignore, Align, Filtered, Seq, Entry}
 use Rattle.ig_grammar.specs.Condition.{variables}
-use Rattle.ig_grammar.specs.declared.declaration.Param.{Param}
-use Rattle.ig_grammar.specs.declared.declaration.Decl.{Decl}
-use Rattle.ig_grammar.specs.declared.grammar.Grammar.{Grammar}
 use Rattle.ig_rewrite.specs.Added.{left_name, right_name}
-use Rattle.ig_rewrite.specs.Unbound.{IsUnbound, LacksName}
-use Rattle.ig_levels.specs.Levels.{Pair, with_pair, pair_arguments, added_parameters, is_levelled, names_levelled, lowered_declaration, lowered_grammar}
-use Rattle.ig_levels.proofs.Keeping.{Keeps, IsAddedArgument, number, left_variable, right_variable, IsAddedPair, kept_at_levels, in_map}
+use Rattle.ig_rewrite.specs.Unbound.{LacksName}
+use Rattle.ig_levels.specs.Levels.{Pair, with_pair, pair_arguments}
+use Rattle.ig_levels.proofs.Keeping.{Keeps, IsAddedArgument, number, left_variable, right_variable, IsAddedPair}
 
 module _ (levelled : List ℕ → Bool) (name : List ℕ) (not_left : name ≢ left_name) (not_right : name ≢ right_name) where
   not_read : (e : Expression) → IsAddedArgument e → Contains (variables e) name → ⊥
@@ -64,31 +61,3 @@ module _ (levelled : List ℕ → Bool) (name : List ℕ) (not_left : name ≢ l
         left_test = λ level h. not_left (contains_one left_name name h);
         right_test = λ level h. not_right (contains_one right_name name h);
       }
-
-  not_added : (b : Bool) → Contains (map (λ (p : Param). p.name) (added_parameters b)) name → ⊥
-  not_added true h = go (Contains-append_cases (left_name ∷ []) (right_name ∷ []) name h)
-    where
-      go : Contains (left_name ∷ []) name ⊎ Contains (right_name ∷ []) name → ⊥
-      go (inl a) = not_left (contains_one left_name name a)
-      go (inr b) = not_right (contains_one right_name name b)
-  not_added false h = none_in_nil name h
-
-  pub no_parameter : (ps : List Param) (b : Bool) → (Contains (map (λ (p : Param). p.name) ps) name → ⊥) →
-      Contains (map (λ (p : Param). p.name) (ps ++ added_parameters b)) name → ⊥
-  no_parameter ps b none h =
-      go (Contains-append_cases (map (λ (p : Param). p.name) ps) (map (λ (p : Param). p.name) (added_parameters b)) name
-      (subst (λ z. Contains z name) (map-append (λ (p : Param). p.name) ps (added_parameters b)) h))
-    where
-      go : Contains (map (λ (p : Param). p.name) ps) name ⊎ Contains (map (λ (p : Param). p.name) (added_parameters b)) name → ⊥
-      go (inl a) = none a
-      go (inr c) = not_added b c
-
-pub stays_unbound : (g : Grammar) (name : List ℕ) → name ≢ left_name → name ≢ right_name → IsUnbound g name → IsUnbound (lowered_grammar g) name
-stays_unbound g name not_left not_right source =
-    record {
-      parameters = λ lower among h.
-          let from = in_map (lowered_declaration (names_levelled g.decls)) g.decls lower among in
-          no_parameter (names_levelled g.decls) name not_left not_right from.0.params (is_levelled from.0.levels) (source.parameters from.0 from.1)
-          (subst (λ (z : Decl). Contains (map (λ p. p.name) z.params) name) from.2 h);
-      symbols = kept_at_levels g (LacksName name) (LacksName name) (keeps_lacking (names_levelled g.decls) name not_left not_right) source.symbols;
-    }

@@ -7,6 +7,7 @@ pub mod Finding
 pub mod Operating
 pub mod Lowering
 pub mod Forth
+pub mod Values
 pub mod Nodes
 pub mod Back
 pub mod Premises
@@ -14,7 +15,7 @@ pub mod Declaring
 pub mod Idle
 pub mod Permitting
 pub mod Kinding
-pub mod Unmet
+pub mod Asking
 pub mod Sequences
 pub mod Keeping
 pub mod Standing
@@ -23,8 +24,7 @@ pub mod Lacking
 pub mod Clearing
 pub mod Partners
 pub mod Alternatives
-pub mod Heads
-pub mod Scoped
+pub mod Giving
 pub mod Shaped
 pub mod Kept
 pub mod Within

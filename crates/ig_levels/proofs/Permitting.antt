@@ -1,15 +1,17 @@
--- A grammar in which a declaration stands for the root permits the same trees without levels.
+-- A grammar in which a declaration stands for the root permits the same trees without levels, with the same values.
 use Rattle.std.proofs.Common.{◌≡◌, ℕ, suc, Bool, true, false, List, [], ◌∷◌, length, refl, sym, ◌∙◌, ap, subst, Some}
 use Rattle.std.specs.Prelude.{◌↔◌, slice_get}
 use Rattle.ig_text.specs.declared.tag.Tag.TheVariants as tag
 use Rattle.ig_text.specs.Tree.{Tree, Trees, Node}
 use Rattle.ig_text.proofs.Lists.{at_from_contains}
+use Rattle.ig_expr.specs.ValuedTree as valued
 use Rattle.ig_grammar.specs.Symbol.{Symbol}
 use Rattle.ig_meaning.specs.Environment.{Environment}
 use Rattle.ig_grammar.specs.Numbering.{Levelled, Declares, IsAlternative}
 use Rattle.ig_meaning.specs.Clean.{Clean, AllClean}
 use Rattle.ig_meaning.specs.Laws.{HasNoOperators, TreesWithoutOperatorsAreClean}
 use Rattle.ig_meaning.specs.Derivation.{Covers}
+use Rattle.ig_meaning.specs.Annotated.{bound_between, Bind, Annotates}
 use Rattle.ig_meaning.specs.Permitted.{Permitted, IsRootAlternative, written, declared}
 use Rattle.ig_grammar.specs.declared.declaration.DeclKind.{DeclKind}
 use Rattle.ig_grammar.specs.declared.declaration.Level.{Level}
@@ -32,6 +34,7 @@ use Rattle.ig_levels.proofs.Forth.{covers_to}
 use Rattle.ig_levels.proofs.Back.{covers_from}
 use Rattle.ig_levels.proofs.Nodes.{clean_other}
 use Rattle.ig_levels.proofs.Idle.{idle_wanted, no_tests}
+use Rattle.ig_levels.proofs.Values.{bind_to}
 
 some_same : {X : Type 0} (x y : X) → Some x ≡ Some y → x ≡ y
 some_same x y e = cc
@@ -164,3 +167,35 @@ module _ (g : Grammar) (shapes : List Shape) (text : List ℕ) (cleans : TreesWi
 
   pub permits_same : (t : Tree) → Permitted g shapes text t ↔ Permitted g' shapes text t
   permits_same t = (forth t, back t)
+
+  annotated_to : (u : valued.Tree) (t : Tree) (start : List ℕ) (d : ℕ) (decl : Decl) (a : Levelled) → g.start ≡ Some start → Declares g shapes start d decl shape.Root →
+      IsAlternative decl 1 a → (children : valued.Trees) (after : Environment) → Bind g shapes text decl.kind a.alternative.symbols [] 0 (length text) children after →
+      u ≡ valued.Node tag.Root (bound_between [] after) 0 (length text) children → valued.bare_tree u ≡ t → Annotates g' shapes text t u
+  annotated_to u t start d decl a starts declares numbered children after bind whole same =
+      let idle = idle_root start d decl declares in
+      let lower = bind_to g g' shapes shapes levelled text takes bind (place_in decl a) unbounded true (λ e. absurd (cc))
+      (may.clear d decl 1 a declares.numbered numbered) [] nowhere in
+      record {
+        kind = decl.kind;
+        symbols = symbols_in levelled (place_in decl a) a.level a.alternative.symbols;
+        children = children;
+        after = lower.grown;
+        root = declared start d (lowered_declaration levelled decl) (flat levelled decl a) decl.kind _ starts
+            (takes.forth start d decl shape.Root declares) (alternative_to levelled decl 1 a numbered) refl refl;
+        binds = subst (λ (z : List Symbol). Bind g' shapes text decl.kind z [] 0 (length text) children lower.grown)
+            (sym (no_tests levelled (place_in decl a) idle a.level a.alternative.symbols)) lower.bind;
+        whole = whole ∙ ap (λ z. valued.Node tag.Root (bound_between [] z) 0 (length text) children) lower.source;
+        same = same;
+      }
+
+  pub annotates_same : (t : Tree) (u : valued.Tree) → Annotates g shapes text t u → Annotates g' shapes text t u
+  annotates_same t u annotated = go annotated.kind annotated.symbols annotated.root annotated.binds
+    where
+      go : (kind : DeclKind) (symbols : List Symbol) → IsRootAlternative g shapes kind symbols →
+          Bind g shapes text kind symbols [] 0 (length text) annotated.children annotated.after → Annotates g' shapes text t u
+      go kind symbols (written start _ start_is undeclared same) bind =
+          let at = root_at start start_is in absurd (undeclared at.d at.decl at.declares)
+      go kind symbols (declared start d decl a _ _ start_is declares numbered kinds same) bind =
+          annotated_to u t start d decl a start_is declares numbered annotated.children annotated.after
+          (subst (λ z. Bind g shapes text z a.alternative.symbols [] 0 (length text) annotated.children annotated.after) kinds
+          (subst (λ z. Bind g shapes text kind z [] 0 (length text) annotated.children annotated.after) same bind)) annotated.whole annotated.same

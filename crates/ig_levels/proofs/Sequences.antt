@@ -1,24 +1,19 @@
 -- The occurrences of an alternative, and its tests.
-use Rattle.std.proofs.Common.{◌≡◌, ◌⊎◌, inl, inr, ℕ, Bool, true, false, List, [], ◌∷◌, ◌++◌, refl, sym, ◌∙◌, ap, subst, cond, Some, None}
-use Rattle.std.specs.Prelude.{◌&&◌, not, Contains, pos}
-use Rattle.ig_expr.specs.Expression.{Expression, Integer, Variable, Binary}
+use Rattle.std.proofs.Common.{◌≡◌, ℕ, Bool, true, false, List, [], ◌∷◌, ◌++◌, refl, sym, ◌∙◌, ap, subst, cond, Some}
+use Rattle.std.specs.Prelude.{◌&&◌, not, pos}
+use Rattle.ig_expr.specs.Expression.{Integer, Variable, Binary}
 use Rattle.ig_expr.specs.Kinds.{of_two}
 use Rattle.ig_expr.specs.declared.operator.Op.TheVariants.{GreaterEqual}
 use Rattle.ig_expr.specs.declared.kind.Kind.TheVariants as kind
-use Rattle.ig_grammar.specs.Symbol.{Symbol, Guard, gathered}
-use Rattle.ig_grammar.specs.Visible.{Visible, names, kind_at, binds, inside_sequence}
-use Rattle.ig_grammar.specs.Condition.{Condition, SymbolMeets, NamesUnknown, unknown_variable, no_kind, guard_kind}
-use Rattle.ig_grammar.specs.declared.declaration.DeclKind.{DeclKind}
-use Rattle.ig_grammar.specs.declared.declaration.Decl.{Decl}
+use Rattle.ig_grammar.specs.Symbol.{Symbol, gathered}
+use Rattle.ig_grammar.specs.Visible.{Visible, kind_at, binds, inside_sequence}
 use Rattle.ig_levels.specs.Levels.{no_pair, with_pair, lowered, Place, is_left, is_right, is_operand, only_tests, is_test, pair_at}
 use Rattle.ig_rewrite.specs.Added.{left_name, right_name}
 use Rattle.ig_levels.proofs.Kinded.{bound_kinds, InsertedKinds, here, behind, PairFits, Paired, no_pairs, next_pair}
 use Rattle.ig_levels.proofs.Bounds.{AllClear}
 use Rattle.ig_levels.proofs.Finding.{left_true, right_true}
-use Rattle.ig_levels.proofs.Kinding.{find, find_cons, find_next, appended, same_binds, inside_paired, paired_append, nothing_named, no_pair_fits}
-use Rattle.ig_levels.proofs.Unmet.{in_rest}
-use Rattle.ig_levels.proofs.Keeping.{contains_first, contains_later}
-use Rattle.ig_text.proofs.Lists.{none_in_nil}
+use Rattle.ig_levels.proofs.Kinding.{find, find_cons, find_next, appended, same_binds, inside_paired, paired_append, no_pair_fits}
+use Rattle.ig_levels.proofs.Keeping.{left_variable, right_variable, number}
 
 pub left_kind : {m : Bool} {v w : Visible} → InsertedKinds m v w → m ≡ true → find w left_name ≡ Some kind.Int
 left_kind (here rest v e) is = ap (λ z. find z left_name) (e ∙ ap (λ z. bound_kinds z ++ rest) is) ∙ find_cons left_name kind.Int ((right_name, kind.Int) ∷ rest) left_name
@@ -30,23 +25,6 @@ right_kind (here rest v e) is =
     find_cons right_name kind.Int rest right_name
 right_kind (behind name k rest v source ins) is = find_next name k v right_name source.not_right ∙ right_kind ins is
 
-pub left_there : {m : Bool} {v w : Visible} → InsertedKinds m v w → m ≡ true → Contains (names w) left_name
-left_there (here rest v e) is =
-    subst (λ z. Contains (names z) left_name) (sym (e ∙ ap (λ z. bound_kinds z ++ rest) is)) (contains_first left_name (right_name ∷ names rest))
-left_there (behind name k rest v source ins) is = contains_later name (names v) left_name (left_there ins is)
-
-pub right_there : {m : Bool} {v w : Visible} → InsertedKinds m v w → m ≡ true → Contains (names w) right_name
-right_there (here rest v e) is =
-    subst (λ z. Contains (names z) right_name) (sym (e ∙ ap (λ z. bound_kinds z ++ rest) is)) (contains_later left_name (right_name ∷ names rest) right_name (contains_first right_name (names rest)))
-right_there (behind name k rest v source ins) is = contains_later name (names v) right_name (right_there ins is)
-
-one_known : (w : Visible) (name : List ℕ) → Contains (names w) name → NamesUnknown w (Variable name) → ⊥
-one_known w name there unknown = go (in_rest name [] unknown.0 unknown.1)
-  where
-    go : (name ≡ unknown.0) ⊎ Contains [] unknown.0 → ⊥
-    go (inl e) = unknown.2 (subst (Contains (names w)) e there)
-    go (inr i) = none_in_nil unknown.0 i
-
 pub pair_fits : {m : Bool} {v w : Visible} → InsertedKinds m v w → (p : Place) → (p.active ≡ true → m ≡ true) → (first : Bool) (x : Symbol) (others : List Symbol) →
     PairFits w (pair_at p first x others)
 pair_fits {w = w} ins p active_is first x others = go (is_left p first x others) refl (is_right p first x others) refl
@@ -55,10 +33,10 @@ pair_fits {w = w} ins p active_is first x others = go (is_left p first x others)
         PairFits w (cond l (record { left = Variable left_name; right = Integer (pos p.left) }) (cond r (record { left = Integer (pos p.right); right = Variable right_name }) no_pair))
     go true is r ris =
         let m = active_is (left_true p.active (first && not (only_tests others)) (right_true (is_operand p.own x) (p.active && (first && not (only_tests others))) is)) in
-        record { left_kind = left_kind ins m; right_kind = refl; left_known = one_known w left_name (left_there ins m); right_known = nothing_named w (pos p.left) }
+        record { left_kind = left_kind ins m; right_kind = refl; own = record { left = left_variable; right = number p.left } }
     go false is true ris =
         let m = active_is (left_true p.active (not first && only_tests others) (right_true (is_operand p.own x) (p.active && (not first && only_tests others)) ris)) in
-        record { left_kind = refl; right_kind = right_kind ins m; left_known = nothing_named w (pos p.right); right_known = one_known w right_name (right_there ins m) }
+        record { left_kind = refl; right_kind = right_kind ins m; own = record { left = number p.right; right = right_variable } }
     go false is false ris = no_pair_fits w
 
 module _ (levelled : List ℕ → Bool) where
@@ -73,30 +51,6 @@ module _ (levelled : List ℕ → Bool) where
       paired_append levelled (next_pair v w x pair _ _ ins fits c.0 (inside_paired levelled x pair v w ins fits c.0))
       (lowered_paired xs p (first && is_test x) (v ++ binds v x) (w ++ binds w (with_pair levelled pair x)) after active_is c.1)
 
--- a test of a bound meets no condition
-module _ (lower : List Decl) (k : DeclKind) (w : Visible) (name : List ℕ) (n : ℕ) (is_int : find w name ≡ Some kind.Int) (there : Contains (names w) name) where
-  abbrev condition : Expression
-  condition = Binary GreaterEqual (Integer (pos n)) (Variable name)
-
-  condition_kind : kind_at w condition ≡ Some kind.Bool
-  condition_kind = ap (of_two kind.Int kind.Bool (Some kind.Int)) is_int
-
-  is_condition : (e : Expression) → Contains (condition ∷ []) e → condition ≡ e
-  is_condition e h = go (in_rest condition [] e h)
-    where
-      go : (condition ≡ e) ⊎ Contains [] e → condition ≡ e
-      go (inl same) = same
-      go (inr i) = absurd (none_in_nil e i)
-
-  pub test_unmet : {y : Symbol} {c : Condition} → SymbolMeets lower k w y c → y ≡ Guard condition → ⊥
-  test_unmet (unknown_variable y e among unknown) same =
-      let is = is_condition e (subst (λ z. Contains (Rattle.ig_grammar.specs.Condition.expressions z) e) same among) in
-      one_known w name there (subst (NamesUnknown w) (sym is) unknown)
-  test_unmet (no_kind y e among none) same =
-      let is = is_condition e (subst (λ z. Contains (Rattle.ig_grammar.specs.Condition.expressions z) e) same among) in
-      let f : kind_at w e ≡ Some kind.Bool = ap (kind_at w) (sym is) ∙ condition_kind in
-      let h : kind_at w e ≡ None = none.1 in absurd (cc)
-  test_unmet (guard_kind e other) same =
-      let is : e ≡ condition = cc in
-      other (ap (kind_at w) is ∙ condition_kind)
-  test_unmet d same = absurd (cc)
+-- a test of a bound is a truth value
+pub test_kind : (w : Visible) (name : List ℕ) (n : ℕ) → find w name ≡ Some kind.Int → kind_at w (Binary GreaterEqual (Integer (pos n)) (Variable name)) ≡ Some kind.Bool
+test_kind w name n is_int = ap (of_two kind.Int kind.Bool (Some kind.Int)) is_int

@@ -20,7 +20,8 @@ use Rattle.ig_grammar.specs.declared.grammar.Grammar.{Grammar}
 use Rattle.ig_grammar.specs.declared.place.Shape.{Shape}
 use Rattle.ig_grammar.specs.declared.place.Shape.TheVariants as shape
 use Rattle.ig_levels.specs.Levels.{Pair, no_pair, with_pair, in_symbols, pair_at, lowered, is_test, Place, place_in, is_levelled, names_levelled, added_parameters, one_level, lowered_alternative, lowered_declaration, lowered_grammar}
-use Rattle.ig_levels.proofs.Alternatives.{alternative_at, alternative_before, as_many}
+use Rattle.ig_levels.proofs.Alternatives.{alternative_before, as_many}
+use Rattle.ig_rewrite.specs.EachLevel.{alternative_at}
 use Rattle.ig_levels.proofs.Idle.{no_tests}
 use Rattle.ig_levels.proofs.Partners.{IsTest, Partner, occurs}
 use Rattle.ig_levels.proofs.Premises.{Lowerable, one_free}

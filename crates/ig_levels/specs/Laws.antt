@@ -11,14 +11,16 @@ use Rattle.ig_meaning.specs.Derivation.{Instance}
 use Rattle.ig_rewrite.specs.Added.{left_name, right_name}
 use Rattle.ig_rewrite.specs.Rooted.{rooted}
 use Rattle.ig_rewrite.specs.SameTrees.{PermitSame}
+use Rattle.ig_rewrite.specs.SameValues.{KeepsValues}
 use Rattle.ig_rewrite.specs.Sound.{IsSound, IsFree}
 use Rattle.ig_rewrite.specs.Unbound.{IsUnbound}
 use Rattle.ig_levels.specs.Levels.{LevelsOf, names_levelled}
 use Rattle.ig_levels.specs.Spines.{AtLeast}
 
--- the grammar without levels permits the same trees, is sound, and has no operators
+-- the grammar without levels permits the same trees, with the same values, is sound, and has no operators
 pub record KeptByLevels (c : CheckedGrammar) : Type 0 where
   pub same : PermitSame c (LevelsOf c)
+  pub values : KeepsValues c (LevelsOf c)
   pub sound : IsSound (LevelsOf c)
   pub free : IsFree (LevelsOf c).grammar
   pub unbound : (name : List ℕ) → name ≢ left_name → name ≢ right_name → IsUnbound c.grammar name →

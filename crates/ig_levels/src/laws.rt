@@ -4,8 +4,8 @@
 ghost use Rattle.ig_levels.specs.Laws.{BoundsAskOfSpines, LevelsKeep};
 
 /// A sound grammar in which nothing binds or reads `.l` and `.r` permits the same trees without
-/// levels, stays sound and has no operators, and what else was unbound in it stays so. This law,
-/// proved of all such grammars, computes nothing.
+/// levels, with the same values, stays sound and has no operators, and what else was unbound in it
+/// stays so. This law, proved of all such grammars, computes nothing.
 pub fn levels_keep()
     ensures { LevelsKeep }
 {
@@ -14,6 +14,9 @@ pub fn levels_keep()
     ig_rewrite::declarations_are_found();
     ig_rewrite::root_keeps();
     ig_rewrite::same_trees_is_an_equivalence();
+    ig_rewrite::asks_elsewhere();
+    ig_rewrite::binders_are_counted();
+    ig_rewrite::results_are_ready();
 }
 
 /// Under the bounds l and r a levelled nonterminal has, without levels, exactly those of its trees
@@ -28,4 +31,7 @@ pub fn bounds_ask_of_spines()
     ig_rewrite::declarations_are_found();
     ig_rewrite::root_keeps();
     ig_rewrite::same_trees_is_an_equivalence();
+    ig_rewrite::asks_elsewhere();
+    ig_rewrite::binders_are_counted();
+    ig_rewrite::results_are_ready();
 }

@@ -1,13 +1,11 @@
 -- The layout pass adds nothing that binds.
-use Rattle.std.proofs.Common.{◌≡◌, ◌∙◌, ℕ, ◌+◌, List, Bool, true, false, map, refl, sym, ap, arith}
-use Rattle.std.specs.Prelude.{if◌then◌else◌, count_by}
+use Rattle.std.proofs.Common.{◌≡◌, ◌∙◌, ℕ, ◌+◌, List, Bool, true, false, map, refl, ap, arith}
+use Rattle.std.specs.Prelude.{if◌then◌else◌}
 use Rattle.ig_grammar.specs.Name.{is_name}
 use Rattle.ig_grammar.specs.Symbol.{Symbol, Literal, OneOf, Call, Label, Guard, Let, Opt, Star, Plus, SepStar, SepPlus, Group, Offside, Ignore, Align, Filtered, Seq, Entry}
 use Rattle.ig_grammar.specs.Symbol.{Symbols, no_symbols, next_symbol, Alternatives, no_alternatives, next_alternative, gathered}
-use Rattle.ig_grammar.specs.Visible.{Visible, inside_sequence}
-use Rattle.ig_grammar.specs.Condition.{binds_name}
 use Rattle.ig_grammar.specs.declared.declaration.Decl.{Decl}
-use Rattle.ig_rewrite.specs.Binders.{one_if, binders, binders_of_symbols, binders_of_choices, BindersAreCounted}
+use Rattle.ig_rewrite.specs.Binders.{one_if, binders, binders_of_symbols, binders_of_choices}
 use Rattle.ig_rewrite.specs.Rewriting.{within, rewritten, rewritten_symbols, rewritten_choices}
 use Rattle.ig_lexical.proofs.Pass.{gathered_rewritten}
 use Rattle.ig_lexical.specs.Layout.{is_token, then_layout, laid_inside, laid}
@@ -43,9 +41,8 @@ module _ (own : Symbol → Symbol) (keeps : (x : Symbol) → binders (own x) ≡
     choices_binders (next_alternative xs others) = let a = symbols_binders xs in let b = choices_binders others in rw (a, b) refl
 
   -- as many labels and lets in an alternative as before
-  pub same_count : BindersAreCounted → (xs : List Symbol) (v : Visible) → count_by (λ o. binds_name o.symbol) (inside_sequence v (gathered (map (rewritten own) xs))) ≡ count_by (λ o. binds_name o.symbol) (inside_sequence v (gathered xs))
-  same_count counted xs v =
-      counted (gathered (map (rewritten own) xs)) v ∙ ap binders_of_symbols (gathered_rewritten own xs) ∙ symbols_binders (gathered xs) ∙ sym (counted (gathered xs) v)
+  pub same_binders : (xs : List Symbol) → binders_of_symbols (gathered (map (rewritten own) xs)) ≡ binders_of_symbols (gathered xs)
+  same_binders xs = ap binders_of_symbols (gathered_rewritten own xs) ∙ symbols_binders (gathered xs)
 
 module _ (decls : List Decl) (w : List ℕ) where
   then_binders : (x : Symbol) → binders (then_layout w x) ≡ binders x

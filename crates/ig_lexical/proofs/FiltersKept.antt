@@ -20,13 +20,14 @@ use Rattle.ig_lexical.specs.Laws.{FiltersKeep}
 use Rattle.ig_text.proofs.Lists.{contains_from_at, at_from_contains}
 use Rattle.ig_lexical.proofs.AttachedKept.{attached_well, attached_unmarked, attached_entered, attached_excludes}
 use Rattle.ig_lexical.proofs.Everywhere.{each_level}
-use Rattle.ig_lexical.proofs.FiltersSame.{Given, filters_same}
+use Rattle.ig_lexical.proofs.FiltersSame.{Given, filters_same, root_start}
 use Rattle.ig_lexical.proofs.FiltersScoped.{attached_is_well_scoped}
 use Rattle.ig_lexical.proofs.FiltersShaped.{attached_call, attached_fits}
 use Rattle.ig_lexical.proofs.KeptSound.{made_free, made_is_sound}
-use Rattle.ig_lexical.proofs.Meeting.{alternative_at}
+use Rattle.ig_rewrite.specs.EachLevel.{alternative_at}
 use Rattle.ig_lexical.proofs.Pass.{taken_back, layout_rewritten}
 use Rattle.ig_lexical.proofs.RewrittenScoped.{turned, alternative_before}
+use Rattle.ig_lexical.proofs.ValuedPass.{filters_keep_values}
 
 abbrev kinds : DeclKind → DeclKind
 kinds kind = kind
@@ -47,14 +48,18 @@ calls_kept c alone before decl a at shaped syntactic has =
 pub filters_kept : Given → FiltersKeep
 filters_kept given c sound free none no_layout =
     let d : CheckedGrammar = rooted Syntax c in
-    let from = (given.root.sound c sound).sound in
+    let to_root = given.root.sound c sound in
+    let from = to_root.sound in
     let kept = given.root.kept c sound.fit in
+    let root = root_start d (given.root.stands d from.fit kept.has) in
     let unmarked = kept.unmarked none in
     let well = each_level kinds own d.grammar AlternativesStandWell AlternativesStandWell (λ decl. attached_well) from.well in
     let entered = each_level kinds own d.grammar AlternativesAreEntered AlternativesAreEntered (λ decl. attached_entered) from.entered in
     record {
       same = filters_same given c sound free no_layout;
-      sound = made_is_sound kinds own d from kept.has (attached_is_well_scoped given.forms given.counted given.found d.grammar from.scoped unmarked)
+      values = given.equivalence.values_chained c d (attached_of d) to_root.same to_root.values
+          (filters_keep_values given.found d from.scoped root (kept.layout ∙ no_layout));
+      sound = made_is_sound kinds own d from kept.has (attached_is_well_scoped given.passes given.forms given.found d.grammar from.scoped unmarked)
           (attached_fits given.forms d.grammar d.shapes unmarked from.fit) well entered (calls_kept d from.root_calls);
       free = made_free kinds own d (kept.free free);
       unmarked = each_level kinds own d.grammar AlternativesHaveNoMark AlternativesHaveNoMark (λ decl. attached_unmarked) unmarked;

@@ -17,7 +17,7 @@ use Rattle.ig_grammar.specs.declared.place.Shape.TheVariants as shape
 use Rattle.ig_grammar.specs.Symbol.{gathered}
 use Rattle.ig_rewrite.specs.SameTrees.{PermitSame, SameTreesIsAnEquivalence}
 use Rattle.ig_rewrite.specs.Rewriting.{within, rewritten_grammar}
-use Rattle.ig_rewrite.specs.Binders.{BindersAreCounted}
+use Rattle.ig_rewrite.specs.Passing.{ResultsAreReady}
 use Rattle.ig_rewrite.specs.Found.{DeclarationsAreFound}
 use Rattle.ig_rewrite.specs.KeptByRoot.{RootAt, RootKeeps}
 use Rattle.ig_rewrite.specs.Rooted.{rooted}
@@ -69,7 +69,7 @@ pub record Given : Type 0 where
   pub cleans : TreesWithoutOperatorsAreClean
   pub forms : RegularityByForm
   pub root : RootKeeps
-  pub counted : BindersAreCounted
+  pub passes : ResultsAreReady
   pub found : DeclarationsAreFound
   pub equivalence : SameTreesIsAnEquivalence
 

@@ -1,8 +1,8 @@
 -- The filters pass keeps a grammar well scoped.
-use Rattle.std.proofs.Common.{◌≡◌, ◌∙◌, ℕ, ◌+◌, List, [], ◌∷◌, ◌++◌, map, refl, ap, subst, arith}
+use Rattle.std.proofs.Common.{◌≡◌, ◌∙◌, ℕ, ◌+◌, List, [], ◌∷◌, ◌++◌, map, refl, ap, inl, arith}
 use Rattle.ig_expr.specs.Expression.{Expression}
 use Rattle.ig_grammar.specs.Name.{is_name}
-use Rattle.ig_grammar.specs.Symbol.{Symbol, Symbols, Label, Guard, Filtered, Seq, gathered}
+use Rattle.ig_grammar.specs.Symbol.{Symbol, Label, Guard, Filtered, gathered}
 use Rattle.ig_grammar.specs.Laws.{RegularityByForm}
 use Rattle.ig_grammar.specs.Regular.{AlternativesHaveNoMark, OfEachLevel}
 use Rattle.ig_grammar.specs.WellScoped.{IsWellScoped}
@@ -11,17 +11,12 @@ use Rattle.ig_grammar.specs.declared.grammar.Grammar.{Grammar}
 use Rattle.ig_rewrite.specs.Found.{DeclarationsAreFound}
 use Rattle.ig_rewrite.specs.Rewriting.{rewritten_grammar}
 use Rattle.ig_lexical.specs.Filters.{befores, afters, exclusions, with_filters, guarded, attached}
-use Rattle.ig_lexical.proofs.AttachingPlaced.{IsTest, attached_placed}
-use Rattle.ig_lexical.proofs.Meeting.{Fine}
-use Rattle.ig_text.proofs.Lists.{none_in_nil, contains_one}
-use Rattle.std.specs.Prelude.{Contains, Some}
+use Rattle.ig_lexical.proofs.AttachingPlaced.{attached_placed}
+use Rattle.ig_rewrite.specs.Asked.{Asks}
+use Rattle.ig_rewrite.specs.Passing.{ResultsAreReady}
 use Rattle.ig_expr.specs.declared.kind.Kind.TheVariants as kind
-use Rattle.ig_grammar.specs.Condition.{variables}
 use Rattle.ig_grammar.specs.Condition as meets
-use Rattle.ig_grammar.specs.Visible.{Visible, kind_at}
-use Rattle.ig_grammar.specs.declared.declaration.DeclKind.{DeclKind}
-use Rattle.ig_grammar.specs.declared.declaration.Decl.{Decl}
-use Rattle.ig_rewrite.specs.Binders.{one_if, binders, binders_of_symbols, BindersAreCounted}
+use Rattle.ig_rewrite.specs.Binders.{one_if, binders, binders_of_symbols}
 use Rattle.ig_lexical.proofs.RewrittenScoped.{KeepsKinds, turned_is_well_scoped}
 
 guards_bind_none : (es : List Expression) → binders_of_symbols (gathered (map Guard es)) ≡ 0
@@ -59,33 +54,12 @@ attached_binders (Filtered x fs) =
     guarded_binders (befores fs) (afters fs) (with_filters x (exclusions fs)) ∙ excluded_binders x (exclusions fs)
 attached_binders x = refl
 
-module _ (decls : List Decl) (within : DeclKind) where
-  -- sequences and filters meet nothing
-  seq_fine : (v : Visible) (xs : Symbols) → Fine decls within v (Seq xs)
-  seq_fine v xs c (meets.unknown_variable _ e m u) = none_in_nil e m
-  seq_fine v xs c (meets.no_kind _ e m k) = none_in_nil e m
-
-  filtered_fine : (v : Visible) (x : Symbol) (fs : List Filter) → Fine decls within v (Filtered x fs)
-  filtered_fine v x fs c (meets.unknown_variable _ e m u) = none_in_nil e m
-  filtered_fine v x fs c (meets.no_kind _ e m k) = none_in_nil e m
-
-  guard_fine : (v : Visible) (e : Expression) → IsTest v e → Fine decls within v (Guard e)
-  guard_fine v e t c (meets.unknown_variable _ f m u) =
-      none_in_nil u.0 (subst (λ xs. Contains xs u.0) (ap variables (contains_one e f m) ∙ t.closed) u.1)
-  guard_fine v e t c (meets.no_kind _ f m k) = let h : kind_at v f ≡ Some kind.Bool = ap (kind_at v) (contains_one e f m) ∙ t.truth in let n = k.1 in absurd (cc)
-  guard_fine v e t c (meets.guard_kind _ k) = k t.truth
-
-  label_fine : (name : List ℕ) (x y : Symbol) (v : Visible) → Fine decls within v (Label name x) → Fine decls within v (Label name y)
-  label_fine name x y v fine c (meets.duplicate_label _ _ m) = fine c (meets.duplicate_label name x m)
-  label_fine name x y v fine c (meets.unknown_variable _ e m u) = none_in_nil e m
-  label_fine name x y v fine c (meets.no_kind _ e m k) = none_in_nil e m
-
 pub same_kinds : KeepsKinds (λ kind. kind)
-same_kinds = record { lexical = λ k i. i; syntax = λ k e. e; layout = λ k e. e }
+same_kinds = record { kept = λ k. inl refl; lexical = λ k i. i; syntax = λ k e. e; layout = λ k e. e }
 
-pub attached_is_well_scoped : RegularityByForm → BindersAreCounted → DeclarationsAreFound → (g : Grammar) → IsWellScoped g → OfEachLevel AlternativesHaveNoMark g →
+pub attached_is_well_scoped : ResultsAreReady → RegularityByForm → DeclarationsAreFound → (g : Grammar) → IsWellScoped g → OfEachLevel AlternativesHaveNoMark g →
     IsWellScoped (rewritten_grammar (λ decl. attached) g)
-attached_is_well_scoped forms counted found g scoped none =
-    turned_is_well_scoped found (λ kind. kind) (λ decl. attached) same_kinds g forms counted scoped none
-    (λ decl x v p. attached_placed (Fine g.decls decl.kind) (seq_fine g.decls decl.kind) (filtered_fine g.decls decl.kind)
-    (guard_fine g.decls decl.kind) (label_fine g.decls decl.kind) x v p) (λ decl x. attached_binders x)
+attached_is_well_scoped passes forms found g scoped none =
+    turned_is_well_scoped passes found (λ kind. kind) (λ decl. attached) same_kinds g forms scoped none
+    (λ decl x v p. attached_placed (Asks g.decls decl.kind) (λ w xs. tt) (λ w y fs. tt) (λ w e t. t.truth) (λ name y z w asks. asks) x v p)
+    (λ decl x. attached_binders x)

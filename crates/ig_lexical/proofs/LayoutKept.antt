@@ -11,15 +11,17 @@ use Rattle.ig_grammar.specs.declared.declaration.Decl.{Decl}
 use Rattle.ig_rewrite.specs.Needs.{AlternativesAreEntered}
 use Rattle.ig_rewrite.specs.Rooted.{rooted}
 use Rattle.ig_rewrite.specs.Sound.{IsPlain}
-use Rattle.ig_lexical.specs.Layout.{laid_in, laid_declaration, LayoutOf}
+use Rattle.ig_lexical.specs.Layout.{laid_in, laid_declaration, laid_of, LayoutOf}
 use Rattle.ig_lexical.specs.Laws.{LayoutKeeps}
 use Rattle.ig_lexical.proofs.Everywhere.{each_level}
+use Rattle.ig_lexical.proofs.FiltersSame.{root_start}
 use Rattle.ig_lexical.proofs.KeptSound.{made_free, made_is_sound}
 use Rattle.ig_lexical.proofs.LaidKept.{well_in, entered_in, unmarked_in}
 use Rattle.ig_lexical.proofs.LayoutSame.{Given, layout_same}
 use Rattle.ig_lexical.proofs.LayoutScoped.{laid_is_well_scoped}
 use Rattle.ig_lexical.proofs.LayoutShaped.{laid_fits}
 use Rattle.ig_lexical.proofs.Pass.{taken_back}
+use Rattle.ig_lexical.proofs.ValuedPass.{layout_keeps_values}
 
 none_declared : (all decls : List Decl) → layout_among (map (laid_declaration all) decls) ≡ None
 none_declared all [] = refl
@@ -36,16 +38,20 @@ layout_kept given c sound free none =
     let to : DeclKind → DeclKind = λ kind. Plain in
     let d : CheckedGrammar = rooted Syntax c in
     let own : Decl → Symbol → Symbol = λ decl. laid_in (layout_among d.grammar.decls) d.grammar.decls decl.kind in
-    let from = (given.root.sound c sound).sound in
+    let to_root = given.root.sound c sound in
+    let from = to_root.sound in
     let kept = given.root.kept c sound.fit in
     let unmarked = kept.unmarked none in
+    let root = root_start d (given.root.stands d from.fit kept.has) in
     let well = each_level to own d.grammar AlternativesStandWell AlternativesStandWell
     (λ decl. well_in d.grammar.decls (layout_among d.grammar.decls) decl.kind) from.well in
     let entered = each_level to own d.grammar AlternativesAreEntered AlternativesAreEntered
     (λ decl. entered_in d.grammar.decls (layout_among d.grammar.decls) decl.kind) from.entered in
     record {
       same = layout_same given c sound free none;
-      sound = made_is_sound to own d from kept.has (laid_is_well_scoped given.forms given.counted given.found d.grammar from.scoped unmarked)
+      values = given.equivalence.values_chained c d (laid_of d) to_root.same to_root.values
+          (layout_keeps_values given.found d from.scoped root given.forms unmarked);
+      sound = made_is_sound to own d from kept.has (laid_is_well_scoped given.passes given.forms given.found d.grammar from.scoped unmarked)
           (laid_fits given.forms given.found d.grammar d.shapes from.scoped unmarked from.fit from.root_calls) well entered
           (λ before decl a at shaped syntactic m.
           let r = taken_back (laid_declaration d.grammar.decls) d.grammar.decls before decl at in

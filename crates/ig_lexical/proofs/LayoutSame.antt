@@ -17,7 +17,7 @@ use Rattle.ig_grammar.specs.declared.grammar.Grammar.{Grammar}
 use Rattle.ig_grammar.specs.declared.place.Shape.{Shape}
 use Rattle.ig_grammar.specs.declared.place.Shape.TheVariants as shape
 use Rattle.ig_rewrite.specs.SameTrees.{PermitSame, SameTreesIsAnEquivalence}
-use Rattle.ig_rewrite.specs.Binders.{BindersAreCounted}
+use Rattle.ig_rewrite.specs.Passing.{ResultsAreReady}
 use Rattle.ig_rewrite.specs.KeptByRoot.{RootKeeps}
 use Rattle.ig_rewrite.specs.Rooted.{rooted}
 use Rattle.ig_rewrite.specs.Sound.{IsSound, IsFree, IsUnmarked}
@@ -41,7 +41,7 @@ pub record Given : Type 0 where
   pub forms : RegularityByForm
   pub found : DeclarationsAreFound
   pub root : RootKeeps
-  pub counted : BindersAreCounted
+  pub passes : ResultsAreReady
   pub equivalence : SameTreesIsAnEquivalence
 
 module _ (given : Given) (g : Grammar) (shapes : List Shape) (scoped : IsWellScoped g) (none : OfEachLevel AlternativesHaveNoMark g) (text : List ℕ) where

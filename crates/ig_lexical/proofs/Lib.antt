@@ -37,3 +37,7 @@ pub mod KeptSound
 pub mod LayoutKept
 pub mod Everywhere
 pub mod StandingWell
+pub mod ValuedForms
+pub mod ValuedWalk
+pub mod ValuedGuards
+pub mod ValuedPass

@@ -19,7 +19,7 @@ use Rattle.ig_grammar.specs.declared.place.Shape.{Shape}
 use Rattle.ig_grammar.specs.declared.place.Shape.TheVariants as shape
 use Rattle.ig_rewrite.specs.Rewriting.{rewritten, rewritten_symbols, rewritten_alternative, rewritten_level}
 use Rattle.ig_text.proofs.Lists.{contains_from_at, at_from_contains}
-use Rattle.ig_lexical.proofs.Meeting.{alternative_at}
+use Rattle.ig_rewrite.specs.EachLevel.{alternative_at}
 use Rattle.ig_rewrite.specs.Throughout.{placed_symbols, of_placed_symbols}
 use Rattle.ig_lexical.proofs.Pass.{taken_back}
 use Rattle.ig_lexical.proofs.Placing.{SameHead, label_head, opt_head, star_head, plus_head, sep_star_head, sep_plus_head, group_head, offside_head, ignore_head, filtered_head, seq_head, entry_head}

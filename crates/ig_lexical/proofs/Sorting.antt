@@ -19,7 +19,7 @@ use Rattle.ig_lexical.proofs.Tight.{IsTight}
 use Rattle.ig_lexical.proofs.Laying.{Decides}
 use Rattle.ig_lexical.proofs.LayingBack.{AllPlain}
 
-lexical_kind : (kind : DeclKind) → is_lexical kind ≡ true → kind ≡ Lexical
+pub lexical_kind : (kind : DeclKind) → is_lexical kind ≡ true → kind ≡ Lexical
 lexical_kind Lexical e = refl
 lexical_kind Syntax e = absurd (cc)
 lexical_kind Layout e = absurd (cc)

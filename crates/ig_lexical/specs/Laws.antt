@@ -3,12 +3,14 @@ use Rattle.std.specs.Prelude.{◌≡◌, None}
 use Rattle.ig_grammar.specs.Numbering.{layout_among}
 use Rattle.ig_grammar.specs.Checked.{CheckedGrammar}
 use Rattle.ig_rewrite.specs.SameTrees.{PermitSame}
+use Rattle.ig_rewrite.specs.SameValues.{KeepsValues}
 use Rattle.ig_rewrite.specs.Sound.{IsSound, IsFree, IsUnmarked, IsPlain, HasExclusionsAlone}
 use Rattle.ig_lexical.specs.Filters.{FiltersOf}
 use Rattle.ig_lexical.specs.Layout.{LayoutOf}
 
 pub record KeptByLayout (c : CheckedGrammar) : Type 0 where
   pub same : PermitSame c (LayoutOf c)
+  pub values : KeepsValues c (LayoutOf c)
   pub sound : IsSound (LayoutOf c)
   pub free : IsFree (LayoutOf c).grammar
   pub unmarked : IsUnmarked (LayoutOf c).grammar
@@ -21,6 +23,7 @@ LayoutKeeps = (c : CheckedGrammar) → IsSound c → IsFree c.grammar → IsUnma
 
 pub record KeptByFilters (c : CheckedGrammar) : Type 0 where
   pub same : PermitSame c (FiltersOf c)
+  pub values : KeepsValues c (FiltersOf c)
   pub sound : IsSound (FiltersOf c)
   pub free : IsFree (FiltersOf c).grammar
   pub unmarked : IsUnmarked (FiltersOf c).grammar

@@ -12,7 +12,7 @@ ghost use Rattle.ig_lexical.specs.Filters.{guarded, attached, attached_of, Filte
 use crate::laws::filters_keep;
 use ig_expr::Expr;
 use ig_grammar::{Checked, Decl, Filter, Filters, Inner, Symbol, Symbols};
-use ig_rewrite::{OwnRule, copy_of_shapes, has_root, rewrite_grammar, root};
+use ig_rewrite::{OwnRule, copy_of_shapes, has_root, push_symbol, rewrite_grammar, root};
 use ig_text::{Copied, Word};
 use std::alloc::{AllocError, Global};
 
@@ -176,13 +176,6 @@ fn add_afters(alloc: Global, filters: &[Filter], symbols: &mut Symbols) -> Resul
         }
     }
     Ok(())
-}
-
-/// Adds the symbol at the end.
-pub(crate) fn push_symbol(all: &mut Symbols, symbol: Symbol) -> Result<(), AllocError>
-    ensures { OnOk result (all.new ≡ all.old ++ symbol_of symbol ∷ []) }
-{
-    all.push(symbol).map_err(|refused| refused.1)
 }
 
 /// Adds the filter at the end.

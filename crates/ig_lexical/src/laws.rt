@@ -3,29 +3,29 @@
 ghost use Rattle.ig_lexical.specs.Laws.{LayoutKeeps, FiltersKeep};
 
 /// With layout called in the open, a sound grammar without operators and marks permits the same
-/// trees and stays sound; each declaration is plain. This law, proved of all such grammars,
-/// computes nothing.
+/// trees, with the same values, and stays sound; each declaration is plain. This law, proved of all
+/// such grammars, computes nothing.
 pub fn layout_keeps()
     ensures { LayoutKeeps }
 {
     ig_meaning::trees_without_operators_are_clean();
     ig_grammar::regularity_by_form();
-    ig_rewrite::binders_are_counted();
+    ig_rewrite::results_are_ready();
     ig_rewrite::declarations_are_found();
     ig_rewrite::root_keeps();
     ig_rewrite::same_trees_is_an_equivalence();
 }
 
 /// With its follow and precede filters as guards, a sound grammar without operators, marks and
-/// layout permits the same trees and stays sound; of its filters only exclusions are left. This
-/// law, proved of all such grammars, computes nothing.
+/// layout permits the same trees, with the same values, and stays sound; of its filters only
+/// exclusions are left. This law, proved of all such grammars, computes nothing.
 pub fn filters_keep()
     ensures { FiltersKeep }
 {
     ig_expr::tests_look_for_matches();
     ig_meaning::trees_without_operators_are_clean();
     ig_grammar::regularity_by_form();
-    ig_rewrite::binders_are_counted();
+    ig_rewrite::results_are_ready();
     ig_rewrite::declarations_are_found();
     ig_rewrite::root_keeps();
     ig_rewrite::same_trees_is_an_equivalence();

@@ -1,5 +1,5 @@
 //! Layout called in the open.
-ghost use Rattle.std.specs.Prelude.{◌≡◌, [], ◌∷◌, ◌++◌, map, None, IfOk, OnOk};
+ghost use Rattle.std.specs.Prelude.{◌≡◌, None, IfOk};
 ghost use Rattle.ig_grammar.specs.View.{symbol_of};
 ghost use Rattle.ig_grammar.specs.Checked.{FitShapes};
 ghost use Rattle.ig_grammar.specs.WellScoped.{IsWellScoped};
@@ -8,11 +8,13 @@ ghost use Rattle.ig_lexical.specs.Layout.{is_token, then_layout, laid_inside, la
 ghost use Rattle.ig_lexical.specs.Layout.{laid_declaration, laid_grammar, laid_of, LayoutOf};
 
 use crate::declarations::Declarations;
-use crate::filters::push_symbol;
 use crate::laws::layout_keeps;
 use ig_expr::Exprs;
 use ig_grammar::{Checked, Decl, DeclKind, Decls, Grammar, Inner, Symbol, Symbols};
-use ig_rewrite::{OwnRule, copy_of_shapes, has_root, rewrite_levels, root};
+use ig_rewrite::{
+    OwnRule, copy_of_shapes, copy_of_start, has_root, push_declaration, push_symbol,
+    rewrite_levels, root,
+};
 use ig_text::{Copied, Word};
 use std::alloc::{AllocError, Global};
 
@@ -167,21 +169,4 @@ fn then_layout(alloc: Global, layout: &Word, symbol: Symbol) -> Result<Symbol, A
     let name = layout.copy(alloc)?;
     push_symbol(&mut both, Symbol::Call(name, Exprs::new(alloc)))?;
     Ok(Symbol::Seq(both))
-}
-
-/// An equal start line.
-fn copy_of_start(alloc: Global, start: &Option<Word>) -> Result<Option<Word>, AllocError>
-    ensures { IfOk result (λ r. r ≡ start.now) }
-{
-    match start {
-        Some(name) => Ok(Some(name.copy(alloc)?)),
-        None => Ok(None),
-    }
-}
-
-/// Adds the declaration at the end.
-fn push_declaration(all: &mut Decls, decl: Decl) -> Result<(), AllocError>
-    ensures { OnOk result (all.new ≡ all.old ++ decl ∷ []) }
-{
-    all.push(decl).map_err(|refused| refused.1)
 }

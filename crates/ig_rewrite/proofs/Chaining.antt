@@ -1,6 +1,7 @@
--- 'Permits the same trees' is an equivalence.
+-- 'Permits the same trees' is an equivalence, and 'keeps the values' chains.
 use Rattle.ig_grammar.specs.Checked.{CheckedGrammar}
 use Rattle.ig_rewrite.specs.SameTrees.{PermitSame, SameTreesIsAnEquivalence}
+use Rattle.ig_rewrite.specs.SameValues.{KeepsValues}
 
 itself : (a : CheckedGrammar) → PermitSame a a
 itself a = record { same = λ text t. ((λ p. p), (λ p. p)) }
@@ -12,5 +13,12 @@ chained a b c p q =
 turned : (a b : CheckedGrammar) → PermitSame a b → PermitSame b a
 turned a b p = record { same = λ text t. ((p.same text t).1, (p.same text t).0) }
 
+own_values : (a : CheckedGrammar) → KeepsValues a a
+own_values a = record { values = λ text t u p h. h }
+
+values_chained : (a b c : CheckedGrammar) → PermitSame a b → KeepsValues a b → KeepsValues b c → KeepsValues a c
+values_chained a b c p q r =
+    record { values = λ text t u permitted h. r.values text t u ((p.same text t).0 permitted) (q.values text t u permitted h) }
+
 pub same_trees : SameTreesIsAnEquivalence
-same_trees = record { itself = itself; chained = chained; turned = turned }
+same_trees = record { itself = itself; chained = chained; turned = turned; own_values = own_values; values_chained = values_chained }

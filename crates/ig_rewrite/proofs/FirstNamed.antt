@@ -1,15 +1,14 @@
 -- The declaration of a name is the first one with that name.
-use Rattle.std.proofs.Common.{◌≡◌, ◌∙◌, ℕ, zero, suc, ◌<◌, ◌+◌, List, [], ◌∷◌, ◌++◌, Option, Some, None, Bool, cond, true, false, refl, sym, ap, subst, arith, length, take, map, inl, inr}
-use Rattle.std.specs.Prelude.{◌⊎◌, nat_lt, not, position, option_map, option_and_then, slice_get, Contains, if◌then◌else◌}
-use Rattle.std.specs.List.{prefix_len}
+use Rattle.std.proofs.Common.{◌≡◌, ◌∙◌, ℕ, zero, suc, ◌<◌, List, [], ◌∷◌, ◌++◌, Option, Some, None, Bool, true, false, refl, sym, ap, subst, arith, take, map, inl, inr}
+use Rattle.std.specs.Prelude.{◌⊎◌, option_map, option_and_then, slice_get, Contains, if◌then◌else◌}
 use Rattle.std.specs.Cmp.Lexicographic.{bytes_decides}
 use Rattle.std.proofs.lemmas.Bool.{cases_order}
-use Rattle.std.proofs.lemmas.Bool.Decides.{nat_tests}
 use Rattle.std.proofs.lemmas.List.{take-map}
 use Rattle.std.proofs.lemmas.Option.{slice_get-map}
 use Rattle.std.proofs.lemmas.List.Elements.{Contains-append_left, Contains-append_right, Contains-push}
 use Rattle.ig_expr.specs.Names.{place_of}
 use Rattle.ig_text.specs.Words.{is_word}
+use Rattle.ig_text.proofs.Positions.{beside-cons}
 use Rattle.ig_text.proofs.Lists.{contains_from_at, in_take}
 use Rattle.ig_grammar.specs.Condition.{declaration_of}
 use Rattle.ig_grammar.specs.Condition as meets
@@ -19,40 +18,9 @@ use Rattle.ig_grammar.specs.declared.declaration.Decl.{Decl}
 use Rattle.ig_grammar.specs.declared.grammar.Grammar.{Grammar}
 use Rattle.ig_rewrite.specs.Found.{DeclarationsAreFound}
 
-abbrev place_after : {X : Type 0} → (X → Bool) → X → Option ℕ → Option ℕ
-place_after p x others = cond (p x) (Some 0) (option_map (λ k. k + 1) others)
-
-one_further : (k n : ℕ) → cond (nat_lt (1 + k) (suc n)) (Some (1 + k)) None ≡ option_map (λ k. k + 1) (cond (nat_lt k n) (Some k) None)
-one_further k n = go (nat_lt k n) refl
-  where
-    go : (b : Bool) → nat_lt k n ≡ b → cond (nat_lt (1 + k) (suc n)) (Some (1 + k)) None ≡ option_map (λ k. k + 1) (cond b (Some k) None)
-    go true e = let h : nat_lt (1 + k) (suc n) ≡ true = grind (arith, nat_tests) in rw h (ap Some (omega arith))
-    go false e = let h : nat_lt (1 + k) (suc n) ≡ false = grind (arith, nat_tests) in rw h refl
-
-zero_first : (n : ℕ) → cond {A = Option ℕ} (nat_lt 0 (suc n)) (Some 0) None ≡ Some 0
-zero_first n = let h : nat_lt 0 (suc n) ≡ true = grind (arith, nat_tests) in rw h refl
-
-position-cons : {X : Type 0} (p : X → Bool) (x : X) (xs : List X) → position p (x ∷ xs) ≡ place_after p x (position p xs)
-position-cons p x xs = go (p x) refl
-  where
-    go : (b : Bool) → p x ≡ b → position p (x ∷ xs) ≡ cond b (Some 0) (option_map (λ k. k + 1) (position p xs))
-    go true e = rw e (zero_first (length xs))
-    go false e = rw e (one_further (prefix_len (λ y. not (p y)) xs) (length xs))
-
-next_found : (d : Decl) (ds : List Decl) (q : Option ℕ) → option_and_then (slice_get (d ∷ ds)) (option_map (λ k. k + 1) q) ≡ option_and_then (slice_get ds) q
-next_found d ds None = refl
-next_found d ds (Some k) = let e : k + 1 ≡ suc k = omega arith in rw e refl
-
 pub declaration_first : (d : Decl) (ds : List Decl) (name : List ℕ) →
     declaration_of (d ∷ ds) name ≡ (if is_word d.name name then Some d else declaration_of ds name)
-declaration_first d ds name =
-    ap (option_and_then (slice_get (d ∷ ds))) (position-cons (λ n. is_word n name) d.name (names ds)) ∙ go (is_word d.name name)
-  where
-    go : (b : Bool) →
-        option_and_then (slice_get (d ∷ ds)) (cond b (Some 0) (option_map (λ k. k + 1) (position (λ n. is_word n name) (names ds)))) ≡
-        (if b then Some d else declaration_of ds name)
-    go true = refl
-    go false = next_found d ds (position (λ n. is_word n name) (names ds))
+declaration_first d ds name = beside-cons (λ n. is_word n name) d.name (names ds) d ds
 
 pub itself_named : (d : Decl) → is_word d.name d.name ≡ true
 itself_named d = (bytes_decides d.name d.name).1 refl
@@ -118,7 +86,7 @@ not_declared (d ∷ ds) name fresh =
 pub named_at : (ds : List Decl) (k : ℕ) (d : Decl) → slice_get ds k ≡ Some d → slice_get (names ds) k ≡ Some d.name
 named_at ds k d e = slice_get-map (λ z. z.name) ds k ∙ ap (option_map (λ z. z.name)) e
 
-first_at : (ds : List Decl) (k : ℕ) (decl : Decl) → slice_get ds k ≡ Some decl →
+pub first_at : (ds : List Decl) (k : ℕ) (decl : Decl) → slice_get ds k ≡ Some decl →
     ((j : ℕ) (d : Decl) → j < k → slice_get ds j ≡ Some d → d.name ≡ decl.name → ⊥) → declaration_of ds decl.name ≡ Some decl
 first_at [] k decl e f = absurd (cc)
 first_at (d ∷ ds) zero decl e f = let same : d ≡ decl = cc in subst (λ z. declaration_of (z ∷ ds) decl.name ≡ Some decl) (sym same) (declaration_first decl ds decl.name ∙ go (is_word decl.name decl.name) (itself_named decl))
@@ -159,7 +127,7 @@ module _ (g : Grammar) (scoped : IsWellScoped g) where
       scoped (record { decl = suc j; alt = 0; symbol = 0 }) meets.DuplicateName
       (d.0, d.1, meets.duplicate_name (subst (λ (z : List ℕ). Contains (names (take j g.decls)) z) (sym d.2) earlier))
 
-  distinct : AreDistinct (names g.decls)
+  pub distinct : AreDistinct (names g.decls)
   distinct i j name e f = cases (cases_order i j)
     where
       cases : (i ≡ j) ⊎ ((i < j) ⊎ (j < i)) → i ≡ j

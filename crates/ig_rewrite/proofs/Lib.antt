@@ -3,6 +3,7 @@ pub mod AddedNames
 pub mod FirstNamed
 pub mod CallsOnly
 pub mod Carried
+pub mod CarriedValues
 pub mod Spines
 pub mod RootCalls
 pub mod RootTrees
@@ -13,3 +14,6 @@ pub mod RootCode
 pub mod Gathering
 pub mod Barren
 pub mod Counting
+pub mod Asking
+pub mod NamesOnce
+pub mod Passing

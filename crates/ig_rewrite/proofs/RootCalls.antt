@@ -1,20 +1,16 @@
 -- What the root alternative calls, and what a grammar without the name of the root calls.
-use Rattle.std.proofs.Common.{◌≡◌, ◌∙◌, ℕ, zero, suc, ◌+◌, List, [], ◌∷◌, ◌++◌, Option, Some, None, Bool, true, false, refl, sym, ap, subst, inl, inr, map, length}
-use Rattle.std.specs.Prelude.{◌⊎◌, ◌≢◌, slice_get, option_map, Contains, if◌then◌else◌}
-use Rattle.std.proofs.lemmas.List.{map-append}
-use Rattle.std.proofs.lemmas.Option.{slice_get-map}
+use Rattle.std.proofs.Common.{◌≡◌, ◌∙◌, ℕ, zero, suc, List, [], ◌∷◌, ◌++◌, Option, Some, None, Bool, true, false, refl, sym, ap, subst, inl, inr}
+use Rattle.std.specs.Prelude.{◌⊎◌, ◌≢◌, slice_get, Contains, if◌then◌else◌}
 use Rattle.ig_text.proofs.Lists.{at_from_contains, contains_from_at}
 use Rattle.ig_grammar.specs.Symbol.{Symbol, Call, gathered}
 use Rattle.ig_grammar.specs.Names.{names}
-use Rattle.ig_grammar.specs.Numbering.{Levelled, IsAlternative, alternatives, by_level, layout_among, name_of_layout}
+use Rattle.ig_grammar.specs.Numbering.{Levelled, IsAlternative, layout_among, name_of_layout}
 use Rattle.ig_grammar.specs.Condition as condition
 use Rattle.ig_grammar.specs.Condition.{Condition, SymbolMeets, declaration_of, symbols_of}
 use Rattle.ig_grammar.specs.Visible.{Visible, Occurrence, at, inside_sequence, parameters}
 use Rattle.ig_grammar.specs.WellScoped.{IsWellScoped}
 use Rattle.ig_grammar.specs.declared.declaration.DeclKind.{DeclKind}
 use Rattle.ig_grammar.specs.declared.declaration.DeclKind.TheVariants.{Syntax, Lexical, Layout, Plain}
-use Rattle.ig_grammar.specs.declared.symbol.Alt.{Alt}
-use Rattle.ig_grammar.specs.declared.declaration.Level.{Level}
 use Rattle.ig_grammar.specs.declared.declaration.Decl.{Decl}
 use Rattle.ig_grammar.specs.declared.grammar.Grammar.{Grammar}
 use Rattle.ig_grammar.specs.declared.place.Shape.{Shape}
@@ -25,6 +21,7 @@ use Rattle.ig_rewrite.specs.Added.{root_name, IsFresh}
 use Rattle.ig_rewrite.specs.Rooted.{calls_of_start, has_root, is_root}
 use Rattle.ig_rewrite.proofs.FirstNamed.{not_declared, named_at}
 use Rattle.ig_rewrite.proofs.CallsOnly.{IsCallOf, EachCallsOnly, each_gathered, from_symbols}
+use Rattle.ig_rewrite.specs.EachLevel.{alternative_at}
 
 -- another name than that of the root
 abbrev pub IsOther : List ℕ → Type 0
@@ -94,21 +91,6 @@ no_root_shape (s ∷ ss) (suc k) e h = no_root_shape ss k (go (is_root s) e) h
     go : (b : Bool) → (if b then true else has_root ss) ≡ false → has_root ss ≡ false
     go true f = absurd (cc)
     go false f = f
-
-map_twice : {X Y : Type 0} (f : X → Y) (r : Y → X) → ((x : X) → r (f x) ≡ x) → (xs : List X) → map r (map f xs) ≡ xs
-map_twice f r e [] = refl
-map_twice f r e (x ∷ xs) = rw (e x, map_twice f r e xs) refl
-
-alternatives_by_level : (levels : List Level) → map (λ a. a.alternative) (by_level levels) ≡ alternatives levels
-alternatives_by_level [] = refl
-alternatives_by_level (level ∷ others) =
-    let f : Alt → Levelled = λ a. record { alternative = a; level = length others + 1; assoc = level.assoc } in
-    map-append (λ a. a.alternative) (map f level.alts) (by_level others) ∙
-    (rw (map_twice f (λ a. a.alternative) (λ x. refl) level.alts, alternatives_by_level others) refl)
-
-pub alternative_at : (levels : List Level) (k : ℕ) (a : Levelled) → slice_get (by_level levels) k ≡ Some a → slice_get (alternatives levels) k ≡ Some a.alternative
-alternative_at levels k a h =
-    ap (λ xs. slice_get xs k) (sym (alternatives_by_level levels)) ∙ slice_get-map (λ a. a.alternative) (by_level levels) k ∙ ap (option_map (λ a. a.alternative)) h
 
 -- in a well-scoped grammar that doesn't have the name of the root, no symbol calls it
 module _ (g : Grammar) (scoped : IsWellScoped g) (fresh : IsFresh g root_name) where

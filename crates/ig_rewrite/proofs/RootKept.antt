@@ -162,8 +162,8 @@ module _ (new : AddedNamesAreNew) (rooting : RootedIsTheSame) (equivalence : Sam
   checked c scoped fit fresh = go (has_root c.shapes) refl
     where
       go : (b : Bool) → has_root c.shapes ≡ b → IsCheckedToo c (if b then c else with_root Syntax c)
-      go true e = record { same = equivalence.itself c; scoped = scoped; fit = fit }
-      go false e = let adds = rooting c scoped fit e (fresh e) in record { same = adds.same; scoped = adds.scoped; fit = adds.fit }
+      go true e = record { same = equivalence.itself c; values = equivalence.own_values c; scoped = scoped; fit = fit }
+      go false e = let adds = rooting c scoped fit e (fresh e) in record { same = adds.same; values = adds.values; scoped = adds.scoped; fit = adds.fit }
 
   all_kept : (c : CheckedGrammar) → FitShapes c.grammar c.shapes → KeptByRoot c (rooted Syntax c)
   all_kept c fit = go (has_root c.shapes) refl
@@ -186,10 +186,10 @@ module _ (new : AddedNamesAreNew) (rooting : RootedIsTheSame) (equivalence : Sam
   all_sound c source = go (has_root c.shapes) refl
     where
       go : (b : Bool) → has_root c.shapes ≡ b → IsSoundToo c (if b then c else with_root Syntax c)
-      go true e = record { same = equivalence.itself c; sound = source }
+      go true e = record { same = equivalence.itself c; values = equivalence.own_values c; sound = source }
       go false e =
           let adds = rooting c source.scoped source.fit e (λ m. let t : false ≡ true = sym e ∙ source.fresh m in cc) in
-          record { same = adds.same; sound = sound c source.fit.counted e new source (record { same = adds.same; scoped = adds.scoped; fit = adds.fit }) }
+          record { same = adds.same; values = adds.values; sound = sound c source.fit.counted e new source (record { same = adds.same; values = adds.values; scoped = adds.scoped; fit = adds.fit }) }
 
   pub root_keeps : RootKeeps
   root_keeps = record { stands = stands; checked = checked; sound = all_sound; kept = all_kept }

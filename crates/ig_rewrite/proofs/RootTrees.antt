@@ -1,10 +1,11 @@
--- A grammar with its root alternative as a declaration permits the same trees.
+-- A grammar with its root alternative as a declaration permits the same trees, with the same values.
 use Rattle.std.proofs.Common.{◌≡◌, ◌∙◌, ℕ, zero, suc, List, [], ◌∷◌, ◌++◌, Option, Some, None, false, refl, sym, ap, subst, arith, length, inl, inr}
 use Rattle.std.specs.Prelude.{◌⊎◌, slice_get, Contains}
 use Rattle.std.proofs.lemmas.Option.{slice_get_within}
 use Rattle.std.proofs.lemmas.List.Elements.{Contains-push}
 use Rattle.ig_text.specs.declared.tag.Tag.{Tag}
 use Rattle.ig_text.specs.Tree.{Tree, Trees}
+use Rattle.ig_expr.specs.ValuedTree as valued
 use Rattle.ig_text.proofs.Lists.{at_from_contains, contains_from_at, left_at, place_last, place_cases}
 use Rattle.ig_grammar.specs.Symbol.{Symbol, Call}
 use Rattle.ig_grammar.specs.Names.{names}
@@ -23,13 +24,16 @@ use Rattle.ig_meaning.specs.Environment.{Environment}
 use Rattle.ig_meaning.specs.Operands.{Calls, plain, labelled, HasLeftOperand, HasRightOperand, without_tests}
 use Rattle.ig_meaning.specs.Clean.{Applies, EndsInOperand, BeginsWithOperand}
 use Rattle.ig_meaning.specs.Derivation.{Covers}
+use Rattle.ig_meaning.specs.Annotated.{Bind, Annotates}
 use Rattle.ig_meaning.specs.Permitted.{behind_layout, IsRootAlternative, written, declared, Permitted}
 use Rattle.ig_rewrite.specs.SameTrees.{PermitSame}
+use Rattle.ig_rewrite.specs.SameValues.{KeepsValues}
 use Rattle.ig_rewrite.specs.Added.{root_name, IsFresh}
 use Rattle.ig_rewrite.specs.Rooted.{calls_of_start, root_symbols, root_declaration, rooted_grammar, has_root, with_root}
 use Rattle.ig_rewrite.proofs.FirstNamed.{named_at}
 use Rattle.ig_rewrite.proofs.CallsOnly.{EachCallsOnly}
 use Rattle.ig_rewrite.proofs.Carried.{covers_too}
+use Rattle.ig_rewrite.proofs.CarriedValues.{bind_too}
 use Rattle.ig_rewrite.proofs.RootCalls.{IsOther, root_calls, root_names, layout_kept, no_root_shape, start_other, layout_other, calls_others}
 use Rattle.ig_rewrite.proofs.Spines.{cleaned}
 
@@ -176,6 +180,9 @@ module _ (c : CheckedGrammar) (scoped : IsWellScoped c.grammar) (fit : FitShapes
   no_root : (name : List ℕ) (d : ℕ) (decl : Decl) → Declares g shapes name d decl shape.Root → ⊥
   no_root name d decl a = no_root_shape shapes a.shaped.0 rootless a.shaped.2
 
+  written_out : IsRootAlternative h forms Syntax (root_symbols g)
+  written_out = declared root_name (suc (length g.decls)) r root_by Syntax (root_symbols g) refl root_there (0, refl, refl) refl refl
+
   permitted_there : (text : List ℕ) (t : Tree) → Permitted g shapes text t → Permitted h forms text t
   permitted_there text t p = go p.kind p.symbols p.root p.covered
     where
@@ -188,7 +195,7 @@ module _ (c : CheckedGrammar) (scoped : IsWellScoped c.grammar) (fit : FitShapes
             children = p.children;
             after = p.after;
             starts = p.starts;
-            root = declared root_name (suc (length g.decls)) r root_by Syntax (root_symbols g) refl root_there (0, refl, refl) refl refl;
+            root = written_out;
             covered = covers_there text symbols_others (subst (λ ys. Covers g shapes text Syntax ys [] 0 (length text) p.children p.after p.starts) e covered);
             whole = p.whole;
             clean = cleaned g h ends_here begins_here t p.clean;
@@ -238,3 +245,25 @@ module _ (c : CheckedGrammar) (scoped : IsWellScoped c.grammar) (fit : FitShapes
 
   pub rooted_permits_same : PermitSame c (with_root Syntax c)
   rooted_permits_same = record { same = λ text t. (permitted_there text t, permitted_here text t) }
+
+  annotates_there : (text : List ℕ) (t : Tree) (u : valued.Tree) → Annotates g shapes text t u → Annotates h forms text t u
+  annotates_there text t u a = go a.kind a.symbols a.root a.binds
+    where
+      go : (kind : DeclKind) (xs : List Symbol) → IsRootAlternative g shapes kind xs → Bind g shapes text kind xs [] 0 (length text) a.children a.after → Annotates h forms text t u
+      go kind xs (written start _ started unrooted same) binds =
+          let e : xs ≡ root_symbols g = same ∙ ap (λ s. behind_layout (layout_among g.decls) (calls_of_start s)) (sym started) in
+          record {
+            kind = Syntax;
+            symbols = root_symbols g;
+            children = a.children;
+            after = a.after;
+            root = written_out;
+            binds = bind_too g shapes h forms text IsOther there called_in same_layout (layout_other g scoped fresh) symbols_others
+                (subst (λ ys. Bind g shapes text Syntax ys [] 0 (length text) a.children a.after) e binds);
+            whole = a.whole;
+            same = a.same;
+          }
+      go kind xs (declared start d decl by _ _ started declares numbered same symbols) binds = absurd (no_root start d decl declares)
+
+  pub rooted_keeps_values : KeepsValues c (with_root Syntax c)
+  rooted_keeps_values = record { values = λ text t u p. annotates_there text t u }

@@ -10,6 +10,7 @@ use Rattle.ig_rewrite.specs.Added.{root_name, IsFresh}
 use Rattle.ig_rewrite.specs.Remaining.{IsRemaining}
 use Rattle.ig_rewrite.specs.Rooted.{has_root, rooted}
 use Rattle.ig_rewrite.specs.SameTrees.{PermitSame}
+use Rattle.ig_rewrite.specs.SameValues.{KeepsValues}
 use Rattle.ig_rewrite.specs.Sound.{IsSound, IsFree, IsUnmarked, RootIsNamed}
 use Rattle.ig_rewrite.specs.Unbound.{IsUnbound}
 
@@ -21,15 +22,17 @@ pub record RootAt (c : CheckedGrammar) : Type 0 where
   pub shaped : slice_get c.shapes before ≡ Some Root
   pub start : c.grammar.start ≡ Some decl.name
 
--- the other permits the same trees, and is checked
+-- the other permits the same trees, with the same values, and is checked
 pub record IsCheckedToo (c d : CheckedGrammar) : Type 0 where
   pub same : PermitSame c d
+  pub values : KeepsValues c d
   pub scoped : IsWellScoped d.grammar
   pub fit : FitShapes d.grammar d.shapes
 
 -- and is sound
 pub record IsSoundToo (c d : CheckedGrammar) : Type 0 where
   pub same : PermitSame c d
+  pub values : KeepsValues c d
   pub sound : IsSound d
 
 -- what holds of a grammar holds of the other, in which a declaration stands for the root

@@ -1,4 +1,5 @@
 pub mod SameTrees
+pub mod SameValues
 pub mod Added
 pub mod Rooted
 pub mod Rewriting
@@ -11,3 +12,6 @@ pub mod Found
 pub mod Throughout
 pub mod Binders
 pub mod Examples
+pub mod Asked
+pub mod Passing
+pub mod EachLevel

@@ -15,6 +15,7 @@ use Rattle.ig_grammar.specs.declared.place.Shape.{Shape}
 use Rattle.ig_grammar.specs.declared.place.Shape.TheVariants.{Root}
 use Rattle.ig_rewrite.specs.Added.{root_name, IsFresh}
 use Rattle.ig_rewrite.specs.SameTrees.{PermitSame}
+use Rattle.ig_rewrite.specs.SameValues.{KeepsValues}
 
 abbrev pub calls_of_start : Option (List ℕ) → List Symbol
 calls_of_start None = []
@@ -55,6 +56,7 @@ rooted kind c = if has_root c.shapes then c else with_root kind c
 -- what the root adds to a grammar that is checked and has none, and that doesn't have the name of the root
 pub record RootAdds (c : CheckedGrammar) : Type 0 where
   pub same : PermitSame c (with_root Syntax c)
+  pub values : KeepsValues c (with_root Syntax c)
   pub scoped : IsWellScoped (with_root Syntax c).grammar
   pub fit : FitShapes (with_root Syntax c).grammar (with_root Syntax c).shapes
   pub unmarked : OfEachLevel AlternativesHaveNoMark c.grammar →

@@ -1,14 +1,17 @@
 //! What passes rest on. The functions compute nothing: their contracts are the laws.
 
 ghost use Rattle.ig_rewrite.specs.Added.{AddedNamesAreNew};
+ghost use Rattle.ig_rewrite.specs.Asked.{AsksElsewhere, SymbolsAsk};
 ghost use Rattle.ig_rewrite.specs.Binders.{BindersAreCounted};
 ghost use Rattle.ig_rewrite.specs.Found.{DeclarationsAreFound};
 ghost use Rattle.ig_rewrite.specs.KeptByRoot.{RootKeeps};
+ghost use Rattle.ig_rewrite.specs.Passing.{ResultsAreReady};
 ghost use Rattle.ig_rewrite.specs.Rooted.{RootedIsTheSame};
 ghost use Rattle.ig_rewrite.specs.SameTrees.{SameTreesIsAnEquivalence};
 
 /// A grammar permits the same trees as itself; where one permits those of another, and that one
-/// those of a third, all three do. This law, proved of all checked grammars, computes nothing.
+/// those of a third, all three do. A grammar keeps its own values, and two steps that keep values
+/// keep them together. This law, proved of all checked grammars, computes nothing.
 pub fn same_trees_is_an_equivalence()
     ensures { SameTreesIsAnEquivalence }
 {}
@@ -29,16 +32,16 @@ pub fn declarations_are_found()
 {}
 
 /// A checked grammar without a declaration that stands for the root permits the same trees with
-/// `$root` as its last declaration, if none has that name, and stays checked; it stays regular
-/// where the counts stay below their bound. This law, proved of all such grammars, computes
-/// nothing.
+/// `$root` as its last declaration, if none has that name, with the same values, and stays
+/// checked; it stays regular where the counts stay below their bound. This law, proved of all such
+/// grammars, computes nothing.
 pub fn rooted_is_the_same()
     ensures { RootedIsTheSame }
 {}
 
-/// A sound grammar is sound with its root written, and permits the same trees; and what passes ask
-/// of a grammar holds of it with its root where it held before. This law, proved of all checked
-/// grammars, computes nothing.
+/// A sound grammar is sound with its root written, and permits the same trees, with the same
+/// values; and what passes ask of a grammar holds of it with its root where it held before. This
+/// law, proved of all checked grammars, computes nothing.
 pub fn root_keeps()
     ensures { RootKeeps }
 {
@@ -51,4 +54,24 @@ pub fn root_keeps()
 /// such names in it, whatever is visible. This law, proved of all symbols, computes nothing.
 pub fn binders_are_counted()
     ensures { BindersAreCounted }
+{}
+
+/// A symbol gets what its form asks of the place where it stands exactly where no condition holds
+/// of it there. This law, proved of all symbols, computes nothing.
+pub fn symbols_ask()
+    ensures { SymbolsAsk }
+{}
+
+/// What a symbol asks it gets elsewhere, too, where its variables have the same kinds, its names
+/// are new, and more arguments fit more parameters. This law, proved of all symbols, computes
+/// nothing.
+pub fn asks_elsewhere()
+    ensures { AsksElsewhere }
+{}
+
+/// Where a pass gives of its result what `specs/Passing.antt` lists, a grammar that is well scoped,
+/// regular in form and free of some names stays so. This law, proved of all passes, computes
+/// nothing.
+pub fn results_are_ready()
+    ensures { ResultsAreReady }
 {}

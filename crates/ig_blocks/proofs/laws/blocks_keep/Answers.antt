@@ -11,6 +11,8 @@ returns c =
       found = c.declarations_are_found.ensures;
       new = c.added_names_are_new.ensures;
       root = c.root_keeps.ensures;
-      counted = c.binders_are_counted.ensures;
+      ask = c.symbols_ask.ensures;
+      elsewhere = c.asks_elsewhere.ensures;
+      passes = c.results_are_ready.ensures;
       equivalence = c.same_trees_is_an_equivalence.ensures;
     })

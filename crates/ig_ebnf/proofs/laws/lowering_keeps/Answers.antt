@@ -7,6 +7,8 @@ returns c =
     (record {
       clean = c.trees_without_operators_are_clean.ensures;
       new = c.added_names_are_new.ensures;
-      counted = c.binders_are_counted.ensures;
+      ask = c.symbols_ask.ensures;
+      elsewhere = c.asks_elsewhere.ensures;
+      passes = c.results_are_ready.ensures;
       found = c.declarations_are_found.ensures;
     })

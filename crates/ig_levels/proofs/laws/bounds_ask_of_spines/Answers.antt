@@ -9,4 +9,7 @@ returns c =
       root = c.root_keeps.ensures;
       equivalence = c.same_trees_is_an_equivalence.ensures;
       cleans = c.trees_without_operators_are_clean.ensures;
+      elsewhere = c.asks_elsewhere.ensures;
+      counts = c.binders_are_counted.ensures;
+      passes = c.results_are_ready.ensures;
     })

@@ -8,7 +8,7 @@ returns c =
       cleans = c.trees_without_operators_are_clean.ensures;
       forms = c.regularity_by_form.ensures;
       root = c.root_keeps.ensures;
-      counted = c.binders_are_counted.ensures;
+      passes = c.results_are_ready.ensures;
       found = c.declarations_are_found.ensures;
       equivalence = c.same_trees_is_an_equivalence.ensures;
     })

@@ -8,6 +8,6 @@ returns c =
       forms = c.regularity_by_form.ensures;
       found = c.declarations_are_found.ensures;
       root = c.root_keeps.ensures;
-      counted = c.binders_are_counted.ensures;
+      passes = c.results_are_ready.ensures;
       equivalence = c.same_trees_is_an_equivalence.ensures;
     })
