@@ -1,5 +1,5 @@
 -- Environments as names and values side by side.
-use Rattle.std.proofs.Common.{◌≡◌, ℕ, List, [], ◌∷◌, ◌++◌, map, Option, Some, None, refl, ap, ap₂, ◌∙◌}
+use Rattle.std.proofs.Common.{◌≡◌, ℕ, List, [], ◌∷◌, ◌++◌, map, Option, Some, None, refl, ap, ap₂, ◌∙◌, subst}
 use Rattle.std.proofs.lemmas.List.{map-append}
 use Rattle.ig_text.specs.Pattern.{Matches}
 use Rattle.ig_expr.specs.Expression.{Expression}
@@ -35,6 +35,20 @@ names_let env name v = map-append (λ p. p.0) env ((name, v) ∷ [])
 
 pub values_let : (env : Environment) (name : List ℕ) (v : Value) → values (env ++ (name, v) ∷ []) ≡ values env ++ v ∷ []
 values_let env name v = map-append (λ p. p.1) env ((name, v) ∷ [])
+
+-- what holds behind a label holds with its name and span behind the others
+pub with_label : (P : List (List ℕ) → List Value → Type 0) (env after : Environment) (l : Option (List ℕ)) (i e : ℕ) → after ≡ env ++ bound l i e →
+    P (names after) (values after) → P (names env ++ labels l) (values env ++ span_of l i e)
+with_label P env after l i e is holds =
+    subst (λ z. P z (values env ++ span_of l i e)) (ap names is ∙ names_bound env l i e)
+    (subst (λ z. P (names after) z) (ap values is ∙ values_bound env l i e) holds)
+
+-- and what holds behind a let, with its name and value
+pub with_let : (P : List (List ℕ) → List Value → Type 0) (env after : Environment) (name : List ℕ) (v : Value) → after ≡ env ++ (name, v) ∷ [] →
+    P (names after) (values after) → P (names env ++ name ∷ []) (values env ++ v ∷ [])
+with_let P env after name v is holds =
+    subst (λ z. P z (values env ++ v ∷ [])) (ap names is ∙ names_let env name v)
+    (subst (λ z. P (names after) z) (ap values is ∙ values_let env name v) holds)
 
 -- the values of arguments
 pub values_to : (text : List ℕ) (env : Environment) (i : ℕ) {es : List Expression} {vs : List Value} → HaveValues text env i es vs →

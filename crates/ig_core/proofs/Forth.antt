@@ -16,14 +16,14 @@ use Rattle.ig_grammar.specs.declared.declaration.DeclKind.{DeclKind}
 use Rattle.ig_grammar.specs.declared.grammar.Grammar.{Grammar}
 use Rattle.ig_grammar.specs.declared.place.Shape.{Shape}
 use Rattle.ig_item.specs.Step.{Step, labels}
-use Rattle.ig_item.specs.Items.{span_of, MatchesNone}
+use Rattle.ig_item.specs.Items.{MatchesNone}
 use Rattle.ig_item.specs.CoreTrees as trees
 use Rattle.ig_item.specs.CoreTrees.{Leads, HasTree}
 use Rattle.ig_item.specs.declared.core_grammar.Nonterminal.{Nonterminal}
 use Rattle.ig_rewrite.specs.Remaining.{IsTerm, IsExcluding, Remains, exclusions}
 use Rattle.ig_core.specs.Steps.{step_with, step_of, steps_of}
 use Rattle.ig_core.proofs.Numbers.{made, Numbers}
-use Rattle.ig_core.proofs.Environments.{bound, names_bound, values_bound, names_let, values_let, values_to, bound_names, bound_values, passes_to}
+use Rattle.ig_core.proofs.Environments.{bound, with_label, with_let, values_to, bound_names, bound_values, passes_to}
 
 module _ (g : Grammar) (shapes : List Shape) (nonterminals : List Nonterminal) (number : List ℕ → ℕ) (May : List ℕ → ℕ → Type 0) (text : List ℕ)
     (numbers : Numbers g shapes nonterminals number May) where
@@ -37,20 +37,13 @@ module _ (g : Grammar) (shapes : List Shape) (nonterminals : List Nonterminal) (
   abbrev LeadsIn : Environment → List Step → ℕ → ℕ → Trees → Type 0
   LeadsIn env steps i j ts = Leads nonterminals text (names env) (values env) steps i j ts
 
-  -- the rest behind a symbol, with what its label binds
-  renamed : (env after : Environment) (l : Option (List ℕ)) (i e : ℕ) (steps : List Step) (h j : ℕ) (ts : Trees) → after ≡ env ++ bound l i e →
-      LeadsIn after steps h j ts → Leads nonterminals text (names env ++ labels l) (values env ++ span_of l i e) steps h j ts
-  renamed env after l i e steps h j ts is leads =
-      subst (λ z. Leads nonterminals text z (values env ++ span_of l i e) steps h j ts) (ap names is ∙ names_bound env l i e)
-      (subst (λ z. Leads nonterminals text (names after) z steps h j ts) (ap values is ∙ values_bound env l i e) leads)
-
   -- a leaf and then the rest
   leaf : (env after : Environment) (what : Pattern) (l : Option (List ℕ)) (excluded : List Pattern) (rest : List Step) (i e h j : ℕ) (us ts : Trees) →
       Matches text what i e → MatchesNone text excluded i e → after ≡ env ++ bound l i e → e ≡ h → LeadsIn after rest h j us → ts ≡ more (Leaf i e) us →
       LeadsIn env (Rattle.ig_item.specs.Step.Term what l excluded ∷ rest) i j ts
   leaf env after what l excluded rest i e h j us ts matches free is at leads whole =
       trees.terminal (names env) (values env) what l excluded rest i e j us ts matches free
-      (subst (λ z. Leads nonterminals text (names env ++ labels l) (values env ++ span_of l i e) rest z j us) (sym at) (renamed env after l i e rest h j us is leads)) whole
+      (with_label (λ ns ws. Leads nonterminals text ns ws rest e j us) env after l i e is (subst (λ z. LeadsIn after rest z j us) (sym at) leads)) whole
 
   -- a tree and then the rest
   child : (env after : Environment) (name : List ℕ) (arguments : List Rattle.ig_expr.specs.Expression.Expression) (l : Option (List ℕ)) (excluded : List Pattern)
@@ -60,7 +53,7 @@ module _ (g : Grammar) (shapes : List Shape) (nonterminals : List Nonterminal) (
       LeadsIn env (Rattle.ig_item.specs.Step.Call (number name) arguments l excluded ∷ rest) i j ts
   child env after name arguments l excluded vs rest i e h j t us ts have tree free is at leads whole =
       trees.call (names env) (values env) (number name) arguments l excluded vs rest i e j t us ts (values_to text env i have) tree free
-      (subst (λ z. Leads nonterminals text (names env ++ labels l) (values env ++ span_of l i e) rest z j us) (sym at) (renamed env after l i e rest h j us is leads)) whole
+      (with_label (λ ns ws. Leads nonterminals text ns ws rest e j us) env after l i e is (subst (λ z. LeadsIn after rest z j us) (sym at) leads)) whole
 
   all_free : (i e : ℕ) → MatchesNone text [] i e
   all_free i e = All-nil (λ p. Matches text p i e → ⊥)
@@ -85,8 +78,7 @@ module _ (g : Grammar) (shapes : List Shape) (nonterminals : List Nonterminal) (
     step (guard c condition env i holds) ok rest j us others = trees.test (names env) (values env) condition rest i j us holds others
     step (let_be c name value v env after i has is) ok rest j us others =
         trees.bind (names env) (values env) name value v rest i j us has
-        (subst (λ z. Leads nonterminals text z (values env ++ v ∷ []) rest i j us) (ap names is ∙ names_let env name v)
-        (subst (λ z. Leads nonterminals text (names after) z rest i j us) (ap values is ∙ values_let env name v) others))
+        (with_let (λ ns ws. Leads nonterminals text ns ws rest i j us) env after name v is others)
     step (filtered c x fs env after i e h ts starts head passes) ok rest j us others =
         main head ok.1 None (unbound after i e) (exclusions fs) (passes_to text i e fs ok.0 passes) rest j us others
     step (literal c word env i e h vs ts starts spells trails whole exposes) ok rest j us others =

@@ -20,7 +20,7 @@ use Rattle.ig_grammar.specs.declared.declaration.Param.{Param}
 use Rattle.ig_grammar.specs.declared.declaration.Decl.{Decl}
 use Rattle.ig_grammar.specs.declared.grammar.Grammar.{Grammar}
 use Rattle.ig_grammar.specs.declared.place.Shape.{Shape}
-use Rattle.ig_item.specs.Step.{Step, Test, Bind, Term, names_of}
+use Rattle.ig_item.specs.Step.{Step, names_of}
 use Rattle.ig_item.specs.Step as step
 use Rattle.ig_item.specs.Visible.{kinds_of}
 use Rattle.ig_item.specs.WellKinded.{NoneTwice, ExpressionsFit, CallFits}
@@ -31,7 +31,8 @@ use Rattle.ig_rewrite.specs.Remaining.{IsTerm, IsExcluding, Remains, unfiltered,
 use Rattle.ig_core.specs.Steps.{step_with, step_of, steps_of}
 use Rattle.ig_core.specs.CoreOf.{number_of, nonterminal_of, core_of}
 use Rattle.ig_rewrite.specs.Remaining.{IsRemaining}
-use Rattle.ig_core.proofs.Lookups.{contains_at, contains_first, declared_named}
+use Rattle.ig_text.proofs.Lists.{contains_first}
+use Rattle.ig_core.proofs.Lookups.{contains_at, declared_named}
 use Rattle.ig_core.proofs.Scoped.{Any, main_in, Each, Fine, may_call, has_core, distinct_names, name_at}
 use Rattle.ig_core.proofs.Law.{callee}
 

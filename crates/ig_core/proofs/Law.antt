@@ -1,4 +1,4 @@
--- The core grammar of a grammar has the trees that the grammar permits.
+-- The core grammar of a grammar has the trees that the grammar permits, with the same values.
 use Rattle.std.proofs.Common.{◌≡◌, ℕ, zero, suc, ◌<◌, List, [], ◌∷◌, map, All, Some, None, length, slice_get, Contains, refl, sym, ap, ◌∙◌, subst, arith, inl, inr}
 use Rattle.std.specs.Prelude.{◌⊎◌, ◌↔◌, option_map}
 use Rattle.std.proofs.lemmas.Option.{same_Some, slice_get-map, slice_get_within, get_or_from_slice_get}
@@ -6,10 +6,10 @@ use Rattle.std.proofs.lemmas.List.Elements.{All-nil, All-cons}
 use Rattle.ig_text.specs.declared.tag.Tag.TheVariants as tag
 use Rattle.ig_text.specs.Tree.{Tree, Trees, Node}
 use Rattle.ig_grammar.specs.Symbol.{Symbol, Call}
-use Rattle.ig_meaning.specs.Environment.{Environment}
+use Rattle.ig_meaning.specs.Annotated.{Annotates}
+use Rattle.ig_meaning.specs.Environment.{values}
 use Rattle.ig_grammar.specs.Names.{names}
 use Rattle.ig_grammar.specs.Numbering.{Levelled, Declares, IsAlternative, alternatives, tag_of, layout_among}
-use Rattle.ig_meaning.specs.Derivation.{Covers}
 use Rattle.ig_meaning.specs.Permitted.{Permitted, IsRootAlternative, written, declared, behind_layout}
 use Rattle.ig_meaning.specs.Laws.{TreesWithoutOperatorsAreClean}
 use Rattle.ig_grammar.specs.declared.declaration.DeclKind.{DeclKind}
@@ -20,7 +20,9 @@ use Rattle.ig_grammar.specs.declared.symbol.Alt.{Alt}
 use Rattle.ig_grammar.specs.declared.grammar.Grammar.{Grammar}
 use Rattle.ig_grammar.specs.declared.place.Shape.{Shape}
 use Rattle.ig_grammar.specs.declared.place.Shape.TheVariants.{Rule, Root}
+use Rattle.ig_expr.specs.ValuedTree as valued
 use Rattle.ig_expr.specs.declared.value.Value.{Value}
+use Rattle.ig_item.specs.Annotated as item
 use Rattle.ig_item.specs.Core as core
 use Rattle.ig_item.specs.CoreTrees as trees
 use Rattle.ig_item.specs.CoreTrees.{Leads, HasTree, CoreTree}
@@ -33,8 +35,10 @@ use Rattle.ig_core.proofs.Scoped.{ready_has_core}
 use Rattle.ig_core.proofs.Premises.{IsCalled, HasCore}
 use Rattle.ig_core.specs.Ready.{IsReady}
 use Rattle.ig_core.proofs.Numbers.{Target, Source, Numbers}
-use Rattle.ig_core.proofs.Places.{kept, Origin, origin, root_cases, RootAt, NoRoot, found, there, nonterminal_at, nonterminal_was, alternative_at, alternative_was, only, beside, without_level, with_level, same_tag}
+use Rattle.ig_core.proofs.Places.{kept, Origin, origin, root_cases, RootAt, NoRoot, found, there, nonterminal_at, nonterminal_was, alternative_at, alternative_was, only, beside, with_level, same_tag}
+use Rattle.ig_rewrite.specs.EachLevel.{alternative_at as without_level}
 use Rattle.ig_core.proofs.Forth.{leads}
+use Rattle.ig_core.proofs.Values.{leaves}
 use Rattle.ig_core.proofs.Back.{CoversFrom, covers}
 
 pub contains_at : {X : Type 0} (xs : List X) (k : ℕ) (x : X) → slice_get xs k ≡ Some x → Contains xs x
@@ -178,16 +182,21 @@ module _ (g : Grammar) (shapes : List Shape) (text : List ℕ) (has : HasCore g 
       }
 
   -- the root alternative of the core grammar
+  root_is_alternative : (root : Decl) (a : Levelled) → root_of g shapes ≡ root → IsAlternative root 1 a →
+      core.IsAlternative (core_of g shapes) 0 1 (nonterminal_of number 0 (shaped root Root))
+      (record { tag = tag.Root; steps = steps_of number a.alternative.symbols })
+  root_is_alternative root a is alternative =
+      record {
+        there = ap (λ (z : Decl). Some (nonterminal_of number 0 (shaped z Root))) is;
+        has = to_number number 0 1 (shaped root Root) a alternative;
+      }
+
   root_to : (root : Decl) (a : Levelled) (children : Trees) (t : Tree) → root_of g shapes ≡ root → root.params ≡ [] → IsAlternative root 1 a →
       Leads (core_of g shapes) text [] [] (steps_of number a.alternative.symbols) 0 (length text) children → t ≡ Node tag.Root 0 (length text) children →
       CoreTree (core_of g shapes) text t
   root_to root a children t is plain alternative lead whole =
       trees.node 0 1 [] (nonterminal_of number 0 (shaped root Root)) (record { tag = tag.Root; steps = steps_of number a.alternative.symbols }) 0 (length text)
-      children t
-      (record {
-        there = ap (λ (z : Decl). Some (nonterminal_of number 0 (shaped z Root))) is;
-        has = to_number number 0 1 (shaped root Root) a alternative;
-      })
+      children t (root_is_alternative root a is alternative)
       (subst (λ z. Leads (core_of g shapes) text z [] (steps_of number a.alternative.symbols) 0 (length text) children)
       (sym (ap (λ ps. map (λ p. p.name) ps) plain)) lead) whole
 
@@ -319,37 +328,81 @@ module _ (g : Grammar) (shapes : List Shape) (text : List ℕ) (has : HasCore g 
           (declared decl.name (suc at.k) decl from.a decl.kind from.a.alternative.symbols rooted.0 (declares_at at.k decl Root at.decl_at at.shape_at)
           (from.numbered.0, first, from.numbered.2) refl refl) from.covered from.whole
 
-  from_permitted : (t : Tree) → Permitted g shapes text t → CoreTree (core_of g shapes) text t
-  from_permitted t p = go p.root p.covered (root_cases g.decls shapes)
+  -- the root of the core grammar has the root alternative
+  record RootOf (symbols : List Symbol) : Type 0 where
+    root : Decl
+    a : Levelled
+    is : root_of g shapes ≡ root
+    plain : root.params ≡ []
+    numbered : IsAlternative root 1 a
+    same : symbols ≡ a.alternative.symbols
+    remains : All (Remains May) symbols
+
+  root_alternative : {kind : DeclKind} {symbols : List Symbol} → IsRootAlternative g shapes kind symbols → RootOf symbols
+  root_alternative alternative = go alternative (root_cases g.decls shapes)
     where
-      go : {kind : DeclKind} {symbols : List Symbol} {after : Environment} {starts : List ℕ} → IsRootAlternative g shapes kind symbols →
-          Covers g shapes text kind symbols [] 0 (length text) p.children after starts →
-          ((root_among g.decls shapes ≡ None) × NoRoot g.decls shapes) ⊎ ((decl : Decl) × RootAt g.decls shapes decl) → CoreTree (core_of g shapes) text t
-      go {after = after} {starts = starts} (written start symbols start_is undeclared same) covered (inl none) =
+      go : {kind : DeclKind} {symbols : List Symbol} → IsRootAlternative g shapes kind symbols →
+          ((root_among g.decls shapes ≡ None) × NoRoot g.decls shapes) ⊎ ((decl : Decl) × RootAt g.decls shapes decl) → RootOf symbols
+      go (written start symbols start_is undeclared same) (inl none) =
           let start_same : start ≡ has.started.0 = same_Some start has.started.0 (sym start_is ∙ has.started.1) in
           let symbols_same : symbols ≡ start_calls = same ∙ ap (λ z. behind_layout (layout_among g.decls) (Call z [] ∷ [])) start_same in
-          let lead =
-          leads g shapes (core_of g shapes) number May text numbers
-          (subst (λ z. Covers g shapes text Syntax z [] 0 (length text) p.children after starts) symbols_same covered) (start_remains none.1) in
-          root_to (written_root g) first_alternative p.children t (unrooted_root none.0) refl (0, refl, refl)
-          (subst (λ z. Leads (core_of g shapes) text [] [] (steps_of number z) 0 (length text) p.children) (sym symbols_are) lead) p.whole
-      go (written start symbols start_is undeclared same) covered (inr there) =
+          record {
+            root = written_root g;
+            a = first_alternative;
+            is = unrooted_root none.0;
+            plain = refl;
+            numbered = (0, refl, refl);
+            same = symbols_same ∙ sym symbols_are;
+            remains = subst (λ z. All (Remains May) z) (sym symbols_same) (start_remains none.1);
+          }
+      go (written start symbols start_is undeclared same) (inr there) =
           let at = there.1 in
           let rooted = has.rooted at.k there.0 at.decl_at at.shape_at in
           let start_same : there.0.name ≡ start = same_Some there.0.name start (sym rooted.0 ∙ start_is) in
           absurd (undeclared (suc at.k) there.0 (subst (λ z. Declares g shapes z (suc at.k) there.0 Root) start_same (declares_at at.k there.0 Root at.decl_at at.shape_at)))
-      go (declared start d decl a kind symbols start_is declares is kinds same) covered (inl none) = absurd (no_declared none.1 start d decl declares)
-      go {kind = kind0} {after = after} {starts = starts} (declared start d decl a kind symbols start_is declares is kinds same) covered (inr there) =
+      go (declared start d decl a kind symbols start_is declares is kinds same) (inl none) = absurd (no_declared none.1 start d decl declares)
+      go (declared start d decl a kind symbols start_is declares is kinds same) (inr there) =
           let at = there.1 in
           let rooted = has.rooted at.k there.0 at.decl_at at.shape_at in
           let start_same : there.0.name ≡ decl.name = same_Some there.0.name start (sym rooted.0 ∙ start_is) ∙ sym declares.named in
           let place_same : at.k ≡ declares.numbered.0 = once at.k declares.numbered.0 there.0 decl at.decl_at declares.numbered.2 start_same in
           let decl_same : there.0 ≡ decl = same_Some there.0 decl (sym at.decl_at ∙ ap (slice_get g.decls) place_same ∙ declares.numbered.2) in
-          let lead =
-          leads g shapes (core_of g shapes) number May text numbers
-          (subst (λ z. Covers g shapes text kind z [] 0 (length text) p.children after starts) same covered)
-          (all_alternatives decl declares.numbered.0 declares.numbered.2 1 a is) in
-          root_to decl a p.children t (rooted_root there.0 at ∙ decl_same) (ap (λ (z : Decl). z.params) (sym decl_same) ∙ rooted.2) is lead p.whole
+          record {
+            root = decl;
+            a = a;
+            is = rooted_root there.0 at ∙ decl_same;
+            plain = ap (λ (z : Decl). z.params) (sym decl_same) ∙ rooted.2;
+            numbered = is;
+            same = same;
+            remains =
+                subst (λ z. All (Remains May) z) (sym same)
+                (all_alternatives decl declares.numbered.0 declares.numbered.2 1 a is);
+          }
+
+  from_permitted : (t : Tree) → Permitted g shapes text t → CoreTree (core_of g shapes) text t
+  from_permitted t p =
+      let at = root_alternative p.root in
+      root_to at.root at.a p.children t at.is at.plain at.numbered
+      (subst (λ z. Leads (core_of g shapes) text [] [] (steps_of number z) 0 (length text) p.children) at.same
+      (leads g shapes (core_of g shapes) number May text numbers p.covered at.remains)) p.whole
+
+  -- the root, with values
+  from_annotated : (t : Tree) (u : valued.Tree) → Annotates g shapes text t u → item.Annotates (core_of g shapes) text t u
+  from_annotated t u annotated =
+      let at = root_alternative annotated.root in
+      let steps = steps_of number at.a.alternative.symbols in
+      let bound = values annotated.after in
+      record {
+        within =
+            item.node 0 1 [] (nonterminal_of number 0 (shaped at.root Root)) (record { tag = tag.Root; steps = steps }) 0 (length text) annotated.children bound u
+            (root_is_alternative at.root at.a at.is at.numbered)
+            (subst (λ z. item.Leaves (core_of g shapes) text z [] steps 0 (length text) annotated.children bound)
+            (sym (ap (λ ps. map (λ p. p.name) ps) at.plain))
+            (subst (λ z. item.Leaves (core_of g shapes) text [] [] (steps_of number z) 0 (length text) annotated.children bound) at.same
+            (leaves g shapes (core_of g shapes) number May text numbers annotated.binds at.remains)))
+            annotated.whole;
+        same = annotated.same;
+      }
 
 -- the core grammar of what the passes leave has the trees that it permits
 pub core_trees_permitted : TreesWithoutOperatorsAreClean → (g : Grammar) (shapes : List Shape) (text : List ℕ) (t : Tree) →
@@ -357,3 +410,8 @@ pub core_trees_permitted : TreesWithoutOperatorsAreClean → (g : Grammar) (shap
 core_trees_permitted clean g shapes text t ready =
     let has = ready_has_core g shapes ready in
     (to_permitted g shapes text has clean t, from_permitted g shapes text has t)
+
+-- and what annotates a permitted tree annotates it there
+pub core_values : (g : Grammar) (shapes : List Shape) (text : List ℕ) (t : Tree) (u : valued.Tree) → IsReady g shapes →
+    Annotates g shapes text t u → item.Annotates (core_of g shapes) text t u
+core_values g shapes text t u ready = from_annotated g shapes text (ready_has_core g shapes ready) t u

@@ -3,6 +3,7 @@ pub mod Premises
 pub mod Numbers
 pub mod Environments
 pub mod Forth
+pub mod Values
 pub mod Back
 pub mod Places
 pub mod Law
@@ -19,3 +20,5 @@ pub mod CoreNames
 pub mod Unmarked
 pub mod Passes
 pub mod Noted
+pub mod FormsAdded
+pub mod Declared

@@ -1,16 +1,14 @@
 -- What the passes keep, one behind the other.
-use Rattle.std.proofs.Common.{◌≡◌, ◌∙◌, ℕ, List, [], ◌∷◌, Result, Ok, Err, None, refl, sym, ap, subst, arith}
+use Rattle.std.proofs.Common.{◌≡◌, ◌∙◌, ℕ, List, ◌∷◌, Result, Ok, Err, None, refl, sym, ap, subst, arith}
 use Rattle.std.specs.Prelude.{◌≢◌, IfOk}
-use Rattle.ig_text.specs.Tree.{Tree}
 use Rattle.ig_grammar.specs.Checked.{CheckedGrammar}
 use Rattle.ig_grammar.specs.Numbering.{layout_among}
 use Rattle.ig_grammar.specs.Laws.{RegularityByForm}
 use Rattle.ig_meaning.specs.Laws.{TreesWithoutOperatorsAreClean}
-use Rattle.ig_meaning.specs.Permitted.{Permitted}
-use Rattle.ig_item.specs.CoreTrees.{CoreTree}
 use Rattle.ig_rewrite.specs.Added.{left_name, right_name, margin_name, first_name, column_name}
 use Rattle.ig_rewrite.specs.Rooted.{RootedIsTheSame}
 use Rattle.ig_rewrite.specs.SameTrees.{PermitSame, SameTreesIsAnEquivalence}
+use Rattle.ig_rewrite.specs.SameValues.{KeepsValues}
 use Rattle.ig_rewrite.specs.Sound.{IsSound, IsFree, IsUnmarked, HasExclusionsAlone}
 use Rattle.ig_rewrite.specs.Unbound.{IsUnbound}
 use Rattle.ig_levels.specs.Levels.{LevelsOf}
@@ -24,9 +22,10 @@ use Rattle.ig_ebnf.specs.Lists.{ListsOf, HasFewLists}
 use Rattle.ig_ebnf.specs.Laws.{ListsKeep, KeptByLists}
 use Rattle.ig_core.specs.CoreOf.{core_of}
 use Rattle.ig_core.specs.Lowered.{IsBuildable, BeforeLists, Lowered, CoreOf, IsNumbered}
-use Rattle.ig_core.specs.Laws.{IsLeft, PassesKeep, CoreTreesArePermitted, CoresAreNamed}
-use Rattle.ig_core.proofs.Law.{core_trees_permitted}
+use Rattle.ig_core.specs.Laws.{IsLeft, PassesKeep, CoreTreesArePermitted, CoresAreNamed, TagsRiseInCores, ValuesAreThoseOfCore}
+use Rattle.ig_core.proofs.Law.{core_trees_permitted, core_values}
 use Rattle.ig_core.proofs.CoreNames.{core_names_differ}
+use Rattle.ig_core.proofs.WellKinded.{tags_rise}
 use Rattle.ig_core.proofs.RootNames.{root_named}
 use Rattle.ig_core.proofs.Unmarked.{levels_plain}
 
@@ -96,17 +95,27 @@ same_before law c at =
     (law.chained (LevelsOf c) (BlocksOf (LevelsOf c)) (BeforeLists c) at.blocks.same
     (law.chained (BlocksOf (LevelsOf c)) (LayoutOf (BlocksOf (LevelsOf c))) (BeforeLists c) at.layout.same at.filters.same))
 
+-- and so are their values
+values_before : SameTreesIsAnEquivalence → (c : CheckedGrammar) → Stages c → KeepsValues c (BeforeLists c)
+unfolding BeforeLists
+values_before law c at =
+    law.values_chained c (LevelsOf c) (BeforeLists c) at.levels.same at.levels.values
+    (law.values_chained (LevelsOf c) (BlocksOf (LevelsOf c)) (BeforeLists c) at.blocks.same at.blocks.values
+    (law.values_chained (BlocksOf (LevelsOf c)) (LayoutOf (BlocksOf (LevelsOf c))) (BeforeLists c) at.layout.same at.layout.values at.filters.values))
+
 lists_kept : ListsKeep → (c : CheckedGrammar) → Stages c → IsNumbered c → KeptByLists (BeforeLists c)
 unfolding BeforeLists
 lists_kept law c at numbered =
     law (BeforeLists c) at.filters.sound at.filters.free at.filters.unmarked at.filters.no_layout at.filters.excluding
     numbered.few_lists
 
-left_by : SameTreesIsAnEquivalence → (c : CheckedGrammar) → PermitSame c (BeforeLists c) → KeptByLists (BeforeLists c) → IsLeft c
+left_by : SameTreesIsAnEquivalence → (c : CheckedGrammar) → PermitSame c (BeforeLists c) → KeepsValues c (BeforeLists c) → KeptByLists (BeforeLists c) →
+    IsLeft c
 unfolding Lowered
-left_by law c same lists =
+left_by law c same values lists =
     record {
       same = law.chained c (BeforeLists c) (ListsOf (BeforeLists c)) same lists.same;
+      values = law.values_chained c (BeforeLists c) (ListsOf (BeforeLists c)) same values lists.values;
       ready = record { scoped = lists.scoped; fit = lists.fit; remaining = lists.remaining };
       root_named = lists.root_named;
       rooted = lists.rooted;
@@ -114,7 +123,7 @@ left_by law c same lists =
 
 pub passes_keep : Before → ListsKeep → SameTreesIsAnEquivalence → PassesKeep
 passes_keep law lists equal c can numbered =
-    let at = stages law c can in left_by equal c (same_before equal c at) (lists_kept lists c at numbered)
+    let at = stages law c can in left_by equal c (same_before equal c at) (values_before equal c at) (lists_kept lists c at numbered)
 
 pub trees_permitted : TreesWithoutOperatorsAreClean → PassesKeep → CoreTreesArePermitted
 unfolding CoreOf
@@ -124,6 +133,12 @@ trees_permitted clean keep c text t can numbered =
     let same = left.same.same text t in
     (λ tree. same.1 (last.0 tree), λ permitted. last.1 (same.0 permitted))
 
+pub values_of_core : PassesKeep → ValuesAreThoseOfCore
+unfolding CoreOf
+values_of_core keep c text t u can numbered permitted annotated =
+    let left = keep c can numbered in
+    core_values (Lowered c).grammar (Lowered c).shapes text t u left.ready (left.values.values text t u permitted annotated)
+
 pub cores_named : PassesKeep → CoresAreNamed
 unfolding CoreOf
 cores_named keep c can numbered =
@@ -132,6 +147,10 @@ cores_named keep c can numbered =
       root = root_named (Lowered c).grammar (Lowered c).shapes left.root_named;
       differ = core_names_differ (Lowered c).grammar (Lowered c).shapes left.ready left.rooted;
     }
+
+pub core_tags : PassesKeep → TagsRiseInCores
+unfolding CoreOf
+core_tags keep c can numbered = tags_rise (Lowered c).grammar (Lowered c).shapes (keep c can numbered).ready
 
 -- the same of the grammars that the code made
 pub record AtLevels (x : CheckedGrammar) : Type 0 where

@@ -1,9 +1,8 @@
 -- Which declaration a nonterminal of a core grammar comes from, and which alternative.
-use Rattle.std.proofs.Common.{◌≡◌, ℕ, zero, suc, ◌+◌, ◌<◌, List, [], ◌∷◌, ◌++◌, map, Option, Some, None, Bool, true, false, if◌then◌else◌, length, slice_get, refl, sym, ap, ap₂, ◌∙◌, arith, inl, inr}
+use Rattle.std.proofs.Common.{◌≡◌, ℕ, zero, suc, ◌+◌, ◌<◌, List, [], ◌∷◌, Option, Some, None, Bool, true, false, if◌then◌else◌, length, slice_get, refl, sym, ap, ap₂, ◌∙◌, arith, inl, inr}
 use Rattle.std.specs.Prelude.{◌≢◌, ◌⊎◌, option_map}
 use Rattle.std.specs.Cmp.Lexicographic.{bytes_decides}
 use Rattle.std.proofs.lemmas.Option.{same_Some, slice_get-map}
-use Rattle.std.proofs.lemmas.List.{map-append}
 use Rattle.ig_text.specs.Words.{is_word}
 use Rattle.ig_grammar.specs.Numbering.{Levelled, by_level, alternatives, tag_of}
 use Rattle.ig_grammar.specs.declared.declaration.Decl.{Decl}
@@ -15,6 +14,7 @@ use Rattle.ig_item.specs.declared.core_grammar.Nonterminal.{Nonterminal}
 use Rattle.ig_item.specs.declared.core_grammar.CoreAlt.{CoreAlt}
 use Rattle.ig_core.specs.CoreOf.{Shaped, shaped, unrooted, root_among, place, alternative_of, alternatives_of, nonterminal_of, nonterminals_of}
 use Rattle.ig_rewrite.specs.Rooted.{is_root}
+use Rattle.ig_rewrite.specs.EachLevel.{alternatives_by_level}
 
 -- no declaration before so many stands for the root
 abbrev pub NoneBefore : List Shape → ℕ → Type 0
@@ -258,23 +258,6 @@ alternative_from number shape n k (y ∷ alts) (suc a) made e =
     (next.0, next.1, next.2 ∙ ap (λ (j : ℕ). alternative_of number shape n j next.0) same)
 
 -- with or without the number of the level, they are in one order
-without_levels : (alts : List Alt) (f : Alt → Levelled) → ((a : Alt) → (f a).alternative ≡ a) → map (λ (a : Levelled). a.alternative) (map f alts) ≡ alts
-without_levels [] f same = refl
-without_levels (a ∷ alts) f same = ap₂ (λ (x : Alt) (xs : List Alt). x ∷ xs) (same a) (without_levels alts f same)
-
-pub alternatives_by_level : (levels : List Level) → map (λ (a : Levelled). a.alternative) (by_level levels) ≡ alternatives levels
-alternatives_by_level [] = refl
-alternatives_by_level (level ∷ others) =
-    let f : Alt → Levelled = λ a. record { alternative = a; level = length others + 1; assoc = level.assoc } in
-    map-append (λ (a : Levelled). a.alternative) (map f level.alts) (by_level others) ∙
-    ap₂ (λ (xs ys : List Alt). xs ++ ys) (without_levels level.alts f (λ a. refl)) (alternatives_by_level others)
-
-pub without_level : (levels : List Level) (n : ℕ) (a : Levelled) → slice_get (by_level levels) n ≡ Some a →
-    slice_get (alternatives levels) n ≡ Some a.alternative
-without_level levels n a at =
-    ap (λ (xs : List Alt). slice_get xs n) (sym (alternatives_by_level levels)) ∙
-    slice_get-map (λ (b : Levelled). b.alternative) (by_level levels) n ∙ ap (option_map (λ (b : Levelled). b.alternative)) at
-
 with_level_of : (o : Option Levelled) (alt : Alt) → option_map (λ (b : Levelled). b.alternative) o ≡ Some alt →
     (a : Levelled) × (o ≡ Some a) × (a.alternative ≡ alt)
 with_level_of None alt e = cc

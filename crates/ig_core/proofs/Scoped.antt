@@ -24,7 +24,8 @@ use Rattle.ig_rewrite.specs.Remaining.{IsTerm, IsExcluding, Remains, main_of, un
 use Rattle.ig_core.proofs.Premises.{IsCalled, HasCore}
 use Rattle.ig_core.specs.Ready.{IsReady}
 use Rattle.ig_rewrite.specs.Remaining.{IsRemaining}
-use Rattle.ig_core.proofs.Lookups.{contains_at, at_contained, contains_first, contains_later, declared_named}
+use Rattle.ig_text.proofs.Lists.{contains_first, contains_later}
+use Rattle.ig_core.proofs.Lookups.{contains_at, at_contained, declared_named}
 
 abbrev pub Any : List ℕ → ℕ → Type 0
 Any name n = Unit {0}

@@ -20,7 +20,8 @@ use Rattle.ig_rewrite.specs.Rooted.{rooted, with_root, root_declaration, has_roo
 use Rattle.ig_rewrite.specs.Sound.{IsSound, IsUnmarked}
 use Rattle.ig_levels.specs.Levels.{Pair, Place, no_pair, pair_at, pair_arguments, with_pair, in_symbols, in_alternatives, is_test, has_left, has_right, lowered, test_of, place_in, lowered_alternative, one_level, lowered_declaration, names_levelled, LevelsOf}
 use Rattle.ig_blocks.specs.Laws.{PlainIsUnmarked}
-use Rattle.ig_core.proofs.Lookups.{among_images, only_member, contains_first, contains_later}
+use Rattle.ig_text.proofs.Lists.{contains_first, contains_later}
+use Rattle.ig_core.proofs.Lookups.{among_images, only_member}
 
 none_among : {X : Type 0} (x : X) → Contains {X = X} [] x → ⊥
 none_among x here = absurd (omega (arith, here.1))

@@ -1,4 +1,4 @@
--- The core grammar of a checked grammar is well kinded.
+-- The core grammar of a checked grammar is well kinded, and its tags rise.
 use Rattle.std.proofs.Common.{◌≡◌, ℕ, zero, suc, ◌<◌, ◌≤◌, ◌+◌, List, [], ◌∷◌, ◌++◌, All, Some, None, Bool, true, false, if◌then◌else◌, length, map, slice_get, Contains, refl, sym, ap, ◌∙◌, subst, arith, inl, inr, take, ◌==◌}
 use Rattle.std.specs.Prelude.{◌≢◌, ◌⊎◌}
 use Rattle.std.specs.List.{flat_map}
@@ -8,6 +8,7 @@ use Rattle.std.proofs.lemmas.Option.{same_Some, slice_get_within}
 use Rattle.std.proofs.lemmas.List.Elements.{All-head, All-tail}
 use Rattle.ig_text.specs.declared.tag.Tag.{Tag}
 use Rattle.ig_text.specs.declared.tag.Tag.TheVariants as tag
+use Rattle.ig_text.specs.TagNumber as tag_number
 use Rattle.ig_grammar.specs.Symbol.{Symbol, Call, Seq}
 use Rattle.ig_grammar.specs.Visible.{names, kinds, parameters}
 use Rattle.ig_grammar.specs.Condition.{duplicate_parameter}
@@ -24,6 +25,7 @@ use Rattle.ig_grammar.specs.declared.place.Shape.TheVariants.{Rule, Opt, Star, P
 use Rattle.ig_item.specs.Step.{Step, names_of}
 use Rattle.ig_item.specs.Step as step
 use Rattle.ig_item.specs.Core.{IsAlternative as IsCoreAlternative, dots}
+use Rattle.ig_item.specs.TagOrder.{TagsRise}
 use Rattle.ig_item.specs.WellKinded.{NoneTwice, HasRoot, IsWellKinded}
 use Rattle.ig_item.specs.declared.core_grammar.Nonterminal.{Nonterminal}
 use Rattle.ig_item.specs.declared.core_grammar.CoreAlt.{CoreAlt}
@@ -37,35 +39,32 @@ use Rattle.ig_core.specs.CoreOf.{Shaped, shaped, unrooted, numbered, number_of, 
 use Rattle.ig_rewrite.specs.Rooted.{is_root}
 use Rattle.ig_core.proofs.Premises.{HasCore}
 use Rattle.ig_core.specs.Laws.{CoresAreWellKinded}
+use Rattle.ig_core.specs.Ready.{IsReady}
 use Rattle.ig_rewrite.specs.Remaining.{IsRemaining}
 use Rattle.ig_core.proofs.Lookups.{contains_at, at_contained}
-use Rattle.ig_core.proofs.Places.{origin, root_cases, RootAt, NoRoot, nonterminal_from, without_level}
+use Rattle.ig_core.proofs.Places.{origin, root_cases, RootAt, NoRoot, nonterminal_from}
+use Rattle.ig_rewrite.specs.EachLevel.{alternative_at as without_level}
 use Rattle.ig_core.proofs.Law.{AtNumber, at_number, written_is, start_calls, calls_are, may_start, callee, rooted_root, unrooted_root, to_number, first_alternative}
 use Rattle.ig_core.proofs.Scoped.{Any, has_core, each_fine, root_at, taken}
 use Rattle.ig_core.proofs.Kinded.{all_fit}
 
--- the tags of a shape tell its alternatives apart
-two_tell : (first second : Tag) → first ≢ second → (a b : ℕ) → 1 ≤ a → a ≤ 2 → 1 ≤ b → b ≤ 2 → tag_among first second a ≡ tag_among first second b → a ≡ b
-two_tell first second differ zero b p q r s e = absurd (omega arith)
-two_tell first second differ (suc zero) zero p q r s e = absurd (omega arith)
-two_tell first second differ (suc zero) (suc zero) p q r s e = refl
-two_tell first second differ (suc zero) (suc (suc zero)) p q r s e = absurd (differ e)
-two_tell first second differ (suc zero) (suc (suc (suc b))) p q r s e = absurd (omega arith)
-two_tell first second differ (suc (suc zero)) zero p q r s e = absurd (omega arith)
-two_tell first second differ (suc (suc zero)) (suc zero) p q r s e = absurd (differ (sym e))
-two_tell first second differ (suc (suc zero)) (suc (suc zero)) p q r s e = refl
-two_tell first second differ (suc (suc zero)) (suc (suc (suc b))) p q r s e = absurd (omega arith)
-two_tell first second differ (suc (suc (suc a))) b p q r s e = absurd (omega arith)
+-- the tag of an alternative has its number
+number_of_two : (first second : Tag) → tag_number.number_of first ≡ 1 → tag_number.number_of second ≡ 2 → (a : ℕ) → 1 ≤ a → a ≤ 2 →
+    tag_number.number_of (tag_among first second a) ≡ a
+number_of_two first second one two zero p q = absurd (omega arith)
+number_of_two first second one two (suc zero) p q = one
+number_of_two first second one two (suc (suc zero)) p q = two
+number_of_two first second one two (suc (suc (suc a))) p q = absurd (omega arith)
 
-tags_tell : (shape : Shape) (count n a b : ℕ) → MayHave shape count → 1 ≤ a → a ≤ count → 1 ≤ b → b ≤ count → tag_of shape n a ≡ tag_of shape n b → a ≡ b
-tags_tell Rule count n a b may p q r s e = cc
-tags_tell Group count n a b may p q r s e = cc
-tags_tell Root count n a b may p q r s e = omega (arith, may)
-tags_tell Opt count n a b may p q r s e = two_tell tag.Absent tag.Present (λ h. cc) a b p (omega (arith, may)) r (omega (arith, may)) e
-tags_tell Star count n a b may p q r s e = two_tell tag.Nil tag.Snoc (λ h. cc) a b p (omega (arith, may)) r (omega (arith, may)) e
-tags_tell Plus count n a b may p q r s e = two_tell tag.One tag.More (λ h. cc) a b p (omega (arith, may)) r (omega (arith, may)) e
-tags_tell SepPlus count n a b may p q r s e = two_tell tag.One tag.More (λ h. cc) a b p (omega (arith, may)) r (omega (arith, may)) e
-tags_tell SepStar count n a b may p q r s e = two_tell tag.Absent tag.Present (λ h. cc) a b p (omega (arith, may)) r (omega (arith, may)) e
+number_of_tag : (shape : Shape) (count n a : ℕ) → MayHave shape count → 1 ≤ a → a ≤ count → tag_number.number_of (tag_of shape n a) ≡ a
+number_of_tag Rule count n a may p q = refl
+number_of_tag Group count n a may p q = refl
+number_of_tag Root count n a may p q = omega (arith, may)
+number_of_tag Opt count n a may p q = number_of_two tag.Absent tag.Present refl refl a p (omega (arith, may))
+number_of_tag Star count n a may p q = number_of_two tag.Nil tag.Snoc refl refl a p (omega (arith, may))
+number_of_tag Plus count n a may p q = number_of_two tag.One tag.More refl refl a p (omega (arith, may))
+number_of_tag SepPlus count n a may p q = number_of_two tag.One tag.More refl refl a p (omega (arith, may))
+number_of_tag SepStar count n a may p q = number_of_two tag.Absent tag.Present refl refl a p (omega (arith, may))
 
 no_rule : (first second : Tag) (m k : ℕ) → first ≢ tag.Rule m k → second ≢ tag.Rule m k → (a : ℕ) → tag_among first second a ≡ tag.Rule m k → ⊥
 no_rule first second m k f s a e = go (a == 1) e
@@ -263,18 +262,25 @@ module _ (g : Grammar) (shapes : List Shape) (scoped : IsWellScoped g) (fit : Fi
   counted n x (made_row is none) =
       subst (λ (z : Shaped). MayHave z.shape (length (alternatives z.decl.levels))) (sym is) refl
 
+  own_number : (n a : ℕ) (nonterminal : Nonterminal) (alternative : CoreAlt) → IsCoreAlternative core n a nonterminal alternative →
+      tag_number.number_of alternative.tag ≡ a
+  own_number n a nonterminal alternative has =
+      let m = member n a nonterminal alternative has in
+      let within = slice_get_within (alternatives m.x.decl.levels) m.of.numbered.0 m.of.a.alternative (without_level m.x.decl.levels m.of.numbered.0 m.of.a m.of.numbered.2) in
+      let is : a ≡ suc m.of.numbered.0 = m.of.numbered.1 in
+      ap (λ (z : CoreAlt). tag_number.number_of z.tag) m.of.same ∙
+      number_of_tag m.x.shape (length (alternatives m.x.decl.levels)) n a (counted n m.x (row n m.x m.at)) (omega (arith, is)) (omega (arith, is, within))
+
   tags : (n a : ℕ) (nonterminal : Nonterminal) (alternative : CoreAlt) → IsCoreAlternative core n a nonterminal alternative →
       (b : ℕ) (other : CoreAlt) → IsCoreAlternative core n b nonterminal other → other.tag ≡ alternative.tag → b ≡ a
   tags n a nonterminal alternative has b other has_b same =
-      let m = member n a nonterminal alternative has in
-      let o = at_number number n b m.x nonterminal other m.is has_b.has in
-      let within_a = slice_get_within (alternatives m.x.decl.levels) m.of.numbered.0 m.of.a.alternative (without_level m.x.decl.levels m.of.numbered.0 m.of.a m.of.numbered.2) in
-      let within_b = slice_get_within (alternatives m.x.decl.levels) o.numbered.0 o.a.alternative (without_level m.x.decl.levels o.numbered.0 o.a o.numbered.2) in
-      let is_a : a ≡ suc m.of.numbered.0 = m.of.numbered.1 in
-      let is_b : b ≡ suc o.numbered.0 = o.numbered.1 in
-      tags_tell m.x.shape (length (alternatives m.x.decl.levels)) n b a (counted n m.x (row n m.x m.at)) (omega (arith, is_b)) (omega (arith, is_b, within_b))
-      (omega (arith, is_a)) (omega (arith, is_a, within_a))
-      (ap (λ (z : CoreAlt). z.tag) (sym o.same) ∙ same ∙ ap (λ (z : CoreAlt). z.tag) m.of.same)
+      sym (own_number n b nonterminal other has_b) ∙ ap tag_number.number_of same ∙ own_number n a nonterminal alternative has
+
+  pub rise : TagsRise core
+  rise n a nonterminal alternative has b later has_b less =
+      let first = own_number n a nonterminal alternative has in
+      let second = own_number n b nonterminal later has_b in
+      omega (arith, first, second, less)
 
   has_root : HasRoot core
   has_root = go (root_cases g.decls shapes)
@@ -337,3 +343,6 @@ module _ (g : Grammar) (shapes : List Shape) (scoped : IsWellScoped g) (fit : Fi
 pub cores_well_kinded : StepsFit → NamesDiffer → CoresAreWellKinded
 cores_well_kinded each_fits differ_at g shapes ready few few_dots =
     well_kinded g shapes ready.scoped ready.fit ready.remaining each_fits differ_at few few_dots
+
+pub tags_rise : (g : Grammar) (shapes : List Shape) → IsReady g shapes → TagsRise (core_of g shapes)
+tags_rise g shapes ready = rise g shapes ready.scoped ready.fit ready.remaining

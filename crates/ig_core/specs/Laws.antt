@@ -1,17 +1,27 @@
 -- The core grammar of a grammar has the trees that the grammar permits.
 use Rattle.std.specs.Prelude.{◌≡◌, ◌↔◌, ℕ, ◌<◌, ◌≤◌, List, Some, length, slice_get, option_map, map, true}
 use Rattle.ig_text.specs.Tree.{Tree}
+use Rattle.ig_expr.specs.ValuedTree as valued
+use Rattle.ig_text.specs.declared.tag.Tag.TheVariants.{Rule}
 use Rattle.ig_grammar.specs.Checked.{CheckedGrammar}
+use Rattle.ig_grammar.specs.Numbering.{IsDeclaration}
+use Rattle.ig_grammar.specs.declared.declaration.Decl.{Decl}
 use Rattle.ig_grammar.specs.declared.grammar.Grammar.{Grammar}
 use Rattle.ig_grammar.specs.declared.place.Shape.{Shape}
+use Rattle.ig_meaning.specs.Annotated.{Annotates}
 use Rattle.ig_meaning.specs.Permitted.{Permitted}
+use Rattle.ig_item.specs.Annotated as core
 use Rattle.ig_item.specs.CoreTrees.{CoreTree}
-use Rattle.ig_item.specs.Core.{dots}
+use Rattle.ig_item.specs.Core.{dots, IsAlternative}
 use Rattle.ig_item.specs.Limits.{most_dots}
+use Rattle.ig_item.specs.TagOrder.{TagsRise}
 use Rattle.ig_item.specs.WellKinded.{IsWellKinded, NoneTwice}
+use Rattle.ig_item.specs.declared.core_grammar.CoreAlt.{CoreAlt}
+use Rattle.ig_item.specs.declared.core_grammar.Nonterminal.{Nonterminal}
 use Rattle.ig_rewrite.specs.Added.{root_name}
 use Rattle.ig_rewrite.specs.Rooted.{has_root}
 use Rattle.ig_rewrite.specs.SameTrees.{PermitSame}
+use Rattle.ig_rewrite.specs.SameValues.{KeepsValues}
 use Rattle.ig_rewrite.specs.Sound.{RootIsNamed}
 use Rattle.ig_core.specs.CoreOf.{core_of}
 use Rattle.ig_core.specs.Limits.{most_declarations}
@@ -19,10 +29,11 @@ use Rattle.ig_core.specs.Lowered.{IsBuildable, Lowered, CoreOf, IsNumbered}
 use Rattle.ig_core.specs.Notation.{IsOfNotation, unchanged}
 use Rattle.ig_core.specs.Ready.{IsReady}
 
--- what all passes leave permits the same trees, and the last step takes it; a declaration stands for the root, and is
--- named `$root`
+-- what all passes leave permits the same trees and keeps their values, and the last step takes it; a declaration stands
+-- for the root, and is named `$root`
 pub record IsLeft (c : CheckedGrammar) : Type 0 where
   pub same : PermitSame c (Lowered c)
+  pub values : KeepsValues c (Lowered c)
   pub ready : IsReady (Lowered c).grammar (Lowered c).shapes
   pub root_named : RootIsNamed (Lowered c)
   pub rooted : has_root (Lowered c).shapes ≡ true
@@ -35,6 +46,12 @@ abbrev pub CoreTreesArePermitted : Type 0
 CoreTreesArePermitted =
     (c : CheckedGrammar) (text : List ℕ) (t : Tree) → IsBuildable c → IsNumbered c →
     CoreTree (CoreOf c) text t ↔ Permitted c.grammar c.shapes text t
+
+-- and what annotates a permitted tree annotates it as a tree of the core grammar
+abbrev pub ValuesAreThoseOfCore : Type 0
+ValuesAreThoseOfCore =
+    (c : CheckedGrammar) (text : List ℕ) (t : Tree) (u : valued.Tree) → IsBuildable c → IsNumbered c →
+    Permitted c.grammar c.shapes text t → Annotates c.grammar c.shapes text t u → core.Annotates (CoreOf c) text t u
 
 -- the core grammar of what the passes leave is well kinded, where it has few dots
 abbrev pub CoresAreWellKinded : Type 0
@@ -50,6 +67,22 @@ pub record HasCoreNames (c : CheckedGrammar) : Type 0 where
 abbrev pub CoresAreNamed : Type 0
 CoresAreNamed = (c : CheckedGrammar) → IsBuildable c → IsNumbered c → HasCoreNames c
 
+-- of a grammar as it is written each declaration is the nonterminal of its number, under its name; and where an alternative of
+-- a nonterminal has the tag of a rule, the tag's number is that of a declaration
+pub record NumbersDeclarations (g : Grammar) : Type 0 where
+  pub named : (n : ℕ) (decl : Decl) → IsDeclaration g n decl →
+      option_map (λ nonterminal. nonterminal.name) (slice_get (CoreOf (unchanged g)) n) ≡ Some decl.name
+  pub only : (n a m k : ℕ) (nonterminal : Nonterminal) (alternative : CoreAlt) →
+      IsAlternative (CoreOf (unchanged g)) n a nonterminal alternative → alternative.tag ≡ Rule m k →
+      (decl : Decl) × IsDeclaration g m decl
+
+abbrev pub DeclarationsKeepNumbers : Type 0
+DeclarationsKeepNumbers = (g : Grammar) → NumbersDeclarations g
+
 -- a grammar that the notation can say is buildable as it is written
 abbrev pub NotationIsBuildable : Type 0
 NotationIsBuildable = (g : Grammar) → IsOfNotation g → IsBuildable (unchanged g)
+
+-- of two alternatives of a nonterminal the later one has the greater tag number
+abbrev pub TagsRiseInCores : Type 0
+TagsRiseInCores = (c : CheckedGrammar) → IsBuildable c → IsNumbered c → TagsRise (CoreOf c)

@@ -2,7 +2,8 @@
 //! their contracts are the laws, each proved for all grammars, shapes, texts and trees that it
 //! speaks of.
 ghost use Rattle.ig_core.specs.Laws.{CoresAreNamed, CoresAreWellKinded, CoreTreesArePermitted};
-ghost use Rattle.ig_core.specs.Laws.{NotationIsBuildable, PassesKeep};
+ghost use Rattle.ig_core.specs.Laws.{DeclarationsKeepNumbers, NotationIsBuildable, PassesKeep};
+ghost use Rattle.ig_core.specs.Laws.{TagsRiseInCores, ValuesAreThoseOfCore};
 
 use ig_blocks::blocks_keep;
 use ig_ebnf::lists_keep;
@@ -13,8 +14,9 @@ use ig_lexical::{filters_keep, layout_keeps};
 use ig_meaning::trees_without_operators_are_clean;
 use ig_rewrite::{added_names_are_new, rooted_is_the_same, same_trees_is_an_equivalence};
 
-/// What the passes leave of a grammar permits the same trees, has only the forms that the last
-/// step takes, and in it a declaration stands for the root. This law computes nothing.
+/// What the passes leave of a grammar permits the same trees, binds the same values in them, has
+/// only the forms that the last step takes, and in it a declaration stands for the root. This law
+/// computes nothing.
 pub fn passes_keep()
     ensures { PassesKeep }
 {
@@ -37,6 +39,14 @@ pub fn core_trees_are_permitted_trees()
     passes_keep();
 }
 
+/// The alternatives of a grammar's core grammar bind in a permitted tree the values that those of
+/// the grammar bind. This law computes nothing.
+pub fn values_are_those_of_core()
+    ensures { ValuesAreThoseOfCore }
+{
+    passes_keep();
+}
+
 /// The core grammar of a checked grammar of the forms that remain is well kinded. This law computes
 /// nothing.
 pub fn cores_are_well_kinded()
@@ -53,6 +63,20 @@ pub fn cores_are_named()
 {
     passes_keep();
 }
+
+/// Of two alternatives of a nonterminal of a core grammar the later one has the greater tag number.
+/// This law computes nothing.
+pub fn tags_rise_in_cores()
+    ensures { TagsRiseInCores }
+{
+    passes_keep();
+}
+
+/// Of a grammar as it is written, each declaration is the nonterminal of its number, under its
+/// name, and the tags of rules name no other nonterminal. This law computes nothing.
+pub fn declarations_keep_numbers()
+    ensures { DeclarationsKeepNumbers }
+{}
 
 /// A grammar that the notation can say is buildable, as it is written: the passes take it. This law
 /// computes nothing.

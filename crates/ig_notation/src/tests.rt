@@ -1,4 +1,4 @@
-//! Reading, once. Tables of texts that are read and that aren't stand in the tests of the program.
+//! Reading, once. Tables of texts that are read and that aren't are tried on the program.
 use crate::read;
 use ig_text::Word;
 use std::test::Fail;

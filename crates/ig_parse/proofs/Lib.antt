@@ -1,2 +1,3 @@
 pub mod Parsing
 pub mod Queries
+pub mod Declared

@@ -2,6 +2,9 @@
 use Rattle.std.proofs.Common.{◌≡◌, ◌≢◌, ◌↔◌, ℕ, List, Contains, Option, None, Some, Result, Ok, Err, IfOk, IfErr, MatchOption, sym, ◌∙◌, subst}
 use Rattle.ig_text.specs.Tree.{Tree}
 use Rattle.ig_grammar.specs.Checked.{CheckedGrammar}
+use Rattle.ig_expr.specs.ValuedTree as valued
+use Rattle.ig_meaning.specs.AnnotatedLaws.{DerivationsAreAnnotated}
+use Rattle.ig_meaning.specs.Order.{Precedes}
 use Rattle.ig_meaning.specs.Permitted.{Permitted}
 use Rattle.ig_item.specs.Items.{Item, MoreThan, Reachable, RootIsComplete}
 use Rattle.ig_item.specs.Laws.{TreesByItems}
@@ -11,10 +14,12 @@ use Rattle.ig_item.specs.declared.run_fault.RunFault.{RunFault}
 use Rattle.ig_item.specs.declared.run_fault.RunFault.TheVariants as run_fault
 use Rattle.ig_item.specs.declared.core_grammar.Nonterminal.{Nonterminal}
 use Rattle.ig_core.specs.Lowered.{CoreOf, IsBuildable, IsNumbered}
-use Rattle.ig_core.specs.Laws.{CoreTreesArePermitted}
+use Rattle.ig_core.specs.Laws.{CoreTreesArePermitted, TagsRiseInCores, ValuesAreThoseOfCore}
+use Rattle.ig_forest.specs.Cursors.{Less}
 use Rattle.ig_forest.specs.Forest.{Forest}
-use Rattle.ig_forest.specs.Laws.{UnfoldsToCoreTrees, HasOneCursor, OnlyOne, RootIsThere}
+use Rattle.ig_forest.specs.Laws.{CursorsAreOrderedAsTrees, UnfoldsToCoreTrees, HasOneCursor, OnlyOne, RootIsThere}
 use Rattle.ig_forest.specs.Reduced.{IsReduced}
+use Rattle.ig_forest.specs.Unfold.{Unfold}
 use Rattle.ig_plain.specs.Run.{Refuses}
 use Rattle.ig_query.specs.Report.{IsReport}
 use Rattle.ig_show.specs.declared.report.Report.{Report}
@@ -31,6 +36,10 @@ pub record Given : Type 0 where
   pub unfolds : UnfoldsToCoreTrees
   pub only : OnlyOne
   pub cursors : HasOneCursor
+  pub in_order : CursorsAreOrderedAsTrees
+  pub tags : TagsRiseInCores
+  pub annotated : DerivationsAreAnnotated
+  pub values : ValuesAreThoseOfCore
 
 -- a core grammar of a checked grammar, as a run has it
 pub record Runs (c : CheckedGrammar) (core : List Nonterminal) : Type 0 where
@@ -73,6 +82,35 @@ module _ (law : Given) (c : CheckedGrammar) (text : List ℕ) (core : List Nonte
   kinded : IsWellKinded (CoreOf c)
   kinded = subst IsWellKinded runs.is runs.kinded
 
+  -- cursors are in the order of permitted trees, since both are in that of the trees with values
+  cursors_in_order : (f : Forest) → IsReduced (CoreOf c) text f → (d e : ℕ) (cs ds : List ℕ) (t u : Tree) → Unfold f d cs t → Unfold f e ds u →
+      Less cs ds ↔ Precedes c.grammar c.shapes text t u
+  cursors_in_order f reduced d e cs ds t u at_t at_u =
+      let permitted : (b : ℕ) (ks : List ℕ) (x : Tree) → Unfold f b ks x → Permitted c.grammar c.shapes text x = λ b ks x unfolds.
+      (law.trees c text x runs.buildable runs.numbered).0 ((law.unfolds (CoreOf c) text f b x kinded reduced).0 (ks, unfolds)).0 in
+      let first = permitted d cs t at_t in
+      let second = permitted e ds u at_u in
+      let one = (law.annotated c.grammar c.shapes text).permitted first in
+      let other = (law.annotated c.grammar c.shapes text).permitted second in
+      let cursors = law.in_order (CoreOf c) text f d e cs ds t u in
+      let tags = law.tags c runs.buildable runs.numbered in
+      let values = λ (x : Tree) (v : valued.Tree). law.values c text x v runs.buildable runs.numbered in (
+        λ less.
+            record {
+              first = first;
+              second = second;
+              one = one.0;
+              other = other.0;
+              of_first = one.1;
+              of_second = other.1;
+              less = (cursors one.0 other.0 kinded tags reduced at_t at_u (values t one.0 first one.1) (values u other.0 second other.1)).0 less;
+            },
+        λ before.
+            (cursors before.one before.other kinded tags reduced at_t at_u (values t before.one before.first before.of_first)
+            (values u before.other before.second before.of_second)).1
+            before.less,
+      )
+
   is_forest : (f : Forest) → IsReduced (CoreOf c) text f → IsForestOf c text f
   is_forest f reduced =
       record {
@@ -83,6 +121,7 @@ module _ (law : Given) (c : CheckedGrammar) (text : List ℕ) (core : List Nonte
             let tree = law.trees c text t runs.buildable runs.numbered in
             (λ u. let both = forest.0 u in (tree.0 both.0, both.1), λ p. forest.1 (tree.1 p.0, p.1));
         one_cursor = λ d e cs ds t. law.cursors (CoreOf c) text f d e cs ds t kinded reduced;
+        in_order = cursors_in_order f reduced;
       }
 
   is_parsed : (f : Forest) → IsReduced (CoreOf c) text f → IsParsed c text

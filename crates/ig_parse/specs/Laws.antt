@@ -4,9 +4,13 @@ use Rattle.ig_text.specs.Tree.{Tree}
 use Rattle.ig_text.specs.declared.tag.Tag.TheVariants.{Rule}
 use Rattle.ig_text.specs.declared.text.Span.{Span}
 use Rattle.ig_grammar.specs.Checked.{CheckedGrammar}
+use Rattle.ig_grammar.specs.Numbering.{IsDeclaration, as_written}
+use Rattle.ig_grammar.specs.declared.declaration.Decl.{Decl}
+use Rattle.ig_grammar.specs.declared.grammar.Grammar.{Grammar}
 use Rattle.ig_meaning.specs.Permitted.{Permitted}
 use Rattle.ig_item.specs.WellKinded.{IsWellKinded}
 use Rattle.ig_core.specs.Lowered.{CoreOf}
+use Rattle.ig_core.specs.Notation.{unchanged}
 use Rattle.ig_forest.specs.Forest.{Forest}
 use Rattle.ig_forest.specs.Reduced.{IsNamed}
 use Rattle.ig_forest.specs.Unfold.{IsTrim}
@@ -42,3 +46,21 @@ abbrev pub SpansArePermitted : Type 0
 SpansArePermitted =
     (c : CheckedGrammar) (text : List ℕ) (f : Forest) (name : List ℕ) (span : Span) → IsWellKinded (CoreOf c) →
     IsForestOf c text f → HasSpan f name span ↔ PermitsSpan c text name span
+
+-- a permitted tree of the grammar as it is written has a node of the declaration of that name with that span
+pub record DeclaresSpan (g : Grammar) (text name : List ℕ) (span : Span) : Type 0 where
+  pub tree : Tree
+  pub permitted : Permitted g (as_written g) text tree
+  pub number : ℕ
+  pub declaration : Decl
+  pub numbered : IsDeclaration g number declaration
+  pub named : declaration.name ≡ name
+  pub alternative : ℕ
+  pub has : HasNode (Rule number alternative) span.begin span.end tree
+
+-- in the forest of such a grammar the spans of a name's nodes are exactly those of the declaration of that name in
+-- permitted trees; so names that no declaration has, as that of the root, have none
+abbrev pub SpansAreOfDeclarations : Type 0
+SpansAreOfDeclarations =
+    (g : Grammar) (text : List ℕ) (f : Forest) (name : List ℕ) (span : Span) → IsWellKinded (CoreOf (unchanged g)) →
+    IsForestOf (unchanged g) text f → HasSpan f name span ↔ DeclaresSpan g text name span

@@ -2,6 +2,7 @@
 use Rattle.std.specs.Prelude.{ℕ, ◌<◌, ◌≤◌, ◌↔◌, ◌≡◌, List, Contains, Option, None, Some, Result, Ok, Err}
 use Rattle.ig_text.specs.Tree.{Tree, height}
 use Rattle.ig_grammar.specs.Checked.{CheckedGrammar}
+use Rattle.ig_meaning.specs.Order.{Precedes}
 use Rattle.ig_meaning.specs.Permitted.{Permitted}
 use Rattle.ig_item.specs.Core.{dots}
 use Rattle.ig_item.specs.Items.{Item, MoreThan, Reachable}
@@ -11,6 +12,7 @@ use Rattle.ig_item.specs.WellKinded.{NoneTwice}
 use Rattle.ig_item.specs.declared.run_fault.RunFault.{RunFault}
 use Rattle.ig_item.specs.declared.run_fault.RunFault.TheVariants as run_fault
 use Rattle.ig_core.specs.Lowered.{CoreOf}
+use Rattle.ig_forest.specs.Cursors.{Less}
 use Rattle.ig_forest.specs.Forest.{Forest}
 use Rattle.ig_forest.specs.Unfold.{Unfold, Unfolds}
 use Rattle.ig_forest.specs.Reduced.{IsReduced}
@@ -28,12 +30,14 @@ module _ (c : CheckedGrammar) (text : List ℕ) where
   IsUnparsed = (t : Tree) → Permitted c.grammar c.shapes text t → ⊥
 
   -- the forest is the reduced one, which is one, and to every depth it has exactly the permitted trees of at most that
-  -- height, each with one cursor
+  -- height, each with one cursor, and cursors in the order of the permitted trees
   pub record IsForestOf (f : Forest) : Type 0 where
     pub reduced : IsReduced (CoreOf c) text f
     pub only : (other : Forest) → IsReduced (CoreOf c) text other → other ≡ f
     pub unfolds : (d : ℕ) (t : Tree) → Unfolds f d t ↔ (Permitted c.grammar c.shapes text t × (height t ≤ d))
     pub one_cursor : (d e : ℕ) (cs ds : List ℕ) (t : Tree) → Unfold f d cs t → Unfold f e ds t → cs ≡ ds
+    pub in_order : (d e : ℕ) (cs ds : List ℕ) (t u : Tree) → Unfold f d cs t → Unfold f e ds u →
+        Less cs ds ↔ Precedes c.grammar c.shapes text t u
 
   -- the items are the reachable ones
   abbrev pub AreReachable : Tables → Type 0

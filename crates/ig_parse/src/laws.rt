@@ -1,8 +1,11 @@
 //! What queries of a forest say of the permitted trees. The functions do nothing: their contracts
 //! are the laws.
-ghost use Rattle.ig_parse.specs.Laws.{AmbiguityIsTwoPermitted, SpansArePermitted};
+ghost use Rattle.ig_parse.specs.Laws.{AmbiguityIsTwoPermitted, SpansAreOfDeclarations};
+ghost use Rattle.ig_parse.specs.Laws.{SpansArePermitted};
 
-use ig_query::{ambiguity_is_two_trees, spans_are_those_of_trees};
+use ig_core::declarations_keep_numbers;
+use ig_forest::reduced_forest_is_trim;
+use ig_query::{ambiguity_is_two_trees, nodes_are_those_of_trees, spans_are_those_of_trees};
 
 /// The forest of a grammar and a text has an ambiguous node exactly where two different trees are
 /// permitted. This law computes nothing.
@@ -18,4 +21,15 @@ pub fn spans_are_permitted()
     ensures { SpansArePermitted }
 {
     spans_are_those_of_trees();
+}
+
+/// The spans of the nodes of a name in the forest of a grammar as it is written and a text are
+/// exactly those of the declaration of that name in permitted trees. This law computes nothing.
+pub fn spans_are_of_declarations()
+    ensures { SpansAreOfDeclarations }
+{
+    declarations_keep_numbers();
+    nodes_are_those_of_trees();
+    reduced_forest_is_trim();
+    spans_are_permitted();
 }

@@ -12,5 +12,5 @@ mod laws;
 mod parser;
 
 pub use fault::ParseFault;
-pub use laws::{ambiguity_is_two_permitted, spans_are_permitted};
+pub use laws::{ambiguity_is_two_permitted, spans_are_of_declarations, spans_are_permitted};
 pub use parser::{Parser, parse};

@@ -9,13 +9,16 @@ ghost use Rattle.ig_query.specs.Report.{IsReport};
 ghost use Rattle.ig_parse.specs.declared.fault.ParseFault.TheVariants.{TooManyDots};
 
 use crate::fault::ParseFault;
-use ig_core::{CoreFault, build, core_trees_are_permitted_trees};
+use ig_core::{
+    CoreFault, build, core_trees_are_permitted_trees, tags_rise_in_cores, values_are_those_of_core,
+};
 use ig_forest::{
-    Forest, reduced_forest_has_root, reduced_forest_is_unique,
+    Forest, cursors_are_ordered_as_trees, reduced_forest_has_root, reduced_forest_is_unique,
     reduced_forest_unfolds_to_core_trees, tree_has_one_cursor,
 };
 use ig_grammar::Checked;
 use ig_item::{Core, Items, RunFault, complete_root_items_are_trees};
+use ig_meaning::derivations_are_annotated;
 use ig_plain::saturate;
 use ig_query::report;
 use ig_show::Report;
@@ -60,6 +63,13 @@ impl<'g> Parser<'g> {
         Ok(Parser { grammar, core })
     }
 
+    /// The grammar. Takes no memory.
+    pub fn grammar(&self) -> &Checked
+        ensures { result.now ≡ self.now }
+    {
+        self.grammar
+    }
+
     /// The core grammar. Takes no memory.
     pub fn core(&self) -> &Core
         ensures { result.now ≡ CoreOf self.now }
@@ -94,6 +104,10 @@ impl<'g> Parser<'g> {
         reduced_forest_unfolds_to_core_trees();
         reduced_forest_is_unique();
         tree_has_one_cursor();
+        cursors_are_ordered_as_trees();
+        tags_rise_in_cores();
+        derivations_are_annotated();
+        values_are_those_of_core();
         let _nonterminals = self.core.nonterminals();
         Forest::build(alloc, items, &self.core, text)
     }

@@ -1,57 +1,19 @@
 -- The first places of names in a list that grows, and in its table.
-use Rattle.std.proofs.Common.{◌≡◌, ℕ, suc, ◌<◌, ◌+◌, List, [], ◌∷◌, ◌++◌, Option, Some, None, Bool, cond, true, false, refl, sym, ◌∙◌, ap, arith, length, take, get_or}
-use Rattle.std.specs.Prelude.{nat_lt, not, position, is_some, option_map}
-use Rattle.std.specs.List.{prefix_len}
+use Rattle.std.proofs.Common.{◌≡◌, ℕ, ◌<◌, ◌+◌, List, [], ◌∷◌, ◌++◌, Option, Some, None, Bool, cond, true, false, refl, sym, ◌∙◌, ap, arith, length, take, get_or}
+use Rattle.std.specs.Prelude.{is_some}
 use Rattle.std.specs.Cmp.Lexicographic.{bytes_decides}
 use Rattle.std.specs.HashMap as hash
 use Rattle.std.proofs.lemmas.Map.Text.{hash_map_updates_str}
-use Rattle.std.proofs.lemmas.Bool.Decides.{nat_tests, same_from_decides}
+use Rattle.std.proofs.lemmas.Bool.Decides.{same_from_decides}
 use Rattle.std.proofs.lemmas.List.{map_more, length-take-le, length-map}
 use denote.Ref.{Bor}
 use Rattle.indexmap.specs.IndexMap.{IndexMap, get_by}
 use Rattle.ig_text.specs.Words.{is_word}
+use Rattle.ig_text.proofs.Positions.{or_last, position-push}
 use Rattle.ig_expr.specs.Names.{place_of}
 use Rattle.ig_grammar.specs.Names.{names}
 use Rattle.ig_grammar.specs.declared.declaration.Decl.{Decl}
 use Rattle.ig_scope.specs.Tables.{HasPlaces}
-
-abbrev place_after : {X : Type 0} → (X → Bool) → X → Option ℕ → Option ℕ
-place_after p x others = cond (p x) (Some 0) (option_map (λ k. k + 1) others)
-
-one_further : (k n : ℕ) → cond (nat_lt (1 + k) (suc n)) (Some (1 + k)) None ≡ option_map (λ k. k + 1) (cond (nat_lt k n) (Some k) None)
-one_further k n = go (nat_lt k n) refl
-  where
-    go : (b : Bool) → nat_lt k n ≡ b → cond (nat_lt (1 + k) (suc n)) (Some (1 + k)) None ≡ option_map (λ k. k + 1) (cond b (Some k) None)
-    go true e = let h : nat_lt (1 + k) (suc n) ≡ true = grind (arith, nat_tests) in rw h (ap Some (omega arith))
-    go false e = let h : nat_lt (1 + k) (suc n) ≡ false = grind (arith, nat_tests) in rw h refl
-
-zero_first : (n : ℕ) → cond {A = Option ℕ} (nat_lt 0 (suc n)) (Some 0) None ≡ Some 0
-zero_first n = let h : nat_lt 0 (suc n) ≡ true = grind (arith, nat_tests) in rw h refl
-
-pub position-cons : {X : Type 0} (p : X → Bool) (x : X) (xs : List X) → position p (x ∷ xs) ≡ place_after p x (position p xs)
-position-cons p x xs = go (p x) refl
-  where
-    go : (b : Bool) → p x ≡ b → position p (x ∷ xs) ≡ cond b (Some 0) (option_map (λ k. k + 1) (position p xs))
-    go true e = rw e (zero_first (length xs))
-    go false e = rw e (one_further (prefix_len (λ y. not (p y)) xs) (length xs))
-
--- where the list had no place, a new last element that passes has the last one
-abbrev or_last : Option ℕ → Bool → ℕ → Option ℕ
-or_last (Some k) b n = Some k
-or_last None b n = cond b (Some n) None
-
-or_last-after : (b c : Bool) (r : Option ℕ) (n : ℕ) →
-    cond b (Some 0) (option_map (λ k. k + 1) (or_last r c n)) ≡ or_last (cond b (Some 0) (option_map (λ k. k + 1) r)) c (suc n)
-or_last-after true c r n = refl
-or_last-after false c (Some k) n = refl
-or_last-after false true None n = ap Some (omega arith)
-or_last-after false false None n = refl
-
-pub position-push : {X : Type 0} (p : X → Bool) (xs : List X) (y : X) → position p (xs ++ y ∷ []) ≡ or_last (position p xs) (p y) (length xs)
-position-push p [] y = position-cons p y []
-position-push p (x ∷ xs) y =
-    position-cons p x (xs ++ y ∷ []) ∙ ap (place_after p x) (position-push p xs y) ∙
-    or_last-after (p x) (p y) (position p xs) (length xs) ∙ ap (λ r. or_last r (p y) (suc (length xs))) (sym (position-cons p x xs))
 
 -- the places after one more declaration
 places_more : (ds : List Decl) (i : ℕ) (d : Decl) (name : List ℕ) → i < length ds → d ≡ get_or ds i d →

@@ -9,7 +9,7 @@ use Rattle.ig_expr.specs.Expression.{Expression}
 use Rattle.ig_expr.specs.Kinds.{kind_in}
 use Rattle.ig_expr.specs.declared.kind.Kind.{Kind}
 use Rattle.ig_grammar.specs.Visible.{Visible, names, kinds, kind_at, with_kind}
-use Rattle.ig_scope.proofs.FirstPlaces.{position-cons}
+use Rattle.ig_text.proofs.Positions.{position-cons}
 use Rattle.ig_scope.proofs.Zipped.{firsts_zip, seconds_zip}
 
 abbrev pub place_behind : Bool → Option ℕ → Option ℕ

@@ -18,6 +18,10 @@ returns c =
       unfolds = c.reduced_forest_unfolds_to_core_trees.ensures;
       only = c.reduced_forest_is_unique.ensures;
       cursors = c.tree_has_one_cursor.ensures;
+      in_order = c.cursors_are_ordered_as_trees.ensures;
+      tags = c.tags_rise_in_cores.ensures;
+      annotated = c.derivations_are_annotated.ensures;
+      values = c.values_are_those_of_core.ensures;
     })
     c.args.self.now c.args.text.now c.self.inside.core
     (runs_of c.args.self.now c.self.inside.grammar.now c.self.inside.core c.self.view_is c.self.invariant
