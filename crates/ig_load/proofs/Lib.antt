@@ -1,0 +1,12 @@
+pub mod Chains
+pub mod Places
+pub mod Derived
+pub mod Spines
+pub mod Permitting
+pub mod Scoped
+pub mod Reading
+pub mod Inputs
+pub mod Refusals
+pub mod Said
+pub mod Dots
+pub mod Summaries

@@ -1,0 +1,9 @@
+use Rattle.ig_load.proofs.Inputs.{one_more}
+use Rattle.ig_load.proofs.input.bytes_of.Goals as goal
+
+pub loop-preserved : goal.loop-preserved
+loop-preserved c =
+    one_more c.loop.bytes.items c.push-in-loop.new.self.items c.push-in-loop-2.new.self.items _ c.args.size c.loop.counter c.loop.state
+    c.next_state-state-in-loop.result c.next_state-state-in-loop-2.result c.loop.invariant c.loop-test.true c.next_state-state-in-loop.ensures
+    c.next_state-state-in-loop-2.ensures (rw (← c.operator.ensures) c.in_ok-push-2.ensures.items)
+    (rw (← c.operand-in-loop.ensures) c.in_ok-push-3.ensures.items)

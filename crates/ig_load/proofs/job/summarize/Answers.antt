@@ -1,0 +1,13 @@
+use Rattle.ig_load.proofs.Summaries.{summary_is}
+use Rattle.ig_load.proofs.job.summarize.Goals as goal
+
+pub unreachable-requires : goal.unreachable-requires
+unreachable-requires c =
+    let none = rw c.in_default.is at c.in_ok-forest.ensures in none c.requires.parsed.0 c.requires.parsed.1
+
+pub returns : goal.returns
+returns c =
+    let has = rw c.in-Some.is at c.in_ok-forest.ensures in
+    summary_is c.args.parser.now c.args.input.now c.in-Some.forest has.1 c.args.items.now c.in_ok-heights.heights _
+    c.requires.reachable c.requires.once c.root-root.ensures.trim c.ambiguity_is_two_permitted.ensures c.in_ok-heights.ensures
+    c.len.ensures.number c.nodes.ensures c.is_ambiguous.ensures c.is_cyclic.ensures

@@ -1,0 +1,5 @@
+pub mod Operators
+pub mod Input
+pub mod Grammar
+pub mod Summary
+pub mod Laws

@@ -1,0 +1,78 @@
+-- What a load says: how many items and nodes there are, and whether the forest is ambiguous or cyclic.
+use Rattle.std.specs.Prelude.{◌≡◌, ◌↔◌, ℕ, ◌<◌, List, ◌++◌, length, Contains, Bool, true, false, IsTrue, Result, Ok, Err, codes}
+use Rattle.std.specs.Fmt.{decimal}
+use Rattle.ig_text.specs.Tree.{Tree, height}
+use Rattle.ig_grammar.specs.Checked.{CheckedGrammar}
+use Rattle.ig_meaning.specs.Permitted.{Permitted}
+use Rattle.ig_item.specs.Items.{Item, Reachable}
+use Rattle.ig_item.specs.WellKinded.{NoneTwice}
+use Rattle.ig_item.specs.declared.run_fault.RunFault.{RunFault}
+use Rattle.ig_item.specs.declared.run_fault.RunFault.TheVariants as run_fault
+use Rattle.ig_core.specs.Lowered.{CoreOf}
+use Rattle.ig_core.specs.Notation.{unchanged}
+use Rattle.ig_forest.specs.Forest.{Forest}
+use Rattle.ig_parse.specs.Laws.{PermitsTwo}
+use Rattle.ig_parse.specs.Parses.{IsForestOf, IsOver}
+use Rattle.ig_show.specs.Listed.{line_end}
+use Rattle.ig_load.specs.Grammar.{LoadGrammar}
+use Rattle.ig_load.specs.Input.{LoadInput}
+use Rattle.ig_load.specs.declared.fault.LoadFault.{LoadFault}
+use Rattle.ig_load.specs.declared.fault.LoadFault.TheVariants.{Budget, Memory}
+use Rattle.ig_load.specs.declared.summary.Summary.{Summary}
+
+abbrev pub answer_text : Bool → List ℕ
+answer_text true = codes "yes"
+answer_text false = codes "no"
+
+-- `items A nodes B ambiguous YES cyclic YES`
+abbrev pub summary_text : Summary → List ℕ
+summary_text summary =
+    codes "items " ++ (decimal summary.items ++
+    (codes " nodes " ++ (decimal summary.nodes ++
+    (codes " ambiguous " ++ (answer_text summary.ambiguous ++
+    (codes " cyclic " ++ (answer_text summary.cyclic ++ line_end)))))))
+
+module _ (c : CheckedGrammar) (text : List ℕ) where
+  -- for each number a higher tree is permitted
+  abbrev pub PermitsHigher : Type 0
+  PermitsHigher = (h : ℕ) → (t : Tree) × Permitted c.grammar c.shapes text t × (h < height t)
+
+  -- so many items are reachable
+  pub record HasItems (count : ℕ) : Type 0 where
+    pub items : List Item
+    pub reachable : (x : Item) → Contains items x ↔ Reachable (CoreOf c) text x
+    pub once : NoneTwice items
+    pub counted : count ≡ length items
+
+  -- the forest of the permitted trees has so many nodes
+  pub record HasNodes (count : ℕ) : Type 0 where
+    pub forest : Forest
+    pub is : IsForestOf c text forest
+    pub counted : count ≡ length forest.nodes
+
+  -- the numbers of items and nodes; whether two trees are permitted; whether there is no highest one
+  pub record IsSummaryOf (summary : Summary) : Type 0 where
+    pub items : HasItems summary.items
+    pub nodes : HasNodes summary.nodes
+    pub ambiguous : IsTrue summary.ambiguous ↔ PermitsTwo c text
+    pub cyclic : IsTrue summary.cyclic ↔ PermitsHigher
+
+-- the fault of a load for that of a run
+abbrev pub fault_of : RunFault → LoadFault
+fault_of run_fault.Budget = Budget
+fault_of run_fault.Memory = Memory
+
+-- what is said of the load of this size and number
+abbrev pub IsLoadSummary : ℕ → ℕ → Summary → Type 0
+IsLoadSummary size number summary = IsSummaryOf (unchanged LoadGrammar) (LoadInput size number) summary
+
+module _ (size number budget : ℕ) where
+  -- more items are reachable than the budget allows
+  abbrev pub IsTooLarge : Type 0
+  IsTooLarge = IsOver (unchanged LoadGrammar) (LoadInput size number) budget
+
+  -- what a load of this size and number says; want of memory may come at any time
+  abbrev pub Loads : Result Summary LoadFault → Type 0
+  Loads (Ok summary) = (IsTooLarge → ⊥) × IsLoadSummary size number summary
+  Loads (Err Budget) = IsTooLarge
+  Loads (Err Memory) = Unit {0}

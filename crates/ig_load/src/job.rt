@@ -1,0 +1,82 @@
+//! The whole of a load.
+ghost use Rattle.std.specs.Prelude.{◌≡◌, ◌≤◌, IfOk};
+ghost use Rattle.ig_core.specs.Notation.{unchanged};
+ghost use Rattle.ig_item.specs.Tables.{items_of};
+ghost use Rattle.ig_item.specs.WellKinded.{NoneTwice};
+ghost use Rattle.ig_parse.specs.Parses.{AreReachable, IsParsed};
+ghost use Rattle.ig_load.specs.Grammar.{LoadGrammar};
+ghost use Rattle.ig_load.specs.Input.{most_size};
+ghost use Rattle.ig_load.specs.Summary.{IsSummaryOf, Loads};
+
+use crate::fault::LoadFault;
+use crate::grammar::load_grammar;
+use crate::input::load_input;
+use crate::laws::{load_inputs_are_permitted, load_text_reads};
+use crate::summary::Summary;
+use ig_core::{CoreFault, notation_is_buildable};
+use ig_grammar::Checked;
+use ig_heights::Heights;
+use ig_item::Items;
+use ig_notation::read_grammars_are_regular;
+use ig_parse::{Parser, ambiguity_is_two_permitted};
+use ig_query::is_ambiguous;
+use ig_text::Text;
+use std::alloc::{AllocError, Global};
+
+/// What the forest of the load's grammar and the input of this size and number has, where no more
+/// items than the budget are reachable. The size is the number of operands, from 1 to 4,000.
+/// `Budget` comes exactly where more items are reachable, if memory doesn't run out before.
+pub fn load(alloc: Global, size: u32, number: u64, budget: u32) -> Result<Summary, LoadFault>
+    requires { size ≤ most_size }
+    ensures { Loads size number budget result }
+{
+    load_inputs_are_permitted();
+    let grammar = load_grammar(alloc)?;
+    let input = load_input(alloc, size, number)?;
+    let parser = parser_of(alloc, &grammar)?;
+    let items = parser.saturate(alloc, &input, budget)?;
+    let summary = summarize(alloc, &parser, &items, &input)?;
+    Ok(summary)
+}
+
+/// The parser of the load's grammar.
+fn parser_of(alloc: Global, grammar: &Checked) -> Result<Parser<'_>, AllocError>
+    requires { grammar.now ≡ unchanged LoadGrammar }
+    ensures { IfOk result (λ parser. parser ≡ unchanged LoadGrammar) }
+{
+    load_text_reads();
+    read_grammars_are_regular();
+    notation_is_buildable();
+    match Parser::of(alloc, grammar) {
+        Ok(parser) => Ok(parser),
+        Err(CoreFault::Memory) => Err(AllocError),
+        Err(CoreFault::TooManyDots) => unreachable!(),
+    }
+}
+
+/// What the forest of the parser's grammar and the input has, whose reachable items these have to
+/// be, each once. A tree has to be permitted.
+fn summarize(
+    alloc: Global,
+    parser: &Parser<'_>,
+    items: &Items,
+    input: &Text,
+) -> Result<Summary, AllocError>
+    requires reachable { AreReachable parser.now input.now items.now }
+    requires once { NoneTwice (items_of items.now) }
+    requires parsed { IsParsed parser.now input.now }
+    ensures { IfOk result (IsSummaryOf parser.now input.now) }
+{
+    ambiguity_is_two_permitted();
+    let Some(forest) = parser.forest(alloc, items, input)? else {
+        unreachable!()
+    };
+    let _root = forest.root();
+    let heights = Heights::of(alloc, &forest)?;
+    Ok(Summary {
+        items: items.len(),
+        nodes: forest.nodes(),
+        ambiguous: is_ambiguous(&forest),
+        cyclic: heights.is_cyclic(),
+    })
+}
