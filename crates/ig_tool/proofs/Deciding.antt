@@ -18,16 +18,16 @@ use Rattle.ig_tool.specs.declared.stop.Stop.TheVariants as halt
 use Rattle.ig_tool.specs.declared.status.Status.{Status}
 use Rattle.ig_tool.specs.declared.status.Status.TheVariants as status
 use Rattle.ig_tool.specs.Commands.{Request, check, show, core, forest, trees, query, load, grammar_file, files_of, IsCommand, never, for_names}
-use Rattle.ig_tool.specs.Jobs.{Job, print, list, request_for, task_request}
+use Rattle.ig_tool.specs.Jobs.{Job, print, list, ask, request_for, task_request}
 use Rattle.ig_tool.specs.declared.job.Task.{Task}
 use Rattle.ig_tool.specs.declared.job.Task.TheVariants as task
 use Rattle.ig_tool.specs.Accepted.{IsAccepted}
 use Rattle.ig_tool.proofs.OfNotation.{ReadingLaws, of_notation}
 use Rattle.ig_tool.specs.Refusals.{too_many_dots, dots_text}
 use Rattle.ig_tool.specs.Outcome as decided
-use Rattle.ig_tool.specs.Outcome.{MayGive, HasFiles, Decided, IsUnbuilt, usage, unbuilt, grammar_missing, grammar_unread, grammar_refused, checked, shown, core_shown, input_missing, input_unread, input_refused, over_budget, no_parse, parsed, usage_note, Answers, noted, unwritten, unnoted, no_memory}
+use Rattle.ig_tool.specs.Outcome.{MayGive, HasFiles, Decided, usage, load_over_budget, load_summed, grammar_missing, grammar_unread, grammar_refused, checked, shown, core_shown, input_missing, input_unread, input_refused, over_budget, no_parse, parsed, usage_note, Answers, noted, unwritten, unnoted, no_memory}
 use Rattle.ig_tool.specs.Stops as stops
-use Rattle.ig_tool.specs.Stops.{StopsAt, IsNoGrammar, IsNoInput, IsWrittenIn, LoadsGrammar, LoadsInput, StopsWith, IsPrepared, Prepares, IsParse, StopsParse, ParsesText, StopsRun, GivesText, RunsJob, SaysOk, ShowsGrammar, ShowsCore, Decides, WritesText, WritesNote, GivesUp}
+use Rattle.ig_tool.specs.Stops.{StopsAt, IsNoGrammar, IsNoInput, IsWrittenIn, LoadsGrammar, LoadsInput, StopsWith, IsPrepared, Prepares, IsParse, StopsParse, LoadsText, ParsesText, StopsRun, GivesText, RunsJob, SaysOk, ShowsGrammar, ShowsCore, Decides, WritesText, WritesNote, GivesUp}
 
 -- a stop that is passed on
 pub passed : {T : Type 0} (r : Result T Stop) (stop : Stop) → IsErrAnd r (λ s. s ≡ stop) → r ≡ Err stop
@@ -44,20 +44,15 @@ decides_usage words shelf (halt.Note s line) none h =
     (0, subst (λ (z : List ℕ). Decided words (change shelf shelf) status.Usage [] z 0) (sym h.1) (usage refl none), refl, λ e. cc)
 decides_usage words shelf halt.Memory none h = (0, never, refl, inl refl)
 
--- the words ask for what no command does yet
-pub decides_unbuilt : (words : List (List ℕ)) (shelf : ShelfState) (stop : Stop) (request : Request) →
-    IsCommand words request → IsUnbuilt request → StopsWith status.Usage usage_note stop →
-    Decides words (change shelf shelf) (Err stop)
-decides_unbuilt words shelf (halt.Note s line) request command not_yet h =
-    let P : Status → Type 0 = λ z. Decides words (change shelf shelf) (Err (halt.Note z line)) in
-    subst P (sym h.0) (
-      0,
-      subst (λ (z : List ℕ). Decided words (change shelf shelf) status.Usage [] z 0) (sym h.1)
-          (unbuilt request refl command not_yet),
-      refl,
-      λ e. cc,
-    )
-decides_unbuilt words shelf halt.Memory request command not_yet h = (0, never, refl, inl refl)
+-- what a load gives
+pub decides_load : (words : List (List ℕ)) (shelf : ShelfState) (size number budget : ℕ) (r : Result (Vec ℕ Global) Stop) →
+    IsCommand words (load size number budget) → LoadsText size number budget r → Decides words (change shelf shelf) r
+decides_load words shelf size number budget (Ok text) command h =
+    let Q : List ℕ → Type 0 = λ z. Decided words (change shelf shelf) status.Done z [] 0 in
+    (0, subst Q (sym h.2) (load_summed size number budget h.0 refl command h.1.0 h.1.1), refl)
+decides_load words shelf size number budget (Err (halt.Note s line)) command h =
+    (0, rw (h.1, h.2) (load_over_budget size number budget refl command h.0), refl, λ d. let p = h.1 in cc)
+decides_load words shelf size number budget (Err halt.Memory) command h = (0, never, refl, inl refl)
 
 -- each command that names a grammar names a file
 one_file : (request : Request) (file : List ℕ) → grammar_file request ≡ Some file → 1 ≤ length (files_of request)
@@ -109,6 +104,10 @@ pub loaded_is_buildable : ReadingLaws → NotationIsBuildable → (shelf : Chang
 loaded_is_buildable laws law shelf name c lg =
     let w = lg.1.2 in
     subst IsBuildable (sym w.as_it_is) (law c.grammar (of_notation laws lg.1.0 c.grammar w.text))
+
+-- the parser of a grammar as it is written is that of its own grammar as it is written
+pub still_unchanged : (g : Grammar) (parser : CheckedGrammar) → parser ≡ unchanged g → parser ≡ unchanged parser.grammar
+still_unchanged g parser e = e ∙ ap (λ (z : CheckedGrammar). unchanged z.grammar) (sym e)
 
 -- where the parser of the grammar was made, the grammar is accepted
 accepted_text : (xs : List ℕ) (c parser : CheckedGrammar) → IsWrittenIn xs c → IsPrepared c.grammar parser → IsAccepted xs c.grammar
@@ -237,11 +236,13 @@ once_more k before between after c1 c2 = c2 ∙ ap (raised k) c1
 two_files : (job : Job) (grammar input : List ℕ) (budget : ℕ) → 2 ≤ length (files_of (request_for job grammar input budget))
 two_files print grammar input budget = omega arith
 two_files (list listing) grammar input budget = omega arith
+two_files (ask question) grammar input budget = omega arith
 
 -- the first is the grammar
 pub grammar_of_job : (job : Job) (grammar input : List ℕ) (budget : ℕ) → grammar_file (request_for job grammar input budget) ≡ Some grammar
 grammar_of_job print grammar input budget = refl
 grammar_of_job (list listing) grammar input budget = refl
+grammar_of_job (ask question) grammar input budget = refl
 
 -- the grammar was loaded, and then a job was run
 pub decides_job : (words : List (List ℕ)) (first loaded last : ShelfState) (job : Job) (file input : List ℕ) (budget : ℕ)

@@ -21,12 +21,12 @@ use Rattle.ig_item.specs.Limits.{most_dots}
 use Rattle.ig_core.specs.Lowered.{CoreOf}
 use Rattle.ig_core.specs.Notation.{unchanged}
 use Rattle.ig_tool.specs.Commands.{Request, request_of, check, show, core, forest, trees, query, load, grammar_file, IsCommand}
-use Rattle.ig_tool.specs.Jobs.{Job, print, list, request_for}
+use Rattle.ig_tool.specs.Jobs.{Job, print, list, ask, request_for}
 use Rattle.ig_tool.specs.Accepted.{IsAccepted}
 use Rattle.ig_tool.specs.Refusals.{IsRefused, too_many, not_utf8, not_grammar, too_large, not_scoped, too_many_dots}
 use Rattle.ig_tool.specs.Change.{Change, FetchFailed, PutFailed, Got, Untouched}
 use Rattle.ig_tool.specs.Outcome as answer
-use Rattle.ig_tool.specs.Outcome.{MayGive, HasFiles, Decided, IsUnbuilt, ok_text, shown_text, shown_core, Finishes, Answers, written, noted, unwritten, unnoted, no_memory}
+use Rattle.ig_tool.specs.Outcome.{MayGive, HasFiles, Decided, ok_text, shown_text, shown_core, Finishes, Answers, written, noted, unwritten, unnoted, no_memory}
 use Rattle.ig_tool.specs.Headline.{Asks, Outcome, over_budget, no_parse, parsed, Says, Headline, checks, shows, cores, GrammarCommands}
 
 one_value : (r q : Request) (found : Option Request) → found ≡ Some r → found ≡ Some q → r ≡ q
@@ -34,7 +34,7 @@ one_value r q None a b = cc
 one_value r q (Some p) a b = let x : p ≡ r = cc in let y : p ≡ q = cc in sym x ∙ y
 
 -- the words are one command at most
-same_request : (words : List (List ℕ)) (r q : Request) → IsCommand words r → IsCommand words q → r ≡ q
+pub same_request : (words : List (List ℕ)) (r q : Request) → IsCommand words r → IsCommand words q → r ≡ q
 same_request words r q a b = one_value r q (request_of words) a b
 
 -- what the reader's laws say
@@ -84,7 +84,7 @@ nothing_added : (told : Option (List ℕ)) → told ≡ option_map (λ xs. xs ++
 nothing_added None = refl
 nothing_added (Some xs) = ap Some (sym (append-nil xs))
 
-got_none : (sink : Change SinkState) → Untouched sink → Got sink []
+pub got_none : (sink : Change SinkState) → Untouched sink → Got sink []
 got_none sink u = record { told = u.told ∙ nothing_added sink.before.got; calm = u.calm }
 
 -- the grammar alone is asked for
@@ -97,27 +97,25 @@ AsksGrammar (trees file input budget listing) = ⊥
 AsksGrammar (query file input budget question) = ⊥
 AsksGrammar (load size number budget) = ⊥
 
--- what asks for a grammar alone is built, and so is each job
-not_unbuilt : (r : Request) → AsksGrammar r → IsUnbuilt r → ⊥
-not_unbuilt (check file) alone h = h
-not_unbuilt (show file) alone h = h
-not_unbuilt (core file) alone h = h
-not_unbuilt (forest file input budget) alone h = h
-not_unbuilt (trees file input budget listing) alone h = h
-not_unbuilt (query file input budget question) alone h = alone
-not_unbuilt (load size number budget) alone h = alone
+-- a load is asked for
+abbrev IsLoad : Request → Type 0
+IsLoad (load size number budget) = Unit {0}
+IsLoad request = ⊥
 
-built_job : (job : Job) (file input : List ℕ) (budget : ℕ) → IsUnbuilt (request_for job file input budget) → ⊥
-built_job print file input budget h = h
-built_job (list listing) file input budget h = h
+not_load : (job : Job) (file input : List ℕ) (budget : ℕ) → IsLoad (request_for job file input budget) → ⊥
+not_load print file input budget h = h
+not_load (list listing) file input budget h = h
+not_load (ask question) file input budget h = h
 
 not_for_job : (job : Job) (file input : List ℕ) (budget : ℕ) → AsksGrammar (request_for job file input budget) → ⊥
 not_for_job print file input budget h = h
 not_for_job (list listing) file input budget h = h
+not_for_job (ask question) file input budget h = h
 
-named_grammar : (job : Job) (file input : List ℕ) (budget : ℕ) → grammar_file (request_for job file input budget) ≡ Some file
+pub named_grammar : (job : Job) (file input : List ℕ) (budget : ℕ) → grammar_file (request_for job file input budget) ≡ Some file
 named_grammar print file input budget = refl
 named_grammar (list listing) file input budget = refl
+named_grammar (ask question) file input budget = refl
 
 -- two requests are one only where jobs, files and budgets are
 pub record AreSame (i j : Job) (file input file_2 input_2 : List ℕ) (b c : ℕ) : Type 0 where
@@ -130,8 +128,14 @@ same_parts : (i j : Job) (f t u v : List ℕ) (b c : ℕ) → request_for i f t 
 same_parts print print f t u v b c e = record { job = refl; grammar = cc; read = cc; budget = cc }
 same_parts (list l) (list m) f t u v b c e =
     let same : l ≡ m = cc in record { job = ap list same; grammar = cc; read = cc; budget = cc }
+same_parts (ask q) (ask r) f t u v b c e =
+    let same : q ≡ r = cc in record { job = ap ask same; grammar = cc; read = cc; budget = cc }
 same_parts print (list m) f t u v b c e = absurd (cc)
+same_parts print (ask r) f t u v b c e = absurd (cc)
 same_parts (list l) print f t u v b c e = absurd (cc)
+same_parts (list l) (ask r) f t u v b c e = absurd (cc)
+same_parts (ask q) print f t u v b c e = absurd (cc)
+same_parts (ask q) (list m) f t u v b c e = absurd (cc)
 
 -- where the words ask for a grammar that is held and accepted, it is what was read
 module _ (laws : Laws) (words : List (List ℕ)) (shelf : Change ShelfState) (request : Request) (asked : IsCommand words request)
@@ -183,8 +187,10 @@ module _ (laws : Laws) (words : List (List ℕ)) (shelf : Change ShelfState) (re
   decided_text : (s : Status) (out note : List ℕ) (k : ℕ) → AsksGrammar request →
       Decided words shelf s out note k → (FetchFailed shelf → ⊥) → (s ≡ status.Done) × (out ≡ text_for request)
   decided_text s out note k alone (answer.usage e no_command) calm = absurd (no_command request asked)
-  decided_text s out note k alone (answer.unbuilt r e command not_yet) calm =
-      absurd (not_unbuilt r (no_job r command alone) not_yet)
+  decided_text s out note k alone (answer.load_over_budget size number b e command many) calm =
+      absurd (no_job (load size number b) command alone)
+  decided_text s out note k alone (answer.load_summed size number b summary e command few is) calm =
+      absurd (no_job (load size number b) command alone)
   decided_text s out note k alone (answer.grammar_missing r f e command n held_not) calm = absurd (not_missing r f command n held_not)
   decided_text s out note k alone (answer.grammar_unread r f rose command n) calm = absurd (calm rose)
   decided_text s out note k alone (answer.grammar_refused r f ys text e command n gives refused) calm =
@@ -243,6 +249,11 @@ module _ (laws : Laws) (words : List (List ℕ)) (shelf : Change ShelfState) (g 
       not_for_job job asked.grammar_file asked.input_file budget
       (subst AsksGrammar (same_request words r request command asked.command) alone)
 
+  no_load : (size number b : ℕ) → IsCommand words (load size number b) → ⊥
+  no_load size number b command =
+      not_load job asked.grammar_file asked.input_file budget
+      (subst IsLoad (same_request words (load size number b) request command asked.command) tt)
+
   told_input : (i : Job) (f t : List ℕ) (b : ℕ) → IsCommand words (request_for i f t b) →
       shelf.before.holds t ≡ bytes asked.input_bytes
   told_input i f t b command = ap shelf.before.holds (same_as i f t b command).read ∙ asked.holds_input
@@ -289,9 +300,9 @@ module _ (laws : Laws) (words : List (List ℕ)) (shelf : Change ShelfState) (g 
   decided_outcome : (s : Status) (out note : List ℕ) (k : ℕ) → Decided words shelf s out note k →
       (FetchFailed shelf → ⊥) → Outcome g input budget job s out note
   decided_outcome s out note k (answer.usage e none) calm = absurd (none request asked.command)
-  decided_outcome s out note k (answer.unbuilt r e command not_yet) calm =
-      absurd (built_job job asked.grammar_file asked.input_file budget
-      (subst IsUnbuilt (same_request words r request command asked.command) not_yet))
+  decided_outcome s out note k (answer.load_over_budget size number b e command many) calm = absurd (no_load size number b command)
+  decided_outcome s out note k (answer.load_summed size number b summary e command few is) calm =
+      absurd (no_load size number b command)
   decided_outcome s out note k (answer.grammar_missing r f e command n held_not) calm =
       absurd (not_missing laws words shelf request asked.command asked.grammar_file named asked.grammar_bytes
       asked.holds_grammar g asked.accepted r f command n held_not)

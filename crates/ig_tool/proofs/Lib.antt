@@ -8,9 +8,13 @@ pub mod Rules
 pub mod Meets
 pub mod Requests
 pub mod Matched
+pub mod Answering
 pub mod Deciding
 pub mod GrammarTexts
 pub mod HeadlineLaw
+pub mod CompletenessLaw
+pub mod LoadLaw
+pub mod Sizes
 pub mod Loading
 pub mod Pages
 pub mod Starting

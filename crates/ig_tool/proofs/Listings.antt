@@ -1,8 +1,10 @@
 -- What a forest's listing is of permitted trees.
-use Rattle.std.proofs.Common.{◌≢◌, ℕ, ◌≤◌, List, [], Option, Some, None, Result, Ok, Err, Vec, Global, sym, subst, arith}
+use Rattle.std.proofs.Common.{◌≢◌, ◌↔◌, inl, inr, ℕ, ◌≤◌, List, [], get_or, Contains, Option, Some, None, Result, Ok, Err, Vec, Global, sym, subst, arith}
+use Rattle.std.proofs.lemmas.List.Elements.{Contains-get_or}
 use Rattle.ig_text.specs.Tree.{Tree, height}
 use Rattle.ig_grammar.specs.Checked.{CheckedGrammar}
 use Rattle.ig_core.specs.Lowered.{CoreOf}
+use Rattle.ig_forest.specs.Cursors.{Less}
 use Rattle.ig_forest.specs.Forest.{Forest}
 use Rattle.ig_forest.specs.Unfold.{Unfold}
 use Rattle.ig_heights.specs.Heights.{IsCyclic}
@@ -15,19 +17,20 @@ use Rattle.ig_tool.specs.declared.status.Status.TheVariants as status
 use Rattle.ig_tool.specs.Commands.{Listing}
 use Rattle.ig_tool.specs.Jobs.{list}
 use Rattle.ig_tool.specs.Listing as listing
-use Rattle.ig_tool.specs.Listing.{HasNoHighest, IsBounded, IsEligible, IsNoCursor, Begins, IsTreeListing}
-use Rattle.ig_walker.specs.Listed.{Listed, IsListing}
+use Rattle.ig_tool.specs.Listing.{HasNoHighest, IsBounded, IsEligible, IsNoCursor, Begins, IsTreeListing, IsListedOrBehind, StandsBefore, StandsBehind}
+use Rattle.ig_walker.specs.Listing.{IsBehind}
+use Rattle.ig_walker.specs.Listed.{Listed, IsListedOrLater, IsListing}
 use Rattle.ig_tool.specs.Outcome.{Finishes, depth_needed, bad_cursor, listed}
 use Rattle.ig_tool.specs.Pages as pages
 use Rattle.ig_tool.specs.Pages.{IsDepthFor, StandsAt, IsLost, IsListed, StopsListing, Lists}
 use Rattle.ig_tool.specs.Stops.{FinishesJob}
 
 module _ (c : CheckedGrammar) (text : List ℕ) (f : Forest) (is : IsForestOf c text f) (low : HasLowTrees f) where
-  cyclic_has_no_highest : IsCyclic f → HasNoHighest c text
+  pub cyclic_has_no_highest : IsCyclic f → HasNoHighest c text
   cyclic_has_no_highest cyclic h =
       let x = cyclic h in (x.2, ((is.unfolds x.0 x.2).0 (x.1, x.3)).0, x.4)
 
-  no_highest_is_cyclic : HasNoHighest c text → IsCyclic f
+  pub no_highest_is_cyclic : HasNoHighest c text → IsCyclic f
   no_highest_is_cyclic none h =
       let x = none h in
       let u = (is.unfolds (height x.0) x.0).1 (x.1, omega arith) in
@@ -57,31 +60,57 @@ module _ (c : CheckedGrammar) (text : List ℕ) (f : Forest) (is : IsForestOf c 
         within None h = tt
         within (Some e) h = subst (λ z. height t ≤ z) h (low.low f.root d cs t u)
 
-    begins : IsDepthFor f depth d → (after from : Option (List ℕ)) → StandsAt f d after from → Begins c text f depth after from
-    begins h after from (pages.at_first) = listing.at_first
-    begins h after from (pages.at_cursor word cursor e has) =
-        listing.at_cursor word cursor (record { tree = has.0; eligible = eligible h cursor has.0 has.1; text_is = e })
+    -- cursors are in the order of their trees
+    in_order : (x y : Listed) → IsEligible c text f depth x → IsEligible c text f depth y → Less x.cursor y.cursor ↔ StandsBefore c text x.tree y.tree
+    in_order x y l m = is.in_order l.placed.0 m.placed.0 x.cursor y.cursor x.tree y.tree l.placed.1 m.placed.1
+
+    -- where a listing begins: what is behind the cursor is behind its tree
+    record Begun (after from : Option (List ℕ)) : Type 0 where
+      last : Option Tree
+      begins : Begins c text f depth after last
+      behind : (x : Listed) → IsEligible c text f depth x → IsBehind from x.cursor ↔ StandsBehind c text last x.tree
+
+    begun : IsDepthFor f depth d → (after from : Option (List ℕ)) → StandsAt f d after from → Begun after from
+    begun h after from (pages.at_first) = record { last = None; begins = listing.at_first; behind = λ x l. ((λ b. tt), (λ b. tt)) }
+    begun h after from (pages.at_cursor word cursor e has) =
+        let l = eligible h cursor has.0 has.1 in
+        record {
+          last = Some has.0;
+          begins = listing.at_cursor word cursor has.0 (record { eligible = l; text_is = e });
+          behind = λ x m. in_order (record { cursor = cursor; tree = has.0 }) x l m;
+        }
 
     no_cursor : IsDepthFor f depth d → (after : Option (List ℕ)) (l : IsLost f d after) → IsNoCursor c text f depth l.word
-    no_cursor h after l cursor x = l.none cursor (x.tree, unfolds h (record { cursor = cursor; tree = x.tree }) x.eligible) x.text_is
+    no_cursor h after l x is_cursor = l.none x.cursor (x.tree, unfolds h x is_cursor.eligible) is_cursor.text_is
 
-    is_listing : IsDepthFor f depth d → (from : Option (List ℕ)) (count : ℕ) (trees : List Listed) →
-        IsListing f d from count trees → IsTreeListing c text f depth from count trees
-    is_listing h from count trees p =
+    -- what comes behind cursors stands behind their trees
+    listed_or_behind : (count : ℕ) (trees : List Listed) → ((y : Listed) → Contains trees y → IsEligible c text f depth y) →
+        (x : Listed) → IsEligible c text f depth x → IsListedOrLater count trees x → IsListedOrBehind c text count trees x
+    listed_or_behind count trees each x l (inl has) = inl has
+    listed_or_behind count trees each x l (inr later) = inr (later.0, λ y has. (in_order y x (each y has) l).0 (later.1 y has))
+
+    is_listing : IsDepthFor f depth d → {after from : Option (List ℕ)} (start : Begun after from) (count : ℕ) (trees : List Listed) →
+        IsListing f d from count trees → IsTreeListing c text f depth start.last count trees
+    is_listing h start count trees p =
+        let each : (x : Listed) → Contains trees x → IsEligible c text f depth x = λ x has. eligible h x.cursor x.tree (p.are.unfolded x has) in
         record {
-          eligible = λ x has. eligible h x.cursor x.tree (p.are.unfolded x has);
-          behind = p.are.behind;
-          order = p.are.order;
+          eligible = each;
+          behind = λ x has. (start.behind x (each x has)).0 (p.are.behind x has);
+          order = λ i j a less within.
+              let one = Contains-get_or trees i a (omega arith) in
+              let other = Contains-get_or trees j a within in
+              (in_order (get_or trees i a) (get_or trees j a) (each (get_or trees i a) one) (each (get_or trees j a) other)).0
+              (p.are.order i j a less within);
           few = p.few;
-          whole = λ x l b. p.whole x (unfolds h x l) b;
+          whole = λ x l b. listed_or_behind count trees each x l (p.whole x (unfolds h x l) ((start.behind x l).1 b));
         }
 
   made : (l : Listing) (out : List ℕ) → IsListed (CoreOf c) f l out → Finishes c text f (list l) status.Done out []
   made l out x =
       subst (λ (z : List ℕ). Finishes c text f (list l) status.Done z []) (sym x.page.text_is)
-      (listed l x.from x.page.trees (bounded l.depth x.depth x.for)
-      (begins l.depth x.depth x.for l.after x.from x.stands)
-      (is_listing l.depth x.depth x.for x.from l.count x.page.trees x.page.page))
+      (let start = begun l.depth x.depth x.for l.after x.from x.stands in
+      listed l start.last x.page.trees (bounded l.depth x.depth x.for) start.begins
+      (is_listing l.depth x.depth x.for start l.count x.page.trees x.page.page))
 
   stopped : (l : Listing) (s : Status) (note : List ℕ) → StopsListing f l s note →
       Finishes c text f (list l) s [] note × (s ≢ status.Done)

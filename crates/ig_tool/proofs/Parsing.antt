@@ -10,8 +10,8 @@ use Rattle.ig_core.specs.Notation.{unchanged}
 use Rattle.ig_item.specs.WellKinded.{IsWellKinded}
 use Rattle.ig_item.specs.declared.core_grammar.Nonterminal.{Nonterminal}
 use Rattle.ig_forest.specs.Reduced.{IsReduced}
+use Rattle.ig_forest.specs.Unfold.{IsTrim}
 use Rattle.ig_forest.specs.TreeLaws.{TagsNameNonterminals, CursorsAreShort}
-use Rattle.ig_heights.specs.Laws.{DepthsAreHeights}
 use Rattle.ig_parse.specs.Parses.{IsOver, IsUnparsed, IsForestOf, HasForest}
 use Rattle.ig_query.specs.Report.{IsReport}
 use Rattle.ig_show.specs.declared.report.Report.{Report}
@@ -19,23 +19,27 @@ use Rattle.ig_tool.specs.Refusals.{dots_text}
 use Rattle.ig_tool.specs.declared.stop.Stop.{Stop}
 use Rattle.ig_tool.specs.declared.stop.Stop.TheVariants as halt
 use Rattle.ig_tool.specs.declared.status.Status.TheVariants as status
-use Rattle.ig_tool.specs.Jobs.{Job, print, list}
+use Rattle.ig_tool.specs.Jobs.{Job, print, list, ask}
 use Rattle.ig_tool.specs.Outcome.{Finishes, printed}
 use Rattle.ig_tool.specs.Pages.{ComesOf, IsPrintable}
 use Rattle.ig_tool.specs.Stops.{ShowsForest, FinishesJob, ParsesText, over_budget, no_parse, at_job, IsOverBudget, TellsPlace, Prepares, RefusesWith}
+use Rattle.ig_tool.proofs.Answering.{Laws, finishes_question}
 use Rattle.ig_tool.proofs.Listings.{finishes_listing}
 
 -- what comes of the job is said of permitted trees
-module _ (c : CheckedGrammar) (input : List ℕ) (f : Forest) (is : IsForestOf c input f) (low : DepthsAreHeights) where
+module _ (laws : Laws) (c : CheckedGrammar) (input : List ℕ) (f : Forest) (is : IsForestOf c input f) (trim : IsTrim f)
+    (well : IsWellKinded (CoreOf c)) (as_it_is : c ≡ unchanged c.grammar) where
   prints : (r : Result (Vec ℕ Global) Stop) → ShowsForest f r → FinishesJob c input f print r
   prints (Ok text) h =
       subst (λ (z : List ℕ). Finishes c input f print status.Done z []) (sym h) printed
   prints (Err (halt.Note s line)) h = absurd h
   prints (Err halt.Memory) h = tt
 
-  pub finishes_job : (job : Job) (r : Result (Vec ℕ Global) Stop) → ComesOf (CoreOf c) f job r → FinishesJob c input f job r
+  pub finishes_job : (job : Job) (r : Result (Vec ℕ Global) Stop) → ComesOf c input f job r →
+      FinishesJob c input f job r
   finishes_job print r h = prints r h
-  finishes_job (list listing) r h = finishes_listing c input f is (low f) listing r h
+  finishes_job (list listing) r h = finishes_listing c input f is (laws.heights f) listing r h
+  finishes_job (ask question) r h = finishes_question laws c input f is trim well as_it_is question r h
 
 -- the trees of the forest and their cursors can be printed
 pub printable : (core : List Nonterminal) (c : CheckedGrammar) (input : List ℕ) (f : Forest) → core ≡ CoreOf c →

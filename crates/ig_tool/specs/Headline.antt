@@ -1,16 +1,21 @@
 -- The main theorem: which trees the printed forest has, and when there is none.
-use Rattle.std.specs.Prelude.{◌≡◌, ℕ, ◌⊎◌, List, []}
+use Rattle.std.specs.Prelude.{◌≡◌, ℕ, ◌⊎◌, List, [], Option}
 use Rattle.ig_text.specs.Decoding.{IsDecoded}
+use Rattle.ig_text.specs.Tree.{Tree}
 use Rattle.ig_outside.specs.States.{ShelfState, SinkState}
 use Rattle.ig_outside.specs.Told.{bytes}
 use Rattle.ig_grammar.specs.declared.grammar.Grammar.{Grammar}
 use Rattle.ig_core.specs.Notation.{unchanged}
 use Rattle.ig_forest.specs.Forest.{Forest}
-use Rattle.ig_parse.specs.Parses.{IsUnparsed, IsOver, HasForest}
+use Rattle.ig_grammar.specs.Checked.{CheckedGrammar}
+use Rattle.ig_parse.specs.Parses.{IsParsed, IsUnparsed, IsOver, IsForestOf, HasForest}
 use Rattle.ig_tool.specs.declared.status.Status.{Status}
 use Rattle.ig_tool.specs.declared.status.Status.TheVariants as status
-use Rattle.ig_tool.specs.Commands.{check, show, core, IsCommand}
-use Rattle.ig_tool.specs.Jobs.{Job, request_for}
+use Rattle.ig_load.specs.Summary.{IsLoadSummary, IsTooLarge, summary_text}
+use Rattle.ig_load.specs.declared.summary.Summary.{Summary}
+use Rattle.ig_tool.specs.Commands.{check, show, core, load, IsCommand}
+use Rattle.ig_tool.specs.Jobs.{Job, print, list, ask, request_for}
+use Rattle.ig_tool.specs.Listing.{IsBounded, Begins}
 use Rattle.ig_tool.specs.Accepted.{IsAccepted}
 use Rattle.ig_tool.specs.Change.{Change, FetchFailed, PutFailed, Got, Untouched}
 use Rattle.ig_tool.specs.Outcome.{budget_note, IsNoParseNote, ok_text, shown_text, shown_core, Finishes}
@@ -54,6 +59,33 @@ Headline words shelf out notes answer =
     (g : Grammar) (input : List ℕ) (budget : ℕ) (job : Job) → Asks words shelf.before g input budget job →
     (FetchFailed shelf → ⊥) → (PutFailed out → ⊥) → (PutFailed notes → ⊥) → Says g input budget job out notes answer
 
+-- a listing is lawful where a depth is given, or the permitted trees have a highest one, and where the word of the cursor, if
+-- there is one, is that of a permitted tree of at most that height; all else is
+abbrev pub IsLawful : CheckedGrammar → List ℕ → Job → Type 0
+IsLawful c input print = Unit {0}
+IsLawful c input (list listing) =
+    IsBounded c input listing.depth ×
+    ((f : Forest) → IsForestOf c input f → (last : Option Tree) × Begins c input f listing.depth listing.after last)
+IsLawful c input (ask question) = Unit {0}
+
+-- out got the text that comes of the job by the forest
+pub record GotText (g : Grammar) (input : List ℕ) (budget : ℕ) (job : Job) (out notes : Change SinkState) : Type 0 where
+  pub forest : Forest
+  pub is : HasForest (unchanged g) input budget forest
+  pub text : List ℕ
+  pub finishes : Finishes (unchanged g) input forest job status.Done text []
+  pub got : Got out text
+  pub quiet : Got notes []
+
+-- where moreover the budget suffices, a tree is permitted and the job is lawful, the answer is status 0 with the text, or memory
+-- ran out
+abbrev pub Completeness : List (List ℕ) → Change ShelfState → Change SinkState → Change SinkState → Status → Type 0
+Completeness words shelf out notes answer =
+    (g : Grammar) (input : List ℕ) (budget : ℕ) (job : Job) → Asks words shelf.before g input budget job →
+    (FetchFailed shelf → ⊥) → (PutFailed out → ⊥) → (PutFailed notes → ⊥) → (IsOver (unchanged g) input budget → ⊥) →
+    IsParsed (unchanged g) input → IsLawful (unchanged g) input job →
+    ((answer ≡ status.NoMemory) × Untouched out) ⊎ ((answer ≡ status.Done) × GotText g input budget job out notes)
+
 -- what out gets where the words ask that the grammar of this file be checked or shown, or for its core grammar
 pub data IsGrammarCommand (words : List (List ℕ)) (file : List ℕ) (g : Grammar) : List ℕ → Type 0 where
   checks : IsCommand words (check file) → IsGrammarCommand words file g ok_text
@@ -68,3 +100,17 @@ GrammarCommands words shelf out notes answer =
     shelf.before.holds file ≡ bytes xs → IsAccepted xs g → (FetchFailed shelf → ⊥) → (PutFailed out → ⊥) →
     (PutFailed notes → ⊥) →
     ((answer ≡ status.NoMemory) × Untouched out) ⊎ ((answer ≡ status.Done) × Got out text × Untouched notes)
+
+-- what a load of this size and number puts: the line of its summary, or the note where more items are reachable than the
+-- budget allows
+pub data LoadOutcome (size number budget : ℕ) : Status → List ℕ → List ℕ → Type 0 where
+  too_large : IsTooLarge size number budget → LoadOutcome size number budget status.Budget [] (budget_note budget)
+  summed : (summary : Summary) → (IsTooLarge size number budget → ⊥) → IsLoadSummary size number summary →
+      LoadOutcome size number budget status.Done (summary_text summary) []
+
+-- where the words ask for a load and nothing failed outside, the answer is its outcome, or memory ran out, and out got nothing
+abbrev pub LoadCommands : List (List ℕ) → Change SinkState → Change SinkState → Status → Type 0
+LoadCommands words out notes answer =
+    (size number budget : ℕ) → IsCommand words (load size number budget) → (PutFailed out → ⊥) → (PutFailed notes → ⊥) →
+    ((answer ≡ status.NoMemory) × Untouched out) ⊎
+    ((text : List ℕ) × ((note : List ℕ) × (LoadOutcome size number budget answer text note × Got out text × Got notes note)))

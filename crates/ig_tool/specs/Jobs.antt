@@ -1,6 +1,6 @@
 -- What is done with a grammar, or with a grammar and an input.
 use Rattle.std.specs.Prelude.{ℕ, List}
-use Rattle.ig_tool.specs.Commands.{Request, check, show, core, forest, trees, Listing, stored_listing}
+use Rattle.ig_tool.specs.Commands.{Request, check, show, core, forest, trees, query, Listing, Question, stored_listing, stored_question}
 use Rattle.ig_tool.specs.declared.job.Job.{Job as StoredJob}
 use Rattle.ig_tool.specs.declared.job.Job.TheVariants as stored
 use Rattle.ig_tool.specs.declared.job.Task.{Task}
@@ -17,13 +17,17 @@ pub data Job : Type 0 where
   print : Job
   -- its trees are listed
   list : (listing : Listing) → Job
+  -- a question is answered
+  ask : (question : Question) → Job
 
 -- the request for it, with the names of the grammar and the input, and the budget
 abbrev pub request_for : Job → List ℕ → List ℕ → ℕ → Request
 request_for print grammar input budget = forest grammar input budget
 request_for (list listing) grammar input budget = trees grammar input budget listing
+request_for (ask question) grammar input budget = query grammar input budget question
 
 -- what a stored job does
 abbrev pub stored_job : StoredJob → Job
 stored_job stored.Print = print
 stored_job (stored.List listing) = list (stored_listing listing)
+stored_job (stored.Ask question) = ask (stored_question question)

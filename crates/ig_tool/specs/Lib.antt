@@ -4,6 +4,7 @@ pub mod Refusals
 pub mod Commands
 pub mod Jobs
 pub mod Listing
+pub mod Questions
 pub mod Rows
 pub mod Change
 pub mod Outcome

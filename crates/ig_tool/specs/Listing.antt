@@ -1,16 +1,16 @@
--- The listing of the trees that a grammar permits for a text, by the cursors that they have in a forest.
-use Rattle.std.specs.Prelude.{◌≡◌, ℕ, ◌<◌, ◌≤◌, List, ◌++◌, Contains, Option, Some, None, codes, flat_map, length}
+-- The listing of the trees that a grammar permits for a text, in their order, with the cursors that they have in a forest.
+use Rattle.std.specs.Prelude.{◌≡◌, ◌⊎◌, ℕ, ◌<◌, ◌≤◌, List, ◌++◌, Contains, Option, Some, None, codes, flat_map, length}
 use Rattle.std.specs.List.{AllPairs}
 use Rattle.ig_text.specs.Tree.{Tree, height}
 use Rattle.ig_grammar.specs.Checked.{CheckedGrammar}
 use Rattle.ig_item.specs.declared.core_grammar.Nonterminal.{Nonterminal}
+use Rattle.ig_meaning.specs.Order.{Precedes}
 use Rattle.ig_meaning.specs.Permitted.{Permitted}
 use Rattle.ig_forest.specs.Forest.{Forest}
 use Rattle.ig_forest.specs.Unfold.{Unfold}
 use Rattle.ig_show.specs.Listed.{line_end}
 use Rattle.ig_show.specs.TreeText.{tree_text, cursor_text}
-use Rattle.ig_walker.specs.Listed.{Listed, IsListedOrLater}
-use Rattle.ig_walker.specs.Listing.{Less, IsBehind}
+use Rattle.ig_walker.specs.Listed.{Listed}
 
 -- the tree is at most so high; without a depth each tree is
 abbrev pub IsWithin : Option ℕ → Tree → Type 0
@@ -27,6 +27,20 @@ module _ (c : CheckedGrammar) (text : List ℕ) where
   IsBounded None = HasNoHighest → ⊥
   IsBounded (Some depth) = Unit {0}
 
+  -- the first tree stands before the second in the order of permitted trees
+  abbrev pub StandsBefore : Tree → Tree → Type 0
+  StandsBefore t u = Precedes c.grammar c.shapes text t u
+
+  -- the tree stands behind the last one
+  abbrev pub StandsBehind : Option Tree → Tree → Type 0
+  StandsBehind None t = Unit {0}
+  StandsBehind (Some last) t = StandsBefore last t
+
+  -- of these trees it is one, or stands behind all of them where they are `count`
+  abbrev pub IsListedOrBehind : (count : ℕ) (trees : List Listed) → Listed → Type 0
+  IsListedOrBehind count trees x =
+      Contains trees x ⊎ ((length trees ≡ count) × ((y : Listed) → Contains trees y → StandsBefore y.tree x.tree))
+
   module _ (f : Forest) (depth : Option ℕ) where
     -- the tree is permitted, at most so high as the depth says, and has the cursor in the forest
     pub record IsEligible (x : Listed) : Type 0 where
@@ -35,27 +49,28 @@ module _ (c : CheckedGrammar) (text : List ℕ) where
       pub placed : (d : ℕ) × Unfold f d x.cursor x.tree
 
     -- the word is the text of the cursor of such a tree
-    pub record IsCursor (word cursor : List ℕ) : Type 0 where
-      pub tree : Tree
-      pub eligible : IsEligible (record { cursor = cursor; tree = tree })
-      pub text_is : word ≡ cursor_text cursor
+    pub record IsCursor (word : List ℕ) (x : Listed) : Type 0 where
+      pub eligible : IsEligible x
+      pub text_is : word ≡ cursor_text x.cursor
 
     -- it is the text of no such cursor
     abbrev pub IsNoCursor : List ℕ → Type 0
-    IsNoCursor word = (cursor : List ℕ) → IsCursor word cursor → ⊥
+    IsNoCursor word = (x : Listed) → IsCursor word x → ⊥
 
-    -- where a listing begins: at the first tree, or behind the cursor of which the word is the text
-    pub data Begins : Option (List ℕ) → Option (List ℕ) → Type 0 where
+    -- where a listing begins: at the first tree, or behind that of whose cursor the word is the text
+    pub data Begins : Option (List ℕ) → Option Tree → Type 0 where
       at_first : Begins None None
-      at_cursor : (word cursor : List ℕ) → IsCursor word cursor → Begins (Some word) (Some cursor)
+      at_cursor : (word cursor : List ℕ) (t : Tree) → IsCursor word (record { cursor = cursor; tree = t }) →
+          Begins (Some word) (Some t)
 
-    -- such trees behind a cursor, in the order of their cursors: the first `count` of them, or all where they are fewer
-    pub record IsTreeListing (after : Option (List ℕ)) (count : ℕ) (trees : List Listed) : Type 0 where
+    -- such trees behind the last one, in the order of permitted trees: the first `count` of them, or all where they are
+    -- fewer
+    pub record IsTreeListing (last : Option Tree) (count : ℕ) (trees : List Listed) : Type 0 where
       pub eligible : (x : Listed) → Contains trees x → IsEligible x
-      pub behind : (x : Listed) → Contains trees x → IsBehind after x.cursor
-      pub order : AllPairs (λ x y. Less x.cursor y.cursor) trees
+      pub behind : (x : Listed) → Contains trees x → StandsBehind last x.tree
+      pub order : AllPairs (λ x y. StandsBefore x.tree y.tree) trees
       pub few : length trees ≤ count
-      pub whole : (x : Listed) → IsEligible x → IsBehind after x.cursor → IsListedOrLater count trees x
+      pub whole : (x : Listed) → IsEligible x → StandsBehind last x.tree → IsListedOrBehind count trees x
 
 -- `CURSOR TREE`
 abbrev pub line_text : List Nonterminal → Listed → List ℕ

@@ -1,7 +1,9 @@
 -- What the top call answers, by cases.
-use Rattle.std.specs.Prelude.{◌≡◌, ◌≢◌, ℕ, List, [], ◌++◌, Option, Some, None, codes, encode_utf8_all}
+use Rattle.std.specs.Prelude.{◌≡◌, ◌≢◌, ◌↔◌, ℕ, List, [], ◌++◌, Bool, IsTrue, Option, Some, None, codes, encode_utf8_all}
 use Rattle.std.specs.Fmt.{decimal}
 use Rattle.ig_text.specs.Decoding.{IsDecoded, IsFaulty}
+use Rattle.ig_text.specs.Tree.{Tree}
+use Rattle.ig_text.specs.declared.text.Span.{Span}
 use Rattle.ig_text.specs.declared.text.TextFault.{TextFault}
 use Rattle.ig_text.specs.declared.text.TextFault.TheVariants as text_fault
 use Rattle.ig_outside.specs.Told.{Told, silent, nothing, bytes}
@@ -12,21 +14,28 @@ use Rattle.ig_core.specs.Lowered.{CoreOf}
 use Rattle.ig_core.specs.Notation.{unchanged}
 use Rattle.ig_forest.specs.Forest.{Forest}
 use Rattle.ig_parse.specs.Parses.{IsUnparsed, IsOver, HasForest}
+use Rattle.ig_parse.specs.Laws.{PermitsTwo}
+use Rattle.ig_query.specs.Ambiguity.{AreAmbiguous}
 use Rattle.ig_query.specs.Report.{IsReport}
 use Rattle.ig_show.specs.declared.report.Report.{Report}
 use Rattle.ig_show.specs.ReportText.{IsPlace}
 use Rattle.ig_show.specs.Listed.{line_end}
 use Rattle.ig_show.specs.CoreText.{core_text}
 use Rattle.ig_show.specs.ForestText.{forest_text}
+use Rattle.ig_show.specs.QueryText.{ambiguous_text, cyclic_text, spans_text, IsFurthestLine}
 use Rattle.ig_tool.specs.declared.status.Status.{Status}
 use Rattle.ig_tool.specs.declared.status.Status.TheVariants as status
 use Rattle.ig_tool.specs.Change.{Change, Fetched, IsCalm, FetchFailed, Stood, Got, Failed, Untouched, Noted}
 use Rattle.ig_show.specs.CanonicalText.{text_of}
 use Rattle.ig_tool.specs.Accepted.{IsAccepted}
 use Rattle.ig_tool.specs.Refusals.{IsRefused}
-use Rattle.ig_tool.specs.Commands.{Request, Listing, check, show, core, query, load, grammar_file, IsCommand, MayFetch}
-use Rattle.ig_tool.specs.Jobs.{Job, print, list, request_for}
+use Rattle.ig_tool.specs.Commands.{Request, Listing, check, show, core, load, grammar_file, IsCommand, MayFetch}
+use Rattle.ig_tool.specs.Commands as asked
+use Rattle.ig_load.specs.Summary.{IsLoadSummary, IsTooLarge, summary_text}
+use Rattle.ig_load.specs.declared.summary.Summary.{Summary}
+use Rattle.ig_tool.specs.Jobs.{Job, print, list, ask, request_for}
 use Rattle.ig_tool.specs.Listing.{HasNoHighest, IsBounded, IsNoCursor, Begins, IsTreeListing, listing_text}
+use Rattle.ig_tool.specs.Questions.{IsWanted, ArePermittedSpans}
 use Rattle.ig_walker.specs.Listed.{Listed}
 
 abbrev pub number_of : Status → ℕ
@@ -126,16 +135,22 @@ pub data Finishes (c : CheckedGrammar) (input : List ℕ) (f : Forest) : Job →
   bad_cursor : (listing : Listing) (word : List ℕ) → IsBounded c input listing.depth → listing.after ≡ Some word →
       IsNoCursor c input f listing.depth word → Finishes c input f (list listing) status.BadCursor [] no_cursor_note
   -- the text of the listing
-  listed : (listing : Listing) (from : Option (List ℕ)) (trees : List Listed) → IsBounded c input listing.depth →
-      Begins c input f listing.depth listing.after from →
-      IsTreeListing c input f listing.depth from listing.count trees →
+  listed : (listing : Listing) (last : Option Tree) (trees : List Listed) → IsBounded c input listing.depth →
+      Begins c input f listing.depth listing.after last →
+      IsTreeListing c input f listing.depth last listing.count trees →
       Finishes c input f (list listing) status.Done (listing_text (CoreOf c) trees) []
-
--- what no command does yet
-abbrev pub IsUnbuilt : Request → Type 0
-IsUnbuilt (query grammar input budget question) = Unit {0}
-IsUnbuilt (load size number budget) = Unit {0}
-IsUnbuilt request = ⊥
+  -- the lines of the ambiguous nodes: there are some exactly where two different trees are permitted
+  told_ambiguous : (nodes : List ℕ) → AreAmbiguous f nodes → (nodes ≢ []) ↔ PermitsTwo c input →
+      Finishes c input f (ask asked.ambiguous) status.Done (ambiguous_text f nodes) []
+  -- whether for each number a higher tree is permitted
+  told_cyclic : (answer : Bool) → IsTrue answer ↔ HasNoHighest c input →
+      Finishes c input f (ask asked.cyclic) status.Done (cyclic_text answer) []
+  -- the spans of the declaration that is named, or of the start symbol
+  told_spans : (given : Option (List ℕ)) (name : List ℕ) (found : List Span) → IsWanted c given name →
+      ArePermittedSpans c.grammar input name found → Finishes c input f (ask (asked.spans given)) status.Done (spans_text found) []
+  -- how far the items came in the input, and what was expected there
+  told_report : (report : Report) (line : List ℕ) → IsReport (CoreOf c) input report → IsFurthestLine report line →
+      Finishes c input f (ask asked.report) status.Done line []
 
 -- the status that is decided before anything is written, the text for out, the line for notes, and
 -- the number of fetches
@@ -143,9 +158,13 @@ pub data Decided (words : List (List ℕ)) (shelf : Change ShelfState) : Status 
   -- the words are no command
   usage : IsCalm shelf → ((request : Request) → IsCommand words request → ⊥) →
       Decided words shelf status.Usage [] usage_note 0
-  -- the words ask for what no command does yet
-  unbuilt : (request : Request) → IsCalm shelf → IsCommand words request → IsUnbuilt request →
-      Decided words shelf status.Usage [] usage_note 0
+  -- more items of a load than the budget are reachable
+  load_over_budget : (size number budget : ℕ) → IsCalm shelf → IsCommand words (load size number budget) →
+      IsTooLarge size number budget → Decided words shelf status.Budget [] (budget_note budget) 0
+  -- the budget suffices for a load, and the text is that of its summary
+  load_summed : (size number budget : ℕ) (summary : Summary) → IsCalm shelf → IsCommand words (load size number budget) →
+      (IsTooLarge size number budget → ⊥) → IsLoadSummary size number summary →
+      Decided words shelf status.Done (summary_text summary) [] 0
   -- nothing is held under the grammar's name
   grammar_missing : (request : Request) (file : List ℕ) → IsCalm shelf → IsCommand words request →
       grammar_file request ≡ Some file → shelf.before.holds file ≡ nothing →

@@ -1,8 +1,10 @@
--- What a walker lists, line by line, and what comes of a job by the forest alone.
+-- What a walker lists, line by line, and what comes of a job by the forest.
 use Rattle.std.specs.Prelude.{◌≡◌, ℕ, List, Option, Some, None, Result, Ok, Err, Vec}
 use Rattle.std.specs.declared.alloc.Global.{Global}
 use Rattle.ig_text.specs.Tree.{Tree}
+use Rattle.ig_grammar.specs.Checked.{CheckedGrammar}
 use Rattle.ig_item.specs.declared.core_grammar.Nonterminal.{Nonterminal}
+use Rattle.ig_core.specs.Lowered.{CoreOf}
 use Rattle.ig_forest.specs.Forest.{Forest}
 use Rattle.ig_forest.specs.Unfold.{Unfold}
 use Rattle.ig_forest.specs.Flat.{flat}
@@ -17,9 +19,10 @@ use Rattle.ig_tool.specs.declared.stop.Stop.{Stop}
 use Rattle.ig_tool.specs.declared.stop.Stop.TheVariants as halt
 use Rattle.ig_tool.specs.declared.status.Status.{Status}
 use Rattle.ig_tool.specs.declared.status.Status.TheVariants as status
-use Rattle.ig_tool.specs.Commands.{Listing}
-use Rattle.ig_tool.specs.Jobs.{Job, print, list}
+use Rattle.ig_tool.specs.Commands.{Listing, Question}
+use Rattle.ig_tool.specs.Jobs.{Job, print, list, ask}
 use Rattle.ig_tool.specs.Listing.{listing_text}
+use Rattle.ig_tool.specs.Questions.{Tells}
 use Rattle.ig_tool.specs.Outcome.{depth_needed_note, no_cursor_note}
 use Rattle.ig_tool.specs.Stops.{ShowsForest}
 
@@ -86,7 +89,14 @@ Lists core f listing (Ok text) = IsListed core f listing text.items
 Lists core f listing (Err (halt.Note s line)) = StopsListing f listing s line.items
 Lists core f listing (Err halt.Memory) = Unit {0}
 
--- what comes of a job by the forest alone
-abbrev pub ComesOf : List Nonterminal → Forest → Job → Result (Vec ℕ Global) Stop → Type 0
-ComesOf core f print r = ShowsForest f r
-ComesOf core f (list listing) r = Lists core f listing r
+-- the text of the answer to a question
+abbrev pub GivesAnswer : CheckedGrammar → List ℕ → Forest → Question → Result (Vec ℕ Global) Stop → Type 0
+GivesAnswer c input f question (Ok text) = Tells c input f question text.items
+GivesAnswer c input f question (Err (halt.Note s line)) = ⊥
+GivesAnswer c input f question (Err halt.Memory) = Unit {0}
+
+-- what comes of a job by the forest, or by the grammar and the input where the report is asked for
+abbrev pub ComesOf : CheckedGrammar → List ℕ → Forest → Job → Result (Vec ℕ Global) Stop → Type 0
+ComesOf c input f print r = ShowsForest f r
+ComesOf c input f (list listing) r = Lists (CoreOf c) f listing r
+ComesOf c input f (ask question) r = GivesAnswer c input f question r

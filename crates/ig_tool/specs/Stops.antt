@@ -25,6 +25,9 @@ use Rattle.ig_parse.specs.Parses.{IsUnparsed, IsOver, HasForest}
 use Rattle.ig_show.specs.Listed.{line_end}
 use Rattle.ig_show.specs.CoreText.{core_text}
 use Rattle.ig_show.specs.ForestText.{forest_text}
+use Rattle.ig_load.specs.Summary.{Loads, summary_text}
+use Rattle.ig_load.specs.declared.fault.LoadFault.TheVariants.{Budget}
+use Rattle.ig_load.specs.declared.summary.Summary.{Summary}
 use Rattle.ig_tool.specs.Jobs.{Job}
 use Rattle.ig_tool.specs.Accepted.{IsTextOf, HasFewDots}
 use Rattle.ig_tool.specs.Refusals.{IsRefused, dots_text}
@@ -171,6 +174,14 @@ abbrev pub ParsesText : CheckedGrammar → List ℕ → ℕ → Job → Result (
 ParsesText c input budget job (Ok text) = IsParse c input budget job status.Done text.items []
 ParsesText c input budget job (Err (halt.Note s line)) = StopsParse c input budget job s line.items
 ParsesText c input budget job (Err halt.Memory) = Unit {0}
+
+-- the summary of a load, or that more items are reachable than the budget allows
+abbrev pub LoadsText : ℕ → ℕ → ℕ → Result (Vec ℕ Global) Stop → Type 0
+LoadsText size number budget (Ok text) =
+    (summary : Summary) × Loads size number budget (Ok summary) × (text.items ≡ summary_text summary)
+LoadsText size number budget (Err (halt.Note s line)) =
+    Loads size number budget (Err Budget) × (s ≡ status.Budget) × (line.items ≡ budget_note budget)
+LoadsText size number budget (Err halt.Memory) = Unit {0}
 
 -- the canonical text of the grammar
 abbrev pub ShowsGrammar : Grammar → Result (Vec ℕ Global) Stop → Type 0

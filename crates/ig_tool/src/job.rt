@@ -1,6 +1,6 @@
 //! What is done with a grammar, or with a grammar and an input.
 
-use crate::command::Listing;
+use crate::command::{Listing, Question};
 
 /// What is done with a grammar alone.
 #[derive(Clone, Copy, Debug)]
@@ -20,4 +20,6 @@ pub(crate) enum Job<'a> {
     Print,
     /// Its trees are listed.
     List(Listing<'a>),
+    /// A question is answered.
+    Ask(Question<'a>),
 }

@@ -9,9 +9,11 @@
 //! Inside, the words are tested (`words`), given to a command of `clap` (`rows`) and become what is
 //! asked for (`command`). A grammar text is read and its scopes are checked, or a note says why it
 //! is refused (`grammar_text`). Its parser is made, unless its core
-//! grammar has too many dots, and a forest is that parser's (`parse`).
+//! grammar has too many dots, and a forest is that parser's (`parse`). Its trees are listed
+//! (`listing`), or a question on it is answered (`answer`). A load has its line (`summary`).
 #![tactic(auto)]
 
+mod answer;
 mod command;
 mod grammar_text;
 mod job;
@@ -21,11 +23,10 @@ mod parse;
 mod rows;
 pub mod status;
 mod stop;
+mod summary;
 #[cfg(test)]
 mod tests;
 mod top_call;
-#[cfg(test)]
-mod tree_rows;
 mod words;
 
 pub use status::Status;

@@ -1,13 +1,15 @@
 //! Running a grammar on an input.
 ghost use Rattle.std.specs.Prelude.{◌≡◌, ◌++◌, OnOk, codes};
 ghost use Rattle.std.specs.Fmt.{decimal};
-ghost use Rattle.ig_core.specs.Lowered.{IsBuildable};
+ghost use Rattle.ig_core.specs.Lowered.{CoreOf, IsBuildable};
 ghost use Rattle.ig_core.specs.Notation.{unchanged};
+ghost use Rattle.ig_parse.specs.Parses.{AreReachable};
 ghost use Rattle.ig_tool.specs.Jobs.{stored_job};
 ghost use Rattle.ig_tool.specs.Pages.{ComesOf, IsPrintable};
 ghost use Rattle.ig_tool.specs.Stops.{IsOverBudget, ParsesText, Prepares};
 ghost use Rattle.ig_tool.specs.Stops.{ShowsForest, TellsPlace};
 
+use crate::answer::answer;
 use crate::grammar_text::refuse;
 use crate::job::Job;
 use crate::listing::list;
@@ -17,8 +19,8 @@ use ig_core::CoreFault;
 use ig_forest::{Forest, cursors_are_short, tags_name_nonterminals};
 use ig_grammar::Checked;
 use ig_heights::depths_are_heights;
-use ig_item::Core;
-use ig_parse::{ParseFault, Parser};
+use ig_item::{Items, RunFault};
+use ig_parse::{Parser, ambiguity_is_two_permitted, spans_are_of_declarations};
 use ig_show::{Report, show_forest, show_report};
 use ig_text::Text;
 use itoa::Buffer;
@@ -37,7 +39,8 @@ pub(crate) fn parser_of(alloc: Global, checked: &Checked) -> Result<Parser<'_>, 
     }
 }
 
-/// What comes of a job by the forest of the parser's grammar and the input.
+/// What comes of a job by the forest of the parser's grammar, which no pass has changed, and the
+/// input.
 pub(crate) fn parse(
     alloc: Global,
     parser: &Parser<'_>,
@@ -45,31 +48,47 @@ pub(crate) fn parse(
     budget: u32,
     job: Job<'_>,
 ) -> Result<Vec<u8>, Stop>
+    requires as_it_is { parser.now ≡ unchanged parser.now.grammar }
     ensures { ParsesText parser.now input.now budget (stored_job job.entry) result }
 {
+    ambiguity_is_two_permitted();
+    spans_are_of_declarations();
     depths_are_heights();
     tags_name_nonterminals();
     let core = parser.core();
     let _nonterminals = core.nonterminals();
-    match parser.parse(alloc, input, budget) {
-        Ok(forest) => {
-            cursors_are_short(&forest);
-            finish(alloc, core, &forest, job)
-        }
-        Err(ParseFault::Budget) => Err(over_budget(alloc, budget)),
-        Err(ParseFault::NoParse(report)) => Err(unparsed(alloc, &report)),
-        Err(ParseFault::TooManyDots | ParseFault::Memory) => Err(Stop::Memory),
-    }
+    let items = match parser.saturate(alloc, input, budget) {
+        Ok(items) => items,
+        Err(RunFault::Budget) => return Err(over_budget(alloc, budget)),
+        Err(RunFault::Memory) => return Err(Stop::Memory),
+    };
+    let Some(forest) = parser.forest(alloc, &items, input)? else {
+        let report = parser.report(alloc, &items, input)?;
+        return Err(unparsed(alloc, &report));
+    };
+    let _root = forest.root();
+    cursors_are_short(&forest);
+    finish(alloc, parser, input, &items, &forest, job)
 }
 
-/// What comes of a job by the forest of the core grammar's trees.
-fn finish(alloc: Global, core: &Core, forest: &Forest, job: Job<'_>) -> Result<Vec<u8>, Stop>
-    requires printable { IsPrintable core.now forest.now }
-    ensures { ComesOf core.now forest.now (stored_job job.entry) result }
+/// What comes of a job by the forest of the parser's grammar and the input, whose reachable items
+/// these are.
+fn finish(
+    alloc: Global,
+    parser: &Parser<'_>,
+    input: &Text,
+    items: &Items,
+    forest: &Forest,
+    job: Job<'_>,
+) -> Result<Vec<u8>, Stop>
+    requires reachable { AreReachable parser.now input.now items.now }
+    requires printable { IsPrintable (CoreOf parser.now) forest.now }
+    ensures { ComesOf parser.now input.now forest.now (stored_job job.entry) result }
 {
     match job {
         Job::Print => show(alloc, forest),
-        Job::List(listing) => list(alloc, core, forest, listing),
+        Job::List(listing) => list(alloc, parser.core(), forest, listing),
+        Job::Ask(question) => answer(alloc, parser, input, items, forest, question),
     }
 }
 
@@ -82,7 +101,7 @@ fn show(alloc: Global, forest: &Forest) -> Result<Vec<u8>, Stop>
 }
 
 /// More items are reachable than the budget allows.
-fn over_budget(alloc: Global, budget: u32) -> Stop
+pub(crate) fn over_budget(alloc: Global, budget: u32) -> Stop
     ensures { IsOverBudget budget result }
 {
     let mut items = Vec::new(alloc);

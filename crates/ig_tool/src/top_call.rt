@@ -1,8 +1,10 @@
 //! The top call.
 ghost use Rattle.std.specs.Prelude.{◌≡◌, ℕ, List, map, string_bytes};
+ghost use Rattle.ig_core.specs.Notation.{unchanged};
 ghost use Rattle.ig_tool.specs.Change.{change, Fetched};
 ghost use Rattle.ig_tool.specs.Outcome.{Answers, usage_note};
-ghost use Rattle.ig_tool.specs.Headline.{GrammarCommands, Headline};
+ghost use Rattle.ig_tool.specs.Headline.{Completeness, GrammarCommands, Headline};
+ghost use Rattle.ig_tool.specs.Headline.{LoadCommands};
 ghost use Rattle.ig_tool.specs.Commands.{IsCommand};
 ghost use Rattle.ig_tool.specs.Jobs.{request_for, stored_job, task_request};
 ghost use Rattle.ig_tool.specs.Stops.{Decides, GivesUp, RunsJob, SaysOk, ShowsCore};
@@ -15,6 +17,7 @@ use crate::load::{load_grammar, load_input};
 use crate::parse::{parse, parser_of};
 use crate::status::Status;
 use crate::stop::{Stop, stop_with};
+use crate::summary::summary_line;
 use ig_core::notation_is_buildable;
 use ig_grammar::Grammar;
 use ig_notation::{
@@ -42,6 +45,15 @@ const USAGE: &[u8] =
 /// tree is refused. `--count` is the greatest number of lines, 20 without it, and `--after` the
 /// cursor of a tree, behind which the listing goes on.
 ///
+/// `query G I` puts the answer to a question on that forest, which `--what` names: `ambiguous`, the
+/// one that is meant without it, whether two different trees are permitted, with a line for each
+/// node that has two ways; `cyclic`, whether trees of every height are; `spans`, a line for each
+/// span of the declaration `--name`, or of the start symbol; `report`, how far the items came in
+/// the input, and what they expected there.
+///
+/// `load SIZE NUMBER` fetches nothing: it puts the line of [`show_summary`](ig_load::show_summary) for
+/// the load of that size and number.
+///
 /// The words come without the program's name. All memory is taken before the first put.
 pub fn iguana<F: Shelf, O: Sink, N: Sink>(
     alloc: Global,
@@ -58,8 +70,15 @@ pub fn iguana<F: Shelf, O: Sink, N: Sink>(
         (change (F.state shelf.old) (F.state shelf.new))
         (change (O.state out.old) (O.state out.new))
         (change (N.state notes.old) (N.state notes.new)) result }
+    ensures completeness { Completeness (map string_bytes words.now)
+        (change (F.state shelf.old) (F.state shelf.new))
+        (change (O.state out.old) (O.state out.new))
+        (change (N.state notes.old) (N.state notes.new)) result }
     ensures grammar_commands { GrammarCommands (map string_bytes words.now)
         (change (F.state shelf.old) (F.state shelf.new))
+        (change (O.state out.old) (O.state out.new))
+        (change (N.state notes.old) (N.state notes.new)) result }
+    ensures loads { LoadCommands (map string_bytes words.now)
         (change (O.state out.old) (O.state out.new))
         (change (N.state notes.old) (N.state notes.new)) result }
     ensures same { (n : List ℕ) → (F.state shelf.new).holds n ≡ (F.state shelf.old).holds n }
@@ -97,9 +116,17 @@ fn decide<F: Shelf>(alloc: Global, words: &[String], shelf: &mut F) -> Result<Ve
             budget,
             listing,
         } => on_input(alloc, shelf, grammar, input, budget, Job::List(listing)),
-        // Words are read as these already; what they ask for isn't built.
-        Command::Query { .. } => Err(usage(alloc)),
-        Command::Load { .. } => Err(usage(alloc)),
+        Command::Query {
+            grammar,
+            input,
+            budget,
+            question,
+        } => on_input(alloc, shelf, grammar, input, budget, Job::Ask(question)),
+        Command::Load {
+            size,
+            number,
+            budget,
+        } => summary_line(alloc, size, number, budget),
     }
 }
 
@@ -181,7 +208,8 @@ fn shown_core(alloc: Global, parser: &Parser<'_>) -> Result<Vec<u8>, Stop>
     Ok(text)
 }
 
-/// What comes of a job with the parser's grammar and the input in the file of that name.
+/// What comes of a job with the parser's grammar, which no pass has changed, and the input in the
+/// file of that name.
 fn run<F: Shelf>(
     alloc: Global,
     shelf: &mut F,
@@ -190,6 +218,7 @@ fn run<F: Shelf>(
     budget: u32,
     job: Job<'_>,
 ) -> Result<Vec<u8>, Stop>
+    requires as_it_is { parser.now ≡ unchanged parser.now.grammar }
     ensures answer { RunsJob parser.now budget (stored_job job.entry)
         (change (F.state shelf.old) (F.state shelf.new)) name.now result }
     ensures counted { Fetched (change (F.state shelf.old) (F.state shelf.new)) 1 }

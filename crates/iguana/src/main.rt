@@ -14,15 +14,7 @@
 
 mod file_shelf;
 mod folder;
-#[cfg(test)]
-mod form_rows;
-#[cfg(test)]
-mod forms;
-#[cfg(test)]
-mod scopes;
 mod stream_sink;
-#[cfg(test)]
-mod text_rows;
 mod words;
 
 ghost use Rattle.std.specs.Prelude.{◌≡◌, map, string_bytes};

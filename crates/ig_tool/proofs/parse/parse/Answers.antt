@@ -1,30 +1,46 @@
+use Rattle.std.proofs.Common.{refl}
+use Rattle.ig_core.specs.Lowered.{CoreOf}
+use Rattle.ig_item.specs.WellKinded.{IsWellKinded}
+use Rattle.ig_parse.specs.Parses.{IsParsed, IsForestOf, HasItems}
 use Rattle.ig_tool.specs.Jobs.{stored_job}
 use Rattle.ig_tool.proofs.Parsing.{finishes_job, printable, parses_forest, parses_over_budget, parses_none}
 use Rattle.ig_tool.proofs.parse.parse.Goals as goal
 
-pub returns-in-Ok : goal.returns-in-Ok
-returns-in-Ok c =
-    let has = c.in-Ok.ensures.parses in
-    parses_forest c.args.parser.now c.args.input.now c.args.budget (stored_job c.args.job) c.in-Ok.forest c.finish.result has
-    (finishes_job c.args.parser.now c.args.input.now c.in-Ok.forest has.is c.depths_are_heights.ensures
-    (stored_job c.args.job) c.finish.result (rw c.core-core.ensures at c.finish.ensures))
-
 pub returns-in-Err-Budget : goal.returns-in-Err-Budget
 returns-in-Err-Budget c =
     parses_over_budget c.args.parser.now c.args.input.now c.args.budget (stored_job c.args.job) c.over_budget.result
-    (rw c.in-Err-Budget.field-0-is at c.in-Err-Budget.ensures.parses) c.over_budget.ensures
+    (rw c.in-Err-Budget.field-0-is at c.in-Err-Budget.ensures) c.over_budget.ensures
 
-pub returns-in-Err-NoParse : goal.returns-in-Err-NoParse
-returns-in-Err-NoParse c =
-    let none = rw c.in-Err-NoParse.field-0-is at c.in-Err-NoParse.ensures.parses in
-    parses_none c.args.parser.now c.args.input.now c.args.budget (stored_job c.args.job) c.in-Err-NoParse.report
-    c.unparsed.result none.0 none.1 none.2
-    (rw c.in-Err-NoParse.field-0-is at c.unparsed.ensures)
+pub returns-in_default : goal.returns-in_default
+returns-in_default c =
+    let items : HasItems c.args.parser.now c.args.input.now c.args.budget c.in-Ok.items = c.in-Ok.ensures in
+    parses_none c.args.parser.now c.args.input.now c.args.budget (stored_job c.args.job) c.in_ok-report.report
+    c.unparsed.result items.suffices (rw c.in_default.is at c.in_ok-forest.ensures) c.in_ok-report.ensures
+    c.unparsed.ensures
 
-pub finish-requires : goal.finish-requires
-finish-requires c =
-    record {
-      printable = printable c.core-core.result.now c.args.parser.now c.args.input.now c.in-Ok.forest c.core-core.ensures
-          c.nonterminals-nonterminals.ensures.well_kinded c.in-Ok.ensures.parses.is.reduced c.tags_name_nonterminals.ensures
-          c.cursors_are_short.ensures;
-    }
+pub finish-requires-clause-printable : goal.finish-requires-clause-printable
+finish-requires-clause-printable c =
+    let has : IsParsed c.args.parser.now c.args.input.now × IsForestOf c.args.parser.now c.args.input.now c.in-Some.forest =
+    rw c.in-Some.is at c.in_ok-forest.ensures in
+    printable (CoreOf c.args.parser.now) c.args.parser.now c.args.input.now c.in-Some.forest refl
+    (rw c.core-core.ensures at c.nonterminals-nonterminals.ensures.well_kinded) has.1.reduced
+    c.tags_name_nonterminals.ensures c.cursors_are_short.ensures
+
+pub returns : goal.returns
+returns c =
+    let items : HasItems c.args.parser.now c.args.input.now c.args.budget c.in-Ok.items = c.in-Ok.ensures in
+    let has : IsParsed c.args.parser.now c.args.input.now × IsForestOf c.args.parser.now c.args.input.now c.in-Some.forest =
+    rw c.in-Some.is at c.in_ok-forest.ensures in
+    let well : IsWellKinded (CoreOf c.args.parser.now) =
+    rw c.core-core.ensures at c.nonterminals-nonterminals.ensures.well_kinded in
+    parses_forest c.args.parser.now c.args.input.now c.args.budget (stored_job c.args.job) c.in-Some.forest c.finish.result
+    (record { suffices = items.suffices; parsed = has.0; is = has.1 })
+    (finishes_job
+    (record {
+      heights = c.depths_are_heights.ensures;
+      two = c.ambiguity_is_two_permitted.ensures;
+      spans = c.spans_are_of_declarations.ensures;
+    })
+    c.args.parser.now c.args.input.now c.in-Some.forest has.1 c.root-root.ensures.trim well c.requires.as_it_is
+    (stored_job c.args.job)
+    c.finish.result c.finish.ensures)

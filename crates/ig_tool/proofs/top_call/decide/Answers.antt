@@ -1,4 +1,6 @@
-use Rattle.ig_tool.proofs.Deciding.{decides_usage, decides_unbuilt, decides_memory}
+use Rattle.std.specs.Prelude.{map, string_bytes}
+use Rattle.ig_tool.proofs.Deciding.{decides_usage, decides_load, decides_memory}
+use Rattle.ig_tool.proofs.Sizes.{size_fits}
 use Rattle.ig_tool.proofs.top_call.decide.Goals as goal
 
 pub returns-in_default-clause-answer : goal.returns-in_default-clause-answer
@@ -30,10 +32,14 @@ returns-in-Trees-clause-answer g c =
 
 pub returns-in-Query-clause-answer : goal.returns-in-Query-clause-answer
 returns-in-Query-clause-answer g c =
+    let read = rw c.in-Some.is at c.in_ok-command.ensures in c.on_input-in-Query.ensures.answer _ (rw c.in-Query.is at read)
+
+pub summary_line-requires : goal.summary_line-requires
+summary_line-requires g c =
     let read = rw c.in-Some.is at c.in_ok-command.ensures in
-    decides_unbuilt _ _ c.usage-in-Query.result _ (rw c.in-Query.is at read) tt c.usage-in-Query.ensures
+    size_fits (map string_bytes c.args.words.now) c.in-Load.size c.in-Load.number c.in-Load.budget (rw c.in-Load.is at read)
 
 pub returns-in-Load-clause-answer : goal.returns-in-Load-clause-answer
 returns-in-Load-clause-answer g c =
     let read = rw c.in-Some.is at c.in_ok-command.ensures in
-    decides_unbuilt _ _ c.usage-in-Load.result _ (rw c.in-Load.is at read) tt c.usage-in-Load.ensures
+    decides_load _ _ c.in-Load.size c.in-Load.number c.in-Load.budget c.summary_line.result (rw c.in-Load.is at read) c.summary_line.ensures

@@ -1,6 +1,8 @@
 use Rattle.std.proofs.Common.{refl}
 use Rattle.ig_tool.proofs.Deciding.{answers_text, answers_note, answers_memory}
+use Rattle.ig_tool.proofs.CompletenessLaw.{completeness}
 use Rattle.ig_tool.proofs.HeadlineLaw.{given, headline, grammar_commands}
+use Rattle.ig_tool.proofs.LoadLaw.{load_commands}
 use Rattle.ig_tool.proofs.top_call.iguana.Goals as goal
 
 pub returns-in-Ok-clause-answer : goal.returns-in-Ok-clause-answer
@@ -11,6 +13,10 @@ returns-in-Ok-clause-answer g c =
 pub returns-in-Ok-clause-headline : goal.returns-in-Ok-clause-headline
 returns-in-Ok-clause-headline g c =
     headline (given c.one_reading.ensures c.texts_are_read_or_refused.ensures) _ _ _ _ _ (returns-in-Ok-clause-answer g c)
+
+pub returns-in-Ok-clause-completeness : goal.returns-in-Ok-clause-completeness
+returns-in-Ok-clause-completeness g c =
+    completeness (given c.one_reading.ensures c.texts_are_read_or_refused.ensures) _ _ _ _ _ (returns-in-Ok-clause-answer g c)
 
 pub returns-in-Ok-clause-grammar_commands : goal.returns-in-Ok-clause-grammar_commands
 returns-in-Ok-clause-grammar_commands g c =
@@ -26,6 +32,10 @@ pub returns-in-Err-Note-clause-headline : goal.returns-in-Err-Note-clause-headli
 returns-in-Err-Note-clause-headline g c =
     headline (given c.one_reading.ensures c.texts_are_read_or_refused.ensures) _ _ _ _ _ (returns-in-Err-Note-clause-answer g c)
 
+pub returns-in-Err-Note-clause-completeness : goal.returns-in-Err-Note-clause-completeness
+returns-in-Err-Note-clause-completeness g c =
+    completeness (given c.one_reading.ensures c.texts_are_read_or_refused.ensures) _ _ _ _ _ (returns-in-Err-Note-clause-answer g c)
+
 pub returns-in-Err-Note-clause-grammar_commands : goal.returns-in-Err-Note-clause-grammar_commands
 returns-in-Err-Note-clause-grammar_commands g c =
     grammar_commands (given c.one_reading.ensures c.texts_are_read_or_refused.ensures) _ _ _ _ _ (returns-in-Err-Note-clause-answer g c)
@@ -39,6 +49,19 @@ pub returns-in-Err-Memory-clause-headline : goal.returns-in-Err-Memory-clause-he
 returns-in-Err-Memory-clause-headline g c =
     headline (given c.one_reading.ensures c.texts_are_read_or_refused.ensures) _ _ _ _ _ (returns-in-Err-Memory-clause-answer g c)
 
+pub returns-in-Err-Memory-clause-completeness : goal.returns-in-Err-Memory-clause-completeness
+returns-in-Err-Memory-clause-completeness g c =
+    completeness (given c.one_reading.ensures c.texts_are_read_or_refused.ensures) _ _ _ _ _ (returns-in-Err-Memory-clause-answer g c)
+
 pub returns-in-Err-Memory-clause-grammar_commands : goal.returns-in-Err-Memory-clause-grammar_commands
 returns-in-Err-Memory-clause-grammar_commands g c =
     grammar_commands (given c.one_reading.ensures c.texts_are_read_or_refused.ensures) _ _ _ _ _ (returns-in-Err-Memory-clause-answer g c)
+
+pub returns-in-Ok-clause-loads : goal.returns-in-Ok-clause-loads
+returns-in-Ok-clause-loads g c = load_commands _ _ _ _ _ (returns-in-Ok-clause-answer g c)
+
+pub returns-in-Err-Note-clause-loads : goal.returns-in-Err-Note-clause-loads
+returns-in-Err-Note-clause-loads g c = load_commands _ _ _ _ _ (returns-in-Err-Note-clause-answer g c)
+
+pub returns-in-Err-Memory-clause-loads : goal.returns-in-Err-Memory-clause-loads
+returns-in-Err-Memory-clause-loads g c = load_commands _ _ _ _ _ (returns-in-Err-Memory-clause-answer g c)

@@ -2,7 +2,7 @@ use Rattle.std.proofs.Common.{subst, sym}
 use Rattle.ig_tool.specs.Change.{change}
 use Rattle.ig_tool.specs.Jobs.{stored_job}
 use Rattle.ig_tool.specs.Stops.{Decides}
-use Rattle.ig_tool.proofs.Deciding.{passed, grammar_of_job, decides_at_grammar, decides_at_dots, decides_job, loaded_is_buildable}
+use Rattle.ig_tool.proofs.Deciding.{passed, grammar_of_job, decides_at_grammar, decides_at_dots, decides_job, loaded_is_buildable, still_unchanged}
 use Rattle.ig_tool.proofs.top_call.on_input.Goals as goal
 
 pub returns-in_err-checked-clause-answer : goal.returns-in_err-checked-clause-answer
@@ -38,3 +38,7 @@ returns-clause-answer g c = λ words command.
     decides_job words _ _ _ (stored_job c.args.job) c.args.grammar.now c.args.input.now c.args.budget c.in_ok-checked.checked
     c.in_ok-parser.parser c.run.result command c.in_ok-checked.ensures.counted c.in_ok-checked.ensures.same c.in_ok-checked.ensures.answer
     c.in_ok-parser.ensures c.run.ensures.counted c.run.ensures.answer
+
+pub run-requires : goal.run-requires
+run-requires g c =
+    record { as_it_is = still_unchanged c.in_ok-checked.checked.grammar c.in_ok-parser.parser c.in_ok-parser.ensures.0 }

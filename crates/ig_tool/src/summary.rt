@@ -1,0 +1,29 @@
+//! The command `load`.
+ghost use Rattle.std.specs.Prelude.{◌≤◌};
+ghost use Rattle.ig_load.specs.Input.{most_size};
+ghost use Rattle.ig_tool.specs.Stops.{LoadsText};
+
+use crate::parse::over_budget;
+use crate::stop::Stop;
+use ig_load::{LoadFault, load, show_summary};
+use std::alloc::Global;
+
+/// The line of what a load of this size and number says.
+pub(crate) fn summary_line(
+    alloc: Global,
+    size: u32,
+    number: u64,
+    budget: u32,
+) -> Result<Vec<u8>, Stop>
+    requires { size ≤ most_size }
+    ensures { LoadsText size number budget result }
+{
+    match load(alloc, size, number, budget) {
+        Ok(summary) => {
+            let line = show_summary(alloc, &summary)?;
+            Ok(line)
+        }
+        Err(LoadFault::Budget) => Err(over_budget(alloc, budget)),
+        Err(LoadFault::Memory) => Err(Stop::Memory),
+    }
+}
