@@ -18,8 +18,6 @@ mod names;
 mod operation;
 mod operator;
 mod reading;
-#[cfg(test)]
-mod tests;
 mod tree_order;
 mod value;
 

@@ -16,8 +16,6 @@ mod laws;
 mod lets;
 mod place;
 mod symbol;
-#[cfg(test)]
-mod tests;
 
 pub use checked::Checked;
 pub use declaration::{Assoc, Decl, DeclKind, Decls, Level, Levels, Param, Params};

@@ -9,7 +9,7 @@ use Rattle.ig_item.specs.Step.{Step, names_of}
 use Rattle.ig_item.specs.Core.{IsAlternative, numbered}
 use Rattle.ig_item.specs.Visible.{names_at, kinds_of}
 use Rattle.ig_item.specs.WellKinded.{NoneTwice, HasRoot, ExpressionsFit, CallFits, StepFits, IsWellKinded}
-use Rattle.ig_item.specs.Examples.{one_letter, countdown, root, root_alternative, start, letter, counting, counted, at_zero, letter_and_less, lone_root, no_steps_alternative}
+use Rattle.ig_item.specs.Examples.{one_letter, countdown, root, root_alternative, start, letter, counting, counted, at_zero, letter_and_less}
 use Rattle.ig_item.specs.declared.core_grammar.Nonterminal.{Nonterminal}
 use Rattle.ig_item.specs.declared.core_grammar.CoreAlt.{CoreAlt}
 use Rattle.ig_item.specs.Fitting.{AreFit, no_steps, next_step}
@@ -87,28 +87,6 @@ one_letter_is_well_kinded =
             (each_fits one_letter _ _ (step_then _ _ _ [] _ _ refl tt (_, refl, refl) (no_steps _ _)), tt),
             ((each_fits one_letter _ _ (step_then _ _ _ [] _ _ refl tt tt (no_steps _ _)), tt), tt),
           );
-      few_dots = lit≤ tt;
-      few_nonterminals = lit< tt;
-    }
-
-pub lone_root_is_well_kinded : (name : List ℕ) → IsWellKinded (lone_root name ∷ [])
-lone_root_is_well_kinded name =
-    let core : List Nonterminal = lone_root name ∷ [] in
-    record {
-      root =
-          record {
-            nonterminal = lone_root name;
-            alternative = no_steps_alternative;
-            first = refl;
-            plain = refl;
-            single = refl;
-            unbound = refl;
-          };
-      parameters = of_members Numbers core (refl, tt);
-      names = of_each Differ core ((differ_at (lone_root name) no_steps_alternative no_names, tt), tt);
-      tags = of_each (Tags core) core (((λ b other i e. alone _ other b i.has), tt), tt);
-      rules = of_each Rules core (((λ m k e. cc), tt), tt);
-      steps = of_each (StepsFit core) core ((each_fits core (lone_root name) no_steps_alternative (no_steps _ _), tt), tt);
       few_dots = lit≤ tt;
       few_nonterminals = lit< tt;
     }

@@ -22,13 +22,6 @@ root_alternative = record { tag = Root; steps = plain_call 1 [] ∷ [] }
 abbrev pub root : Nonterminal
 root = record { name = codes "$root"; params = []; kinds = []; alternatives = root_alternative ∷ [] }
 
-abbrev pub no_steps_alternative : CoreAlt
-no_steps_alternative = record { tag = Root; steps = [] }
-
--- a root of that name, which calls nothing
-abbrev pub lone_root : List ℕ → Nonterminal
-lone_root name = record { name = name; params = []; kinds = []; alternatives = no_steps_alternative ∷ [] }
-
 -- nonterminal 1, `S`, of one alternative
 abbrev pub start : CoreAlt → Nonterminal
 start alternative = record { name = codes "S"; params = []; kinds = []; alternatives = alternative ∷ [] }

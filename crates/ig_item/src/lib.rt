@@ -22,8 +22,6 @@ mod items;
 mod laws;
 mod run_fault;
 mod step;
-#[cfg(test)]
-mod tests;
 mod visible;
 
 pub use core_grammar::{Core, CoreAlt, CoreAlts, MOST_DOTS, Nonterminal, Nonterminals};

@@ -17,8 +17,6 @@ mod limits;
 mod signs;
 mod source;
 mod symbols;
-#[cfg(test)]
-mod tests;
 
 pub use fault::{Large, ReadFault};
 pub use ig_tokens::MOST_BYTES;

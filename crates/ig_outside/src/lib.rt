@@ -10,8 +10,6 @@ mod memory_shelf;
 mod memory_sink;
 mod shelf;
 mod sink;
-#[cfg(test)]
-mod tests;
 
 pub use memory_shelf::MemoryShelf;
 pub use memory_sink::MemorySink;

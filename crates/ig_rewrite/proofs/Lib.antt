@@ -12,7 +12,6 @@ pub mod RootShaped
 pub mod RootKept
 pub mod RootCode
 pub mod Gathering
-pub mod Barren
 pub mod Counting
 pub mod Asking
 pub mod NamesOnce

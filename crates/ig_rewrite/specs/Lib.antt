@@ -11,7 +11,6 @@ pub mod KeptByRoot
 pub mod Found
 pub mod Throughout
 pub mod Binders
-pub mod Examples
 pub mod Asked
 pub mod Passing
 pub mod EachLevel

@@ -12,8 +12,6 @@ mod growing;
 mod laws;
 mod rewriting;
 mod rooting;
-#[cfg(test)]
-mod tests;
 
 pub use growing::{
     copy_of_start, push_alternative, push_declaration, push_expression, push_integer, push_level,

@@ -12,7 +12,6 @@ pub mod Bytes
 pub mod Listing
 pub mod Nested
 pub mod CursorTexts
-pub mod LoneRoot
 pub mod Once
 pub mod SortedTexts
 pub mod Reporting

@@ -26,6 +26,3 @@ pub use laws::{canonical_text_reads_back, canonical_tokens_follow, cursor_texts_
 pub use query_text::{show_ambiguous, show_cyclic, show_furthest, show_spans};
 pub use report::{Report, show_report};
 pub use tree_text::{push_tree, show_tree};
-
-#[cfg(test)]
-mod tests;

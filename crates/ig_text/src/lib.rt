@@ -29,6 +29,3 @@ pub use sequence::Sequence;
 pub use tag::Tag;
 pub use text::{Span, Text, TextFault};
 pub use word::{Word, Words, words_end_behind_their_letters};
-
-#[cfg(test)]
-mod tests;

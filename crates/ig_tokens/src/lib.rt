@@ -27,6 +27,3 @@ pub use literals::literal_text;
 pub use numbers::number_of;
 pub use token::{Placed, Token, TokenFault};
 pub use tokenizer::{MOST_BYTES, tokenize};
-
-#[cfg(test)]
-mod tests;

@@ -24,8 +24,6 @@ mod rows;
 pub mod status;
 mod stop;
 mod summary;
-#[cfg(test)]
-mod tests;
 mod top_call;
 mod words;
 

@@ -11,9 +11,9 @@ use Rattle.ig_grammar.specs.declared.declaration.Decl.{Decl}
 use Rattle.ig_grammar.specs.declared.grammar.Grammar.{Grammar}
 use Rattle.ig_text.proofs.Characters.{ascii_chars}
 use Rattle.ig_text.proofs.Lists.{contains_one}
+use Rattle.ig_text.proofs.Positions.{beside-cons}
 use Rattle.ig_rewrite.specs.Added.{IsFresh, root_name}
-use Rattle.ig_rewrite.specs.Examples.{barren, barren_grammar}
-use Rattle.ig_rewrite.proofs.FirstNamed.{declaration_first}
+use Rattle.ig_tests.specs.Barren.{barren, barren_grammar}
 
 in_empty : {X : Type 0} (x : X) → Contains [] x → ⊥
 in_empty x c = absurd (omega (arith, c.1))
@@ -21,7 +21,7 @@ in_empty x c = absurd (omega (arith, c.1))
 found : (name other : List ℕ) → name ≡ other → declaration_of (barren name ∷ []) other ≡ Some (barren name)
 found name other same =
     let t : is_word name other ≡ true = (bytes_decides name other).1 same in
-    declaration_first (barren name) [] other ∙ ap (λ (b : Bool). if b then Some (barren name) else None) t
+    beside-cons (λ n. is_word n other) name [] (barren name) [] ∙ ap (λ (b : Bool). if b then Some (barren name) else None) t
 
 start_fine : (name : List ℕ) (c : Condition) → StartMeets (barren_grammar name) c → ⊥
 start_fine name _ (meets.unknown_start other e none) =

@@ -1,6 +1,6 @@
 //! Each call that takes memory once, with ample memory. What expressions give at the edges stands
 //! in `specs/Examples.antt`.
-use super::*;
+use ig_expr::{Expr, Exprs, Operand, Value, Values, evaluate};
 use ig_text::{Copied, Text};
 use std::test::Fail;
 

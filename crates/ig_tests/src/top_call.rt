@@ -1,8 +1,8 @@
 //! The top call over a shelf and sinks in memory, which may fail. What it answers is tried on the
 //! program, by tables of texts.
 
-use crate::{Status, iguana};
 use ig_outside::{MemoryShelf, MemorySink};
+use ig_tool::{Status, iguana};
 use std::alloc::Global;
 use std::process::Abort;
 use std::test::Fail;

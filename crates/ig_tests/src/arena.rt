@@ -1,7 +1,7 @@
 //! Values under ids, and lists that grow side by side.
 ghost use Rattle.std.specs.Prelude.{◌≡◌, ◌≤◌, ◌<◌, length, IfOk};
 
-use super::*;
+use ig_arena::{Arena, Chains, Id};
 use std::alloc::AllocError;
 use std::test::Fail;
 

@@ -5,7 +5,7 @@ ghost use Rattle.ig_outside.specs.Counts.{Rose, risen};
 ghost use Rattle.ig_outside.specs.Told.{bytes};
 ghost use Rattle.ig_outside.specs.Put.{Appends};
 
-use super::*;
+use ig_outside::{FetchFault, MemoryShelf, MemorySink, Shelf, Sink, SinkFault};
 use std::alloc::Global;
 use std::test::Fail;
 

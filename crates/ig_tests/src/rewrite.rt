@@ -1,13 +1,13 @@
 //! A grammar of one declaration through the traversal, and with its root, with ample memory.
 ghost use Rattle.std.specs.Prelude.{◌≡◌, IfOk};
-ghost use Rattle.ig_rewrite.specs.Examples.{barren_grammar};
+ghost use Rattle.ig_tests.specs.Barren.{barren_grammar};
 
-use crate::*;
+use crate::grammar::alternatives_of;
 use ig_expr::Exprs;
 use ig_grammar::{
-    Alt, Alts, Assoc, Checked, Decl, DeclKind, Decls, Grammar, Inner, Level, Levels, Params,
-    Symbol, Symbols,
+    Assoc, Checked, Decl, DeclKind, Decls, Grammar, Inner, Level, Levels, Params, Symbol,
 };
+use ig_rewrite::{OwnRule, copy_of_shapes, has_root, rewrite_grammar, rewrite_levels, root};
 use ig_text::{Copied, Word};
 use std::alloc::{AllocError, Global};
 use std::test::Fail;
@@ -23,29 +23,36 @@ impl OwnRule for Unchanging {
     }
 }
 
+// `S?`
+fn optional_call(alloc: Global) -> Result<Symbol, AllocError> {
+    let name = Word::new(alloc, "S")?;
+    let call = Symbol::Call(name, Exprs::new(alloc));
+    Ok(Symbol::Opt(Inner::new(alloc, call)?))
+}
+
+// The one level of that alternative.
+fn level_of(alloc: Global, symbol: Symbol) -> Result<Levels, AllocError> {
+    let alts = alternatives_of(alloc, symbol)?;
+    let assoc = Assoc::Free;
+    Ok(Levels::from_vec(vec![in alloc; Level { assoc, alts }]?))
+}
+
+// `syntax S = S?;`
+fn declaration(alloc: Global) -> Result<Decl, AllocError> {
+    let levels = level_of(alloc, optional_call(alloc)?)?;
+    Ok(Decl {
+        kind: DeclKind::Syntax,
+        name: Word::new(alloc, "S")?,
+        params: Params::new(alloc),
+        levels,
+    })
+}
+
 // `start S; syntax S = S?;`
 fn optional(alloc: Global) -> Result<Grammar, AllocError> {
-    let name = Word::new(alloc, "S")?;
-    let call = Symbol::Call(name.copy(alloc)?, Exprs::new(alloc));
-    let mut symbols = Symbols::new(alloc);
-    symbols
-        .push(Symbol::Opt(Inner::new(alloc, call)?))
-        .map_err(|refused| refused.1)?;
-    let mut alts = Alts::new(alloc);
-    alts.push(Alt { symbols }).map_err(|refused| refused.1)?;
-    let level = Level {
-        assoc: Assoc::Free,
-        alts,
-    };
-    let decl = Decl {
-        kind: DeclKind::Syntax,
-        name: name.copy(alloc)?,
-        params: Params::new(alloc),
-        levels: Levels::from_vec(vec![in alloc; level]?),
-    };
-    let decls = Decls::from_vec(vec![in alloc; decl]?);
+    let decls = Decls::from_vec(vec![in alloc; declaration(alloc)?]?);
     Ok(Grammar {
-        start: Some(name),
+        start: Some(Word::new(alloc, "S")?),
         decls,
     })
 }

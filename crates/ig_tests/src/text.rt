@@ -2,7 +2,7 @@
 ghost use Rattle.std.specs.Prelude.{◌↔◌, IsTrue};
 ghost use Rattle.ig_text.specs.Ranges.{NoneFalls};
 
-use super::*;
+use ig_text::{Class, Copied, Text, Word, Words};
 use std::test::Fail;
 
 fn none_falls(pairs: &[(char, char)]) -> bool

@@ -1,5 +1,5 @@
 //! Reading, once. Tables of texts that are read and that aren't are tried on the program.
-use crate::read;
+use ig_notation::read;
 use ig_text::Word;
 use std::test::Fail;
 

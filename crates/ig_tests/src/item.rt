@@ -1,0 +1,28 @@
+//! Each call that takes memory, with ample memory.
+use ig_expr::{Expr, Value};
+use ig_item::{EnvironmentTable, Step, Steps, VisibleNames};
+use ig_text::{Word, Words};
+use std::test::Fail;
+
+#[test]
+fn steps_are_added_with_their_names(rt: HostRuntime) -> Result<(), Fail> {
+    let alloc = rt.alloc();
+    let mut steps = Steps::new(alloc);
+    let step = Step::Bind(Word::new(alloc, "x")?, Expr::Here);
+    steps.push(step).map_err(|refused| refused.1)?;
+    assert_eq!(rt; steps.as_slice().len(), 1);
+    let names = VisibleNames::of(alloc, &Words::new(alloc), &steps)?;
+    assert_eq!(rt; names.at(0).map(|seen| seen.len()), Some(0));
+    assert_eq!(rt; names.at(1).map(|seen| seen.len()), Some(1));
+    assert!(rt; names.at(2).is_none());
+    Ok(())
+}
+
+#[test]
+fn environments_are_added(rt: HostRuntime) -> Result<(), Fail> {
+    let mut envs = EnvironmentTable::new(rt.alloc());
+    envs.push(&[Value::Int(1)])?;
+    assert_eq!(rt; envs.get(0).map(|values| values.len()), Some(1));
+    assert!(rt; envs.get(1).is_none());
+    Ok(())
+}
