@@ -7,12 +7,10 @@ ghost use Rattle.ig_tool.specs.Commands.{question_with, stored_listing, stored_q
 ghost use Rattle.ig_tool.specs.Commands.{stored_request};
 ghost use Rattle.ig_tool.specs.Rows.{budget_found, found_request, listing_found};
 
-#[cfg(test)]
-mod tests;
-
 use crate::rows::{Row, matches_of, row_named};
 use crate::words::{all_may_stand, read_number};
 use clap::ArgMatches;
+use ig_load::MOST_SIZE;
 use std::alloc::{AllocError, Global};
 
 /// The budget where none is given.
@@ -29,9 +27,6 @@ const USUAL_COUNT: u32 = 20;
 
 /// How many trees may be asked for.
 const MOST_COUNT: u32 = 100_000;
-
-/// The greatest size of a load.
-const MOST_SIZE: u32 = 4_000;
 
 /// Which trees are listed.
 #[derive(Clone, Copy, Debug)]
