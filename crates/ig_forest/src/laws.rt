@@ -1,5 +1,6 @@
 //! What the reduced forest keeps to. The functions do nothing: their contracts are the laws.
-ghost use Rattle.ig_forest.specs.Laws.{CursorsAreOrderedAsTrees, HasOneCursor, LiveIsLeast, LiveIsReachable, OnlyOne};
+ghost use Rattle.ig_forest.specs.Laws.{CursorsAreOrderedAsTrees, HasOneCursor, LiveIsLeast};
+ghost use Rattle.ig_forest.specs.Laws.{LiveIsReachable, OnlyOne};
 ghost use Rattle.ig_forest.specs.Laws.{ReducedHasNoKeyTwice, ReducedIsTrim, RootIsThere};
 ghost use Rattle.ig_forest.specs.Laws.{TrimHasTrees, UnfoldsToCoreTrees};
 

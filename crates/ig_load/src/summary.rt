@@ -19,8 +19,8 @@ pub struct Summary {
     pub cyclic: bool,
 }
 
-/// The line of a summary, as UTF-8: `items`, `nodes`, `ambiguous` and `cyclic`, each with its number
-/// or with `yes` or `no`. Refuses only for want of memory.
+/// The line of a summary, as UTF-8: `items`, `nodes`, `ambiguous` and `cyclic`, each with its
+/// number or with `yes` or `no`. Refuses only for want of memory.
 pub fn show_summary(alloc: Global, summary: &Summary) -> Result<Vec<u8>, AllocError>
     ensures { IfOk result (λ bytes. bytes.items ≡ summary_text summary.now) }
 {

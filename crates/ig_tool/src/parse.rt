@@ -68,27 +68,30 @@ pub(crate) fn parse(
     };
     let _root = forest.root();
     cursors_are_short(&forest);
-    finish(alloc, parser, input, &items, &forest, job)
+    finish(alloc, parser, input, items, &forest, job)
 }
 
 /// What comes of a job by the forest of the parser's grammar and the input, whose reachable items
-/// these are.
+/// these are. They are many, so they go before a text is made that doesn't tell of them.
 fn finish(
     alloc: Global,
     parser: &Parser<'_>,
     input: &Text,
-    items: &Items,
+    items: Items,
     forest: &Forest,
     job: Job<'_>,
 ) -> Result<Vec<u8>, Stop>
-    requires reachable { AreReachable parser.now input.now items.now }
+    requires reachable { AreReachable parser.now input.now items }
     requires printable { IsPrintable (CoreOf parser.now) forest.now }
     ensures { ComesOf parser.now input.now forest.now (stored_job job.entry) result }
 {
     match job {
-        Job::Print => show(alloc, forest),
+        Job::Print => {
+            drop(items);
+            show(alloc, forest)
+        }
         Job::List(listing) => list(alloc, parser.core(), forest, listing),
-        Job::Ask(question) => answer(alloc, parser, input, items, forest, question),
+        Job::Ask(question) => answer(alloc, parser, input, &items, forest, question),
     }
 }
 
