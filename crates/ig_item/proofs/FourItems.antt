@@ -22,7 +22,7 @@ use Rattle.ig_item.specs.Induction.{kept}
 use Rattle.ig_item.proofs.Dots.{alone}
 
 -- which of the four an item is
-data Known (it : Item) : Type 0 where
+pub data Known (it : Item) : Type 0 where
   calling : it ≡ plain_item 0 0 0 → Known it
   reading : it ≡ plain_item 1 0 0 → Known it
   read : it ≡ plain_item 1 1 1 → Known it
@@ -35,7 +35,7 @@ known_at (suc (suc zero)) it e = read (sym (same_Some _ it e))
 known_at (suc (suc (suc zero))) it e = called (sym (same_Some _ it e))
 known_at (suc (suc (suc (suc k)))) it e = cc
 
-known : (it : Item) → Contains four_items it → Known it
+pub known : (it : Item) → Contains four_items it → Known it
 known it c = let at = at_from_contains four_items it c in known_at at.0 it at.1
 
 -- the step before which an item stands
@@ -43,7 +43,7 @@ abbrev step_at : Item → Option Step
 step_at it =
     option_and_then (λ (a : CoreAlt). slice_get a.steps it.dot) (alternative_at one_letter it.instance.nonterminal it.alternative)
 
-abbrev steps_of : Item → Option ℕ
+abbrev pub steps_of : Item → Option ℕ
 steps_of it =
     option_and_then (λ (a : CoreAlt). Some (length a.steps)) (alternative_at one_letter it.instance.nonterminal it.alternative)
 
@@ -57,7 +57,7 @@ stands it names step s =
     ap (option_and_then (λ (a : CoreAlt). slice_get a.steps it.dot))
     (alternative_is it.instance.nonterminal it.alternative s.nonterminal s.alternative s.has) ∙ s.next
 
-ends : (it : Item) → IsComplete one_letter it → steps_of it ≡ Some it.dot
+pub ends : (it : Item) → IsComplete one_letter it → steps_of it ≡ Some it.dot
 ends it c =
     ap (option_and_then (λ (a : CoreAlt). Some (length a.steps)))
     (alternative_is it.instance.nonterminal it.alternative c.nonterminal c.alternative c.has) ∙ ap Some (sym c.last)
@@ -70,7 +70,7 @@ step_of it like names step e s = ap step_at (sym e) ∙ stands it names step s
 in_four : (k : ℕ) (x like : Item) → slice_get four_items k ≡ Some like → x ≡ like → Contains four_items x
 in_four k x like at e = contains_from_at four_items k x (at ∙ ap Some (sym e))
 
-test_never : (it : Item) (names : List (List ℕ)) (c : Expression) → Known it → StandsBefore one_letter it names (Test c) → ⊥
+pub test_never : (it : Item) (names : List (List ℕ)) (c : Expression) → Known it → StandsBefore one_letter it names (Test c) → ⊥
 test_never it names c (calling e) s =
     let h : Some (plain_call 1 []) ≡ Some (Test c) = step_of it (plain_item 0 0 0) names (Test c) e s in cc
 test_never it names c (reading e) s =
@@ -80,7 +80,7 @@ test_never it names c (read e) s =
 test_never it names c (called e) s =
     let h : None ≡ Some (Test c) = step_of it (plain_item 0 1 1) names (Test c) e s in cc
 
-bind_never : (it : Item) (names : List (List ℕ)) (name : List ℕ) (c : Expression) → Known it →
+pub bind_never : (it : Item) (names : List (List ℕ)) (name : List ℕ) (c : Expression) → Known it →
     StandsBefore one_letter it names (Bind name c) → ⊥
 bind_never it names name c (calling e) s =
     let h : Some (plain_call 1 []) ≡ Some (Bind name c) = step_of it (plain_item 0 0 0) names (Bind name c) e s in cc
@@ -93,12 +93,12 @@ bind_never it names name c (read e) s =
 bind_never it names name c (called e) s =
     let h : None ≡ Some (Bind name c) = step_of it (plain_item 0 1 1) names (Bind name c) e s in cc
 
-record ReadsLetter (it : Item) (what : Pattern) (label : Option (List ℕ)) : Type 0 where
-  is : it ≡ plain_item 1 0 0
-  what_is : Literal (codes "a") ≡ what
-  label_is : label ≡ None
+pub record ReadsLetter (it : Item) (what : Pattern) (label : Option (List ℕ)) : Type 0 where
+  pub is : it ≡ plain_item 1 0 0
+  pub what_is : Literal (codes "a") ≡ what
+  pub label_is : label ≡ None
 
-terminal_at : (it : Item) (names : List (List ℕ)) (what : Pattern) (label : Option (List ℕ)) (excluded : List Pattern) →
+pub terminal_at : (it : Item) (names : List (List ℕ)) (what : Pattern) (label : Option (List ℕ)) (excluded : List Pattern) →
     Known it → StandsBefore one_letter it names (Term what label excluded) → ReadsLetter it what label
 terminal_at it names what label excluded (calling e) s =
     let h : Some (plain_call 1 []) ≡ Some (Term what label excluded) =
@@ -118,13 +118,13 @@ terminal_at it names what label excluded (called e) s =
     step_of it (plain_item 0 1 1) names (Term what label excluded) e s in
     cc
 
-record CallsStart (it : Item) (callee : ℕ) (arguments : List Expression) (label : Option (List ℕ)) : Type 0 where
-  is : it ≡ plain_item 0 0 0
-  callee_is : callee ≡ 1
-  arguments_are : arguments ≡ []
-  label_is : label ≡ None
+pub record CallsStart (it : Item) (callee : ℕ) (arguments : List Expression) (label : Option (List ℕ)) : Type 0 where
+  pub is : it ≡ plain_item 0 0 0
+  pub callee_is : callee ≡ 1
+  pub arguments_are : arguments ≡ []
+  pub label_is : label ≡ None
 
-call_at : (it : Item) (names : List (List ℕ)) (callee : ℕ) (arguments : List Expression) (label : Option (List ℕ))
+pub call_at : (it : Item) (names : List (List ℕ)) (callee : ℕ) (arguments : List Expression) (label : Option (List ℕ))
     (excluded : List Pattern) → Known it → StandsBefore one_letter it names (Call callee arguments label excluded) →
     CallsStart it callee arguments label
 call_at it names callee arguments label excluded (calling e) s =
@@ -145,12 +145,12 @@ call_at it names callee arguments label excluded (called e) s =
     step_of it (plain_item 0 1 1) names (Call callee arguments label excluded) e s in
     cc
 
-letter_ends : (j : ℕ) → Spells (codes "a") (codes "a") 0 j → j ≡ 1
+pub letter_ends : (j : ℕ) → Spells (codes "a") (codes "a") 0 j → j ≡ 1
 letter_ends zero s = let h : [] ≡ codes "a" = s.letters in cc
 letter_ends (suc zero) s = refl
 letter_ends (suc (suc k)) s = let h : suc (suc k) ≤ 1 = s.within in absurd (omega arith)
 
-no_values : (vs : List Value) → [] ≡ map Some vs → vs ≡ []
+pub no_values : (vs : List Value) → [] ≡ map Some vs → vs ≡ []
 no_values [] e = refl
 no_values (v ∷ vs) e = cc
 
@@ -213,10 +213,10 @@ rule _ (items.call it callee label excluded nonterminal a alternative x k calls 
 rule _ (items.return it done label excluded x k l calls complete free e) =
     after_return it done label excluded x k (known done l) calls complete e
 
-none_of : {X : Type 0} (P : X → Type 0) → All P []
+pub none_of : {X : Type 0} (P : X → Type 0) → All P []
 none_of P k d lt = absurd (omega arith)
 
-calls_start : Calls one_letter (codes "a") (plain_item 0 0 0) (plain_item 1 0 0).instance None []
+pub calls_start : Calls one_letter (codes "a") (plain_item 0 0 0) (plain_item 1 0 0).instance None []
 calls_start =
     record {
       names = [];

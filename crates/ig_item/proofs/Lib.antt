@@ -14,4 +14,5 @@ pub mod Roots
 pub mod Fitting
 pub mod Examples
 pub mod FourItems
+pub mod FourWays
 pub mod PartLists

@@ -1,8 +1,8 @@
 -- Lists that stand side by side in one list, which grows at its end.
-use Rattle.std.proofs.Common.{◌≡◌, ℕ, zero, suc, ◌+◌, ◌-◌, ◌<◌, ◌≤◌, List, [], ◌∷◌, ◌++◌, Some, None, Option, length, map, take, drop, Contains, slice_get, refl, ⊎_elim, sym, ap, ◌∙◌, subst, arith, length-append, length-drop, length-take}
-use Rattle.std.specs.Prelude.{slice_range, option_map, slice_index_or, OnErr, IfErr}
+use Rattle.std.proofs.Common.{◌≡◌, ℕ, zero, suc, ◌+◌, ◌-◌, ◌≤◌, List, [], ◌∷◌, ◌++◌, Some, None, length, map, take, drop, Contains, slice_get, refl, ⊎_elim, sym, ap, ◌∙◌, subst, arith, length-append, length-drop}
+use Rattle.std.specs.Prelude.{slice_range, option_map, slice_index_or}
 use Rattle.std.proofs.lemmas.List.{take-append-le, drop-append-le, map-append}
-use Rattle.std.proofs.lemmas.Option.{slice_get-map, slice_get_within, slice_get-get_or, slice_get_past, get_or_from_slice_get}
+use Rattle.std.proofs.lemmas.Option.{slice_get-map, slice_get-get_or, get_or_from_slice_get}
 use Rattle.std.proofs.Math.Seq.{take-length, drop-append_seam}
 use Rattle.ig_expr.specs.declared.value.Value.{Value}
 use Rattle.ig_item.specs.declared.environment_table.Part.{Part}

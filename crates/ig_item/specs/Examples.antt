@@ -8,8 +8,10 @@ use Rattle.ig_expr.specs.declared.operator.Op.TheVariants.{Sub, Equal}
 use Rattle.ig_item.specs.Step.{Step, Test, Term, Call}
 use Rattle.ig_item.specs.WellKinded.{IsWellKinded}
 use Rattle.ig_item.specs.Items.{Item, Reachable}
+use Rattle.ig_item.specs.Ways.{WayLists, AreWays}
 use Rattle.ig_item.specs.declared.core_grammar.Nonterminal.{Nonterminal}
 use Rattle.ig_item.specs.declared.core_grammar.CoreAlt.{CoreAlt}
+use Rattle.ig_item.specs.declared.ways.Way.TheVariants.{Begin, Leaf, Node}
 
 -- a call without label and excluded patterns
 abbrev pub plain_call : ℕ → List Expression → Step
@@ -51,6 +53,14 @@ four_items = plain_item 0 0 0 ∷ plain_item 1 0 0 ∷ plain_item 1 1 1 ∷ plai
 -- on the text `a` these are the reachable ones
 abbrev pub FourItemsAreReachable : Type 0
 FourItemsAreReachable = (x : Item) → Reachable one_letter (codes "a") x ↔ Contains four_items x
+
+-- the items before the first step begin, `S` comes by the letter, and the root by the node of `S`
+abbrev pub four_ways : WayLists
+four_ways = record { firsts = Begin ∷ Begin ∷ Leaf 1 ∷ Node 0 2 ∷ []; further = []; ends = [] }
+
+-- these are their ways
+abbrev pub FourItemsHaveWays : Type 0
+FourItemsHaveWays = AreWays one_letter (codes "a") four_items four_ways
 
 abbrev pub variable : Expression
 variable = Variable (codes "n")

@@ -7,9 +7,12 @@ pub mod WellKinded
 pub mod Fitting
 pub mod Regular
 pub mod Items
+pub mod Gives
 pub mod Behind
 pub mod Parts
 pub mod Tables
+pub mod Ways
+pub mod Recorded
 pub mod CoreTrees
 pub mod Annotated
 pub mod TagOrder

@@ -1,5 +1,5 @@
 -- Lists of values that stand side by side in one list.
-use Rattle.std.specs.Prelude.{ℕ, ◌≤◌, List, length, Contains, slice_range}
+use Rattle.std.specs.Prelude.{◌≤◌, List, length, Contains, slice_range}
 use Rattle.ig_expr.specs.declared.value.Value.{Value}
 use Rattle.ig_item.specs.declared.environment_table.Part.{Part}
 

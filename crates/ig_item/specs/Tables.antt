@@ -1,5 +1,5 @@
 -- Items that name their instances and environments by number.
-use Rattle.std.specs.Prelude.{ℕ, ◌<◌, List, [], map, length, Contains, slice_index_or}
+use Rattle.std.specs.Prelude.{◌<◌, List, [], map, length, Contains, slice_index_or}
 use Rattle.ig_expr.specs.declared.value.Value.{Value}
 use Rattle.ig_item.specs.Items.{Item, root_instance}
 use Rattle.ig_item.specs.declared.items.Instance.{Instance}

@@ -1,6 +1,7 @@
 //! What core grammars and reachable items keep to. The functions do nothing: their contracts are
 //! the laws, each proved for all core grammars, texts and items that it speaks of.
-ghost use Rattle.ig_item.specs.Examples.{FourItemsAreReachable, CountdownIsWellKinded};
+ghost use Rattle.ig_item.specs.Examples.{FourItemsAreReachable, FourItemsHaveWays};
+ghost use Rattle.ig_item.specs.Examples.{CountdownIsWellKinded};
 ghost use Rattle.ig_item.specs.Laws.{AlternativesAreOne, NamesGrow, NamesAreAtDots};
 ghost use Rattle.ig_item.specs.Laws.{StepsFit, NamesDiffer, BehindIsLookedUp, StandsBeforeOne};
 ghost use Rattle.ig_item.specs.Laws.{ReachableIsClosed, ReachableFollows, ReachableIsLeast};
@@ -140,6 +141,13 @@ pub fn steps_leave_environments()
 /// those of the root and of `S`, each at both of its dots. This law computes nothing.
 pub fn four_items_are_reachable()
     ensures { FourItemsAreReachable }
+{}
+
+/// Two of these items begin an alternative, that of `S` behind the letter comes by a leaf, and the
+/// complete one of the root by the node of `S`; and there are no other ways. This law computes
+/// nothing.
+pub fn four_items_have_ways()
+    ensures { FourItemsHaveWays }
 {}
 
 /// The core grammar of

@@ -4,9 +4,11 @@
 //! alternatives are lists of [`Step`]s. It is well kinded, as `specs/WellKinded.antt` says.
 //! Contracts see it as the list of its nonterminals, and a step as that of `specs/Step.antt`, with
 //! expressions as syntax trees. [`Items`] are what a run finds: three tables, of instances, of
-//! environments and of items that name them by number.
+//! environments and of items that name them by number. [`Ways`] say how each of them came about, and
+//! a [`Recorded`] keeps the items and the ways of a core grammar and a text.
 //!
 //! `specs/Items.antt` defines which items of a core grammar and a text are reachable,
+//! `specs/Gives.antt` which item gives which by a rule, `specs/Ways.antt` how items came about,
 //! `specs/CoreTrees.antt` the trees of a core grammar without items, `specs/ItemTrees.antt` which
 //! trees stand before the dot of an item, `specs/Annotated.antt` which values stand in the nodes of
 //! trees, and `specs/Report.antt` the furthest position and what is expected there. Nonterminals,
@@ -20,9 +22,11 @@ mod dot;
 mod environment_table;
 mod items;
 mod laws;
+mod recorded;
 mod run_fault;
 mod step;
 mod visible;
+mod ways;
 
 pub use core_grammar::{Core, CoreAlt, CoreAlts, MOST_DOTS, Nonterminal, Nonterminals};
 pub use dot::Behind;
@@ -32,10 +36,13 @@ pub use laws::{
     alternatives_are_one, alternatives_begin_together, behind_is_looked_up,
     complete_items_are_trees, complete_root_items_are_one, complete_root_items_are_trees,
     countdown_is_well_kinded, environments_fit, environments_grow, four_items_are_reachable,
-    items_are_in_text, items_are_reached_by_trees, more_known_gives_no_less, names_are_at_dots,
-    names_differ, names_grow, reachable_follows, reachable_is_closed, reachable_is_least,
-    stands_before_one, steps_fit, steps_leave_environments, steps_leave_in_turn,
+    four_items_have_ways, items_are_in_text, items_are_reached_by_trees, more_known_gives_no_less,
+    names_are_at_dots, names_differ, names_grow, reachable_follows, reachable_is_closed,
+    reachable_is_least, stands_before_one, steps_fit, steps_leave_environments,
+    steps_leave_in_turn,
 };
+pub use recorded::Recorded;
 pub use run_fault::RunFault;
 pub use step::{Step, Steps};
 pub use visible::VisibleNames;
+pub use ways::{FurtherEnd, FurtherWay, Way, Ways};

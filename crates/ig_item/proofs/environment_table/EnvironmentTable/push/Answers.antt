@@ -1,4 +1,4 @@
-use Rattle.std.proofs.Common.{rules, ◌≡◌, ap, sym, ◌∙◌, subst, ◌+◌, length, arith}
+use Rattle.std.proofs.Common.{rules, sym, subst}
 use Rattle.ig_item.specs.Parts.{ArePartsOf}
 use Rattle.ig_item.proofs.PartLists.{parts_left, parts_more, lists_same, lists_more}
 use Rattle.ig_item.proofs.environment_table.EnvironmentTable.push.Goals as goal

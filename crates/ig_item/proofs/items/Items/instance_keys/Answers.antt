@@ -1,4 +1,4 @@
-use Rattle.std.proofs.Common.{◌≡◌, ap, sym, ◌∙◌, subst}
+use Rattle.std.proofs.Common.{sym, subst}
 use Rattle.ig_item.specs.Tables.{HaveValues}
 use Rattle.ig_item.proofs.items.Items.instance_keys.Goals as goal
 

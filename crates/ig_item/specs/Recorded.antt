@@ -1,0 +1,37 @@
+-- What a run records: the items that are reachable, and how they came about.
+use Rattle.std.specs.Prelude.{◌↔◌, ℕ, List, Contains, refl}
+use Rattle.std.specs.Coded.{Coded, code_by, coded_ℕ, coded_list, coded×}
+use Rattle.ig_item.specs.WellKinded.{NoneTwice}
+use Rattle.ig_item.specs.Items.{Item, Reachable}
+use Rattle.ig_item.specs.Tables.{Tables, items_of}
+use Rattle.ig_item.specs.Ways.{WayLists, AreWays}
+use Rattle.ig_item.specs.declared.core_grammar.Nonterminal.{Nonterminal}
+
+-- the items and the ways that were recorded of a core grammar and a text
+pub record Recording : Type 0 where
+  pub core : List Nonterminal
+  pub text : List ℕ
+  pub tables : Tables
+  pub ways : WayLists
+
+abbrev pub recording : List Nonterminal → List ℕ → Tables → WayLists → Recording
+recording core text tables ways = record { core = core; text = text; tables = tables; ways = ways }
+
+-- a recording is stored as its parts, from which it is read back
+abbrev pub recording_code : Coded (List Nonterminal) → Coded Tables → Coded WayLists → Coded Recording
+recording_code core tables ways =
+    code_by (List Nonterminal × (List ℕ × (Tables × WayLists)))
+    (coded× core (coded× (coded_list coded_ℕ) (coded× tables ways)))
+    (λ r. (r.core, (r.text, (r.tables, r.ways)))) (λ p. recording p.0 p.1.0 p.1.1.0 p.1.1.1) (λ _. refl)
+
+-- the items of the tables are exactly the reachable ones
+abbrev pub AreReachable : List Nonterminal → List ℕ → Tables → Type 0
+AreReachable core text tables = (x : Item) → Contains (items_of tables) x ↔ Reachable core text x
+
+-- the items are the reachable ones, nothing stands twice in a table, and the ways are those of the items
+pub record IsRecorded (r : Recording) : Type 0 where
+  pub reachable : AreReachable r.core r.text r.tables
+  pub once : NoneTwice (items_of r.tables)
+  pub instances : NoneTwice r.tables.instances
+  pub environments : NoneTwice r.tables.environments
+  pub are_ways : AreWays r.core r.text (items_of r.tables) r.ways
