@@ -1,17 +1,13 @@
 -- An item before a test, a binding or a terminal is taken.
-use Rattle.std.proofs.Common.{◌≡◌, inl, ℕ, zero, suc, ◌+◌, ◌<◌, ◌≤◌, List, [], ◌∷◌, ◌++◌, Some, None, Option, length, map, take, Contains, refl, sym, ap, ◌∙◌, subst, arith, slice_get, true}
-use Rattle.std.specs.Prelude.{Result, Ok, Err, option_map, option_and_then, MatchResult}
-use Rattle.std.specs.List.{flat_map}
-use Rattle.std.proofs.lemmas.Option.{same_Some}
+use Rattle.std.proofs.Common.{◌≡◌, inl, ℕ, zero, suc, ◌+◌, ◌<◌, ◌≤◌, List, [], ◌∷◌, Some, None, Option, length, map, Contains, refl, sym, ap, ◌∙◌, subst, arith, slice_get, true}
+use Rattle.std.specs.Prelude.{Result, Ok, Err, option_and_then, MatchResult}
 use Rattle.ig_text.specs.Pattern.{Matches}
 use Rattle.ig_text.specs.declared.pattern.Pattern.{Pattern}
 use Rattle.ig_expr.specs.Expression.{Expression}
 use Rattle.ig_expr.specs.declared.value.Value.{Value}
 use Rattle.ig_expr.specs.declared.value.Value.TheVariants.{Bool as truth}
-use Rattle.ig_item.specs.Step.{Step, Test, Bind, Term, names_of}
-use Rattle.ig_item.specs.View.{step_of}
-use Rattle.ig_item.specs.declared.step.Step as step
-use Rattle.ig_item.specs.Core.{IsAlternative, alternative_at}
+use Rattle.ig_item.specs.Step.{Step, Test, Bind, Term}
+use Rattle.ig_item.specs.Core.{IsAlternative}
 use Rattle.ig_item.specs.Items.{Item, IsComplete, StandsBefore, HasValue, MatchesNone, MoreThan, past, span_of, first}
 use Rattle.ig_item.specs.Laws.{ReachableIsClosed, EnvironmentFits, EnvironmentsFit}
 use Rattle.ig_item.specs.WellKinded.{IsWellKinded}
@@ -40,7 +36,7 @@ use Rattle.ig_plain.proofs.Returns.{alternative_there}
 use Rattle.ig_plain.proofs.Calls.{visible_one}
 
 module _ (core : List Nonterminal) (text : List ℕ) (law : ReachableIsClosed) (budget p k : ℕ) (s : Found) (w : Waiting) (item : stored.Item)
-    (here : item.position ≡ p) (r : IsRun core text budget p k s w) (at : slice_get s.here.keys k ≡ Some item) where
+    (here : item.position ≡ p) (r : IsRun core text budget p k s w) (at : slice_get s.here k ≡ Some item) where
   abbrev it : Item
   it = means s item
 
@@ -127,13 +123,13 @@ module _ (core : List Nonterminal) (text : List ℕ) (law : ReachableIsClosed) (
       over x m = record { names = names; what = what; label = label; excluded = excluded; end = m.0; before = before; matches = m.1; is = m.3 }
 
       module _ (x : Item) (t : Found) (m : IsBehind text what label excluded it x) (g : GrowsLater p x s t) where
-        keeps_later : Keeps s t
+        pub keeps_later : Keeps s t
         keeps_later =
             record {
               named = named_still core text law budget p k s item r.taking at x t g (over x m) (follows x m);
               means_same = means_still core text law budget p k s item r.taking at x t g (over x m) (follows x m);
               instances = ap (map (instance_by t.envs.keys)) g.keys ∙
-                  same_map (instance_by t.envs.keys) (instance_by s.envs.keys) s.keys.keys
+                  same_map (instance_by t.envs.keys) (instance_by s.envs.keys) s.keys
                   (λ key c. instance_kept s.envs.keys t.envs.keys key g.envs (r.taking.stored.named.values key c));
             }
 
@@ -164,7 +160,7 @@ module _ (core : List Nonterminal) (text : List ℕ) (law : ReachableIsClosed) (
 
 -- the item stands in an alternative
 module _ (core : List Nonterminal) (text : List ℕ) (budget p k : ℕ) (s : Found) (w : Waiting) (item : stored.Item)
-    (r : IsRun core text budget p k s w) (at : slice_get s.here.keys k ≡ Some item) where
+    (r : IsRun core text budget p k s w) (at : slice_get s.here k ≡ Some item) where
   pub fits : EnvironmentsFit → IsWellKinded core → EnvironmentFits core (means s item)
   fits law2 kinded =
       law2 core text (means s item) kinded

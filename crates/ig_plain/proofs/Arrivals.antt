@@ -1,5 +1,5 @@
 -- The next position is reached.
-use Rattle.std.proofs.Common.{◌≡◌, ⊎_elim, inl, inr, ℕ, suc, ◌+◌, ◌<◌, ◌≤◌, List, [], ◌∷◌, ◌++◌, Some, length, map, take, Contains, refl, sym, ap, ◌∙◌, subst, arith, slice_get, length-append}
+use Rattle.std.proofs.Common.{◌≡◌, ⊎_elim, inl, inr, ℕ, ◌+◌, ◌<◌, ◌≤◌, List, [], ◌∷◌, ◌++◌, Some, length, map, Contains, refl, sym, ap, ◌∙◌, subst, arith, slice_get, length-append, append_assoc}
 use Rattle.std.proofs.lemmas.List.{append-nil}
 use Rattle.std.proofs.lemmas.Option.{slice_get_within}
 use Rattle.std.proofs.Math.Seq.{take-length}
@@ -17,13 +17,11 @@ use Rattle.ig_plain.specs.declared.waiting.Waiting.{Waiting}
 use Rattle.ig_plain.specs.Tables.{IsNamed, item_by}
 use Rattle.ig_plain.specs.Found.{means, instances_in, found_in, later_in, taken_in, Named, AreNamed, IsStored}
 use Rattle.ig_plain.specs.Run.{IsWaiting, IsTaking, IsRun}
-use Rattle.ig_plain.specs.Arrival as arrival
-use Rattle.ig_plain.specs.Arrival.{IsParted, IsSorted, ArrivesWith}
-use Rattle.ig_plain.proofs.Lists.{contains_from_at, at_from_contains, left_at, right_at, left_contains, right_contains, contains_sides, it_is_in, one_in, none_in, mapped_in, unmapped_in, same_map, take_step}
-use Rattle.ig_plain.proofs.Growth.{extends_in, extends_cases}
+use Rattle.ig_plain.specs.Arrival.{IsParted, ArrivesWith}
+use Rattle.ig_plain.proofs.Lists.{at_from_contains, left_at, right_at, left_contains, right_contains, contains_sides, one_in, none_in, mapped_in, unmapped_in, same_map}
 use Rattle.ig_plain.proofs.Distinct.{once_both, once_single}
 
-once_left : {X : Type 0} (xs ys : List X) → NoneTwice (xs ++ ys) → NoneTwice xs
+pub once_left : {X : Type 0} (xs ys : List X) → NoneTwice (xs ++ ys) → NoneTwice xs
 once_left xs ys n i j x p q = n i j x (left_at xs ys i x p) (left_at xs ys j x q)
 
 once_apart : {X : Type 0} (xs : List X) (x : X) → NoneTwice (xs ++ x ∷ []) → Contains xs x → ⊥
@@ -39,69 +37,66 @@ parts_none position here =
       here_still = λ x c. c;
       moved = λ x c. absurd (none_in x c);
       rest_now = λ x c. absurd (none_in x c);
-      here_once = λ n. n;
+      here_once = λ n. once_left here [] n;
       rest_once = λ n. n;
       count = omega arith;
     }
 
-parts_push : (position : ℕ) (xs h0 h r h2 r2 : List stored.Item) (item : stored.Item) → IsParted position xs h0 h r → IsSorted position item h h2 r r2 →
-    IsParted position (xs ++ item ∷ []) h0 h2 r2
-parts_push position xs h0 h r h2 r2 item p (arrival.at here adds there once few same) =
+-- one more of the later items is at the position
+pub parts_here : (position : ℕ) (xs h0 h r : List stored.Item) (item : stored.Item) → IsParted position xs h0 h r → item.position ≡ position →
+    IsParted position (xs ++ item ∷ []) h0 (h ++ item ∷ []) r
+parts_here position xs h0 h r item p at =
     record {
       here_now = λ x c.
           ⊎_elim
           (λ (k : Contains h x). ⊎_elim (λ q. inl q) (λ q. inr (left_contains xs (item ∷ []) x q.0, q.1)) (p.here_now x k))
-          (λ (k : Contains adds.extends.more x).
-          let e = adds.only x k in
-          inr (subst (Contains (xs ++ item ∷ [])) (sym e) (right_contains xs (item ∷ []) item (it_is_in item)), ap (λ (z : stored.Item). z.position) e ∙ here))
-          (extends_cases h h2 x adds.extends c);
-      here_still = λ x c. extends_in h h2 x adds.extends (p.here_still x c);
+          (λ (k : Contains (item ∷ []) x).
+          inr (right_contains xs (item ∷ []) x k, ap (λ (z : stored.Item). z.position) (one_in item x k) ∙ at))
+          (contains_sides h (item ∷ []) x c);
+      here_still = λ x c. left_contains h (item ∷ []) x (p.here_still x c);
       moved = λ x c.
           ⊎_elim
-          (λ (k : Contains xs x).
-          ⊎_elim (λ q. inl (extends_in h h2 x adds.extends q)) (λ q. inr (subst (λ (z : List stored.Item). Contains z x) (sym same) q)) (p.moved x k))
-          (λ (k : Contains (item ∷ []) x). inl (subst (Contains h2) (sym (one_in item x k)) there)) (contains_sides xs (item ∷ []) x c);
-      rest_now = λ x c.
-          let q = p.rest_now x (subst (λ (z : List stored.Item). Contains z x) same c) in (left_contains xs (item ∷ []) x q.0, q.1);
-      here_once = λ n. once;
-      rest_once = λ n. subst NoneTwice (sym same) (p.rest_once (once_left xs (item ∷ []) n));
-      count = let a = ap length same in let b = length-append xs (item ∷ []) in let l = p.count in omega (arith, a, b, l, few);
+          (λ (k : Contains xs x). ⊎_elim (λ q. inl (left_contains h (item ∷ []) x q)) (λ q. inr q) (p.moved x k))
+          (λ (k : Contains (item ∷ []) x). inl (right_contains h (item ∷ []) x k))
+          (contains_sides xs (item ∷ []) x c);
+      rest_now = λ x c. let q = p.rest_now x c in (left_contains xs (item ∷ []) x q.0, q.1);
+      here_once = λ n.
+          let all : NoneTwice ((h0 ++ xs) ++ item ∷ []) = subst NoneTwice (sym (append_assoc h0 xs (item ∷ []))) n in
+          once_both h (item ∷ []) (p.here_once (once_left (h0 ++ xs) (item ∷ []) all)) (once_single item)
+          (λ x c d. once_apart (h0 ++ xs) item all (subst (Contains (h0 ++ xs)) (one_in item x d) (was x c)));
+      rest_once = λ n. p.rest_once (once_left xs (item ∷ []) n);
+      count = let a = length-append xs (item ∷ []) in let b = length-append h (item ∷ []) in let l = p.count in omega (arith, a, b, l);
     }
-parts_push position xs h0 h r h2 r2 item p (arrival.past away same more) =
+  where
+    was : (x : stored.Item) → Contains h x → Contains (h0 ++ xs) x
+    was x c = ⊎_elim (λ k. left_contains h0 xs x k) (λ k. right_contains h0 xs x k.0) (p.here_now x c)
+
+-- one more of the later items stays
+pub parts_kept : (position : ℕ) (xs h0 h r : List stored.Item) (item : stored.Item) → IsParted position xs h0 h r → (item.position ≡ position → ⊥) →
+    IsParted position (xs ++ item ∷ []) h0 h (r ++ item ∷ [])
+parts_kept position xs h0 h r item p away =
     record {
-      here_now = λ x c.
-          ⊎_elim (λ q. inl q) (λ q. inr (left_contains xs (item ∷ []) x q.0, q.1)) (p.here_now x (subst (λ (z : List stored.Item). Contains z x) same c));
-      here_still = λ x c. subst (λ (z : List stored.Item). Contains z x) (sym same) (p.here_still x c);
+      here_now = λ x c. ⊎_elim (λ q. inl q) (λ q. inr (left_contains xs (item ∷ []) x q.0, q.1)) (p.here_now x c);
+      here_still = p.here_still;
       moved = λ x c.
           ⊎_elim
-          (λ (k : Contains xs x).
-          ⊎_elim (λ q. inl (subst (λ (z : List stored.Item). Contains z x) (sym same) q))
-          (λ q. inr (subst (λ (z : List stored.Item). Contains z x) (sym more) (left_contains r (item ∷ []) x q))) (p.moved x k))
-          (λ (k : Contains (item ∷ []) x). inr (subst (λ (z : List stored.Item). Contains z x) (sym more) (right_contains r (item ∷ []) x k)))
+          (λ (k : Contains xs x). ⊎_elim (λ q. inl q) (λ q. inr (left_contains r (item ∷ []) x q)) (p.moved x k))
+          (λ (k : Contains (item ∷ []) x). inr (right_contains r (item ∷ []) x k))
           (contains_sides xs (item ∷ []) x c);
       rest_now = λ x c.
           ⊎_elim (λ (k : Contains r x). let q = p.rest_now x k in (left_contains xs (item ∷ []) x q.0, q.1))
           (λ (k : Contains (item ∷ []) x).
           (right_contains xs (item ∷ []) x k, λ e. away (ap (λ (z : stored.Item). z.position) (sym (one_in item x k)) ∙ e)))
-          (contains_sides r (item ∷ []) x (subst (λ (z : List stored.Item). Contains z x) more c));
-      here_once = λ n. subst NoneTwice (sym same) (p.here_once n);
+          (contains_sides r (item ∷ []) x c);
+      here_once = λ n. p.here_once (once_left (h0 ++ xs) (item ∷ []) (subst NoneTwice (sym (append_assoc h0 xs (item ∷ []))) n));
       rest_once = λ n.
-          subst NoneTwice (sym more)
-          (once_both r (item ∷ []) (p.rest_once (once_left xs (item ∷ []) n)) (once_single item)
-          (λ x c d. once_apart xs item n (subst (Contains xs) (one_in item x d) (p.rest_now x c).0)));
-      count = let a = ap length more ∙ length-append r (item ∷ []) in let b = length-append xs (item ∷ []) in let c = ap length same in let l = p.count in
-          omega (arith, a, b, c, l);
+          once_both r (item ∷ []) (p.rest_once (once_left xs (item ∷ []) n)) (once_single item)
+          (λ x c d. once_apart xs item n (subst (Contains xs) (one_in item x d) (p.rest_now x c).0));
+      count = let a = length-append r (item ∷ []) in let b = length-append xs (item ∷ []) in let l = p.count in omega (arith, a, b, l);
     }
 
-pub parts_more : (position : ℕ) (later h0 h r h2 r2 : List stored.Item) (i : ℕ) (item : stored.Item) → slice_get later i ≡ Some item →
-    IsParted position (take i later) h0 h r → IsSorted position item h h2 r r2 → IsParted position (take (i + 1) later) h0 h2 r2
-parts_more position later h0 h r h2 r2 i item at p s =
-    let n : i + 1 ≡ suc i = omega arith in
-    subst (λ (z : List stored.Item). IsParted position z h0 h2 r2) (sym (ap (λ (k : ℕ). take k later) n ∙ take_step later i item at))
-    (parts_push position (take i later) h0 h r h2 r2 item p s)
-
-pub arrives_with : (position : ℕ) (a b : Found) (empty : List stored.Item) → empty ≡ [] → b.envs.keys ≡ a.envs.keys → b.keys.keys ≡ a.keys.keys →
-    b.done.items ≡ a.done.items ++ a.here.keys → IsParted position a.later.items empty b.here.keys b.later.items → ArrivesWith position a b
+pub arrives_with : (position : ℕ) (a b : Found) (empty : List stored.Item) → empty ≡ [] → b.envs.keys ≡ a.envs.keys → b.keys ≡ a.keys →
+    b.done.items ≡ a.done.items ++ a.here → IsParted position a.later.items empty b.here b.later.items → ArrivesWith position a b
 arrives_with position a b empty none envs keys done p =
     let never : (x : stored.Item) → Contains empty x → ⊥ = λ x c. none_in x (subst (λ (z : List stored.Item). Contains z x) none c) in
     record {
@@ -111,45 +106,45 @@ arrives_with position a b empty none envs keys done p =
       here = λ x c. ⊎_elim (λ k. absurd (never x k)) (λ k. k) (p.here_now x c);
       moved = p.moved;
       later = p.rest_now;
-      here_once = p.here_once (λ i j x q s. absurd (never x (contains_from_at empty i x q)));
+      here_once = λ n. p.here_once (subst (λ (z : List stored.Item). NoneTwice (z ++ a.later.items)) (sym none) n);
       later_once = p.rest_once;
       count = let l = p.count in let e = ap length none in omega (arith, l, e);
     }
 
-module _ (core : List Nonterminal) (text : List ℕ) (budget p : ℕ) (a b : Found) (w : Waiting) (r : IsRun core text budget p (length a.here.keys) a w)
+module _ (core : List Nonterminal) (text : List ℕ) (budget p : ℕ) (a b : Found) (w : Waiting) (r : IsRun core text budget p (length a.here) a w)
     (m : ArrivesWith (p + 1) a b) where
   abbrev n : AreNamed a
   n = r.taking.stored.named
 
-  same : (x : stored.Item) → means b x ≡ means a x
+  pub same : (x : stored.Item) → means b x ≡ means a x
   same x =
-      ap (λ z. item_by z b.keys.keys x) m.envs ∙ ap (λ (z : List InstanceKey). item_by a.envs.keys z x) m.keys
+      ap (λ z. item_by z b.keys x) m.envs ∙ ap (λ (z : List InstanceKey). item_by a.envs.keys z x) m.keys
 
   named : (x : stored.Item) → Named a x → Named b x
-  named x h = subst (λ z. IsNamed z b.keys.keys x) (sym m.envs) (subst (λ (z : List InstanceKey). IsNamed a.envs.keys z x) (sym m.keys) h)
+  named x h = subst (λ z. IsNamed z b.keys x) (sym m.envs) (subst (λ (z : List InstanceKey). IsNamed a.envs.keys z x) (sym m.keys) h)
 
   -- all that was at the position or before is taken
-  taken_all : taken_in b 0 ≡ found_in a
+  pub taken_all : taken_in b 0 ≡ found_in a
   taken_all =
-      ap (map (means b)) (append-nil b.done.items ∙ m.done) ∙ same_map (means b) (means a) (a.done.items ++ a.here.keys) (λ x c. same x)
+      ap (map (means b)) (append-nil b.done.items ∙ m.done) ∙ same_map (means b) (means a) (a.done.items ++ a.here) (λ x c. same x)
 
-  taken_was : taken_in a (length a.here.keys) ≡ found_in a
-  taken_was = ap (λ (z : List stored.Item). map (means a) (a.done.items ++ z)) (take-length a.here.keys)
+  pub taken_was : taken_in a (length a.here) ≡ found_in a
+  taken_was = ap (λ (z : List stored.Item). map (means a) (a.done.items ++ z)) (take-length a.here)
 
   stays : (x : Item) → Contains (found_in a ++ later_in a) x → Contains (found_in b ++ later_in b) x
   stays x c =
       ⊎_elim
       (λ (h : Contains (found_in a) x).
-      let u = unmapped_in (means a) (a.done.items ++ a.here.keys) x h in
+      let u = unmapped_in (means a) (a.done.items ++ a.here) x h in
       left_contains (found_in b) (later_in b) x
       (subst (Contains (found_in b)) (same u.0 ∙ u.2)
-      (mapped_in (means b) (b.done.items ++ b.here.keys) u.0 (left_contains b.done.items b.here.keys u.0 (subst (λ (z : List stored.Item). Contains z u.0) (sym m.done) u.1)))))
+      (mapped_in (means b) (b.done.items ++ b.here) u.0 (left_contains b.done.items b.here u.0 (subst (λ (z : List stored.Item). Contains z u.0) (sym m.done) u.1)))))
       (λ (h : Contains (later_in a) x).
       let u = unmapped_in (means a) a.later.items x h in
       ⊎_elim
-      (λ (k : Contains b.here.keys u.0).
+      (λ (k : Contains b.here u.0).
       left_contains (found_in b) (later_in b) x
-      (subst (Contains (found_in b)) (same u.0 ∙ u.2) (mapped_in (means b) (b.done.items ++ b.here.keys) u.0 (right_contains b.done.items b.here.keys u.0 k))))
+      (subst (Contains (found_in b)) (same u.0 ∙ u.2) (mapped_in (means b) (b.done.items ++ b.here) u.0 (right_contains b.done.items b.here u.0 k))))
       (λ (k : Contains b.later.items u.0).
       right_contains (found_in b) (later_in b) x (subst (Contains (later_in b)) (same u.0 ∙ u.2) (mapped_in (means b) b.later.items u.0 k))) (m.moved u.0 u.1))
       (contains_sides (found_in a) (later_in a) x c)
@@ -163,19 +158,19 @@ module _ (core : List Nonterminal) (text : List ℕ) (budget p : ℕ) (a b : Fou
   was_found x c =
       ⊎_elim
       (λ (h : Contains (found_in b) x).
-      let u = unmapped_in (means b) (b.done.items ++ b.here.keys) x h in
+      let u = unmapped_in (means b) (b.done.items ++ b.here) x h in
       ⊎_elim
       (λ (k : Contains b.done.items u.0).
       left_contains (found_in a) (later_in a) x
-      (subst (Contains (found_in a)) (sym (same u.0) ∙ u.2) (mapped_in (means a) (a.done.items ++ a.here.keys) u.0 (subst (λ (z : List stored.Item). Contains z u.0) m.done k))))
-      (λ (k : Contains b.here.keys u.0).
+      (subst (Contains (found_in a)) (sym (same u.0) ∙ u.2) (mapped_in (means a) (a.done.items ++ a.here) u.0 (subst (λ (z : List stored.Item). Contains z u.0) m.done k))))
+      (λ (k : Contains b.here u.0).
       right_contains (found_in a) (later_in a) x
       (subst (Contains (later_in a)) (sym (same u.0) ∙ u.2) (mapped_in (means a) a.later.items u.0 (m.here u.0 k).0)))
-      (contains_sides b.done.items b.here.keys u.0 u.1))
+      (contains_sides b.done.items b.here u.0 u.1))
       (λ (h : Contains (later_in b) x). right_contains (found_in a) (later_in a) x (later_was x h))
       (contains_sides (found_in b) (later_in b) x c)
 
-  stored_next : IsStored (p + 1) b
+  pub stored_next : IsStored (p + 1) b
   stored_next =
       record {
         tables = record {
@@ -183,23 +178,23 @@ module _ (core : List Nonterminal) (text : List ℕ) (budget p : ℕ) (a b : Fou
           instances = subst NoneTwice (sym m.keys) r.taking.stored.tables.instances;
         };
         named = record {
-          values = subst (λ (z : List InstanceKey). HaveValues b.envs.keys z) (sym m.keys) (subst (λ z. HaveValues z a.keys.keys) (sym m.envs) n.values);
+          values = subst (λ (z : List InstanceKey). HaveValues b.envs.keys z) (sym m.keys) (subst (λ z. HaveValues z a.keys) (sym m.envs) n.values);
           done = λ x c.
               named x
-              (⊎_elim (n.done x) (n.here x) (contains_sides a.done.items a.here.keys x (subst (λ (z : List stored.Item). Contains z x) m.done c)));
+              (⊎_elim (n.done x) (n.here x) (contains_sides a.done.items a.here x (subst (λ (z : List stored.Item). Contains z x) m.done c)));
           here = λ x c. named x (n.later x (m.here x c).0);
           later = λ x c. named x (n.later x (m.later x c).0);
         };
         before = λ x c.
             ⊎_elim (λ (h : Contains a.done.items x). let l = r.taking.stored.before x h in omega (arith, l))
-            (λ (h : Contains a.here.keys x). let e = r.taking.stored.at x h in omega (arith, e))
-            (contains_sides a.done.items a.here.keys x (subst (λ (z : List stored.Item). Contains z x) m.done c));
+            (λ (h : Contains a.here x). let e = r.taking.stored.at x h in omega (arith, e))
+            (contains_sides a.done.items a.here x (subst (λ (z : List stored.Item). Contains z x) m.done c));
         at = λ x c. (m.here x c).1;
         behind = λ x c. further x.position (r.taking.stored.behind x (m.later x c).0) (m.later x c).1;
         done_once = subst NoneTwice (sym m.done)
-            (once_both a.done.items a.here.keys r.taking.stored.done_once r.taking.stored.here_once
+            (once_both a.done.items a.here r.taking.stored.done_once r.taking.stored.here_once
             (λ x c d. let l = r.taking.stored.before x c in let e = r.taking.stored.at x d in omega (arith, l, e)));
-        here_once = m.here_once;
+        here_once = m.here_once r.taking.stored.later_once;
         later_once = m.later_once r.taking.stored.later_once;
       }
     where
@@ -217,19 +212,19 @@ module _ (core : List Nonterminal) (text : List ℕ) (budget p : ℕ) (a b : Fou
             let h = r.taking.came x (later_was x c) in
             (h.0, subst (λ (z : List Item). Contains z h.0) (taken_was ∙ sym taken_all) h.1, h.2);
         few = omega arith;
-        within = let l = r.taking.within in let d = ap length m.done ∙ length-append a.done.items a.here.keys in let c = m.count in omega (arith, l, d, c);
+        within = let l = r.taking.within in let d = ap length m.done ∙ length-append a.done.items a.here in let c = m.count in omega (arith, l, d, c);
       }
 
   past_taken : (x : Item) → Contains (found_in a) x → x.position ≤ p
   past_taken x c =
-      let u = unmapped_in (means a) (a.done.items ++ a.here.keys) x c in
+      let u = unmapped_in (means a) (a.done.items ++ a.here) x c in
       let e : u.0.position ≡ x.position = ap (λ (z : Item). z.position) u.2 in
       ⊎_elim (λ (h : Contains a.done.items u.0). let l = r.taking.stored.before u.0 h in omega (arith, l, e))
-      (λ (h : Contains a.here.keys u.0). let l = r.taking.stored.at u.0 h in omega (arith, l, e))
-      (contains_sides a.done.items a.here.keys u.0 u.1)
+      (λ (h : Contains a.here u.0). let l = r.taking.stored.at u.0 h in omega (arith, l, e))
+      (contains_sides a.done.items a.here u.0 u.1)
 
   instances_same : instances_in b ≡ instances_in a
-  instances_same = ap (λ z. map (instance_by z) b.keys.keys) m.envs ∙ ap (map (instance_by a.envs.keys)) m.keys
+  instances_same = ap (λ z. map (instance_by z) b.keys) m.envs ∙ ap (map (instance_by a.envs.keys)) m.keys
 
   pub arrives : IsRun core text budget (p + 1) 0 b w
   arrives =
@@ -243,7 +238,7 @@ module _ (core : List Nonterminal) (text : List ℕ) (budget p : ℕ) (a b : Fou
       old : (i : ℕ) (callee : Instance) → slice_get (instances_in b) i ≡ Some callee → slice_get (instances_in a) i ≡ Some callee
       old i callee e = subst (λ (z : List Instance). slice_get z i ≡ Some callee) instances_same e
 
-      waits : IsWaiting core text (p + 1) b (taken_in a (length a.here.keys)) w
+      waits : IsWaiting core text (p + 1) b (taken_in a (length a.here)) w
       waits =
           record {
             lengths = r.waiting.lengths ∙ ap length (sym instances_same);
@@ -252,10 +247,11 @@ module _ (core : List Nonterminal) (text : List ℕ) (budget p : ℕ) (a b : Fou
                 record {
                   chain = h.chain;
                   chained = h.chained;
+                  ended = h.ended;
                   named = λ y c. named y (h.named y c);
                   callers = λ y c.
                       let q = h.callers y c in let e = sym (same y) in
-                      (subst (Contains (taken_in a (length a.here.keys))) e q.0, subst (λ (z : Item). IsCaller core text z callee) e q.1);
+                      (subst (Contains (taken_in a (length a.here))) e q.0, subst (λ (z : Item). IsCaller core text z callee) e q.1);
                   all = λ x c d. let q = h.all x c d in (q.0, q.1, same q.0 ∙ q.2);
                 };
             ends = λ i callee called at known. (

@@ -1,6 +1,6 @@
 -- An item before a call is taken: its arguments, its callee, and where the callee ended.
-use Rattle.std.proofs.Common.{◌≡◌, ℕ, suc, ◌+◌, ◌<◌, List, [], ◌∷◌, ◌++◌, Some, Option, length, map, set, refl, sym, ap, ◌∙◌, subst, arith, slice_get, true, false}
-use Rattle.std.specs.Prelude.{Result, Ok, Err, slice_index_or, option_map, IsTrue, ◌↔◌, Bool}
+use Rattle.std.proofs.Common.{◌≡◌, ℕ, suc, ◌<◌, ◌≤◌, List, [], Some, Option, length, map, set, refl, sym, ap, ◌∙◌, subst, arith, slice_get}
+use Rattle.std.specs.Prelude.{Result, Ok, Err, slice_index_or, option_map}
 use Rattle.std.proofs.lemmas.Option.{slice_get_within, get_or_from_slice_get, slice_get-map}
 use Rattle.ig_text.specs.declared.pattern.Pattern.{Pattern}
 use Rattle.ig_expr.specs.Expression.{Expression}
@@ -23,43 +23,47 @@ use Rattle.ig_plain.specs.Tables.{Extends}
 use Rattle.ig_plain.specs.Found.{means, instances_in, taken_in, Named, AreNamed, Adds}
 use Rattle.ig_plain.specs.Rules as rules
 use Rattle.ig_plain.specs.Rules.{After, IsFirstOf, IsCaller}
-use Rattle.ig_plain.specs.Waiting.{called_at, not_called}
+use Rattle.ig_plain.specs.Waiting.{called_at, not_called, lengthened, with_caller}
 use Rattle.ig_plain.specs.Run.{IsRun, IsWaiting, IsTaken, IsEntered, EntersInstance, Refuses}
 use Rattle.ig_plain.proofs.Lists.{contains_from_at}
 use Rattle.ig_plain.proofs.Sets.{extends_same, extends_itself}
 use Rattle.ig_plain.proofs.Growth.{extends_at, instance_kept, values_more, grows_not}
-use Rattle.ig_plain.proofs.Additions.{true_at, false_at}
 use Rattle.ig_plain.proofs.Following.{one_step, not_both}
 use Rattle.ig_plain.proofs.Running.{takes_found, taken_now, follows_reachable}
 use Rattle.ig_plain.proofs.Waiters.{waits_alone, set_length}
 use Rattle.ig_plain.proofs.Completes.{item_named, keeps_grown, set_at}
 use Rattle.ig_plain.proofs.Moving.{Moved, moved_named, moved_means}
 use Rattle.ig_plain.proofs.Instances.{run_moved}
-use Rattle.ig_plain.proofs.Calls.{calls_only, calls_past, visible_one}
+use Rattle.ig_plain.proofs.Calls.{calls_only, calls_past, last_there, visible_one}
 
 module _ (core : List Nonterminal) (text : List ℕ) (law : ReachableIsClosed) (inside : ItemsAreInText) (budget p k : ℕ) (s : Found) (w : Waiting) (item : stored.Item)
-    (here : item.position ≡ p) (r : IsRun core text budget p k s w) (at : slice_get s.here.keys k ≡ Some item) (names : List (List ℕ)) (nonterminal : ℕ)
+    (here : item.position ≡ p) (r : IsRun core text budget p k s w) (at : slice_get s.here k ≡ Some item) (names : List (List ℕ)) (nonterminal : ℕ)
     (arguments : List Expression) (label : Option (List ℕ)) (excluded : List Pattern)
     (before : StandsBefore core (means s item) names (Call nonterminal arguments label excluded)) where
   abbrev it : Item
   it = means s item
 
-  named_item : Named s item
+  pub named_item : Named s item
   named_item = item_named core text law budget p k s w item here r at
 
-  -- an argument has no value
-  pub no_call : (values : List Value) → values ≡ it.env →
-      ((vs : List Value) → map (value_of text names values item.position) arguments ≡ map Some vs → ⊥) → IsRun core text budget p (suc k) s w
-  no_call values same none =
-      let apart : (callee : Instance) (l : Option (List ℕ)) (e : List Pattern) → Calls core text it callee l e → ⊥ =
-      λ callee l e c.
+  -- where an argument has no value, the item calls no instance
+  pub calls_none : (values : List Value) → values ≡ it.env →
+      ((vs : List Value) → map (value_of text names values item.position) arguments ≡ map Some vs → ⊥) →
+      (callee : Instance) (l : Option (List ℕ)) (e : List Pattern) → Calls core text it callee l e → ⊥
+  calls_none values same none callee l e c =
       let steps = one_step core text it c.names names (Call callee.nonterminal c.arguments l e) (Call nonterminal arguments label excluded) c.before before in
       let args : c.arguments ≡ arguments = cc steps in
       let n : c.names ≡ names = visible_one core text it c.names names (Call callee.nonterminal c.arguments l e) (Call nonterminal arguments label excluded) c.before before in
       none callee.values
       (ap (λ (z : List Value). map (value_of text names z item.position) arguments) same ∙
       ap (λ (z : List (List ℕ)). map (value_of text z it.env item.position) arguments) (sym n) ∙
-      ap (map (value_of text c.names it.env item.position)) (sym args) ∙ c.values) in
+      ap (map (value_of text c.names it.env item.position)) (sym args) ∙ c.values)
+
+  -- an argument has no value
+  pub no_call : (values : List Value) → values ≡ it.env →
+      ((vs : List Value) → map (value_of text names values item.position) arguments ≡ map Some vs → ⊥) → IsRun core text budget p (suc k) s w
+  no_call values same none =
+      let apart : (callee : Instance) (l : Option (List ℕ)) (e : List Pattern) → Calls core text it callee l e → ⊥ = calls_none values same none in
       let never : Item → Type 0 = λ x. ⊥ in
       let g = grows_not p never s s (extends_itself s.envs.keys) (λ h. h) refl refl refl refl in
       let nothing : (x : Item) → After core text (taken_in s k) it x → ⊥ = λ x a. after_none x a apart in
@@ -82,22 +86,22 @@ module _ (core : List Nonterminal) (text : List ℕ) (law : ReachableIsClosed) (
 
   -- the arguments have values, which are an environment now
   module _ (s1 : Found) (env : ℕ) (values vs : List Value) (same : values ≡ it.env) (envs : Extends s.envs.keys s1.envs.keys) (once : NoneTwice s1.envs.keys)
-      (there : slice_get s1.envs.keys env ≡ Some vs) (keys : s1.keys.keys ≡ s.keys.keys) (done : s1.done.items ≡ s.done.items)
-      (here_same : s1.here.keys ≡ s.here.keys) (later : s1.later.items ≡ s.later.items)
+      (there : slice_get s1.envs.keys env ≡ Some vs) (keys : s1.keys ≡ s.keys) (done : s1.done.items ≡ s.done.items)
+      (here_same : s1.here ≡ s.here) (later : s1.later.items ≡ s.later.items)
       (are : map (value_of text names values item.position) arguments ≡ map Some vs) where
     abbrev key : InstanceKey
     key = record { nonterminal = nonterminal; env = env; start = item.position }
 
-    moved : Moved s s1
+    pub moved : Moved s s1
     moved =
         record {
           envs = envs;
-          keys = extends_same s.keys.keys s1.keys.keys keys;
+          keys = extends_same s.keys s1.keys keys;
           done = done;
           here = here_same;
           later = later;
           tables = record { environments = once; instances = subst NoneTwice (sym keys) r.taking.stored.tables.instances };
-          values = subst (HaveValues s1.envs.keys) (sym keys) (values_more s.envs.keys s1.envs.keys s.keys.keys envs r.taking.stored.named.values);
+          values = subst (HaveValues s1.envs.keys) (sym keys) (values_more s.envs.keys s1.envs.keys s.keys envs r.taking.stored.named.values);
         }
 
     pub run_1 : IsRun core text budget p k s1 w
@@ -138,14 +142,14 @@ module _ (core : List Nonterminal) (text : List ℕ) (law : ReachableIsClosed) (
       pub run_2 : IsRun core text budget p k t v
       run_2 = subst (λ (n : ℕ). IsRun core text budget n k t v) (sym start) result.run
 
-      means_2 : means t item ≡ it
+      pub means_2 : means t item ≡ it
       means_2 = result.same item (moved_named s s1 r.taking.stored.named moved item named_item) ∙ means_1
 
-      pub at_2 : slice_get t.here.keys k ≡ Some item
-      at_2 = extends_at s1.here.keys t.here.keys k item result.here (subst (λ (z : List stored.Item). slice_get z k ≡ Some item) (sym here_same) at)
+      pub at_2 : slice_get t.here k ≡ Some item
+      at_2 = extends_at s1.here t.here k item result.here (subst (λ (z : List stored.Item). slice_get z k ≡ Some item) (sym here_same) at)
 
       pub instance_2 : slice_get (instances_in t) i ≡ Some (instance_by t.envs.keys key)
-      instance_2 = slice_get-map (instance_by t.envs.keys) t.keys.keys i ∙ ap (option_map (instance_by t.envs.keys)) result.there
+      instance_2 = slice_get-map (instance_by t.envs.keys) t.keys i ∙ ap (option_map (instance_by t.envs.keys)) result.there
 
       pub calls_2 : Calls core text (means t item) (instance_by t.envs.keys key) label excluded
       calls_2 =
@@ -156,30 +160,40 @@ module _ (core : List Nonterminal) (text : List ℕ) (law : ReachableIsClosed) (
       callee_there =
           let l = slice_get_within (instances_in t) i (instance_by t.envs.keys key) instance_2 in let e = run_2.waiting.lengths in omega (arith, l, e)
 
-      pub named_2 : Named t item
-      named_2 = run_2.taking.stored.named.here item (contains_from_at t.here.keys k item at_2)
+      pub last_2 : (called_at v i).last ≤ length v.callers.items
+      last_2 =
+          last_there core text law inside budget p k t v item here run_2 at_2 i (instance_by t.envs.keys key) label excluded instance_2 calls_2
 
-      module _ (u : Waiting) (cells : u.callers.items ≡ v.callers.items ++ record { item = item; next = (called_at v i).callers } ∷ [])
-          (called : u.called.items ≡ set v.called.items i (record { callers = length v.callers.items + 1; last_end = (called_at v i).last_end })) where
-        end_same : (called_at u i).last_end ≡ (called_at v i).last_end
+      pub named_2 : Named t item
+      named_2 = run_2.taking.stored.named.here item (contains_from_at t.here k item at_2)
+
+      module _ (u : Waiting) (number : ℕ) (cells : u.callers.items ≡ lengthened v.callers.items (called_at v i).last item number)
+          (called : u.called.items ≡ set v.called.items i (with_caller (called_at v i) (suc (length v.callers.items)))) where
+        pub end_same : (called_at u i).last_end ≡ (called_at v i).last_end
         end_same =
             ap (λ (z : List Called). (slice_index_or z i not_called).last_end) called ∙
             ap (λ (z : Called). z.last_end)
-            (set_at v.called.items i (record { callers = length v.callers.items + 1; last_end = (called_at v i).last_end }) not_called callee_there)
+            (set_at v.called.items i (with_caller (called_at v i) (suc (length v.callers.items))) not_called callee_there)
+
+        pub done_same : (called_at u i).last_done ≡ (called_at v i).last_done
+        done_same =
+            ap (λ (z : List Called). (slice_index_or z i not_called).last_done) called ∙
+            ap (λ (z : Called). z.last_done)
+            (set_at v.called.items i (with_caller (called_at v i) (suc (length v.callers.items))) not_called callee_there)
 
         pub still_there : i < length u.called.items
         still_there =
-            let e = ap length called ∙ set_length v.called.items i (record { callers = length v.callers.items + 1; last_end = (called_at v i).last_end }) in
+            let e = ap length called ∙ set_length v.called.items i (with_caller (called_at v i) (suc (length v.callers.items))) in
             let l = callee_there in omega (arith, e, l)
 
-        pub only_waits : (b : Bool) → IsTrue b ↔ ((called_at u i).last_end ≡ Some p) → b ≡ false → IsRun core text budget p (suc k) t u
-        only_waits b told f =
-            calls_only core text law inside budget p k t v item here run_2 at_2 i (instance_by t.envs.keys key) label excluded instance_2 calls_2 u cells called
-            (λ e. false_at b _ told f (end_same ∙ e))
+        pub only_waits : ((called_at u i).last_end ≡ Some p → ⊥) → IsRun core text budget p (suc k) t u
+        only_waits apart =
+            calls_only core text law inside budget p k t v item here run_2 at_2 i (instance_by t.envs.keys key) label excluded instance_2 calls_2 u number cells called
+            (λ e. apart (end_same ∙ e))
 
-        pub goes_past : (b : Bool) → IsTrue b ↔ ((called_at u i).last_end ≡ Some p) → b ≡ true → (f : Found) (o : Result (Unit {0}) RunFault) →
+        pub goes_past : (called_at u i).last_end ≡ Some p → (f : Found) (o : Result (Unit {0}) RunFault) →
             Adds p (λ x. MatchesNone text excluded item.position p × (x ≡ past (means t item) (span_of label item.position p) p)) budget t f o →
             IsTaken core text budget p k f u o
-        goes_past b told e f o d =
-            calls_past core text law inside budget p k t v item here run_2 at_2 i (instance_by t.envs.keys key) label excluded instance_2 calls_2 u cells called
-            (sym end_same ∙ true_at b _ told e) f o d
+        goes_past last f o d =
+            calls_past core text law inside budget p k t v item here run_2 at_2 i (instance_by t.envs.keys key) label excluded instance_2 calls_2 u number cells called
+            (sym end_same ∙ last) f o d

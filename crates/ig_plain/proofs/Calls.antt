@@ -1,5 +1,5 @@
 -- An item before a call is taken.
-use Rattle.std.proofs.Common.{◌≡◌, ◌⊎◌, ⊎_elim, inl, inr, ℕ, suc, ◌+◌, ◌<◌, ◌≤◌, List, [], ◌∷◌, ◌++◌, Some, Option, length, map, set, take, Contains, refl, sym, ap, ◌∙◌, subst, arith, slice_get}
+use Rattle.std.proofs.Common.{◌≡◌, ◌⊎◌, ⊎_elim, inl, inr, ℕ, suc, ◌<◌, ◌≤◌, List, [], ◌∷◌, ◌++◌, Some, Option, length, map, set, take, Contains, refl, sym, ap, ◌∙◌, subst, arith, slice_get}
 use Rattle.std.specs.Prelude.{Result, Ok, Err}
 use Rattle.std.proofs.lemmas.Option.{same_Some, slice_get_within, slice_get-get_or}
 use Rattle.ig_text.specs.declared.pattern.Pattern.{Pattern}
@@ -22,15 +22,15 @@ use Rattle.ig_plain.specs.declared.waiting.Caller.{Caller}
 use Rattle.ig_plain.specs.Found.{means, instances_in, found_in, later_in, taken_in, Named, Adds}
 use Rattle.ig_plain.specs.Rules as rules
 use Rattle.ig_plain.specs.Rules.{After, IsCaller}
-use Rattle.ig_plain.specs.Waiting.{called_at, not_called}
-use Rattle.ig_plain.specs.Run as run
-use Rattle.ig_plain.specs.Run.{Chains, HasCallers, HasEnd, IsWaiting, IsTaking, IsRun, IsTaken, Refuses}
-use Rattle.ig_plain.proofs.Lists.{contains_from_at, left_contains, right_contains, right_at, contains_sides, it_is_in, one_in, unmapped_in, front_in}
+use Rattle.ig_plain.specs.Waiting.{called_at, not_called, lengthened, first_or, with_caller}
+use Rattle.ig_plain.specs.Run.{Chains, ChainEnds, HasCallers, HasEnd, IsWaiting, IsRun, IsTaken}
+use Rattle.ig_plain.proofs.Lists.{contains_from_at, left_contains, right_contains, contains_sides, it_is_in, one_in, unmapped_in, front_in}
 use Rattle.ig_plain.proofs.Sets.{extends_itself}
 use Rattle.ig_plain.proofs.Growth.{grows_not}
 use Rattle.ig_plain.proofs.Following.{one_step, not_both, same_alternative}
 use Rattle.ig_plain.proofs.Running.{takes_found, taken_now, refuses, taken_found}
-use Rattle.ig_plain.proofs.Waiters.{Keeps, chain_more, callers_still, end_still, end_more, set_cases, set_length}
+use Rattle.ig_plain.proofs.Waiters.{Keeps, callers_still, end_still, end_more, set_cases, set_length}
+use Rattle.ig_plain.proofs.Links.{chain_stays, end_stays, end_within, last_in, stays_at, chain_longer, end_longer}
 use Rattle.ig_plain.proofs.Completes.{keeps_grown, instances_once, item_named, firsts_kept}
 
 somes : (vs ws : List Value) → map Some vs ≡ map Some ws → vs ≡ ws
@@ -68,15 +68,11 @@ calls_one core text it a b l m e f p q =
     let s : a.start ≡ b.start = p.here ∙ sym q.here in
     ((λ i. record { nonterminal = n i; values = v i; start = s i }), cc steps, cc steps)
 
-chain_within : (cells : List Caller) (head : ℕ) (xs : List stored.Item) → Chains cells head xs → head ≤ length cells
-chain_within cells head xs run.none = omega arith
-chain_within cells head xs (run.more k cell ys at less c) = let l = slice_get_within cells k cell at in omega (arith, l)
-
 module _ (core : List Nonterminal) (text : List ℕ) (p : ℕ) (s t : Found) (taken : List Item) (item : stored.Item) (v u : Waiting) (i : ℕ) (callee : Instance)
     (keeps : Keeps s t) (named : Named s item) (r : IsWaiting core text p s taken v) (once : NoneTwice (instances_in s))
     (at : slice_get (instances_in s) i ≡ Some callee) (calls : IsCaller core text (means s item) callee)
-    (cells : u.callers.items ≡ v.callers.items ++ record { item = item; next = (called_at v i).callers } ∷ [])
-    (called : u.called.items ≡ set v.called.items i (record { callers = length v.callers.items + 1; last_end = (called_at v i).last_end })) where
+    (number : ℕ) (cells : u.callers.items ≡ lengthened v.callers.items (called_at v i).last item number)
+    (called : u.called.items ≡ set v.called.items i (with_caller (called_at v i) (suc (length v.callers.items)))) where
   abbrev it : Item
   it = means s item
 
@@ -96,65 +92,86 @@ module _ (core : List Nonterminal) (text : List ℕ) (p : ℕ) (s t : Found) (ta
   back j other e = subst (λ (z : List Instance). slice_get z j ≡ Some other) keeps.instances e
 
   before_of : (j : ℕ) (after : Called) → slice_get u.called.items j ≡ Some after →
-      ((j ≡ i) × (after ≡ record { callers = length v.callers.items + 1; last_end = (called_at v i).last_end })) ⊎
+      ((j ≡ i) × (after ≡ with_caller (called_at v i) (suc (length v.callers.items)))) ⊎
       ((j ≡ i → ⊥) × (slice_get v.called.items j ≡ Some after))
   before_of j after e =
       ⊎_elim (λ h. inl (h.0, h.1)) (λ h. inr h)
-      (set_cases v.called.items i (record { callers = length v.callers.items + 1; last_end = (called_at v i).last_end }) j after
+      (set_cases v.called.items i (with_caller (called_at v i) (suc (length v.callers.items))) j after
       (subst (λ (z : List Called). slice_get z j ≡ Some after) called e))
 
-  old : HasCallers core text s taken v.callers.items (called_at v i).callers callee
-  old = r.callers i callee (called_at v i) at was
+  abbrev before : Called
+  before = called_at v i
 
-  abbrev cell : Caller
-  cell = record { item = item; next = (called_at v i).callers }
+  abbrev place : ℕ
+  place = suc (length v.callers.items)
 
-  -- the chain of the callee, with the item before it
-  joined : HasCallers core text t (taken ++ it ∷ []) u.callers.items (length v.callers.items + 1) callee
+  old : HasCallers core text s taken v.callers.items before.first before.last callee
+  old = r.callers i callee before at was
+
+  -- the chain of the callee, with the item behind it
+  joined : HasCallers core text t (taken ++ it ∷ []) u.callers.items (first_or before.first place) place callee
   joined =
-      let e : length v.callers.items + 1 ≡ suc (length v.callers.items) = omega arith in
       record {
-        chain = item ∷ old.chain;
-        chained = subst (λ (n : ℕ). Chains u.callers.items n (item ∷ old.chain)) (sym e)
-            (subst (λ (z : List Caller). Chains z (suc (length v.callers.items)) (item ∷ old.chain)) (sym cells)
-            (run.more (length v.callers.items) cell old.chain (right_at v.callers.items (cell ∷ []) (length v.callers.items) 0 cell (omega arith) refl)
-            (chain_within v.callers.items (called_at v i).callers old.chain old.chained)
-            (chain_more v.callers.items (cell ∷ []) (called_at v i).callers old.chain old.chained)));
+        chain = old.chain ++ item ∷ [];
+        chained = subst (λ (z : List Caller). Chains z (first_or before.first place) (old.chain ++ item ∷ [])) (sym cells)
+            (chain_longer v.callers.items item number before.first before.last old.ended old.chain old.chained);
+        ended = subst (λ (z : List Caller). ChainEnds z (first_or before.first place) place) (sym cells)
+            (end_longer v.callers.items item number before.first before.last old.ended);
         named = λ y c.
-            ⊎_elim (λ (h : Contains (item ∷ []) y). keeps.named y (subst (Named s) (sym (one_in item y h)) named))
-            (λ (h : Contains old.chain y). keeps.named y (old.named y h)) (contains_sides (item ∷ []) old.chain y c);
+            ⊎_elim (λ (h : Contains old.chain y). keeps.named y (old.named y h))
+            (λ (h : Contains (item ∷ []) y). keeps.named y (subst (Named s) (sym (one_in item y h)) named))
+            (contains_sides old.chain (item ∷ []) y c);
         callers = λ y c.
             ⊎_elim
+            (λ (h : Contains old.chain y).
+            let q = old.callers y h in let e = sym (keeps.means_same y (old.named y h)) in
+            (subst (Contains (taken ++ it ∷ [])) e (left_contains taken (it ∷ []) (means s y) q.0), subst (λ (z : Item). IsCaller core text z callee) e q.1))
             (λ (h : Contains (item ∷ []) y).
             let e = ap (means t) (one_in item y h) ∙ keeps.means_same item named in (
               subst (Contains (taken ++ it ∷ [])) (sym e) (right_contains taken (it ∷ []) it (it_is_in it)),
               subst (λ (z : Item). IsCaller core text z callee) (sym e) calls,
             ))
-            (λ (h : Contains old.chain y).
-            let q = old.callers y h in let e = sym (keeps.means_same y (old.named y h)) in
-            (subst (Contains (taken ++ it ∷ [])) e (left_contains taken (it ∷ []) (means s y) q.0), subst (λ (z : Item). IsCaller core text z callee) e q.1))
-            (contains_sides (item ∷ []) old.chain y c);
+            (contains_sides old.chain (item ∷ []) y c);
         all = λ x c d.
             ⊎_elim
             (λ (h : Contains taken x).
-            let q = old.all x h d in (q.0, right_contains (item ∷ []) old.chain q.0 q.1, keeps.means_same q.0 (old.named q.0 q.1) ∙ q.2))
+            let q = old.all x h d in (q.0, left_contains old.chain (item ∷ []) q.0 q.1, keeps.means_same q.0 (old.named q.0 q.1) ∙ q.2))
             (λ (h : Contains (it ∷ []) x).
-            (item, left_contains (item ∷ []) old.chain item (it_is_in item), keeps.means_same item named ∙ sym (one_in it x h)))
+            (item, right_contains old.chain (item ∷ []) item (it_is_in item), keeps.means_same item named ∙ sym (one_in it x h)))
             (contains_sides taken (it ∷ []) x c);
       }
 
+  -- the last caller of the callee calls no other instance, so the chains of those stay
+  other_stays : (j : ℕ) (other : Instance) (after : Called) (e : slice_get (instances_in s) j ≡ Some other) → (j ≡ i → ⊥) →
+      (known : slice_get v.called.items j ≡ Some after) → (k : ℕ) (cell : Caller) → slice_get v.callers.items k ≡ Some cell →
+      Contains (r.callers j other after e known).chain cell.item →
+      slice_get (lengthened v.callers.items before.last item number) k ≡ Some cell
+  other_stays j other after e apart known k cell there among =
+      stays_at v.callers.items item number before.last k cell
+      (λ is.
+      let a = ((r.callers j other after e known).callers cell.item among).1 in
+      let b = (old.callers cell.item (last_in v.callers.items before.first before.last old.ended old.chain old.chained k cell (sym is) there)).1 in
+      let same = (calls_one core text (means s cell.item) other callee a.label b.label a.excluded b.excluded a.calls b.calls).0 in
+      apart (once j i callee (e ∙ ap Some same) at))
+      there
+
   other_callers : (j : ℕ) (other : Instance) (after : Called) → slice_get (instances_in s) j ≡ Some other → (j ≡ i → ⊥) →
-      slice_get v.called.items j ≡ Some after → HasCallers core text t (taken ++ it ∷ []) u.callers.items after.callers other
+      slice_get v.called.items j ≡ Some after → HasCallers core text t (taken ++ it ∷ []) u.callers.items after.first after.last other
   other_callers j other after e apart known =
-      let h = callers_still core text p s t taken it v.callers.items after.callers other keeps
-      (λ c. apart (once j i callee (e ∙ ap Some (only other c)) at)) (r.callers j other after e known) in
-      record {
+      let h = r.callers j other after e known in
+      let stays = other_stays j other after e apart known in
+      callers_still core text p s t taken it u.callers.items after.first after.last other keeps
+      (λ c. apart (once j i callee (e ∙ ap Some (only other c)) at))
+      (record {
         chain = h.chain;
-        chained = subst (λ (z : List Caller). Chains z after.callers h.chain) (sym cells) (chain_more v.callers.items (cell ∷ []) after.callers h.chain h.chained);
+        chained = subst (λ (z : List Caller). Chains z after.first h.chain) (sym cells)
+            (chain_stays v.callers.items (lengthened v.callers.items before.last item number) after.first h.chain h.chained stays);
+        ended = subst (λ (z : List Caller). ChainEnds z after.first after.last) (sym cells)
+            (end_stays v.callers.items (lengthened v.callers.items before.last item number) after.first after.last h.ended h.chain h.chained stays);
         named = h.named;
         callers = h.callers;
         all = h.all;
-      }
+      })
 
   ends_same : (j : ℕ) (other : Instance) (before : Called) → slice_get (instances_in s) j ≡ Some other → slice_get v.called.items j ≡ Some before →
       ((before.last_end ≡ Some p → HasEnd core (taken ++ it ∷ []) other p) × (HasEnd core (taken ++ it ∷ []) other p → before.last_end ≡ Some p))
@@ -165,14 +182,14 @@ module _ (core : List Nonterminal) (text : List ℕ) (p : ℕ) (s t : Found) (ta
   pub waits_call : IsWaiting core text p t (taken ++ it ∷ []) u
   waits_call =
       record {
-        lengths = ap length called ∙ set_length v.called.items i (record { callers = length v.callers.items + 1; last_end = (called_at v i).last_end }) ∙ r.lengths ∙
+        lengths = ap length called ∙ set_length v.called.items i (with_caller (called_at v i) (suc (length v.callers.items))) ∙ r.lengths ∙
             ap length (sym keeps.instances);
         callers = λ j other after e known.
             ⊎_elim
             (λ h.
             let same : other ≡ callee = same_Some other callee (sym (back j other e) ∙ ap (slice_get (instances_in s)) h.0 ∙ at) in
-            subst (λ (z : Instance). HasCallers core text t (taken ++ it ∷ []) u.callers.items after.callers z) (sym same)
-            (subst (λ (z : ℕ). HasCallers core text t (taken ++ it ∷ []) u.callers.items z callee) (sym (ap (λ (z : Called). z.callers) h.1)) joined))
+            subst (λ (z : Instance). HasCallers core text t (taken ++ it ∷ []) u.callers.items after.first after.last z) (sym same)
+            (subst (λ (z : Called). HasCallers core text t (taken ++ it ∷ []) u.callers.items z.first z.last callee) (sym h.1) joined))
             (λ h. other_callers j other after (back j other e) h.0 h.1) (before_of j after known);
         ends = λ j other after e known.
             ⊎_elim
@@ -195,7 +212,7 @@ module _ (core : List Nonterminal) (text : List ℕ) (p : ℕ) (s t : Found) (ta
       }
 
 module _ (core : List Nonterminal) (text : List ℕ) (law : ReachableIsClosed) (inside : ItemsAreInText) (budget p k : ℕ) (s : Found) (v : Waiting) (item : stored.Item)
-    (here : item.position ≡ p) (r : IsRun core text budget p k s v) (at : slice_get s.here.keys k ≡ Some item) (i : ℕ) (callee : Instance)
+    (here : item.position ≡ p) (r : IsRun core text budget p k s v) (at : slice_get s.here k ≡ Some item) (i : ℕ) (callee : Instance)
     (label : Option (List ℕ)) (excluded : List Pattern) (there : slice_get (instances_in s) i ≡ Some callee)
     (calls : Calls core text (means s item) callee label excluded) where
   abbrev one : Item
@@ -204,14 +221,14 @@ module _ (core : List Nonterminal) (text : List ℕ) (law : ReachableIsClosed) (
   -- a taken item isn't behind the position
   taken_past : (x : Item) → Contains (taken_in s k) x → x.position ≤ p
   taken_past x c =
-      let a = unmapped_in (means s) (s.done.items ++ take k s.here.keys) x c in
+      let a = unmapped_in (means s) (s.done.items ++ take k s.here) x c in
       let e : a.0.position ≡ x.position = ap (λ (z : Item). z.position) a.2 in
       ⊎_elim (λ (h : Contains s.done.items a.0). let l = r.taking.stored.before a.0 h in omega (arith, l, e))
-      (λ (h : Contains (take k s.here.keys) a.0). let l = r.taking.stored.at a.0 (front_in s.here.keys k a.0 h) in omega (arith, l, e))
-      (contains_sides s.done.items (take k s.here.keys) a.0 a.1)
+      (λ (h : Contains (take k s.here) a.0). let l = r.taking.stored.at a.0 (front_in s.here k a.0 h) in omega (arith, l, e))
+      (contains_sides s.done.items (take k s.here) a.0 a.1)
 
   -- a complete item of the callee ends here
-  ends_here : (done : Item) → Contains (taken_in s k) done → done.instance ≡ callee → done.position ≡ p
+  pub ends_here : (done : Item) → Contains (taken_in s k) done → done.instance ≡ callee → done.position ≡ p
   ends_here done c of =
       let l = taken_past done c in
       let q = (inside core text done (r.taking.reachable done (left_contains (found_in s) (later_in s) done (taken_found s k done c)))).onward in
@@ -219,10 +236,16 @@ module _ (core : List Nonterminal) (text : List ℕ) (law : ReachableIsClosed) (
       let f : callee.start ≡ one.position = calls.here in
       omega (arith, l, q, e, f, here)
 
-  there_known : slice_get v.called.items i ≡ Some (called_at v i)
+  pub there_known : slice_get v.called.items i ≡ Some (called_at v i)
   there_known =
       slice_get-get_or v.called.items i not_called
       (let l = slice_get_within (instances_in s) i callee there in let e = r.waiting.lengths in omega (arith, l, e))
+
+  -- the last caller of the callee is there
+  pub last_there : (called_at v i).last ≤ length v.callers.items
+  last_there =
+      let h = r.waiting.callers i callee (called_at v i) there there_known in
+      end_within v.callers.items (called_at v i).first (called_at v i).last h.ended
 
   -- what follows: the first items, which are there, and where the callee ended here, the item after the call
   sorts : (x : Item) → After core text (taken_in s k) one x →
@@ -247,14 +270,14 @@ module _ (core : List Nonterminal) (text : List ℕ) (law : ReachableIsClosed) (
       )
   sorts x (rules.returned caller l ex c calls2 complete free e) = absurd (not_both core text one calls.names _ calls.before complete)
 
-  module _ (u : Waiting) (cells : u.callers.items ≡ v.callers.items ++ record { item = item; next = (called_at v i).callers } ∷ [])
-      (called : u.called.items ≡ set v.called.items i (record { callers = length v.callers.items + 1; last_end = (called_at v i).last_end })) where
+  module _ (u : Waiting) (number : ℕ) (cells : u.callers.items ≡ lengthened v.callers.items (called_at v i).last item number)
+      (called : u.called.items ≡ set v.called.items i (with_caller (called_at v i) (suc (length v.callers.items)))) where
     waits_then : (t : Found) → Keeps s t → IsWaiting core text p t (taken_in s k ++ one ∷ []) u
     waits_then t keeps =
         waits_call core text p s t (taken_in s k) item v u i callee keeps
         (item_named core text law budget p k s v item here r at) r.waiting
         (instances_once s r.taking.stored.named r.taking.stored.tables.environments r.taking.stored.tables.instances) there
-        (record { label = label; excluded = excluded; calls = calls }) cells called
+        (record { label = label; excluded = excluded; calls = calls }) number cells called
 
     -- the callee has no end here
     pub calls_only : ((called_at v i).last_end ≡ Some p → ⊥) → IsRun core text budget p (suc k) s u

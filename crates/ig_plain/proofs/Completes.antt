@@ -22,7 +22,7 @@ use Rattle.ig_plain.specs.Tables.{no_key}
 use Rattle.ig_plain.specs.Found.{means, instances_in, found_in, later_in, taken_in, Named, AreNamed, Grows, Adds}
 use Rattle.ig_plain.specs.Rules as rules
 use Rattle.ig_plain.specs.Rules.{After, IsCaller, StandsAtCall, IsReturn}
-use Rattle.ig_plain.specs.Waiting.{called_at, not_called}
+use Rattle.ig_plain.specs.Waiting.{called_at, not_called, with_end}
 use Rattle.ig_plain.specs.Run.{HasCallers, IsWaiting, IsRun, IsTaken, Taking, IsChainOf, IsReturnToOne}
 use Rattle.ig_plain.proofs.Lists.{contains_from_at, same_map}
 use Rattle.ig_plain.proofs.Growth.{grows_not, means_grown, named_grown, all_kept, instance_kept}
@@ -33,15 +33,15 @@ use Rattle.ig_plain.proofs.Returns.{one_chain}
 use Rattle.ig_plain.proofs.Running.{takes_found, taken_now, refuses}
 use Rattle.ig_plain.proofs.Waiters.{Keeps, Ended, ended_already, waits_complete}
 
-pub instances_once : (s : Found) → AreNamed s → NoneTwice s.envs.keys → NoneTwice s.keys.keys → NoneTwice (instances_in s)
+pub instances_once : (s : Found) → AreNamed s → NoneTwice s.envs.keys → NoneTwice s.keys → NoneTwice (instances_in s)
 instances_once s n e k =
-    once_mapped (instance_by s.envs.keys) s.keys.keys k (λ x y c d h. one_instance s.envs.keys s.keys.keys e k n.values x y c d h)
+    once_mapped (instance_by s.envs.keys) s.keys k (λ x y c d h. one_instance s.envs.keys s.keys e k n.values x y c d h)
 
 -- the instance of a stored item
 pub instance_at : (s : Found) (x : stored.Item) → Named s x → slice_get (instances_in s) x.instance ≡ Some (means s x).instance
 instance_at s x n =
-    slice_get-map (instance_by s.envs.keys) s.keys.keys x.instance ∙
-    ap (option_map (instance_by s.envs.keys)) (slice_get-get_or s.keys.keys x.instance no_key n.instance)
+    slice_get-map (instance_by s.envs.keys) s.keys x.instance ∙
+    ap (option_map (instance_by s.envs.keys)) (slice_get-get_or s.keys x.instance no_key n.instance)
 
 -- more items at the position keep all names
 pub keeps_grown : (p : ℕ) (may : Item → Type 0) (a b : Found) → AreNamed a → Grows p may a b → Keeps a b
@@ -50,16 +50,16 @@ keeps_grown p may a b n g =
       named = λ x h. named_grown p may a b x g h;
       means_same = λ x h. means_grown p may a b x g n.values h;
       instances = ap (map (instance_by b.envs.keys)) g.keys ∙
-          same_map (instance_by b.envs.keys) (instance_by a.envs.keys) a.keys.keys (λ key c. instance_kept a.envs.keys b.envs.keys key g.envs (n.values key c));
+          same_map (instance_by b.envs.keys) (instance_by a.envs.keys) a.keys (λ key c. instance_kept a.envs.keys b.envs.keys key g.envs (n.values key c));
     }
 
 module _ (core : List Nonterminal) (text : List ℕ) (law : ReachableIsClosed) (budget p k : ℕ) (s : Found) (w : Waiting) (item : stored.Item)
-    (here : item.position ≡ p) (r : IsRun core text budget p k s w) (at : slice_get s.here.keys k ≡ Some item) where
+    (here : item.position ≡ p) (r : IsRun core text budget p k s w) (at : slice_get s.here k ≡ Some item) where
   abbrev it : Item
   it = means s item
 
   pub item_named : Named s item
-  item_named = r.taking.stored.named.here item (contains_from_at s.here.keys k item at)
+  item_named = r.taking.stored.named.here item (contains_from_at s.here k item at)
 
   pub called_there : item.instance < length w.called.items
   called_there =
@@ -69,7 +69,7 @@ module _ (core : List Nonterminal) (text : List ℕ) (law : ReachableIsClosed) (
   once : NoneTwice (instances_in s)
   once = instances_once s r.taking.stored.named r.taking.stored.tables.environments r.taking.stored.tables.instances
 
-  known_called : slice_get w.called.items item.instance ≡ Some (called_at w item.instance)
+  pub known_called : slice_get w.called.items item.instance ≡ Some (called_at w item.instance)
   known_called = slice_get-get_or w.called.items item.instance not_called called_there
 
   pub firsts_kept : (may : Item → Type 0) (t : Found) → Grows p may s t → (callee : Instance) → Contains (instances_in t) callee → (a : ℕ)
@@ -115,9 +115,9 @@ module _ (core : List Nonterminal) (text : List ℕ) (law : ReachableIsClosed) (
 
     -- the callers of the instance
     abbrev head : ℕ
-    head = (called_at w item.instance).callers
+    head = (called_at w item.instance).first
 
-    waits : HasCallers core text s (taken_in s k) w.callers.items head it.instance
+    pub waits : HasCallers core text s (taken_in s k) w.callers.items head (called_at w item.instance).last it.instance
     waits = r.waiting.callers item.instance it.instance (called_at w item.instance) (instance_at s item item_named) known_called
 
     pub chain_of : IsChainOf core w.callers.items head s
@@ -183,7 +183,7 @@ module _ (core : List Nonterminal) (text : List ℕ) (law : ReachableIsClosed) (
 
 -- the run, at the number of the item
 pub run_at : (core : List Nonterminal) (text : List ℕ) (budget : ℕ) (item : stored.Item) (s : Found) (w : Waiting) → Taking core text budget item s w →
-    (k : ℕ) → slice_get s.here.keys k ≡ Some item → IsRun core text budget item.position k s w
+    (k : ℕ) → slice_get s.here k ≡ Some item → IsRun core text budget item.position k s w
 run_at core text budget item s w t k e =
     subst (λ (n : ℕ). IsRun core text budget item.position n s w) (t.run.taking.stored.here_once t.number k item t.at e) t.run
 
@@ -192,8 +192,8 @@ set_at [] m y d lt = absurd (omega arith)
 set_at (x ∷ xs) zero y d lt = refl
 set_at (x ∷ xs) (suc m) y d lt = set_at xs m y d (omega arith)
 
-pub head_now : (w v : Waiting) (m p : ℕ) → m < length w.called.items →
-    v.called.items ≡ set w.called.items m (record { callers = (called_at w m).callers; last_end = Some p }) → (called_at v m).callers ≡ (called_at w m).callers
-head_now w v m p lt is =
-    ap (λ (z : List Called). (slice_index_or z m not_called).callers) is ∙
-    ap (λ (z : Called). z.callers) (set_at w.called.items m (record { callers = (called_at w m).callers; last_end = Some p }) not_called lt)
+pub head_now : (w v : Waiting) (m p done : ℕ) → m < length w.called.items →
+    v.called.items ≡ set w.called.items m (with_end (called_at w m) p done) → (called_at v m).first ≡ (called_at w m).first
+head_now w v m p done lt is =
+    ap (λ (z : List Called). (slice_index_or z m not_called).first) is ∙
+    ap (λ (z : Called). z.first) (set_at w.called.items m (with_end (called_at w m) p done) not_called lt)

@@ -1,5 +1,5 @@
 -- At the end of the text the items found are exactly the reachable ones.
-use Rattle.std.proofs.Common.{◌≡◌, ◌↔◌, ℕ, suc, ◌<◌, ◌≤◌, List, [], ◌∷◌, ◌++◌, Some, length, map, Contains, refl, sym, ap, ◌∙◌, subst, arith, slice_get, length-append}
+use Rattle.std.proofs.Common.{◌≡◌, ℕ, suc, ◌<◌, ◌≤◌, List, [], ◌∷◌, ◌++◌, Some, length, map, Contains, refl, sym, ap, ◌∙◌, subst, arith, slice_get, length-append}
 use Rattle.std.specs.Prelude.{slice_index_or, option_map}
 use Rattle.std.proofs.lemmas.List.{append-nil}
 use Rattle.std.proofs.lemmas.Option.{slice_get-map, slice_get-get_or, get_or_from_slice_get}
@@ -7,7 +7,8 @@ use Rattle.std.proofs.Math.Seq.{take-length}
 use Rattle.ig_expr.specs.declared.value.Value.{Value}
 use Rattle.ig_item.specs.Items.{Item, Follows, Reachable, MoreThan, root_instance}
 use Rattle.ig_item.specs.Laws.{ItemsAreInText}
-use Rattle.ig_item.specs.Tables.{Tables, AreTables, HaveValues, instance_by, item_of, items_of, tables_by}
+use Rattle.ig_item.specs.Recorded.{AreReachable}
+use Rattle.ig_item.specs.Tables.{Tables, AreTables, instance_by, item_of, items_of, tables_by}
 use Rattle.ig_item.specs.WellKinded.{NoneTwice}
 use Rattle.ig_item.specs.declared.core_grammar.Nonterminal.{Nonterminal}
 use Rattle.ig_item.specs.declared.items.Instance.{Instance}
@@ -26,8 +27,8 @@ use Rattle.ig_plain.proofs.Completes.{instances_once}
 use Rattle.ig_plain.proofs.Fewer.{at_most}
 
 module _ (core : List Nonterminal) (text : List ℕ) (law : ItemsAreInText) (budget : ℕ) (s : Found) (w : Waiting)
-    (r : IsRun core text budget (length text) (length s.here.keys) s w) where
-  no_later : s.later.items ≡ []
+    (r : IsRun core text budget (length text) (length s.here) s w) where
+  pub no_later : s.later.items ≡ []
   no_later = none s.later.items (λ x c. never x c)
     where
       never : (x : stored.Item) → Contains s.later.items x → ⊥
@@ -46,20 +47,20 @@ module _ (core : List Nonterminal) (text : List ℕ) (law : ItemsAreInText) (bud
   all_found : found_in s ++ later_in s ≡ found_in s
   all_found = ap (λ (z : List stored.Item). found_in s ++ map (means s) z) no_later ∙ append-nil (found_in s)
 
-  taken_all : taken_in s (length s.here.keys) ≡ found_in s
-  taken_all = ap (λ (z : List stored.Item). map (means s) (s.done.items ++ z)) (take-length s.here.keys)
+  pub taken_all : taken_in s (length s.here) ≡ found_in s
+  taken_all = ap (λ (z : List stored.Item). map (means s) (s.done.items ++ z)) (take-length s.here)
 
-  sound : (x : Item) → Contains (found_in s) x → Reachable core text x
+  pub sound : (x : Item) → Contains (found_in s) x → Reachable core text x
   sound x c = r.taking.reachable x (left_contains (found_in s) (later_in s) x c)
 
-  complete : (x : Item) → Reachable core text x → Contains (found_in s) x
+  pub complete : (x : Item) → Reachable core text x → Contains (found_in s) x
   complete x q =
       kept core text (Contains (found_in s))
       (λ y f.
       subst (λ (z : List Item). Contains z y) all_found
       (r.taking.closed y (subst (λ (z : List Item). Follows core text (Contains z) y) (sym taken_all) f))) x q
 
-  once : NoneTwice (found_in s)
+  pub once : NoneTwice (found_in s)
   once = subst NoneTwice all_found (different (length text) s r.taking.stored)
 
   few : length (found_in s) ≤ budget
@@ -67,50 +68,42 @@ module _ (core : List Nonterminal) (text : List ℕ) (law : ItemsAreInText) (bud
       let a = ap length all_found in let b = counted (length text) s r.taking.stored in let l = r.taking.within in omega (arith, a, b, l)
 
   -- the tables of the answer
-  module _ (keys : List InstanceKey) (items : List stored.Item) (keys_are : keys ≡ s.keys.keys) (items_are : items ≡ s.done.items ++ s.here.keys) where
-    abbrev tables : Tables
-    tables = tables_by keys s.envs.keys items
+  abbrev tables : Tables
+  tables = tables_by s.keys s.envs.keys (s.done.items ++ s.here)
 
-    key_same : (x : stored.Item) → Named s x → item_of tables x ≡ means s x
-    key_same x n =
-        let at : slice_get (map (instance_by s.envs.keys) keys) x.instance ≡ Some (instance_by s.envs.keys (slice_index_or s.keys.keys x.instance no_key)) =
-        slice_get-map (instance_by s.envs.keys) keys x.instance ∙
-        ap (option_map (instance_by s.envs.keys))
-        (ap (λ (z : List InstanceKey). slice_get z x.instance) keys_are ∙ slice_get-get_or s.keys.keys x.instance no_key n.instance) in
-        ap (λ (z : Instance). record { instance = z; alternative = x.alternative; dot = x.dot; env = slice_index_or s.envs.keys x.env []; position = x.position })
-        (get_or_from_slice_get (map (instance_by s.envs.keys) keys) x.instance (instance_by s.envs.keys (slice_index_or s.keys.keys x.instance no_key)) root_instance at)
+  key_same : (x : stored.Item) → Named s x → item_of tables x ≡ means s x
+  key_same x n =
+      let instance : Instance = instance_by s.envs.keys (slice_index_or s.keys x.instance no_key) in
+      let at : slice_get (map (instance_by s.envs.keys) s.keys) x.instance ≡ Some instance =
+      slice_get-map (instance_by s.envs.keys) s.keys x.instance ∙
+      ap (option_map (instance_by s.envs.keys)) (slice_get-get_or s.keys x.instance no_key n.instance) in
+      ap (λ (z : Instance). record { instance = z; alternative = x.alternative; dot = x.dot; env = slice_index_or s.envs.keys x.env []; position = x.position })
+      (get_or_from_slice_get (map (instance_by s.envs.keys) s.keys) x.instance instance root_instance at)
 
-    pub items_same : items_of tables ≡ found_in s
-    items_same =
-        ap (map (item_of tables)) items_are ∙
-        same_map (item_of tables) (means s) (s.done.items ++ s.here.keys) (λ x c. key_same x (found_named s r.taking.stored.named x c))
+  pub items_same : items_of tables ≡ found_in s
+  items_same =
+      same_map (item_of tables) (means s) (s.done.items ++ s.here) (λ x c. key_same x (found_named s r.taking.stored.named x c))
 
-    pub exactly : (x : Item) → Contains (items_of tables) x ↔ Reachable core text x
-    exactly x =
-        (λ c. sound x (subst (λ (z : List Item). Contains z x) items_same c), λ q. subst (λ (z : List Item). Contains z x) (sym items_same) (complete x q))
+  pub exactly : AreReachable core text tables
+  exactly x =
+      (λ c. sound x (subst (λ (z : List Item). Contains z x) items_same c), λ q. subst (λ (z : List Item). Contains z x) (sym items_same) (complete x q))
 
-    pub none_twice : NoneTwice (items_of tables)
-    none_twice = subst NoneTwice (sym items_same) once
+  pub none_twice : NoneTwice (items_of tables)
+  none_twice = subst NoneTwice (sym items_same) once
 
-    pub items_few : length items ≤ budget
-    items_few =
-        let a = ap length items_are in let b = length-append s.done.items s.here.keys in let c = ap length no_later in let l = r.taking.within in
-        omega (arith, a, b, c, l)
+  pub items_few : length (s.done.items ++ s.here) ≤ budget
+  items_few =
+      let b = length-append s.done.items s.here in let c = ap length no_later in let l = r.taking.within in omega (arith, b, c, l)
 
-    pub no_more : MoreThan core text budget → ⊥
-    no_more m =
-        let l = at_most m.items (found_in s) m.different (λ x c. complete x (m.reachable x c)) in let f = few in let n = m.more in omega (arith, l, f, n)
+  pub no_more : MoreThan core text budget → ⊥
+  no_more m =
+      let l = at_most m.items (found_in s) m.different (λ x c. complete x (m.reachable x c)) in let f = few in let n = m.more in omega (arith, l, f, n)
 
-    pub keys_once : NoneTwice (map (instance_by s.envs.keys) keys)
-    keys_once =
-        subst (λ (z : List InstanceKey). NoneTwice (map (instance_by s.envs.keys) z)) (sym keys_are)
-        (instances_once s r.taking.stored.named r.taking.stored.tables.environments r.taking.stored.tables.instances)
+  pub keys_once : NoneTwice tables.instances
+  keys_once = instances_once s r.taking.stored.named r.taking.stored.tables.environments r.taking.stored.tables.instances
 
-    pub have : HaveValues s.envs.keys keys
-    have = subst (HaveValues s.envs.keys) (sym keys_are) r.taking.stored.named.values
-
-    pub inside : (x : stored.Item) → Contains items x → Named s x
-    inside x c = found_named s r.taking.stored.named x (subst (λ (z : List stored.Item). Contains z x) items_are c)
+  pub inside : (x : stored.Item) → Contains (s.done.items ++ s.here) x → Named s x
+  inside x c = found_named s r.taking.stored.named x c
 
 mapped_length : {A B : Type 0} (f : A → B) (xs : List A) → length (map f xs) ≡ length xs
 mapped_length f [] = refl

@@ -95,8 +95,8 @@ past_named e f keys it bound end x n p =
 module _ (p : ℕ) where
   -- nothing was added
   pub grows_not : (may : Item → Type 0) (a b : Found) → Extends a.envs.keys b.envs.keys →
-      (NoneTwice a.envs.keys → NoneTwice b.envs.keys) → b.keys.keys ≡ a.keys.keys → b.done.items ≡ a.done.items →
-      b.here.keys ≡ a.here.keys → b.later.items ≡ a.later.items → Grows p may a b
+      (NoneTwice a.envs.keys → NoneTwice b.envs.keys) → b.keys ≡ a.keys → b.done.items ≡ a.done.items →
+      b.here ≡ a.here → b.later.items ≡ a.later.items → Grows p may a b
   grows_not may a b envs once keys done here later =
       record {
         envs = envs;
@@ -104,7 +104,7 @@ module _ (p : ℕ) where
         keys = keys;
         done = done;
         later = later;
-        here = record { more = []; is = here ∙ sym (append-nil a.here.keys) };
+        here = record { more = []; is = here ∙ sym (append-nil a.here) };
         here_once = λ n. subst NoneTwice (sym here) n;
         named = λ x c. absurd (none_in x c);
         at = λ x c. absurd (none_in x c);
@@ -127,13 +127,13 @@ module _ (p : ℕ) where
       }
 
   -- an item was added at the position, if it wasn't there
-  pub grows_here : (a b : Found) (x : stored.Item) → Named a x → x.position ≡ p → b.envs.keys ≡ a.envs.keys → b.keys.keys ≡ a.keys.keys →
-      b.done.items ≡ a.done.items → b.later.items ≡ a.later.items → (here : Extends a.here.keys b.here.keys) →
+  pub grows_here : (a b : Found) (x : stored.Item) → Named a x → x.position ≡ p → b.envs.keys ≡ a.envs.keys → b.keys ≡ a.keys →
+      b.done.items ≡ a.done.items → b.later.items ≡ a.later.items → (here : Extends a.here b.here) →
       ((y : stored.Item) → Contains here.more y → y ≡ x) →
-      (NoneTwice a.here.keys → NoneTwice b.here.keys) → Grows p (λ y. y ≡ means a x) a b
+      (NoneTwice a.here → NoneTwice b.here) → Grows p (λ y. y ≡ means a x) a b
   grows_here a b x named at envs keys done later here only once =
-      let same : (y : stored.Item) → item_by b.envs.keys b.keys.keys y ≡ item_by a.envs.keys a.keys.keys y =
-      λ y. ap (λ (z : List (List Value)). item_by z b.keys.keys y) envs ∙ ap (λ (z : List InstanceKey). item_by a.envs.keys z y) keys in
+      let same : (y : stored.Item) → item_by b.envs.keys b.keys y ≡ item_by a.envs.keys a.keys y =
+      λ y. ap (λ (z : List (List Value)). item_by z b.keys y) envs ∙ ap (λ (z : List InstanceKey). item_by a.envs.keys z y) keys in
       record {
         envs = record { more = []; is = envs ∙ sym (append-nil a.envs.keys) };
         envs_once = λ n. subst NoneTwice (sym envs) n;
@@ -144,28 +144,28 @@ module _ (p : ℕ) where
         here_once = once;
         named = λ y h.
             subst (λ (z : stored.Item). Named b z) (sym (only y h))
-            (subst (λ (z : List (List Value)). IsNamed z b.keys.keys x) (sym envs)
+            (subst (λ (z : List (List Value)). IsNamed z b.keys x) (sym envs)
             (subst (λ (z : List InstanceKey). IsNamed a.envs.keys z x) (sym keys) named));
         at = λ y c. ap (λ (z : stored.Item). z.position) (only y c) ∙ at;
         each = λ y h. ap (means b) (only y h) ∙ same x;
       }
 
-  pub means_grown : (may : Item → Type 0) (a b : Found) (x : stored.Item) → Grows p may a b → HaveValues a.envs.keys a.keys.keys →
+  pub means_grown : (may : Item → Type 0) (a b : Found) (x : stored.Item) → Grows p may a b → HaveValues a.envs.keys a.keys →
       Named a x → means b x ≡ means a x
   means_grown may a b x g have named =
-      means_kept a.envs.keys b.envs.keys a.keys.keys b.keys.keys x g.envs
-      (record { more = []; is = g.keys ∙ sym (append-nil a.keys.keys) }) have named
+      means_kept a.envs.keys b.envs.keys a.keys b.keys x g.envs
+      (record { more = []; is = g.keys ∙ sym (append-nil a.keys) }) have named
 
-  pub values_grown : (may : Item → Type 0) (a b : Found) → Grows p may a b → HaveValues a.envs.keys a.keys.keys → HaveValues b.envs.keys b.keys.keys
+  pub values_grown : (may : Item → Type 0) (a b : Found) → Grows p may a b → HaveValues a.envs.keys a.keys → HaveValues b.envs.keys b.keys
   values_grown may a b g have =
-      subst (HaveValues b.envs.keys) (sym g.keys) (values_more a.envs.keys b.envs.keys a.keys.keys g.envs have)
+      subst (HaveValues b.envs.keys) (sym g.keys) (values_more a.envs.keys b.envs.keys a.keys g.envs have)
 
   pub named_grown : (may : Item → Type 0) (a b : Found) (x : stored.Item) → Grows p may a b → Named a x → Named b x
   named_grown may a b x g n =
-      subst (λ (z : List InstanceKey). IsNamed b.envs.keys z x) (sym g.keys) (named_more a.envs.keys b.envs.keys a.keys.keys x g.envs n)
+      subst (λ (z : List InstanceKey). IsNamed b.envs.keys z x) (sym g.keys) (named_more a.envs.keys b.envs.keys a.keys x g.envs n)
 
   -- one after the other
-  pub grows_then : (may : Item → Type 0) (a b c : Found) → HaveValues a.envs.keys a.keys.keys → Grows p may a b → Grows p may b c →
+  pub grows_then : (may : Item → Type 0) (a b c : Found) → HaveValues a.envs.keys a.keys → Grows p may a b → Grows p may b c →
       Grows p may a c
   grows_then may a b c have g h =
       let have_b = values_grown may a b g have in
@@ -175,7 +175,7 @@ module _ (p : ℕ) where
         keys = h.keys ∙ g.keys;
         done = h.done ∙ g.done;
         later = h.later ∙ g.later;
-        here = extends_then a.here.keys b.here.keys c.here.keys g.here h.here;
+        here = extends_then a.here b.here c.here g.here h.here;
         here_once = λ n. h.here_once (g.here_once n);
         named = λ x i.
             ⊎_elim (λ (k : Contains g.here.more x). named_grown may b c x h (g.named x k)) (λ (k : Contains h.here.more x). h.named x k)
@@ -193,13 +193,13 @@ named_all p may a b n g =
       values = values_grown p may a b g n.values;
       done = λ x c. named_grown p may a b x g (n.done x (subst (λ (z : List stored.Item). Contains z x) g.done c));
       here = λ x c.
-          ⊎_elim (λ (h : Contains a.here.keys x). named_grown p may a b x g (n.here x h)) (λ (h : Contains g.here.more x). g.named x h)
-          (extends_cases a.here.keys b.here.keys x g.here c);
+          ⊎_elim (λ (h : Contains a.here x). named_grown p may a b x g (n.here x h)) (λ (h : Contains g.here.more x). g.named x h)
+          (extends_cases a.here b.here x g.here c);
       later = λ x c. named_grown p may a b x g (n.later x (subst (λ (z : List stored.Item). Contains z x) g.later c));
     }
 
-pub found_named : (a : Found) → AreNamed a → (x : stored.Item) → Contains (a.done.items ++ a.here.keys) x → Named a x
-found_named a n x c = ⊎_elim (n.done x) (n.here x) (contains_sides a.done.items a.here.keys x c)
+pub found_named : (a : Found) → AreNamed a → (x : stored.Item) → Contains (a.done.items ++ a.here) x → Named a x
+found_named a n x c = ⊎_elim (n.done x) (n.here x) (contains_sides a.done.items a.here x c)
 
 pub means_list : (p : ℕ) (may : Item → Type 0) (a b : Found) → AreNamed a → Grows p may a b → (xs : List stored.Item) →
     ((x : stored.Item) → Contains xs x → Named a x) → map (means b) xs ≡ map (means a) xs
@@ -212,12 +212,12 @@ later_same p may a b n g = ap (map (means b)) g.later ∙ means_list p may a b n
 pub found_grown : (p : ℕ) (may : Item → Type 0) (a b : Found) → AreNamed a → (g : Grows p may a b) →
     found_in b ≡ found_in a ++ map (means b) g.here.more
 found_grown p may a b n g =
-    let lists : b.done.items ++ b.here.keys ≡ (a.done.items ++ a.here.keys) ++ g.here.more =
-    ap (λ (z : List stored.Item). z ++ b.here.keys) g.done ∙ ap (λ (z : List stored.Item). a.done.items ++ z) g.here.is ∙
-    sym (append_assoc a.done.items a.here.keys g.here.more) in
-    ap (map (means b)) lists ∙ map-append (means b) (a.done.items ++ a.here.keys) g.here.more ∙
+    let lists : b.done.items ++ b.here ≡ (a.done.items ++ a.here) ++ g.here.more =
+    ap (λ (z : List stored.Item). z ++ b.here) g.done ∙ ap (λ (z : List stored.Item). a.done.items ++ z) g.here.is ∙
+    sym (append_assoc a.done.items a.here g.here.more) in
+    ap (map (means b)) lists ∙ map-append (means b) (a.done.items ++ a.here) g.here.more ∙
     ap (λ (z : List Item). z ++ map (means b) g.here.more)
-    (means_list p may a b n g (a.done.items ++ a.here.keys) (found_named a n))
+    (means_list p may a b n g (a.done.items ++ a.here) (found_named a n))
 
 pub found_kept : (p : ℕ) (may : Item → Type 0) (a b : Found) → AreNamed a → Grows p may a b → (x : Item) → Contains (found_in a) x →
     Contains (found_in b) x

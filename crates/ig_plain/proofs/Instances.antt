@@ -38,13 +38,13 @@ at_exit r P Q e h q =
     subst (λ z. MatchResult z P Q) (sym p.1) (subst Q (sym p.2) q)
 
 -- tables that moved keep what waits
-pub moved_keeps : (s t : Found) (n : AreNamed s) (m : Moved s t) → t.keys.keys ≡ s.keys.keys → Keeps s t
+pub moved_keeps : (s t : Found) (n : AreNamed s) (m : Moved s t) → t.keys ≡ s.keys → Keeps s t
 moved_keeps s t n m same =
     record {
       named = moved_named s t n m;
       means_same = moved_means s t n m;
       instances = ap (map (instance_by t.envs.keys)) same ∙
-          same_map (instance_by t.envs.keys) (instance_by s.envs.keys) s.keys.keys (λ key c. instance_kept s.envs.keys t.envs.keys key m.envs (n.values key c));
+          same_map (instance_by t.envs.keys) (instance_by s.envs.keys) s.keys (λ key c. instance_kept s.envs.keys t.envs.keys key m.envs (n.values key c));
     }
 
 module _ (core : List Nonterminal) (text : List ℕ) (budget p k : ℕ) (s t : Found) (w : Waiting) (r : IsRun core text budget p k s w) where
@@ -52,7 +52,7 @@ module _ (core : List Nonterminal) (text : List ℕ) (budget p k : ℕ) (s t : F
   named = r.taking.stored.named
 
   -- a run whose tables moved, without a new instance
-  pub run_moved : Moved s t → t.keys.keys ≡ s.keys.keys → IsRun core text budget p k t w
+  pub run_moved : Moved s t → t.keys ≡ s.keys → IsRun core text budget p k t w
   run_moved m same =
       let keeps = moved_keeps s t named m same in
       record {
@@ -66,10 +66,10 @@ module _ (core : List Nonterminal) (text : List ℕ) (budget p k : ℕ) (s t : F
 
   pub inside : (x : Item) → Contains (taken_in s k) x → Contains (instances_in s) x.instance
   inside x c =
-      let u = unmapped_in (means s) (s.done.items ++ take k s.here.keys) x c in
+      let u = unmapped_in (means s) (s.done.items ++ take k s.here) x c in
       let n : Named s u.0 =
-      ⊎_elim (named.done u.0) (λ (h : Contains (take k s.here.keys) u.0). named.here u.0 (front_in s.here.keys k u.0 h))
-      (contains_sides s.done.items (take k s.here.keys) u.0 u.1) in
+      ⊎_elim (named.done u.0) (λ (h : Contains (take k s.here) u.0). named.here u.0 (front_in s.here k u.0 h))
+      (contains_sides s.done.items (take k s.here) u.0 u.1) in
       contains_from_at (instances_in s) u.0.instance x.instance (instance_at s u.0 n ∙ ap (λ (z : Item). Some z.instance) u.2)
 
 module _ (core : List Nonterminal) (text : List ℕ) (budget k : ℕ) (key : InstanceKey) (s : Found) (w : Waiting)
@@ -77,14 +77,13 @@ module _ (core : List Nonterminal) (text : List ℕ) (budget k : ℕ) (key : Ins
   named_s : AreNamed s
   named_s = r.taking.stored.named
 
-  -- the instance is there
-  pub entered_old : (t : Found) (i : ℕ) → t.envs.keys ≡ s.envs.keys → t.done.items ≡ s.done.items → t.here.keys ≡ s.here.keys →
-      t.later.items ≡ s.later.items → t.keys.keys ≡ s.keys.keys → slice_get t.keys.keys i ≡ Some key → IsEntered core text budget k key s t w i
-  entered_old t i envs done here later keys there =
-      let m : Moved s t =
+  -- the tables are the same
+  pub moved_same : (t : Found) → t.envs.keys ≡ s.envs.keys → t.done.items ≡ s.done.items → t.here ≡ s.here →
+      t.later.items ≡ s.later.items → t.keys ≡ s.keys → Moved s t
+  moved_same t envs done here later keys =
       record {
         envs = extends_same s.envs.keys t.envs.keys envs;
-        keys = extends_same s.keys.keys t.keys.keys keys;
+        keys = extends_same s.keys t.keys keys;
         done = done;
         here = here;
         later = later;
@@ -92,36 +91,42 @@ module _ (core : List Nonterminal) (text : List ℕ) (budget k : ℕ) (key : Ins
           environments = subst NoneTwice (sym envs) r.taking.stored.tables.environments;
           instances = subst NoneTwice (sym keys) r.taking.stored.tables.instances;
         };
-        values = subst (λ (z : List InstanceKey). HaveValues t.envs.keys z) (sym keys) (subst (λ z. HaveValues z s.keys.keys) (sym envs) named_s.values);
-      } in
+        values = subst (λ (z : List InstanceKey). HaveValues t.envs.keys z) (sym keys) (subst (λ z. HaveValues z s.keys) (sym envs) named_s.values);
+      }
+
+  -- the instance is there
+  pub entered_old : (t : Found) (i : ℕ) → t.envs.keys ≡ s.envs.keys → t.done.items ≡ s.done.items → t.here ≡ s.here →
+      t.later.items ≡ s.later.items → t.keys ≡ s.keys → slice_get t.keys i ≡ Some key → IsEntered core text budget k key s t w i
+  entered_old t i envs done here later keys there =
+      let m : Moved s t = moved_same t envs done here later keys in
       record {
         run = run_moved core text budget key.start k s t w r m keys;
         there = there;
         named = moved_named s t named_s m;
         same = moved_means s t named_s m;
         envs = m.envs;
-        here = extends_same s.here.keys t.here.keys here;
+        done = done;
+        here = extends_same s.here t.here here;
         taken = moved_taken s t named_s m k;
       }
 
   -- the instance is new
-  module _ (s1 : Found) (i : ℕ) (envs : s1.envs.keys ≡ s.envs.keys) (done : s1.done.items ≡ s.done.items) (here : s1.here.keys ≡ s.here.keys)
-      (later : s1.later.items ≡ s.later.items) (once : NoneTwice s1.keys.keys) (new : IsNew s.keys.keys s1.keys.keys key i)
-      (reach : (x : Item) → IsFirstOf core (instance_by s.envs.keys key) x → Reachable core text x) where
-    keys_more : Extends s.keys.keys s1.keys.keys
+  module _ (s1 : Found) (i : ℕ) (envs : s1.envs.keys ≡ s.envs.keys) (done : s1.done.items ≡ s.done.items) (here : s1.here ≡ s.here)
+      (later : s1.later.items ≡ s.later.items) (once : NoneTwice s1.keys) (new : IsNew s.keys s1.keys key i) where
+    keys_more : Extends s.keys s1.keys
     keys_more = record { more = key ∷ []; is = new.added }
 
-    pub key_at : slice_get s1.keys.keys i ≡ Some key
+    pub key_at : slice_get s1.keys i ≡ Some key
     key_at =
         subst (λ (z : List InstanceKey). slice_get z i ≡ Some key) (sym new.added)
-        (right_at s.keys.keys (key ∷ []) i 0 key (let e = new.last in omega (arith, e)) refl)
+        (right_at s.keys (key ∷ []) i 0 key (let e = new.last in omega (arith, e)) refl)
 
-    values_now : HaveValues s1.envs.keys s1.keys.keys
+    values_now : HaveValues s1.envs.keys s1.keys
     values_now x c =
         subst (λ (z : List _). x.env < length z) (sym envs)
-        (⊎_elim (λ (h : Contains s.keys.keys x). named_s.values x h)
+        (⊎_elim (λ (h : Contains s.keys x). named_s.values x h)
         (λ (h : Contains (key ∷ []) x). subst (λ (z : InstanceKey). z.env < length s.envs.keys) (sym (one_in key x h)) env)
-        (contains_sides s.keys.keys (key ∷ []) x (subst (λ (z : List InstanceKey). Contains z x) new.added c)))
+        (contains_sides s.keys (key ∷ []) x (subst (λ (z : List InstanceKey). Contains z x) new.added c)))
 
     pub moved : Moved s s1
     moved =
@@ -138,18 +143,18 @@ module _ (core : List Nonterminal) (text : List ℕ) (budget k : ℕ) (key : Ins
     abbrev fresh : Instance
     fresh = instance_by s.envs.keys key
 
-    all_instances : instances_in s1 ≡ instances_in s ++ fresh ∷ []
+    pub all_instances : instances_in s1 ≡ instances_in s ++ fresh ∷ []
     all_instances =
-        ap (λ z. map (instance_by z) s1.keys.keys) envs ∙ ap (map (instance_by s.envs.keys)) new.added ∙
-        map-append (instance_by s.envs.keys) s.keys.keys (key ∷ [])
+        ap (λ z. map (instance_by z) s1.keys) envs ∙ ap (map (instance_by s.envs.keys)) new.added ∙
+        map-append (instance_by s.envs.keys) s.keys (key ∷ [])
 
     apart : Contains (instances_in s) fresh → ⊥
     apart c =
-        let u = unmapped_in (instance_by s.envs.keys) s.keys.keys fresh c in
+        let u = unmapped_in (instance_by s.envs.keys) s.keys fresh c in
         let e : u.0 ≡ key =
-        one_instance s.envs.keys s1.keys.keys r.taking.stored.tables.environments once (subst (λ z. HaveValues z s1.keys.keys) envs values_now) u.0 key
-        (extends_in s.keys.keys s1.keys.keys u.0 keys_more u.1) (contains_from_at s1.keys.keys i key key_at) u.2 in
-        new.new (subst (Contains s.keys.keys) e u.1)
+        one_instance s.envs.keys s1.keys r.taking.stored.tables.environments once (subst (λ z. HaveValues z s1.keys) envs values_now) u.0 key
+        (extends_in s.keys s1.keys u.0 keys_more u.1) (contains_from_at s1.keys i key key_at) u.2 in
+        new.new (subst (Contains s.keys) e u.1)
 
     pub named_1 : AreNamed s1
     named_1 = (moved_taking s s1 named_s moved core text budget key.start k r.taking).stored.named
@@ -157,62 +162,64 @@ module _ (core : List Nonterminal) (text : List ℕ) (budget k : ℕ) (key : Ins
     fresh_same : instance_by s1.envs.keys key ≡ fresh
     fresh_same = ap (λ z. instance_by z key) envs
 
-    reach_1 : (x : Item) → IsFirstOf core (instance_by s1.envs.keys key) x → Reachable core text x
-    reach_1 x f = reach x (subst (λ (z : Instance). IsFirstOf core z x) fresh_same f)
+    module _ (reach : (x : Item) → IsFirstOf core (instance_by s.envs.keys key) x → Reachable core text x) where
+      reach_1 : (x : Item) → IsFirstOf core (instance_by s1.envs.keys key) x → Reachable core text x
+      reach_1 x f = reach x (subst (λ (z : Instance). IsFirstOf core z x) fresh_same f)
 
-    pub refused_new : (t : Found) (f : RunFault) → Adds key.start (IsFirstOf core (instance_by s1.envs.keys key)) budget s1 t (Err f) → Refuses core text budget f
-    refused_new t Budget d =
-        exceeds_grown core text budget key.start k (IsFirstOf core (instance_by s1.envs.keys key)) s1 t
-        (moved_taking s s1 named_s moved core text budget key.start k r.taking) d.grows reach_1 (d.fault refl)
-    refused_new t Memory d = tt
+      pub refused_new : (t : Found) (f : RunFault) → Adds key.start (IsFirstOf core (instance_by s1.envs.keys key)) budget s1 t (Err f) → Refuses core text budget f
+      refused_new t Budget d =
+          exceeds_grown core text budget key.start k (IsFirstOf core (instance_by s1.envs.keys key)) s1 t
+          (moved_taking s s1 named_s moved core text budget key.start k r.taking) d.grows reach_1 (d.fault refl)
+      refused_new t Memory d = tt
 
-    pub entered_new : (t : Found) (v : Waiting) → v.called.items ≡ w.called.items ++ not_called ∷ [] → v.callers.items ≡ w.callers.items →
-        Adds key.start (IsFirstOf core (instance_by s1.envs.keys key)) budget s1 t (Ok tt) → IsEntered core text budget k key s t v i
-    entered_new t v called cells d =
-        let may : Item → Type 0 = IsFirstOf core (instance_by s1.envs.keys key) in
-        let taking1 = moved_taking s s1 named_s moved core text budget key.start k r.taking in
-        let few : k ≤ length s1.here.keys = taking1.few in
-        let keeps = keeps_grown key.start may s1 t named_1 d.grows in
-        let waits1 : IsWaiting core text key.start s1 (taken_in s k) v =
-        waits_new core text key.start s s1 (taken_in s k) w v fresh (moved_named s s1 named_s moved) (moved_means s s1 named_s moved) all_instances apart
-        (inside core text budget key.start k s s w r) called cells r.waiting in
-        let taken1 : taken_in s1 k ≡ taken_in s k = moved_taken s s1 named_s moved k in
-        let taken2 : taken_in t k ≡ taken_in s1 k = taken_grown key.start may s1 t k named_1 d.grows few in
-        record {
-          run = record {
-            taking = taking_grown core text budget key.start k may s1 t taking1 d.grows reach_1 (d.within taking1.within);
-            firsts = λ callee c a nonterminal alternative has.
-                ⊎_elim
-                (λ (h : Contains (instances_in s) callee).
-                all_kept key.start may s1 t named_1 d.grows (first callee a)
-                (moved_back s s1 named_s moved (first callee a) (r.firsts callee h a nonterminal alternative has)))
-                (λ (h : Contains (fresh ∷ []) callee).
-                let e : callee ≡ instance_by s1.envs.keys key = one_in fresh callee h ∙ sym fresh_same in
-                d.has (first callee a)
-                (a, nonterminal, alternative, subst (λ (z : Instance). IsAlternative core z.nonterminal a nonterminal alternative) e has, ap (λ (z : Instance). first z a) e))
-                (contains_sides (instances_in s) (fresh ∷ []) callee
-                (subst (λ (z : List Instance). Contains z callee) (keeps.instances ∙ all_instances) c));
-            waiting = subst (λ (z : List Item). IsWaiting core text key.start t z v) (sym (taken2 ∙ taken1))
-                (waits_kept core text key.start s1 t (taken_in s k) v keeps waits1);
-          };
-          there = ap (λ (z : List InstanceKey). slice_get z i) d.grows.keys ∙ key_at;
-          named = λ x n. keeps.named x (moved_named s s1 named_s moved x n);
-          same = λ x n. keeps.means_same x (moved_named s s1 named_s moved x n) ∙ moved_means s s1 named_s moved x n;
-          envs = extends_then s.envs.keys s1.envs.keys t.envs.keys moved.envs d.grows.envs;
-          here = extends_then s.here.keys s1.here.keys t.here.keys (extends_same s.here.keys s1.here.keys here) d.grows.here;
-          taken = taken2 ∙ taken1;
-        }
+      pub entered_new : (t : Found) (v : Waiting) → v.called.items ≡ w.called.items ++ not_called ∷ [] → v.callers.items ≡ w.callers.items →
+          Adds key.start (IsFirstOf core (instance_by s1.envs.keys key)) budget s1 t (Ok tt) → IsEntered core text budget k key s t v i
+      entered_new t v called cells d =
+          let may : Item → Type 0 = IsFirstOf core (instance_by s1.envs.keys key) in
+          let taking1 = moved_taking s s1 named_s moved core text budget key.start k r.taking in
+          let few : k ≤ length s1.here = taking1.few in
+          let keeps = keeps_grown key.start may s1 t named_1 d.grows in
+          let waits1 : IsWaiting core text key.start s1 (taken_in s k) v =
+          waits_new core text key.start s s1 (taken_in s k) w v fresh (moved_named s s1 named_s moved) (moved_means s s1 named_s moved) all_instances apart
+          (inside core text budget key.start k s s w r) called cells r.waiting in
+          let taken1 : taken_in s1 k ≡ taken_in s k = moved_taken s s1 named_s moved k in
+          let taken2 : taken_in t k ≡ taken_in s1 k = taken_grown key.start may s1 t k named_1 d.grows few in
+          record {
+            run = record {
+              taking = taking_grown core text budget key.start k may s1 t taking1 d.grows reach_1 (d.within taking1.within);
+              firsts = λ callee c a nonterminal alternative has.
+                  ⊎_elim
+                  (λ (h : Contains (instances_in s) callee).
+                  all_kept key.start may s1 t named_1 d.grows (first callee a)
+                  (moved_back s s1 named_s moved (first callee a) (r.firsts callee h a nonterminal alternative has)))
+                  (λ (h : Contains (fresh ∷ []) callee).
+                  let e : callee ≡ instance_by s1.envs.keys key = one_in fresh callee h ∙ sym fresh_same in
+                  d.has (first callee a)
+                  (a, nonterminal, alternative, subst (λ (z : Instance). IsAlternative core z.nonterminal a nonterminal alternative) e has, ap (λ (z : Instance). first z a) e))
+                  (contains_sides (instances_in s) (fresh ∷ []) callee
+                  (subst (λ (z : List Instance). Contains z callee) (keeps.instances ∙ all_instances) c));
+              waiting = subst (λ (z : List Item). IsWaiting core text key.start t z v) (sym (taken2 ∙ taken1))
+                  (waits_kept core text key.start s1 t (taken_in s k) v keeps waits1);
+            };
+            there = ap (λ (z : List InstanceKey). slice_get z i) d.grows.keys ∙ key_at;
+            named = λ x n. keeps.named x (moved_named s s1 named_s moved x n);
+            same = λ x n. keeps.means_same x (moved_named s s1 named_s moved x n) ∙ moved_means s s1 named_s moved x n;
+            envs = extends_then s.envs.keys s1.envs.keys t.envs.keys moved.envs d.grows.envs;
+            done = d.grows.done ∙ done;
+            here = extends_then s.here s1.here t.here (extends_same s.here s1.here here) d.grows.here;
+            taken = taken2 ∙ taken1;
+          }
 
 -- names stay as an instance is added
-pub named_keys : (s t : Found) (key : InstanceKey) (i : ℕ) → AreNamed s → key.env < length s.envs.keys → IsNew s.keys.keys t.keys.keys key i →
-    t.envs.keys ≡ s.envs.keys → t.done.items ≡ s.done.items → t.here.keys ≡ s.here.keys → t.later.items ≡ s.later.items → AreNamed t
+pub named_keys : (s t : Found) (key : InstanceKey) (i : ℕ) → AreNamed s → key.env < length s.envs.keys → IsNew s.keys t.keys key i →
+    t.envs.keys ≡ s.envs.keys → t.done.items ≡ s.done.items → t.here ≡ s.here → t.later.items ≡ s.later.items → AreNamed t
 named_keys s t key i n env new envs done here later =
     record {
       values = λ x c.
           subst (λ (z : List _). x.env < length z) (sym envs)
-          (⊎_elim (λ (h : Contains s.keys.keys x). n.values x h)
+          (⊎_elim (λ (h : Contains s.keys x). n.values x h)
           (λ (h : Contains (key ∷ []) x). subst (λ (z : InstanceKey). z.env < length s.envs.keys) (sym (one_in key x h)) env)
-          (contains_sides s.keys.keys (key ∷ []) x (subst (λ (z : List InstanceKey). Contains z x) new.added c)));
+          (contains_sides s.keys (key ∷ []) x (subst (λ (z : List InstanceKey). Contains z x) new.added c)));
       done = λ x c. more x (n.done x (subst (λ (z : List stored.Item). Contains z x) done c));
       here = λ x c. more x (n.here x (subst (λ (z : List stored.Item). Contains z x) here c));
       later = λ x c. more x (n.later x (subst (λ (z : List stored.Item). Contains z x) later c));
@@ -221,6 +228,6 @@ named_keys s t key i n env new envs done here later =
     more : (x : stored.Item) → Named s x → Named t x
     more x h =
         record {
-          instance = let l = ap length new.added ∙ length-append s.keys.keys (key ∷ []) in omega (arith, l, h.instance);
+          instance = let l = ap length new.added ∙ length-append s.keys (key ∷ []) in omega (arith, l, h.instance);
           env = let l = ap length envs in omega (arith, l, h.env);
         }

@@ -16,7 +16,7 @@ use Rattle.ig_plain.specs.Found.{means, instances_in, found_in, later_in, taken_
 use Rattle.ig_plain.specs.Rules.{IsCaller}
 use Rattle.ig_plain.specs.Waiting.{not_called}
 use Rattle.ig_plain.specs.Run as run
-use Rattle.ig_plain.specs.Run.{Chains, HasCallers, HasEnd, IsWaiting, IsTaking, IsRun}
+use Rattle.ig_plain.specs.Run.{HasCallers, HasEnd, IsWaiting, IsTaking, IsRun}
 use Rattle.ig_plain.proofs.Lists.{front_in, left_contains, right_contains, contains_sides, sides, none_in, same_map}
 use Rattle.ig_plain.proofs.Growth.{means_kept, found_named, found_from, later_same, all_kept, longer}
 use Rattle.ig_plain.proofs.Distinct.{too_many}
@@ -26,40 +26,40 @@ use Rattle.ig_plain.proofs.Waiters.{Keeps}
 -- the items stay, in tables that grow
 pub record Moved (s t : Found) : Type 0 where
   pub envs : Extends s.envs.keys t.envs.keys
-  pub keys : Extends s.keys.keys t.keys.keys
+  pub keys : Extends s.keys t.keys
   pub done : t.done.items ≡ s.done.items
-  pub here : t.here.keys ≡ s.here.keys
+  pub here : t.here ≡ s.here
   pub later : t.later.items ≡ s.later.items
   pub tables : AreTables t
-  pub values : HaveValues t.envs.keys t.keys.keys
+  pub values : HaveValues t.envs.keys t.keys
 
 module _ (s t : Found) (n : AreNamed s) (m : Moved s t) where
   pub moved_named : (x : stored.Item) → Named s x → Named t x
   moved_named x h =
       record {
-        instance = let l = longer s.keys.keys t.keys.keys m.keys in omega (arith, l, h.instance);
+        instance = let l = longer s.keys t.keys m.keys in omega (arith, l, h.instance);
         env = let l = longer s.envs.keys t.envs.keys m.envs in omega (arith, l, h.env);
       }
 
   pub moved_means : (x : stored.Item) → Named s x → means t x ≡ means s x
-  moved_means x h = means_kept s.envs.keys t.envs.keys s.keys.keys t.keys.keys x m.envs m.keys n.values h
+  moved_means x h = means_kept s.envs.keys t.envs.keys s.keys t.keys x m.envs m.keys n.values h
 
   moved_map : (xs ys : List stored.Item) → ys ≡ xs → ((x : stored.Item) → Contains xs x → Named s x) → map (means t) ys ≡ map (means s) xs
   moved_map xs ys e named = ap (map (means t)) e ∙ same_map (means t) (means s) xs (λ x c. moved_means x (named x c))
 
   pub moved_found : found_in t ≡ found_in s
   moved_found =
-      moved_map (s.done.items ++ s.here.keys) (t.done.items ++ t.here.keys)
-      (ap (λ (z : List stored.Item). z ++ t.here.keys) m.done ∙ ap (λ (z : List stored.Item). s.done.items ++ z) m.here) (found_named s n)
+      moved_map (s.done.items ++ s.here) (t.done.items ++ t.here)
+      (ap (λ (z : List stored.Item). z ++ t.here) m.done ∙ ap (λ (z : List stored.Item). s.done.items ++ z) m.here) (found_named s n)
 
   pub moved_later : later_in t ≡ later_in s
   moved_later = moved_map s.later.items t.later.items m.later n.later
 
   pub moved_taken : (k : ℕ) → taken_in t k ≡ taken_in s k
   moved_taken k =
-      moved_map (s.done.items ++ take k s.here.keys) (t.done.items ++ take k t.here.keys)
-      (ap (λ (z : List stored.Item). z ++ take k t.here.keys) m.done ∙ ap (λ (z : List stored.Item). s.done.items ++ take k z) m.here)
-      (λ x c. ⊎_elim (n.done x) (λ (h : Contains (take k s.here.keys) x). n.here x (front_in s.here.keys k x h)) (contains_sides s.done.items (take k s.here.keys) x c))
+      moved_map (s.done.items ++ take k s.here) (t.done.items ++ take k t.here)
+      (ap (λ (z : List stored.Item). z ++ take k t.here) m.done ∙ ap (λ (z : List stored.Item). s.done.items ++ take k z) m.here)
+      (λ x c. ⊎_elim (n.done x) (λ (h : Contains (take k s.here) x). n.here x (front_in s.here k x h)) (contains_sides s.done.items (take k s.here) x c))
 
   pub moved_all : (x : Item) → Contains (found_in t ++ later_in t) x → Contains (found_in s ++ later_in s) x
   moved_all x c =
@@ -125,7 +125,7 @@ taking_grown core text budget p k may s t r g sound within =
       came = λ x c.
           let h = r.came x (subst (λ (z : List Item). Contains z x) (later_same p may s t n g) c) in
           (h.0, subst (λ (z : List Item). Contains z h.0) (sym same) h.1, h.2);
-      few = let e = ap length g.here.is in let l = length-append s.here.keys g.here.more in omega (arith, e, l, r.few);
+      few = let e = ap length g.here.is in let l = length-append s.here g.here.more in omega (arith, e, l, r.few);
       within = within;
     }
 
@@ -144,13 +144,14 @@ exceeds_grown core text budget p k may s t r g sound more =
     (contains_sides (found_in t) (later_in t) x c)) more
 
 module _ (core : List Nonterminal) (text : List ℕ) (p : ℕ) where
-  callers_kept : (s t : Found) (taken : List Item) (cells : List Caller) (head : ℕ) (callee : Instance) →
+  callers_kept : (s t : Found) (taken : List Item) (cells : List Caller) (head last : ℕ) (callee : Instance) →
       ((x : stored.Item) → Named s x → Named t x) → ((x : stored.Item) → Named s x → means t x ≡ means s x) →
-      HasCallers core text s taken cells head callee → HasCallers core text t taken cells head callee
-  callers_kept s t taken cells head callee named same h =
+      HasCallers core text s taken cells head last callee → HasCallers core text t taken cells head last callee
+  callers_kept s t taken cells head last callee named same h =
       record {
         chain = h.chain;
         chained = h.chained;
+        ended = h.ended;
         named = λ y c. named y (h.named y c);
         callers = λ y c.
             let q = h.callers y c in let e = sym (same y (h.named y c)) in
@@ -164,7 +165,7 @@ module _ (core : List Nonterminal) (text : List ℕ) (p : ℕ) where
       record {
         lengths = r.lengths ∙ ap length (sym keeps.instances);
         callers = λ i callee called at known.
-            callers_kept s t taken w.callers.items called.callers callee keeps.named keeps.means_same
+            callers_kept s t taken w.callers.items called.first called.last callee keeps.named keeps.means_same
             (r.callers i callee called (subst (λ (z : List Instance). slice_get z i ≡ Some callee) keeps.instances at) known);
         ends = λ i callee called at known. r.ends i callee called (subst (λ (z : List Instance). slice_get z i ≡ Some callee) keeps.instances at) known;
         known = λ x callee c d. subst (λ (z : List Instance). Contains z callee) (sym keeps.instances) (r.known x callee c d);
@@ -208,13 +209,14 @@ module _ (core : List Nonterminal) (text : List ℕ) (p : ℕ) where
         callers = λ i callee c at known.
             ⊎_elim
             (λ h.
-            subst (λ (z : List Caller). HasCallers core text t taken z c.callers callee) (sym cells)
-            (callers_kept s t taken w.callers.items c.callers callee named same (r.callers i callee c h.0 h.1)))
+            subst (λ (z : List Caller). HasCallers core text t taken z c.first c.last callee) (sym cells)
+            (callers_kept s t taken w.callers.items c.first c.last callee named same (r.callers i callee c h.0 h.1)))
             (λ h.
-            subst (λ (z : ℕ). HasCallers core text t taken v.callers.items z callee) (ap (λ (z : Called). z.callers) (sym h.1))
+            subst (λ (z : Called). HasCallers core text t taken v.callers.items z.first z.last callee) (sym h.1)
             (record {
               chain = [];
               chained = run.none;
+              ended = run.nowhere;
               named = λ y k. absurd (none_in y k);
               callers = λ y k. absurd (none_in y k);
               all = λ x k d. absurd (apart (subst (Contains (instances_in s)) h.0 (r.known x callee k d)));

@@ -1,5 +1,5 @@
 -- What inserting into a set makes of its keys, where `==` decides whether keys are the same.
-use Rattle.std.proofs.Common.{◌≡◌, ⊎_elim, ℕ, ◌+◌, ◌≤◌, length-append, ◌<◌, List, [], ◌∷◌, ◌++◌, length, Bool, true, false, refl, sym, ◌∙◌, ap, subst, arith, Some, Contains, if◌then◌else◌, slice_get, get_or}
+use Rattle.std.proofs.Common.{◌≡◌, ⊎_elim, ℕ, ◌<◌, List, [], ◌∷◌, ◌++◌, length, Bool, true, false, refl, sym, ◌∙◌, ap, subst, arith, Some, Contains, if◌then◌else◌, slice_get, get_or}
 use Rattle.std.specs.Prelude.{not}
 use Rattle.std.specs.List.{IsDistinct, list_any}
 use Rattle.std.specs.Bool.{Decides}
@@ -11,20 +11,17 @@ use Rattle.std.proofs.lemmas.Map.Views.{Contains-from_any}
 use Rattle.std.proofs.lemmas.List.Folds.{list_any_at}
 use Rattle.indexmap.specs.IndexSet.{insert_key}
 use Rattle.ig_item.specs.WellKinded.{NoneTwice}
-use Rattle.ig_plain.specs.Tables.{Extends, AddsOnly, Enters, IsNew}
-use Rattle.ig_plain.proofs.Lists.{none_in, one_in, right_contains, it_is_in, right_at}
+use Rattle.ig_plain.specs.Tables.{Extends, Enters, IsNew}
+use Rattle.ig_plain.proofs.Lists.{right_at}
 
 module _ {X : Type 0} where
-  pub extends_itself : (xs : List X) → Extends xs xs
+  abbrev pub extends_itself : (xs : List X) → Extends xs xs
   extends_itself xs = record { more = []; is = sym (append-nil xs) }
 
-  pub adds_not : (xs ys : List X) (x : X) → ys ≡ xs → AddsOnly xs ys x
-  adds_not xs ys x e = record { extends = record { more = []; is = e ∙ sym (append-nil xs) }; only = λ y c. absurd (none_in y c) }
-
-  pub extends_by : (xs ys zs : List X) → ys ≡ xs ++ zs → Extends xs ys
+  abbrev pub extends_by : (xs ys zs : List X) → ys ≡ xs ++ zs → Extends xs ys
   extends_by xs ys zs e = record { more = zs; is = e }
 
-  pub extends_same : (xs ys : List X) → ys ≡ xs → Extends xs ys
+  abbrev pub extends_same : (xs ys : List X) → ys ≡ xs → Extends xs ys
   extends_same xs ys e = record { more = []; is = e ∙ sym (append-nil xs) }
 
 module _ {X : Type 0} {eq : X → X → Bool} (decides : (x y : X) → Decides (eq x y) (x ≡ y)) where
@@ -53,36 +50,6 @@ module _ {X : Type 0} {eq : X → X → Bool} (decides : (x y : X) → Decides (
       go true t = record { more = []; is = after_true before after x e t ∙ sym (append-nil before) }
       go false t = record { more = x ∷ []; is = after_false before after x e t }
 
-  pub inserted_only : (before after : List X) (x : X) → after ≡ insert_key eq before x → AddsOnly before after x
-  inserted_only before after x e = go (list_any (eq x) before) refl
-    where
-      go : (b : Bool) → list_any (eq x) before ≡ b → AddsOnly before after x
-      go true t =
-          record {
-            extends = record { more = []; is = after_true before after x e t ∙ sym (append-nil before) };
-            only = λ y c. absurd (none_in y c);
-          }
-      go false t =
-          record { extends = record { more = x ∷ []; is = after_false before after x e t }; only = λ y c. one_in x y c }
-
-  pub inserted_few : (before after : List X) (x : X) → after ≡ insert_key eq before x → length after ≤ length before + 1
-  inserted_few before after x e = go (list_any (eq x) before) refl
-    where
-      go : (b : Bool) → list_any (eq x) before ≡ b → length after ≤ length before + 1
-      go true t = let n = ap length (after_true before after x e t) in omega (arith, n)
-      go false t = let n = ap length (after_false before after x e t) ∙ length-append before (x ∷ []) in omega (arith, n)
-
-  pub inserted_there : (before after : List X) (x : X) → after ≡ insert_key eq before x → Contains after x
-  inserted_there before after x e = go (list_any (eq x) before) refl
-    where
-      go : (b : Bool) → list_any (eq x) before ≡ b → Contains after x
-      go true t =
-          subst (λ (z : List X). Contains z x) (sym (after_true before after x e t))
-          (Contains-from_any (λ x y. (decides x y).0) x before t)
-      go false t =
-          subst (λ (z : List X). Contains z x) (sym (after_false before after x e t))
-          (right_contains before (x ∷ []) x (it_is_in x))
-
   pub inserted_at : (after : List X) (x k : X) (n : ℕ) → slice_get after n ≡ Some k → eq x k ≡ true → slice_get after n ≡ Some x
   inserted_at after x k n e t = e ∙ ap Some (sym ((decides x k).0 t))
 
@@ -90,6 +57,14 @@ module _ {X : Type 0} {eq : X → X → Bool} (decides : (x y : X) → Decides (
   absent before x none c =
       let found : list_any (eq x) before ≡ true = list_any_at (eq x) before c.0 x c.1 ((decides x _).1 (sym c.2)) in
       let no : true ≡ false = sym found ∙ none in cc
+
+  -- a value that isn't there is added at the end
+  pub not_there : (before after : List X) (x : X) → after ≡ insert_key eq before x → (Contains before x → ⊥) → after ≡ before ++ x ∷ []
+  not_there before after x e none = go (list_any (eq x) before) refl
+    where
+      go : (b : Bool) → list_any (eq x) before ≡ b → after ≡ before ++ x ∷ []
+      go true t = absurd (none (Contains-from_any (λ x y. (decides x y).0) x before t))
+      go false t = after_false before after x e t
 
   pub inserted_new : (before after : List X) (x : X) (k : ℕ) (added : Bool) → after ≡ insert_key eq before x → IsDistinct eq after →
       added ≡ not (list_any (eq x) before) → slice_get after k ≡ Some x → added ≡ true → IsNew before after x k

@@ -74,7 +74,7 @@ module _ (text : List ℕ) (what : Pattern) (label : Option (List ℕ)) (exclude
   match_later b r j m free d =
       later (past it (span_of label it.position j) j) (j, m, free, refl) (λ y n. one_behind j m y n) d
 
-same_item : (a b : Item) → a.instance ≡ b.instance → a.alternative ≡ b.alternative → a.dot ≡ b.dot → a.env ≡ b.env →
+pub same_item : (a b : Item) → a.instance ≡ b.instance → a.alternative ≡ b.alternative → a.dot ≡ b.dot → a.env ≡ b.env →
     a.position ≡ b.position → a ≡ b
 same_item a b p q r s t = λ i. record { instance = p i; alternative = q i; dot = r i; env = s i; position = t i }
 

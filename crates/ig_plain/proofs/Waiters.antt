@@ -13,16 +13,9 @@ use Rattle.ig_plain.specs.declared.waiting.Called.{Called}
 use Rattle.ig_plain.specs.declared.waiting.Caller.{Caller}
 use Rattle.ig_plain.specs.Found.{means, Named, instances_in}
 use Rattle.ig_plain.specs.Rules.{IsCaller}
-use Rattle.ig_plain.specs.Waiting.{called_at, not_called}
-use Rattle.ig_plain.specs.Run as run
-use Rattle.ig_plain.specs.Run.{Chains, HasCallers, HasEnd, IsWaiting}
-use Rattle.ig_plain.proofs.Lists.{left_at, left_contains, right_contains, contains_sides, it_is_in, one_in}
-
--- a chain stays as cells are added
-pub chain_more : (cells more : List Caller) (head : ℕ) (xs : List stored.Item) → Chains cells head xs → Chains (cells ++ more) head xs
-chain_more cells more head xs run.none = run.none
-chain_more cells more head xs (run.more k cell ys at less c) =
-    run.more k cell ys (left_at cells more k cell at) less (chain_more cells more cell.next ys c)
+use Rattle.ig_plain.specs.Waiting.{called_at, not_called, with_end}
+use Rattle.ig_plain.specs.Run.{HasCallers, HasEnd, IsWaiting}
+use Rattle.ig_plain.proofs.Lists.{left_contains, right_contains, contains_sides, it_is_in, one_in}
 
 -- what tables that grow keep
 pub record Keeps (s t : Found) : Type 0 where
@@ -32,12 +25,13 @@ pub record Keeps (s t : Found) : Type 0 where
 
 module _ (core : List Nonterminal) (text : List ℕ) (p : ℕ) where
   -- the callers of an instance, where an item is taken that doesn't call it
-  pub callers_still : (s t : Found) (taken : List Item) (it : Item) (cells : List Caller) (head : ℕ) (callee : Instance) → Keeps s t →
-      (IsCaller core text it callee → ⊥) → HasCallers core text s taken cells head callee → HasCallers core text t (taken ++ it ∷ []) cells head callee
-  callers_still s t taken it cells head callee keeps apart h =
+  pub callers_still : (s t : Found) (taken : List Item) (it : Item) (cells : List Caller) (head last : ℕ) (callee : Instance) → Keeps s t →
+      (IsCaller core text it callee → ⊥) → HasCallers core text s taken cells head last callee → HasCallers core text t (taken ++ it ∷ []) cells head last callee
+  callers_still s t taken it cells head last callee keeps apart h =
       record {
         chain = h.chain;
         chained = h.chained;
+        ended = h.ended;
         named = λ y c. keeps.named y (h.named y c);
         callers = λ y c.
             let q = h.callers y c in let e = sym (keeps.means_same y (h.named y c)) in
@@ -70,7 +64,7 @@ module _ (core : List Nonterminal) (text : List ℕ) (p : ℕ) where
       record {
         lengths = r.lengths ∙ ap length (sym keeps.instances);
         callers = λ i callee called at known.
-            callers_still s t taken it w.callers.items called.callers callee keeps (apart callee)
+            callers_still s t taken it w.callers.items called.first called.last callee keeps (apart callee)
             (r.callers i callee called (subst (λ (z : List Instance). slice_get z i ≡ Some callee) keeps.instances at) known);
         ends = λ i callee called at known.
             let e = r.ends i callee called (subst (λ (z : List Instance). slice_get z i ≡ Some callee) keeps.instances at) known in
@@ -103,25 +97,26 @@ pub record Ended (w v : Waiting) (m p : ℕ) : Type 0 where
   pub lengths : length v.called.items ≡ length w.called.items
   pub cells : v.callers.items ≡ w.callers.items
   pub was : (i : ℕ) (after : Called) → slice_get v.called.items i ≡ Some after →
-      (before : Called) × (slice_get w.called.items i ≡ Some before) × (after.callers ≡ before.callers) ×
+      (before : Called) × (slice_get w.called.items i ≡ Some before) × (after.first ≡ before.first) × (after.last ≡ before.last) ×
       (((i ≡ m) × (after.last_end ≡ Some p)) ⊎ ((i ≡ m → ⊥) × (after.last_end ≡ before.last_end)))
 
-pub ended_set : (w v : Waiting) (m p : ℕ) → m < length w.called.items → v.callers.items ≡ w.callers.items →
-    v.called.items ≡ set w.called.items m (record { callers = (called_at w m).callers; last_end = Some p }) → Ended w v m p
-ended_set w v m p lt cells is =
+pub ended_set : (w v : Waiting) (m p done : ℕ) → m < length w.called.items → v.callers.items ≡ w.callers.items →
+    v.called.items ≡ set w.called.items m (with_end (called_at w m) p done) → Ended w v m p
+ended_set w v m p done lt cells is =
     record {
-      lengths = ap length is ∙ set_length w.called.items m (record { callers = (called_at w m).callers; last_end = Some p });
+      lengths = ap length is ∙ set_length w.called.items m (with_end (called_at w m) p done);
       cells = cells;
       was = λ i after e.
           ⊎_elim
           (λ h. (
             called_at w m,
             subst (λ (z : ℕ). slice_get w.called.items z ≡ Some (called_at w m)) (sym h.0) (slice_get-get_or w.called.items m not_called lt),
-            ap (λ (z : Called). z.callers) h.1,
+            ap (λ (z : Called). z.first) h.1,
+            ap (λ (z : Called). z.last) h.1,
             inl (h.0, ap (λ (z : Called). z.last_end) h.1),
           ))
-          (λ h. (after, h.1, refl, inr (h.0, refl)))
-          (set_cases w.called.items m (record { callers = (called_at w m).callers; last_end = Some p }) i after
+          (λ h. (after, h.1, refl, refl, inr (h.0, refl)))
+          (set_cases w.called.items m (with_end (called_at w m) p done) i after
           (subst (λ (z : List Called). slice_get z i ≡ Some after) is e));
     }
 
@@ -130,7 +125,7 @@ ended_already w m p is =
     record {
       lengths = refl;
       cells = refl;
-      was = λ i after e. (after, e, refl, same i after e (nat_cases i m));
+      was = λ i after e. (after, e, refl, refl, same i after e (nat_cases i m));
     }
   where
     nat_cases : (i m : ℕ) → (i ≡ m) ⊎ (i ≡ m → ⊥)
@@ -160,9 +155,11 @@ module _ (core : List Nonterminal) (text : List ℕ) (p : ℕ) where
         lengths = ended.lengths ∙ r.lengths ∙ ap length (sym keeps.instances);
         callers = λ i callee after e known.
             let h = ended.was i after known in
-            subst (λ (z : List Caller). HasCallers core text t (taken ++ it ∷ []) z after.callers callee) (sym ended.cells)
-            (subst (λ (z : ℕ). HasCallers core text t (taken ++ it ∷ []) w.callers.items z callee) (sym h.2)
-            (callers_still core text p s t taken it w.callers.items h.0.callers callee keeps (apart callee) (r.callers i callee h.0 (back i callee e) h.1)));
+            subst (λ (z : List Caller). HasCallers core text t (taken ++ it ∷ []) z after.first after.last callee) (sym ended.cells)
+            (subst (λ (z : ℕ). HasCallers core text t (taken ++ it ∷ []) w.callers.items z after.last callee) (sym h.2)
+            (subst (λ (z : ℕ). HasCallers core text t (taken ++ it ∷ []) w.callers.items h.0.first z callee) (sym h.3)
+            (callers_still core text p s t taken it w.callers.items h.0.first h.0.last callee keeps (apart callee)
+            (r.callers i callee h.0 (back i callee e) h.1))));
         ends = λ i callee after e known.
             let h = ended.was i after known in
             ⊎_elim
@@ -181,7 +178,7 @@ module _ (core : List Nonterminal) (text : List ℕ) (p : ℕ) where
               λ x. end_more core text p taken (it ∷ []) callee (d.0 (sym q.1 ∙ x)),
               λ x. q.1 ∙ d.1 (end_still core text p taken it callee
                   (λ a b c. q.0 (once i m callee (back i callee e) (at ∙ ap Some a))) x),
-            )) h.3;
+            )) h.4;
         known = λ x callee c d.
             subst (λ (z : List Instance). Contains z callee) (sym keeps.instances)
             (⊎_elim (λ (i : Contains taken x). r.known x callee i d)
@@ -190,5 +187,5 @@ module _ (core : List Nonterminal) (text : List ℕ) (p : ℕ) where
         before = λ i after e known is.
             let h = ended.was i after known in
             ⊎_elim (λ (q : (i ≡ m) × (after.last_end ≡ Some p)). let z = same_Some p e (sym q.1 ∙ is) in omega (arith, z))
-            (λ (q : (i ≡ m → ⊥) × (after.last_end ≡ h.0.last_end)). r.before i h.0 e h.1 (sym q.1 ∙ is)) h.3;
+            (λ (q : (i ≡ m → ⊥) × (after.last_end ≡ h.0.last_end)). r.before i h.0 e h.1 (sym q.1 ∙ is)) h.4;
       }

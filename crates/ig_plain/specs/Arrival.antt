@@ -1,8 +1,7 @@
 -- The next position: the items at it are those that are taken next.
-use Rattle.std.specs.Prelude.{◌≡◌, ◌⊎◌, ℕ, ◌+◌, ◌≤◌, List, [], ◌∷◌, ◌++◌, length, Contains}
+use Rattle.std.specs.Prelude.{◌≡◌, ◌⊎◌, ℕ, ◌+◌, ◌≤◌, List, [], ◌++◌, length, Contains}
 use Rattle.ig_item.specs.WellKinded.{NoneTwice}
 use Rattle.ig_item.specs.declared.items.Item as stored
-use Rattle.ig_plain.specs.Tables.{AddsOnly}
 use Rattle.ig_plain.specs.declared.found.Found.{Found}
 use Rattle.ig_plain.specs.declared.waiting.Waiting.{Waiting}
 
@@ -12,33 +11,27 @@ pub record IsParted (position : ℕ) (later here after rest : List stored.Item) 
   pub here_still : (x : stored.Item) → Contains here x → Contains after x
   pub moved : (x : stored.Item) → Contains later x → Contains after x ⊎ Contains rest x
   pub rest_now : (x : stored.Item) → Contains rest x → Contains later x × (x.position ≡ position → ⊥)
-  pub here_once : NoneTwice here → NoneTwice after
+  pub here_once : NoneTwice (here ++ later) → NoneTwice after
   pub rest_once : NoneTwice later → NoneTwice rest
   pub count : length after + length rest ≤ length here + length later
-
--- the item went to `here` or to the rest
-pub data IsSorted (position : ℕ) (item : stored.Item) (here after rest remains : List stored.Item) : Type 0 where
-  at : item.position ≡ position → AddsOnly here after item → Contains after item → NoneTwice after →
-      length after ≤ length here + 1 → remains ≡ rest → IsSorted position item here after rest remains
-  past : (item.position ≡ position → ⊥) → after ≡ here → remains ≡ rest ++ item ∷ [] → IsSorted position item here after rest remains
 
 -- the items at the old position are taken, and those at the new one are next
 pub record ArrivesWith (position : ℕ) (a b : Found) : Type 0 where
   pub envs : b.envs.keys ≡ a.envs.keys
-  pub keys : b.keys.keys ≡ a.keys.keys
-  pub done : b.done.items ≡ a.done.items ++ a.here.keys
-  pub here : (x : stored.Item) → Contains b.here.keys x → Contains a.later.items x × (x.position ≡ position)
-  pub moved : (x : stored.Item) → Contains a.later.items x → Contains b.here.keys x ⊎ Contains b.later.items x
+  pub keys : b.keys ≡ a.keys
+  pub done : b.done.items ≡ a.done.items ++ a.here
+  pub here : (x : stored.Item) → Contains b.here x → Contains a.later.items x × (x.position ≡ position)
+  pub moved : (x : stored.Item) → Contains a.later.items x → Contains b.here x ⊎ Contains b.later.items x
   pub later : (x : stored.Item) → Contains b.later.items x → Contains a.later.items x × (x.position ≡ position → ⊥)
-  pub here_once : NoneTwice b.here.keys
+  pub here_once : NoneTwice a.later.items → NoneTwice b.here
   pub later_once : NoneTwice a.later.items → NoneTwice b.later.items
-  pub count : length b.here.keys + length b.later.items ≤ length a.later.items
+  pub count : length b.here + length b.later.items ≤ length a.later.items
 
 -- nothing is found and nothing waits
 pub record IsNothing (s : Found) (w : Waiting) : Type 0 where
   pub done : s.done.items ≡ []
-  pub here : s.here.keys ≡ []
+  pub here : s.here ≡ []
   pub later : s.later.items ≡ []
   pub envs : s.envs.keys ≡ []
-  pub keys : s.keys.keys ≡ []
+  pub keys : s.keys ≡ []
   pub called : w.called.items ≡ []

@@ -14,29 +14,29 @@ use Rattle.ig_plain.specs.Tables.{Extends, IsNamed, item_by}
 
 -- the item that a stored one stands for
 abbrev pub means : Found → stored.Item → Item
-means s x = item_by s.envs.keys s.keys.keys x
+means s x = item_by s.envs.keys s.keys x
 
 -- the instances
 abbrev pub instances_in : Found → List Instance
-instances_in s = map (instance_by s.envs.keys) s.keys.keys
+instances_in s = map (instance_by s.envs.keys) s.keys
 
 -- the items up to the position, and those at later ones
 abbrev pub found_in : Found → List Item
-found_in s = map (means s) (s.done.items ++ s.here.keys)
+found_in s = map (means s) (s.done.items ++ s.here)
 
 abbrev pub later_in : Found → List Item
 later_in s = map (means s) s.later.items
 
 -- the items that are taken: those before the position, and k of those at it
 abbrev pub taken_in : Found → ℕ → List Item
-taken_in s k = map (means s) (s.done.items ++ take k s.here.keys)
+taken_in s k = map (means s) (s.done.items ++ take k s.here)
 
 -- the number of items
 abbrev pub count : Found → ℕ
-count s = length s.done.items + length s.here.keys + length s.later.items
+count s = length s.done.items + length s.here + length s.later.items
 
 abbrev pub Named : Found → stored.Item → Type 0
-Named s x = IsNamed s.envs.keys s.keys.keys x
+Named s x = IsNamed s.envs.keys s.keys x
 
 abbrev pub AllNamed : Found → List stored.Item → Type 0
 AllNamed s xs = (x : stored.Item) → Contains xs x → Named s x
@@ -44,13 +44,13 @@ AllNamed s xs = (x : stored.Item) → Contains xs x → Named s x
 -- nothing stands twice in the tables
 pub record AreTables (s : Found) : Type 0 where
   pub environments : NoneTwice s.envs.keys
-  pub instances : NoneTwice s.keys.keys
+  pub instances : NoneTwice s.keys
 
 -- all items have their names in the tables
 pub record AreNamed (s : Found) : Type 0 where
-  pub values : HaveValues s.envs.keys s.keys.keys
+  pub values : HaveValues s.envs.keys s.keys
   pub done : AllNamed s s.done.items
-  pub here : AllNamed s s.here.keys
+  pub here : AllNamed s s.here
   pub later : AllNamed s s.later.items
 
 -- no item stands twice, and each stands where its position says
@@ -58,21 +58,21 @@ pub record IsStored (p : ℕ) (s : Found) : Type 0 where
   pub tables : AreTables s
   pub named : AreNamed s
   pub before : (x : stored.Item) → Contains s.done.items x → x.position < p
-  pub at : (x : stored.Item) → Contains s.here.keys x → x.position ≡ p
+  pub at : (x : stored.Item) → Contains s.here x → x.position ≡ p
   pub behind : (x : stored.Item) → Contains s.later.items x → p < x.position
   pub done_once : NoneTwice s.done.items
-  pub here_once : NoneTwice s.here.keys
+  pub here_once : NoneTwice s.here
   pub later_once : NoneTwice s.later.items
 
 -- b is a with more items at the position, of those that `may` allows; environments were added
 pub record Grows (p : ℕ) (may : Item → Type 0) (a b : Found) : Type 0 where
   pub envs : Extends a.envs.keys b.envs.keys
   pub envs_once : NoneTwice a.envs.keys → NoneTwice b.envs.keys
-  pub keys : b.keys.keys ≡ a.keys.keys
+  pub keys : b.keys ≡ a.keys
   pub done : b.done.items ≡ a.done.items
   pub later : b.later.items ≡ a.later.items
-  pub here : Extends a.here.keys b.here.keys
-  pub here_once : NoneTwice a.here.keys → NoneTwice b.here.keys
+  pub here : Extends a.here b.here
+  pub here_once : NoneTwice a.here → NoneTwice b.here
   pub named : (x : stored.Item) → Contains here.more x → Named b x
   pub at : (x : stored.Item) → Contains here.more x → x.position ≡ p
   pub each : (x : stored.Item) → Contains here.more x → may (means b x)
@@ -81,9 +81,9 @@ pub record Grows (p : ℕ) (may : Item → Type 0) (a b : Found) : Type 0 where
 pub record GrowsLater (p : ℕ) (x : Item) (a b : Found) : Type 0 where
   pub envs : Extends a.envs.keys b.envs.keys
   pub envs_once : NoneTwice a.envs.keys → NoneTwice b.envs.keys
-  pub keys : b.keys.keys ≡ a.keys.keys
+  pub keys : b.keys ≡ a.keys
   pub done : b.done.items ≡ a.done.items
-  pub here : b.here.keys ≡ a.here.keys
+  pub here : b.here ≡ a.here
   pub item : stored.Item
   pub later : b.later.items ≡ a.later.items ++ item ∷ []
   pub named : Named b item

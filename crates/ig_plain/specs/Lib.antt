@@ -1,7 +1,12 @@
 pub mod Tables
+pub mod ItemSet
+pub mod InstanceSet
 pub mod Rules
 pub mod Found
 pub mod Waiting
 pub mod Run
+pub mod Trail
 pub mod Arrival
 pub mod Names
+pub mod Laws
+pub mod Examples

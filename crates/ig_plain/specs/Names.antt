@@ -2,7 +2,6 @@
 use Rattle.std.specs.Prelude.{ℕ, List, map}
 use Rattle.ig_item.specs.Visible.{names_at_dots}
 use Rattle.ig_item.specs.declared.core_grammar.Nonterminal.{Nonterminal}
-use Rattle.ig_item.specs.declared.core_grammar.CoreAlt.{CoreAlt}
 
 -- of each alternative of a nonterminal, what is visible at its dots
 abbrev pub names_of_alternatives : Nonterminal → List (List (List (List ℕ)))

@@ -1,16 +1,22 @@
 //! The items that a run has found.
-ghost use Rattle.std.specs.Prelude.{◌≡◌, [], ◌∷◌, ◌++◌, ◌<◌, ◌≤◌, IfErr, IfOk, OnOk, Some, length};
+ghost use Rattle.std.specs.Prelude.{◌≡◌, [], ◌∷◌, ◌++◌, ◌+◌, ◌<◌, ◌≤◌, IfErr, IfOk, OnOk, Some};
+ghost use Rattle.std.specs.Prelude.{Contains, length};
 ghost use Rattle.std.specs.Prelude.{slice_get, slice_index_or};
 ghost use Rattle.std.specs.Option.{option_to_list};
 ghost use Rattle.ig_item.specs.Items.{past};
 ghost use Rattle.ig_item.specs.WellKinded.{NoneTwice};
 ghost use Rattle.ig_item.specs.declared.run_fault.RunFault.TheVariants.{Budget};
+ghost use Rattle.ig_item.specs.declared.ways.Way.TheVariants.{Node};
 ghost use Rattle.ig_plain.specs.Found.{Adds, AddsLater, AreNamed, Named, count, means};
 ghost use Rattle.ig_plain.specs.Tables.{Extends, IsPast};
+ghost use Rattle.ig_plain.specs.Trail.{By, Records, RecordsLater, Unfound};
 
-use crate::interning::{enter_item, enter_values};
+use crate::instance_set::InstanceSet;
+use crate::interning::{enter_values, number};
+use crate::item_set::ItemSet;
+use crate::trail::Trail;
 use ig_expr::{Value, Values};
-use ig_item::{InstanceKey, Item, RunFault};
+use ig_item::{FurtherWay, Item, RunFault, Way};
 use ig_text::Copied;
 use indexmap::IndexSet;
 use std::alloc::{AllocError, Global};
@@ -21,11 +27,11 @@ pub(crate) struct Found {
     /// Those before the position, which are taken.
     pub(crate) done: Vec<Item>,
     /// Those at the position, in the order in which they are taken.
-    pub(crate) here: IndexSet<Item>,
+    pub(crate) here: ItemSet,
     /// Those at later positions. Each stands behind a terminal, and so comes from one item alone.
     pub(crate) later: Vec<Item>,
     pub(crate) envs: IndexSet<Values>,
-    pub(crate) keys: IndexSet<InstanceKey>,
+    pub(crate) keys: InstanceSet,
 }
 
 /// `Budget` exactly where there are more items than the budget.
@@ -35,57 +41,141 @@ pub(crate) fn keep_within(found: &Found, budget: u32) -> Result<(), RunFault>
 {
     let done = found.done.as_slice().len();
     let later = found.later.as_slice().len();
-    let here = found.here.as_slice().len();
+    let here = found.here.len();
     if done.saturating_add(here).saturating_add(later) > budget as usize {
         return Err(RunFault::Budget);
     }
     Ok(())
 }
 
-/// Adds an item at the position, if it isn't there.
-pub(crate) fn add(found: &mut Found, item: Item, budget: u32) -> Result<(), RunFault>
+/// Adds an item at the position, which isn't there, and the way in which it came about.
+pub(crate) fn add_new(
+    found: &mut Found,
+    trail: &mut Trail,
+    item: Item,
+    way: Way,
+    budget: u32,
+) -> Result<(), RunFault>
     requires named { Named found.old item }
-    ensures { Adds item.position (λ x. x ≡ means found.old item) budget found.old found.new result }
+    requires new { Contains found.old.here item → ⊥ }
+    ensures adds { Adds item.position (λ x. x ≡ means found.old item) budget found.old found.new
+        result }
+    ensures ways { OnOk result (Records (By way (λ x. x ≡ means found.old item)) found.old found.new
+        trail.old trail.new) }
 {
-    enter_item(&mut found.here, item)?;
+    found.here.add(item)?;
+    trail.ways.push(way)?;
     keep_within(found, budget)
 }
 
-/// Adds the item after its next step, which bound this value and came to `end`, the position.
+/// Adds an item behind a call, if it isn't there, and that it came about from the item of number
+/// `prev`, where `done` is the callee's first complete item here.
+fn add_returned(
+    found: &mut Found,
+    trail: &mut Trail,
+    item: Item,
+    prev: u32,
+    done: u32,
+    budget: u32,
+) -> Result<(), RunFault>
+    requires named { Named found.old item }
+    ensures adds { Adds item.position (λ x. x ≡ means found.old item) budget found.old found.new
+        result }
+    ensures ways { OnOk result (Records (By (Node prev done) (λ x. x ≡ means found.old item))
+        found.old found.new trail.old trail.new) }
+{
+    let Some(place) = found.here.number_of(item) else {
+        return add_new(found, trail, item, Way::Node { prev, done }, budget);
+    };
+    let item = number_of(found, place)?;
+    trail.ways.push_further(FurtherWay { item, prev, done })?;
+    Ok(())
+}
+
+/// The number of the item at that place among those at the position.
+pub(crate) fn number_of(found: &Found, place: usize) -> Result<u32, AllocError>
+    ensures { IfOk result (λ n. n ≡ length found.now.done.items + place) }
+{
+    number(found.done.len().saturating_add(place))
+}
+
+/// Adds the item after its next step, which bound this value and came to `end`, the position, in
+/// that way. It isn't there.
 pub(crate) fn go_on(
     alloc: Global,
     found: &mut Found,
+    trail: &mut Trail,
     item: Item,
     bound: Option<Value>,
     end: u32,
+    way: Way,
     budget: u32,
 ) -> Result<(), RunFault>
     requires named { Named found.old item }
     requires all_named { AreNamed found.old }
-    ensures { Adds end (λ x. x ≡ past (means found.old item) (option_to_list bound) end) budget
+    requires new { Unfound found.old
+        (λ x. x ≡ past (means found.old item) (option_to_list bound) end) }
+    ensures adds { Adds end (λ x. x ≡ past (means found.old item) (option_to_list bound) end) budget
         found.old found.new result }
+    ensures ways { OnOk result (Records
+        (By way (λ x. x ≡ past (means found.old item) (option_to_list bound) end))
+        found.old found.new trail.old trail.new) }
 {
     let behind = past(alloc, &mut found.envs, item, bound, end)?;
-    add(found, behind, budget)
+    add_new(found, trail, behind, way, budget)
 }
 
-/// Adds the item after its next step, which bound this value and came to `end`, a later position.
-pub(crate) fn go_later(
+/// Adds the item after a call, which bound this value and came to `end`, the position. It came
+/// about from the item of number `prev`, and `done` is the callee's first complete item here.
+pub(crate) fn go_behind_call(
     alloc: Global,
     found: &mut Found,
+    trail: &mut Trail,
     item: Item,
     bound: Option<Value>,
     end: u32,
+    prev: u32,
+    done: u32,
+    budget: u32,
+) -> Result<(), RunFault>
+    requires named { Named found.old item }
+    requires all_named { AreNamed found.old }
+    ensures adds { Adds end (λ x. x ≡ past (means found.old item) (option_to_list bound) end) budget
+        found.old found.new result }
+    ensures ways { OnOk result (Records (By (Node prev done)
+        (λ x. x ≡ past (means found.old item) (option_to_list bound) end))
+        found.old found.new trail.old trail.new) }
+{
+    let behind = past(alloc, &mut found.envs, item, bound, end)?;
+    add_returned(found, trail, behind, prev, done, budget)
+}
+
+/// Adds the item after its next step, which bound this value and came to `end`, a later position.
+/// It came about from the item of number `prev`.
+pub(crate) fn go_later(
+    alloc: Global,
+    found: &mut Found,
+    trail: &mut Trail,
+    item: Item,
+    bound: Option<Value>,
+    end: u32,
+    prev: u32,
     budget: u32,
 ) -> Result<(), RunFault>
     requires named { Named found.old item }
     requires all_named { AreNamed found.old }
     requires later { item.position < end }
-    ensures { AddsLater item.position (past (means found.old item) (option_to_list bound) end)
+    ensures adds { AddsLater item.position (past (means found.old item) (option_to_list bound) end)
         budget found.old found.new result }
+    ensures ways { OnOk result (RecordsLater prev
+        (past (means found.old item) (option_to_list bound) end)
+        found.old found.new trail.old trail.new) }
 {
     let behind = past(alloc, &mut found.envs, item, bound, end)?;
     let Ok(()) = found.later.push(behind) else {
+        return Err(RunFault::Memory);
+    };
+    let Ok(()) = trail.later.push(prev) else {
         return Err(RunFault::Memory);
     };
     keep_within(found, budget)

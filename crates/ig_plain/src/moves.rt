@@ -1,17 +1,18 @@
 //! What an item that is taken adds by itself: items behind tests, bindings and terminals.
-ghost use Rattle.std.specs.Prelude.{◌≡◌, ℕ, [], ◌∷◌, true};
-ghost use Rattle.std.specs.Prelude.{◌<◌, length, slice_index_or};
-ghost use Rattle.ig_text.specs.Pattern.{Matches};
+ghost use Rattle.std.specs.Prelude.{◌≡◌, [], ◌<◌, OnOk, length, slice_index_or};
 ghost use Rattle.ig_expr.specs.View.{expression_of};
-ghost use Rattle.ig_expr.specs.declared.value.Value.{Value};
-ghost use Rattle.ig_expr.specs.declared.value.Value.TheVariants.{Bool as truth};
-ghost use Rattle.ig_item.specs.Items.{HasValue, MatchesNone, past, span_of};
+ghost use Rattle.ig_item.specs.Items.{MatchesNone, past, span_of};
+ghost use Rattle.ig_item.specs.declared.ways.Way.TheVariants.{Node, Pass};
+ghost use Rattle.ig_plain.specs.Rules.{IsBehind};
 ghost use Rattle.ig_plain.specs.Found.{Adds, AddsTerminal, AreNamed, Named, means};
+ghost use Rattle.ig_plain.specs.Trail.{By, IsBehindBind, IsBehindTest, Records, RecordsTerminal};
+ghost use Rattle.ig_plain.specs.Trail.{Unfound};
 
-use crate::found::{Found, go_later, go_on};
+use crate::found::{Found, go_behind_call, go_later, go_on};
 use crate::steps::{is_true, matches_none, span_bound};
+use crate::trail::Trail;
 use ig_expr::{Expr, Value, Values, evaluate};
-use ig_item::{Item, RunFault};
+use ig_item::{Item, RunFault, Way};
 use ig_text::{Pattern, Text, Word};
 use indexmap::IndexSet;
 use std::alloc::Global;
@@ -24,85 +25,110 @@ pub(crate) fn values_at(envs: &IndexSet<Values>, env: u32) -> &[Value]
     envs.as_slice()[env as usize].as_slice()
 }
 
-/// Adds the item behind a test, where its condition is true.
+/// Adds the item behind a test, where its condition is true. It comes from the item of that number.
 pub(crate) fn take_test(
     alloc: Global,
     text: &Text,
     names: &[Word],
     condition: &Expr,
     found: &mut Found,
+    trail: &mut Trail,
     item: Item,
+    number: u32,
     budget: u32,
 ) -> Result<(), RunFault>
     requires named { Named found.old item }
     requires all_named { AreNamed found.old }
-    ensures { Adds item.position (λ x. HasValue text.now (means found.old item) names.now
-        (expression_of condition.now) (truth true) × (x ≡ past (means found.old item) []
-        item.position)) budget found.old found.new result }
+    requires new { Unfound found.old (IsBehindTest text.now names.now (expression_of condition.now)
+        (means found.old item)) }
+    ensures adds { Adds item.position (IsBehindTest text.now names.now (expression_of condition.now)
+        (means found.old item)) budget found.old found.new result }
+    ensures ways { OnOk result (Records (By (Pass number) (IsBehindTest text.now names.now
+        (expression_of condition.now) (means found.old item)))
+        found.old found.new trail.old trail.new) }
 {
     let values = values_at(&found.envs, item.env);
     if !is_true(condition, names, values, item.position, text) {
         return Ok(());
     }
-    go_on(alloc, found, item, None, item.position, budget)
+    let way = Way::Pass { prev: number };
+    go_on(alloc, found, trail, item, None, item.position, way, budget)
 }
 
-/// Adds the item behind a binding, where its expression has a value.
+/// Adds the item behind a binding, where its expression has a value. It comes from the item of that
+/// number.
 pub(crate) fn take_bind(
     alloc: Global,
     text: &Text,
     names: &[Word],
     expression: &Expr,
     found: &mut Found,
+    trail: &mut Trail,
     item: Item,
+    number: u32,
     budget: u32,
 ) -> Result<(), RunFault>
     requires named { Named found.old item }
     requires all_named { AreNamed found.old }
-    ensures { Adds item.position (λ x. (v : Value) × HasValue text.now (means found.old item)
-        names.now (expression_of expression.now) v × (x ≡ past (means found.old item) (v ∷ [])
-        item.position)) budget found.old found.new result }
+    requires new { Unfound found.old (IsBehindBind text.now names.now (expression_of expression.now)
+        (means found.old item)) }
+    ensures adds { Adds item.position (IsBehindBind text.now names.now
+        (expression_of expression.now) (means found.old item)) budget found.old found.new result }
+    ensures ways { OnOk result (Records (By (Pass number) (IsBehindBind text.now names.now
+        (expression_of expression.now) (means found.old item)))
+        found.old found.new trail.old trail.new) }
 {
     let values = values_at(&found.envs, item.env);
-    match evaluate(expression, names, values, item.position, text) {
-        Some(value) => go_on(alloc, found, item, Some(value), item.position, budget),
-        None => Ok(()),
-    }
+    let Some(value) = evaluate(expression, names, values, item.position, text) else {
+        return Ok(());
+    };
+    let way = Way::Pass { prev: number };
+    go_on(
+        alloc,
+        found,
+        trail,
+        item,
+        Some(value),
+        item.position,
+        way,
+        budget,
+    )
 }
 
-/// Adds the item behind a step that ended at the position, unless the text that it covers is a
-/// match of an excluded pattern.
+/// Adds the item behind a call whose callee ended at the position, unless the text that it covers
+/// is a match of an excluded pattern. It comes from the item of that number, and `done` is the
+/// callee's first complete item here.
 pub(crate) fn go_behind(
     alloc: Global,
     text: &Text,
     label: &Option<Word>,
     not: &[Pattern],
     found: &mut Found,
+    trail: &mut Trail,
     item: Item,
+    number: u32,
+    done: u32,
     end: u32,
     budget: u32,
 ) -> Result<(), RunFault>
     requires named { Named found.old item }
     requires all_named { AreNamed found.old }
-    ensures { Adds end (λ x. MatchesNone text.now not.now item.position end × (x ≡ past (means
-        found.old item) (span_of label.now item.position end) end)) budget found.old found.new
-        result }
+    ensures adds { Adds end (λ x. MatchesNone text.now not.now item.position end × (x ≡ past
+        (means found.old item) (span_of label.now item.position end) end)) budget found.old
+        found.new result }
+    ensures ways { OnOk result (Records (By (Node number done) (λ x. MatchesNone text.now not.now
+        item.position end × (x ≡ past (means found.old item) (span_of label.now item.position end)
+        end))) found.old found.new trail.old trail.new) }
 {
     if !matches_none(not, text, item.position, end) {
         return Ok(());
     }
-    go_on(
-        alloc,
-        found,
-        item,
-        span_bound(label, item.position, end),
-        end,
-        budget,
-    )
+    let bound = span_bound(label, item.position, end);
+    go_behind_call(alloc, found, trail, item, bound, end, number, done, budget)
 }
 
 /// Adds the item behind a terminal, where its pattern matches a text that is a match of no excluded
-/// pattern.
+/// pattern. It comes from the item of that number.
 pub(crate) fn take_terminal(
     alloc: Global,
     text: &Text,
@@ -110,29 +136,30 @@ pub(crate) fn take_terminal(
     label: &Option<Word>,
     not: &[Pattern],
     found: &mut Found,
+    trail: &mut Trail,
     item: Item,
+    number: u32,
     budget: u32,
 ) -> Result<(), RunFault>
     requires named { Named found.old item }
     requires all_named { AreNamed found.old }
-    ensures { AddsTerminal text.now what.now label.now not.now budget item.position (means
+    requires new { Unfound found.old (IsBehind text.now what.now label.now not.now
+        (means found.old item)) }
+    ensures adds { AddsTerminal text.now what.now label.now not.now budget item.position (means
         found.old item) found.old found.new result }
+    ensures ways { OnOk result (RecordsTerminal text.now what.now label.now not.now number
+        (means found.old item) found.old found.new trail.old trail.new) }
 {
     let Some(end) = what.ends_at(text, item.position) else {
         return Ok(());
     };
-    if end == item.position {
-        return go_behind(alloc, text, label, not, found, item, end, budget);
-    }
     if !matches_none(not, text, item.position, end) {
         return Ok(());
     }
-    go_later(
-        alloc,
-        found,
-        item,
-        span_bound(label, item.position, end),
-        end,
-        budget,
-    )
+    let bound = span_bound(label, item.position, end);
+    if end == item.position {
+        let way = Way::Leaf { prev: number };
+        return go_on(alloc, found, trail, item, bound, end, way, budget);
+    }
+    go_later(alloc, found, trail, item, bound, end, number, budget)
 }

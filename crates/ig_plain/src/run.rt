@@ -1,48 +1,56 @@
 //! An item is taken: all that follows from it and those before it is added.
-ghost use Rattle.std.specs.Prelude.{◌≡◌, ◌<◌, ◌↔◌, ◌≤◌, ◌+◌, Contains, IfErr, IfOk, MatchResult};
-ghost use Rattle.std.specs.Prelude.{Some, length, map, option_map, slice_get, take};
-ghost use Rattle.ig_item.specs.Items.{IsComplete, MoreThan, Reachable};
+ghost use Rattle.std.specs.Prelude.{◌≡◌, ◌<◌, ◌+◌, ◌++◌, Contains, MatchResult, OnOk};
+ghost use Rattle.std.specs.Prelude.{Some, length, map, option_map, slice_get};
+ghost use Rattle.ig_item.specs.Items.{IsComplete};
 ghost use Rattle.ig_item.specs.WellKinded.{NoneTwice};
-ghost use Rattle.ig_item.specs.Tables.{items_of};
 ghost use Rattle.ig_item.specs.Tables.{instance_by};
 ghost use Rattle.ig_item.specs.Items.{StandsBefore};
 ghost use Rattle.ig_expr.specs.View.{expression_of};
 ghost use Rattle.ig_item.specs.WellKinded.{IsWellKinded};
 ghost use Rattle.ig_item.specs.Step.{Call};
 ghost use Rattle.ig_item.specs.View.{step_of};
+ghost use Rattle.ig_item.specs.declared.ways.Way.TheVariants.{Begin, Node};
 ghost use Rattle.ig_plain.specs.Found.{Adds, AreNamed, Named, means};
 ghost use Rattle.ig_plain.specs.Rules.{IsFirstOf, IsReturn, Stands, StandsAtCall, step_at};
 ghost use Rattle.ig_plain.specs.Names.{all_names};
 ghost use Rattle.ig_plain.specs.Run.{EntersInstance, IsChainOf, IsReturnToOne, IsRun, Refuses};
 ghost use Rattle.ig_plain.specs.Run.{Taking, Takes};
+ghost use Rattle.ig_plain.specs.Trail.{AreNumbered, By, EntersOn, HasTrail, IsNext, IsReturnBy};
+ghost use Rattle.ig_plain.specs.Trail.{Records, TakesOn, Unfound};
 
-use crate::found::{Found, add, go_on};
-use crate::interning::{enter_arguments, enter_key};
+use crate::found::{Found, add_new, number_of};
+use crate::interning::enter_arguments;
 use crate::moves::{go_behind, take_bind, take_terminal, take_test, values_at};
 use crate::names::names_at;
 use crate::steps::argument_values;
-use crate::waiting::{Caller, Waiting, add_called, add_caller, add_end, has_end, last_caller};
-use ig_expr::{Expr, Values};
+use crate::trail::Trail;
+use crate::waiting::{Caller, Waiting, add_called, add_caller, add_end, end_at, first_caller};
+use ig_expr::Expr;
 use ig_item::{
-    Core, EnvironmentTable, InstanceKey, Item, Items, RunFault, Step, VisibleNames,
-    environments_fit, items_are_in_text, reachable_is_closed,
+    Core, FurtherEnd, InstanceKey, Item, RunFault, Step, VisibleNames, Way, environments_fit,
+    items_are_in_text, reachable_is_closed,
 };
 use ig_text::{Pattern, Sequence, Text, Word};
-use indexmap::IndexSet;
-use std::alloc::{AllocError, Global};
+use std::alloc::Global;
 
-/// Adds the first item of each alternative of an instance that starts at the position.
+/// Adds the first item of each alternative of an instance that starts at the position. None of them
+/// is there.
 pub(crate) fn add_firsts(
     core: &Core,
     found: &mut Found,
+    trail: &mut Trail,
     instance: u32,
     key: InstanceKey,
     budget: u32,
 ) -> Result<(), RunFault>
     requires all_named { AreNamed found.old }
-    requires there { slice_get found.old.keys.keys instance ≡ Some key }
-    ensures { Adds key.start (IsFirstOf core.now (instance_by found.old.envs.keys key)) budget
+    requires there { slice_get found.old.keys instance ≡ Some key }
+    requires new { Unfound found.old
+        (IsFirstOf core.now (instance_by found.old.envs.keys key)) }
+    ensures adds { Adds key.start (IsFirstOf core.now (instance_by found.old.envs.keys key)) budget
         found.old found.new result }
+    ensures ways { OnOk result (Records (By Begin (IsFirstOf core.now
+        (instance_by found.old.envs.keys key))) found.old found.new trail.old trail.new) }
 {
     let Some(count) = core.alternatives(key.nonterminal) else {
         return Ok(());
@@ -55,7 +63,7 @@ pub(crate) fn add_firsts(
             env: key.env,
             position: key.start,
         };
-        add(found, first, budget)?;
+        add_new(found, trail, first, Way::Begin, budget)?;
     }
     Ok(())
 }
@@ -77,21 +85,27 @@ fn nonterminal_of(found: &Found, item: Item) -> u32
     found.keys.as_slice()[item.instance as usize].nonterminal
 }
 
-/// Adds the item behind the call before which the caller stands, for a callee that ended at `end`.
+/// Adds the item behind the call before which the caller, the item of that number, stands, for a
+/// callee that ended at `end` and whose first complete item there is `done`.
 fn return_to(
     alloc: Global,
     core: &Core,
     text: &Text,
     found: &mut Found,
+    trail: &mut Trail,
     caller: Item,
+    number: u32,
+    done: u32,
     end: u32,
     budget: u32,
 ) -> Result<(), RunFault>
     requires named { Named found.old caller }
     requires all_named { AreNamed found.old }
     requires calls { StandsAtCall core.now (means found.old caller) }
-    ensures { Adds end (IsReturn core.now text.now (means found.old caller) end) budget found.old
-        found.new result }
+    ensures adds { Adds end (IsReturn core.now text.now (means found.old caller) end) budget
+        found.old found.new result }
+    ensures ways { OnOk result (Records (By (Node number done) (IsReturn core.now text.now
+        (means found.old caller) end)) found.old found.new trail.old trail.new) }
 {
     let nonterminal = nonterminal_of(found, caller);
     let Some(step) = step_behind(core, nonterminal, caller) else {
@@ -99,15 +113,9 @@ fn return_to(
     };
     match step {
         Step::Call { label, not, .. } => {
+            let not = not.as_slice();
             go_behind(
-                alloc,
-                text,
-                label,
-                not.as_slice(),
-                found,
-                caller,
-                end,
-                budget,
+                alloc, text, label, not, found, trail, caller, number, done, end, budget,
             )
         }
         _ => Ok(()),
@@ -120,20 +128,37 @@ fn return_to_all(
     core: &Core,
     text: &Text,
     found: &mut Found,
+    trail: &mut Trail,
     callers: &[Caller],
     head: u32,
+    done: u32,
     end: u32,
     budget: u32,
 ) -> Result<(), RunFault>
     requires all_named { AreNamed found.old }
     requires chain { IsChainOf core.now callers.now head found.old }
-    ensures { Adds end (IsReturnToOne core.now text.now callers.now head end found.old) budget
+    requires numbers { AreNumbered found.old callers.now }
+    requires once { NoneTwice (found.old.done.items ++ found.old.here) }
+    ensures adds { Adds end (IsReturnToOne core.now text.now callers.now head end found.old) budget
         found.old found.new result }
+    ensures ways { OnOk result (Records (IsReturnBy core.now text.now callers.now head done end
+        found.old) found.old found.new trail.old trail.new) }
 {
     let mut at = head;
     while at > 0 {
         let caller = callers[at as usize - 1];
-        return_to(alloc, core, text, found, caller.item, end, budget)?;
+        return_to(
+            alloc,
+            core,
+            text,
+            found,
+            trail,
+            caller.item,
+            caller.number,
+            done,
+            end,
+            budget,
+        )?;
         at = caller.next;
     }
     Ok(())
@@ -141,10 +166,10 @@ fn return_to_all(
 
 /// The item of that number at the position.
 fn item_at(found: &Found, number: usize) -> Item
-    requires { number < length found.now.here.keys }
-    ensures { slice_get found.now.here.keys number ≡ Some result }
+    requires { number < length found.now.here }
+    ensures { slice_get found.now.here number ≡ Some result }
 {
-    found.here.as_slice()[number]
+    found.here.at(number)
 }
 
 /// Takes a complete item: each caller of its instance returns, unless another item that is complete
@@ -155,27 +180,38 @@ fn take_complete(
     text: &Text,
     found: &mut Found,
     waiting: &mut Waiting,
+    trail: &mut Trail,
     item: Item,
+    number: u32,
     budget: u32,
 ) -> Result<(), RunFault>
     requires taking { Taking core.now text.now budget item found.old waiting.old }
+    requires next { IsNext core.now text.now item number found.old waiting.old trail.old }
     requires complete { IsComplete core.now (means found.old item) }
-    ensures { Takes core.now text.now budget item found.old found.new waiting.new result }
+    ensures takes { Takes core.now text.now budget item found.old found.new waiting.new result }
+    ensures trail { TakesOn core.now text.now item found.old found.new waiting.new trail.new
+        result }
 {
     reachable_is_closed();
-    if has_end(waiting, item.instance, item.position) {
+    if let Some(first) = end_at(waiting, item.instance, item.position) {
+        trail.ways.push_end(FurtherEnd {
+            first,
+            item: number,
+        })?;
         return Ok(());
     }
-    add_end(waiting, item.instance, item.position);
-    let head = last_caller(waiting, item.instance);
+    add_end(waiting, item.instance, item.position, number);
+    let head = first_caller(waiting, item.instance);
     let callers = waiting.callers.as_slice();
     return_to_all(
         alloc,
         core,
         text,
         found,
+        trail,
         callers,
         head,
+        number,
         item.position,
         budget,
     )
@@ -194,13 +230,18 @@ fn take_call(
     not: &[Pattern],
     found: &mut Found,
     waiting: &mut Waiting,
+    trail: &mut Trail,
     item: Item,
+    number: u32,
     budget: u32,
 ) -> Result<(), RunFault>
     requires taking { Taking core.now text.now budget item found.old waiting.old }
+    requires next { IsNext core.now text.now item number found.old waiting.old trail.old }
     requires before { StandsBefore core.now (means found.old item) names.now (Call nonterminal
         (map expression_of args.now) label.now not.now) }
-    ensures { Takes core.now text.now budget item found.old found.new waiting.new result }
+    ensures takes { Takes core.now text.now budget item found.old found.new waiting.new result }
+    ensures trail { TakesOn core.now text.now item found.old found.new waiting.new trail.new
+        result }
 {
     reachable_is_closed();
     items_are_in_text();
@@ -215,12 +256,14 @@ fn take_call(
         env,
         start,
     };
-    let callee = call_instance(core, found, waiting, key, budget)?;
-    add_caller(waiting, callee, item)?;
-    if !has_end(waiting, callee, start) {
+    let callee = call_instance(core, found, waiting, trail, key, budget)?;
+    add_caller(waiting, callee, item, number)?;
+    let Some(done) = end_at(waiting, callee, start) else {
         return Ok(());
-    }
-    go_behind(alloc, text, label, not, found, item, start, budget)
+    };
+    go_behind(
+        alloc, text, label, not, found, trail, item, number, done, start, budget,
+    )
 }
 
 /// The number of the instance. Where it is new, its first items are added.
@@ -228,24 +271,28 @@ fn call_instance(
     core: &Core,
     found: &mut Found,
     waiting: &mut Waiting,
+    trail: &mut Trail,
     key: InstanceKey,
     budget: u32,
 ) -> Result<u32, RunFault>
     requires all_named { AreNamed found.old }
     requires env { key.env < length found.old.envs.keys }
-    requires once { NoneTwice found.old.keys.keys }
-    ensures { EntersInstance core.now budget key found.old found.new waiting.old waiting.new
+    requires once { NoneTwice found.old.keys }
+    requires envs_once { NoneTwice found.old.envs.keys }
+    ensures enters { EntersInstance core.now budget key found.old found.new waiting.old waiting.new
         result }
+    ensures trail { EntersOn core.now budget key found.old found.new waiting.old waiting.new
+        trail.old trail.new result }
 {
-    let (callee, is_new) = enter_key(&mut found.keys, key)?;
+    let (callee, is_new) = found.keys.enter(key)?;
     if is_new {
         add_called(waiting)?;
-        add_firsts(core, found, callee, key, budget)?;
+        add_firsts(core, found, trail, callee, key, budget)?;
     }
     Ok(callee)
 }
 
-/// Takes an item before a step.
+/// Takes an item, which has that number, before a step.
 fn take_step(
     alloc: Global,
     core: &Core,
@@ -255,40 +302,43 @@ fn take_step(
     step: &Step,
     found: &mut Found,
     waiting: &mut Waiting,
+    trail: &mut Trail,
     item: Item,
+    number: u32,
     budget: u32,
 ) -> Result<(), RunFault>
     requires taking { Taking core.now text.now budget item found.old waiting.old }
+    requires next { IsNext core.now text.now item number found.old waiting.old trail.old }
     requires names { names.now ≡ all_names core.now }
     requires nonterminal { nonterminal ≡ (means found.old item).instance.nonterminal }
     requires stands { Stands core.now (means found.old item) (step_of step.now) }
-    ensures { Takes core.now text.now budget item found.old found.new waiting.new result }
+    ensures takes { Takes core.now text.now budget item found.old found.new waiting.new result }
+    ensures trail { TakesOn core.now text.now item found.old found.new waiting.new trail.new
+        result }
 {
     reachable_is_closed();
     match step {
         Step::Term { what, label, not } => {
+            let not = not.as_slice();
             take_terminal(
-                alloc,
-                text,
-                what,
-                label,
-                not.as_slice(),
-                found,
-                item,
-                budget,
+                alloc, text, what, label, not, found, trail, item, number, budget,
             )
         }
         Step::Test(condition) => {
             let Some(names) = names_at(names, nonterminal, item) else {
                 return Err(RunFault::Memory);
             };
-            take_test(alloc, text, names, condition, found, item, budget)
+            take_test(
+                alloc, text, names, condition, found, trail, item, number, budget,
+            )
         }
         Step::Bind(_, expression) => {
             let Some(names) = names_at(names, nonterminal, item) else {
                 return Err(RunFault::Memory);
             };
-            take_bind(alloc, text, names, expression, found, item, budget)
+            take_bind(
+                alloc, text, names, expression, found, trail, item, number, budget,
+            )
         }
         Step::Call {
             nonterminal: callee,
@@ -302,7 +352,8 @@ fn take_step(
             let args = args.as_slice();
             let not = not.as_slice();
             take_call(
-                alloc, core, text, names, *callee, args, label, not, found, waiting, item, budget,
+                alloc, core, text, names, *callee, args, label, not, found, waiting, trail, item,
+                number, budget,
             )
         }
     }
@@ -315,7 +366,7 @@ pub(crate) fn keep_well_kinded(core: &Core)
     let _count = core.nonterminals();
 }
 
-/// Takes the item of that number at the position.
+/// Takes the item at that place among those at the position.
 pub(crate) fn take(
     alloc: Global,
     core: &Core,
@@ -323,35 +374,42 @@ pub(crate) fn take(
     names: &[Sequence<VisibleNames>],
     found: &mut Found,
     waiting: &mut Waiting,
-    number: usize,
+    trail: &mut Trail,
+    place: usize,
     position: u32,
     budget: u32,
 ) -> Result<(), RunFault>
-    requires run { IsRun core.now text.now budget position number found.old waiting.old }
-    requires there { number < length found.old.here.keys }
+    requires run { IsRun core.now text.now budget position place found.old waiting.old }
+    requires trail { HasTrail core.now text.now position place found.old waiting.old trail.old }
+    requires there { place < length found.old.here }
     requires names { names.now ≡ all_names core.now }
-    ensures { MatchResult result (λ _. IsRun core.now text.now budget position (number + 1)
+    ensures run { MatchResult result (λ _. IsRun core.now text.now budget position (place + 1)
         found.new waiting.new) (Refuses core.now text.now budget) }
+    ensures trail { OnOk result (HasTrail core.now text.now position (place + 1) found.new
+        waiting.new trail.new) }
 {
     environments_fit();
     keep_well_kinded(core);
-    let item = item_at(found, number);
+    let item = item_at(found, place);
+    let number = number_of(found, place)?;
     let nonterminal = nonterminal_of(found, item);
     match step_behind(core, nonterminal, item) {
-        Some(step) => {
-            take_step(
-                alloc,
-                core,
-                text,
-                names,
-                nonterminal,
-                step,
-                found,
-                waiting,
-                item,
-                budget,
-            )
-        }
-        None => take_complete(alloc, core, text, found, waiting, item, budget),
+        Some(step) => take_step(
+            alloc,
+            core,
+            text,
+            names,
+            nonterminal,
+            step,
+            found,
+            waiting,
+            trail,
+            item,
+            number,
+            budget,
+        ),
+        None => take_complete(
+            alloc, core, text, found, waiting, trail, item, number, budget,
+        ),
     }
 }

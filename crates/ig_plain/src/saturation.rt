@@ -1,23 +1,28 @@
 //! Saturation in rising positions.
-ghost use Rattle.std.specs.Prelude.{◌≡◌, ◌↔◌, ◌≤◌, ◌+◌, ◌<◌, ◌++◌, ℕ, List, IfErr, IfOk};
-ghost use Rattle.std.specs.Prelude.{MatchResult, OnOk, length, map};
+ghost use Rattle.std.specs.Prelude.{◌≡◌, ◌≤◌, ◌+◌, ◌<◌, ◌++◌, ℕ, List, IfErr, IfOk};
+ghost use Rattle.std.specs.Prelude.{MatchResult, OnOk, length};
 ghost use Rattle.ig_item.specs.Items.{MoreThan};
+ghost use Rattle.ig_item.specs.Recorded.{AreReachable, IsRecorded};
 ghost use Rattle.ig_item.specs.Tables.{HaveValues, items_of, tables_by};
 ghost use Rattle.ig_plain.specs.Found.{AllNamed};
 ghost use Rattle.ig_item.specs.WellKinded.{NoneTwice};
-ghost use Rattle.ig_plain.specs.Run.{AreReachable, IsRun, Refuses};
+ghost use Rattle.ig_plain.specs.Run.{IsRun, Refuses};
 ghost use Rattle.ig_plain.specs.Names.{all_names};
-ghost use Rattle.ig_plain.specs.Arrival.{ArrivesWith, IsNothing, IsParted, IsSorted};
+ghost use Rattle.ig_plain.specs.Arrival.{ArrivesWith, IsNothing, IsParted};
+ghost use Rattle.ig_plain.specs.Trail.{ArrivesOn, HasTrail, IsUntrodden, PartsTrail};
 
 use crate::found::Found;
-use crate::interning::{enter_item, enter_key, enter_values};
+use crate::instance_set::InstanceSet;
+use crate::interning::enter_values;
+use crate::item_set::ItemSet;
 use crate::names::names_of_core;
 use crate::run::{add_firsts, keep_well_kinded, take};
+use crate::trail::Trail;
 use crate::waiting::{Waiting, add_called};
 use ig_expr::Values;
 use ig_item::{
-    Core, EnvironmentTable, InstanceKey, Item, Items, RunFault, VisibleNames, items_are_in_text,
-    reachable_is_closed,
+    Core, EnvironmentTable, InstanceKey, Item, Items, Recorded, RunFault, VisibleNames, Way, Ways,
+    items_are_in_text, reachable_is_closed,
 };
 use ig_text::{Sequence, Text};
 use indexmap::IndexSet;
@@ -31,68 +36,76 @@ fn take_all(
     names: &[Sequence<VisibleNames>],
     found: &mut Found,
     waiting: &mut Waiting,
+    trail: &mut Trail,
     position: u32,
     budget: u32,
 ) -> Result<(), RunFault>
     requires run { IsRun core.now text.now budget position 0 found.old waiting.old }
+    requires trail { HasTrail core.now text.now position 0 found.old waiting.old trail.old }
     requires names { names.now ≡ all_names core.now }
-    ensures { MatchResult result (λ _. IsRun core.now text.now budget position (length
-        found.new.here.keys) found.new waiting.new) (Refuses core.now text.now budget) }
+    ensures run { MatchResult result (λ _. IsRun core.now text.now budget position (length
+        found.new.here) found.new waiting.new) (Refuses core.now text.now budget) }
+    ensures trail { OnOk result (HasTrail core.now text.now position (length found.new.here)
+        found.new waiting.new trail.new) }
 {
-    let mut number = 0;
-    while number < found.here.len() {
+    let mut place = 0;
+    while place < found.here.len() {
         take(
-            alloc, core, text, names, found, waiting, number, position, budget,
+            alloc, core, text, names, found, waiting, trail, place, position, budget,
         )?;
-        number += 1;
+        place += 1;
     }
     Ok(())
 }
 
-/// Parts the later items: those at the position are added to `here`, and the others are given.
+/// Parts the later items: those at the position are added to `here`, with their ways, and the
+/// others stay, in order. Each came from the item of its number in `prevs`.
 fn part(
-    alloc: Global,
-    later: &[Item],
-    here: &mut IndexSet<Item>,
-    position: u32,
-) -> Result<Vec<Item>, AllocError>
-    ensures { IfOk result (λ rest. IsParted position later.now here.old.keys here.new.keys
-        rest.items) }
-{
-    let mut rest = Vec::new(alloc);
-    for item in later {
-        sort_item(here, &mut rest, *item, position)?;
-    }
-    Ok(rest)
-}
-
-/// Adds the item to `here` where it is at the position, and to the rest otherwise.
-fn sort_item(
-    here: &mut IndexSet<Item>,
-    rest: &mut Vec<Item>,
-    item: Item,
+    here: &mut ItemSet,
+    ways: &mut Ways,
+    later: &mut Vec<Item>,
+    prevs: &mut Vec<u32>,
     position: u32,
 ) -> Result<(), AllocError>
-    ensures { OnOk result (IsSorted position item here.old.keys here.new.keys rest.old.items
-        rest.new.items) }
+    requires numbered { length prevs.old.items ≡ length later.old.items }
+    ensures parted { OnOk result (IsParted position later.old.items here.old here.new
+        later.new.items) }
+    ensures ways { OnOk result (PartsTrail later.old.items prevs.old.items here.old here.new
+        ways.old ways.new later.new.items prevs.new.items) }
 {
-    if item.position == position {
-        enter_item(here, item)?;
-        return Ok(());
+    let mut kept = 0;
+    for place in 0..later.len() {
+        let item = later[place];
+        let prev = prevs[place];
+        if item.position == position {
+            here.add(item)?;
+            ways.push(Way::Leaf { prev })?;
+        } else {
+            later[kept] = item;
+            prevs[kept] = prev;
+            kept += 1;
+        }
     }
-    rest.push(item)?;
+    later.truncate(kept);
+    prevs.truncate(kept);
     Ok(())
 }
 
 /// Moves to the next position, `position`.
-fn arrive(alloc: Global, found: &mut Found, position: u32) -> Result<(), AllocError>
-    ensures { OnOk result (ArrivesWith position found.old found.new) }
+fn arrive(found: &mut Found, trail: &mut Trail, position: u32) -> Result<(), AllocError>
+    requires numbered { length trail.old.later.items ≡ length found.old.later.items }
+    ensures arrives { OnOk result (ArrivesWith position found.old found.new) }
+    ensures ways { OnOk result (ArrivesOn found.old found.new trail.old trail.new) }
 {
-    found.done.extend_from_slice(found.here.as_slice())?;
-    found.here.clear();
-    let rest = part(alloc, found.later.as_slice(), &mut found.here, position)?;
-    found.later = rest;
-    Ok(())
+    found.here.add_to(&mut found.done)?;
+    found.here.clear()?;
+    part(
+        &mut found.here,
+        &mut trail.ways,
+        &mut found.later,
+        &mut trail.later,
+        position,
+    )
 }
 
 /// A run at position 0 that has found the first items of the root.
@@ -101,11 +114,15 @@ fn start(
     core: &Core,
     found: &mut Found,
     waiting: &mut Waiting,
+    trail: &mut Trail,
     budget: u32,
 ) -> Result<(), RunFault>
     requires empty { IsNothing found.old waiting.old }
-    ensures { (text : List ℕ) → MatchResult result (λ _. IsRun core.now text budget 0 0 found.new
-        waiting.new) (Refuses core.now text budget) }
+    requires untrodden { IsUntrodden waiting.old trail.old }
+    ensures run { (text : List ℕ) → MatchResult result (λ _. IsRun core.now text budget 0 0
+        found.new waiting.new) (Refuses core.now text budget) }
+    ensures trail { (text : List ℕ) → OnOk result (HasTrail core.now text 0 0 found.new waiting.new
+        trail.new) }
 {
     reachable_is_closed();
     keep_well_kinded(core);
@@ -115,9 +132,9 @@ fn start(
         env,
         start: 0,
     };
-    let (root, _) = enter_key(&mut found.keys, key)?;
+    let (root, _) = found.keys.enter(key)?;
     add_called(waiting)?;
-    add_firsts(core, found, root, key, budget)
+    add_firsts(core, found, trail, root, key, budget)
 }
 
 /// Takes all items at all positions.
@@ -128,18 +145,25 @@ fn run_to_end(
     names: &[Sequence<VisibleNames>],
     found: &mut Found,
     waiting: &mut Waiting,
+    trail: &mut Trail,
     budget: u32,
 ) -> Result<(), RunFault>
     requires nothing { IsNothing found.old waiting.old }
+    requires untrodden { IsUntrodden waiting.old trail.old }
     requires names { names.now ≡ all_names core.now }
-    ensures { MatchResult result (λ _. IsRun core.now text.now budget (length text.now) (length
-        found.new.here.keys) found.new waiting.new) (Refuses core.now text.now budget) }
+    ensures run { MatchResult result (λ _. IsRun core.now text.now budget (length text.now) (length
+        found.new.here) found.new waiting.new) (Refuses core.now text.now budget) }
+    ensures trail { OnOk result (HasTrail core.now text.now (length text.now) (length
+        found.new.here) found.new waiting.new trail.new) }
 {
-    start(alloc, core, found, waiting, budget)?;
-    take_all(alloc, core, text, names, found, waiting, 0, budget)?;
+    start(alloc, core, found, waiting, trail, budget)?;
+    take_all(alloc, core, text, names, found, waiting, trail, 0, budget)?;
     for before in 0..text.len() {
-        arrive(alloc, found, before + 1)?;
-        take_all(alloc, core, text, names, found, waiting, before + 1, budget)?;
+        let position = before + 1;
+        arrive(found, trail, position)?;
+        take_all(
+            alloc, core, text, names, found, waiting, trail, position, budget,
+        )?;
     }
     Ok(())
 }
@@ -158,11 +182,11 @@ fn table_of(alloc: Global, envs: &[Values]) -> Result<EnvironmentTable, AllocErr
 /// The items over their tables. Refused where a table has 4,294,967,296 members too, which no
 /// memory holds.
 fn finish(alloc: Global, found: Found) -> Result<Items, AllocError>
-    requires values { HaveValues found.envs.keys found.keys.keys }
-    requires named { AllNamed found (found.done.items ++ found.here.keys) }
-    requires few { length (found.done.items ++ found.here.keys) < 4294967296 }
-    ensures { IfOk result (λ t. t ≡ tables_by found.keys.keys found.envs.keys (found.done.items ++
-        found.here.keys)) }
+    requires values { HaveValues found.envs.keys found.keys }
+    requires named { AllNamed found (found.done.items ++ found.here) }
+    requires few { length (found.done.items ++ found.here) < 4294967296 }
+    ensures { IfOk result (λ t. t ≡ tables_by found.keys found.envs.keys (found.done.items ++
+        found.here)) }
 {
     let Found {
         mut done,
@@ -171,13 +195,12 @@ fn finish(alloc: Global, found: Found) -> Result<Items, AllocError>
         envs,
         keys,
     } = found;
-    done.extend_from_slice(here.as_slice())?;
+    here.add_to(&mut done)?;
     let envs = envs.as_slice();
-    let keys = keys.as_slice();
+    let keys = keys.into_vec();
     keep_few(envs.len())?;
     keep_few(keys.len())?;
     let table = table_of(alloc, envs)?;
-    let keys = Vec::from_slice(alloc, keys)?;
     Ok(Items::of(keys, table, done))
 }
 
@@ -191,6 +214,50 @@ fn keep_few(members: usize) -> Result<(), AllocError>
     }
 }
 
+/// The items that are reachable, each once, and how they come about. `Budget` exactly where there
+/// are more items than `budget`, if memory doesn't run out before.
+pub fn saturate_with_ways<'a>(
+    alloc: Global,
+    core: &'a Core,
+    text: &'a Text,
+    budget: u32,
+) -> Result<Recorded<'a>, RunFault>
+    ensures core { IfOk result (λ r. r.core ≡ core.now) }
+    ensures text { IfOk result (λ r. r.text ≡ text.now) }
+    ensures recorded { IfOk result IsRecorded }
+    ensures within { IfOk result (λ r. length r.tables.items ≤ budget) }
+    ensures exact { IfOk result (λ _. MoreThan core.now text.now budget → ⊥) }
+    ensures fault { IfErr result (Refuses core.now text.now budget) }
+{
+    items_are_in_text();
+    let here = ItemSet::new(alloc)?;
+    let mut found = Found {
+        done: Vec::new(alloc),
+        here,
+        later: Vec::new(alloc),
+        envs: IndexSet::new(alloc),
+        keys: InstanceSet::new(alloc),
+    };
+    let mut waiting = Waiting {
+        called: Vec::new(alloc),
+        callers: Vec::new(alloc),
+    };
+    let mut trail = Trail::new(alloc);
+    let names = names_of_core(alloc, core)?;
+    run_to_end(
+        alloc,
+        core,
+        text,
+        names.as_slice(),
+        &mut found,
+        &mut waiting,
+        &mut trail,
+        budget,
+    )?;
+    let items = finish(alloc, found)?;
+    Ok(Recorded::of(core, text, items, trail.ways))
+}
+
 /// The items that are reachable, each once. `Budget` exactly where there are more than `budget`, if
 /// memory doesn't run out before. No instance and no environment stands twice in its table.
 pub fn saturate(alloc: Global, core: &Core, text: &Text, budget: u32) -> Result<Items, RunFault>
@@ -202,27 +269,6 @@ pub fn saturate(alloc: Global, core: &Core, text: &Text, budget: u32) -> Result<
     ensures environments { IfOk result (λ t. NoneTwice t.environments) }
     ensures fault { IfErr result (Refuses core.now text.now budget) }
 {
-    items_are_in_text();
-    let mut found = Found {
-        done: Vec::new(alloc),
-        here: IndexSet::new(alloc),
-        later: Vec::new(alloc),
-        envs: IndexSet::new(alloc),
-        keys: IndexSet::new(alloc),
-    };
-    let mut waiting = Waiting {
-        called: Vec::new(alloc),
-        callers: Vec::new(alloc),
-    };
-    let names = names_of_core(alloc, core)?;
-    run_to_end(
-        alloc,
-        core,
-        text,
-        names.as_slice(),
-        &mut found,
-        &mut waiting,
-        budget,
-    )?;
-    Ok(finish(alloc, found)?)
+    let recorded = saturate_with_ways(alloc, core, text, budget)?;
+    Ok(recorded.into_items())
 }

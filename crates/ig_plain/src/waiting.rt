@@ -1,7 +1,9 @@
 //! Which items wait for an instance, and where it ended last.
-ghost use Rattle.std.specs.Prelude.{◌≡◌, ◌↔◌, ◌+◌, ◌<◌, [], ◌∷◌, ◌++◌, IsTrue, None, OnOk, Some};
-ghost use Rattle.std.specs.Prelude.{length, set, slice_get};
-ghost use Rattle.ig_plain.specs.Waiting.{called_at};
+ghost use Rattle.std.specs.Prelude.{◌≡◌, ◌<◌, ◌≤◌, [], ◌∷◌, ◌++◌, IfNone, IfSome, None, OnOk, Some};
+ghost use Rattle.std.specs.Prelude.{length, set, suc};
+ghost use Rattle.ig_plain.specs.Waiting as waits;
+ghost use Rattle.ig_plain.specs.Waiting.{called_at, lengthened, linked, not_called, with_caller};
+ghost use Rattle.ig_plain.specs.Waiting.{with_end};
 
 use ig_item::Item;
 use std::alloc::AllocError;
@@ -9,17 +11,22 @@ use std::alloc::AllocError;
 /// What is known of an instance that was called.
 #[derive(Clone, Copy)]
 pub(crate) struct Called {
+    /// The place + 1 of its first caller, and 0 where there is none.
+    pub(crate) first: u32,
     /// The place + 1 of its last caller, and 0 where there is none.
-    pub(crate) callers: u32,
-    /// The position of its last complete item.
+    pub(crate) last: u32,
+    /// The position at which it ended last.
     pub(crate) last_end: Option<u32>,
+    /// The number of the first item that was complete there.
+    pub(crate) last_done: u32,
 }
 
 /// An item that waits for an instance.
 #[derive(Clone, Copy)]
 pub(crate) struct Caller {
     pub(crate) item: Item,
-    /// The place + 1 of the caller of the same instance before this one, and 0 where there is none.
+    pub(crate) number: u32,
+    /// The place + 1 of the caller of the same instance behind this one, and 0 where there is none.
     pub(crate) next: u32,
 }
 
@@ -32,30 +39,50 @@ pub(crate) struct Waiting {
 
 /// Adds an instance, which has no callers and no end yet.
 pub(crate) fn add_called(waiting: &mut Waiting) -> Result<(), AllocError>
-    ensures called { OnOk result (waiting.new.called.items ≡ waiting.old.called.items ++ record {
-      callers = 0;
-      last_end = None;
-    } ∷ []) }
+    ensures called { OnOk result (waiting.new.called.items ≡ waiting.old.called.items ++
+        not_called ∷ []) }
     ensures callers { waiting.new.callers.items ≡ waiting.old.callers.items }
 {
     waiting.called.push(Called {
-        callers: 0,
+        first: 0,
+        last: 0,
         last_end: None,
+        last_done: 0,
     })?;
     Ok(())
 }
 
-/// Makes the item the last caller of the instance.
-pub(crate) fn add_caller(waiting: &mut Waiting, callee: u32, item: Item) -> Result<(), AllocError>
+/// The first place, and the other one where it is 0.
+fn first_or(first: u32, place: u32) -> u32
+    ensures { result ≡ waits.first_or first place }
+{
+    if first == 0 { place } else { first }
+}
+
+/// Names the cell at the place + 1 `next` as the one behind that at the place + 1 `last`, if that
+/// isn't 0.
+fn link(callers: &mut Vec<Caller>, last: u32, next: u32)
+    requires there { last ≤ length callers.old.items }
+    ensures { callers.new.items ≡ linked callers.old.items last next }
+{
+    if last > 0 {
+        callers[last as usize - 1].next = next;
+    }
+}
+
+/// Makes the item, which has that number, the last caller of the instance.
+pub(crate) fn add_caller(
+    waiting: &mut Waiting,
+    callee: u32,
+    item: Item,
+    number: u32,
+) -> Result<(), AllocError>
     requires there { callee < length waiting.old.called.items }
-    ensures callers { OnOk result (waiting.new.callers.items ≡ waiting.old.callers.items ++ record
-        { item = item; next = (called_at waiting.old callee).callers } ∷ []) }
+    requires last { (called_at waiting.old callee).last ≤ length waiting.old.callers.items }
+    ensures callers { OnOk result (waiting.new.callers.items ≡ lengthened waiting.old.callers.items
+        (called_at waiting.old callee).last item number) }
     ensures called { OnOk result (waiting.new.called.items ≡ set waiting.old.called.items callee
-        (record {
-          callers = length waiting.old.callers.items + 1;
-          last_end = (called_at
-              waiting.old callee).last_end;
-        })) }
+        (with_caller (called_at waiting.old callee) (suc (length waiting.old.callers.items)))) }
 {
     let called = waiting.called[callee as usize];
     let Ok(place) = u32::try_from(waiting.callers.as_slice().len().saturating_add(1)) else {
@@ -63,43 +90,54 @@ pub(crate) fn add_caller(waiting: &mut Waiting, callee: u32, item: Item) -> Resu
     };
     waiting.callers.push(Caller {
         item,
-        next: called.callers,
+        number,
+        next: 0,
     })?;
+    link(&mut waiting.callers, called.last, place);
     waiting.called[callee as usize] = Called {
-        callers: place,
+        first: first_or(called.first, place),
+        last: place,
         last_end: called.last_end,
+        last_done: called.last_done,
     };
     Ok(())
 }
 
-/// Whether the instance ended last at that position.
-pub(crate) fn has_end(waiting: &Waiting, callee: u32, position: u32) -> bool
+/// The number of the first item that was complete where the instance ended last; `None` exactly
+/// where that wasn't at the position.
+pub(crate) fn end_at(waiting: &Waiting, callee: u32, position: u32) -> Option<u32>
     requires there { callee < length waiting.now.called.items }
-    ensures { IsTrue result ↔ ((called_at waiting.now callee).last_end ≡ Some position) }
+    ensures some { IfSome result (λ done. ((called_at waiting.now callee).last_end ≡ Some position) ×
+        (done ≡ (called_at waiting.now callee).last_done)) }
+    ensures none { IfNone result ((called_at waiting.now callee).last_end ≡ Some position → ⊥) }
 {
-    waiting.called[callee as usize].last_end == Some(position)
+    let called = waiting.called[callee as usize];
+    if called.last_end == Some(position) {
+        return Some(called.last_done);
+    }
+    None
 }
 
-/// Makes the position the last end of the instance.
-pub(crate) fn add_end(waiting: &mut Waiting, callee: u32, position: u32)
+/// Makes the position the last end of the instance, at which the item of that number is complete.
+pub(crate) fn add_end(waiting: &mut Waiting, callee: u32, position: u32, done: u32)
     requires there { callee < length waiting.old.called.items }
-    ensures called { waiting.new.called.items ≡ set waiting.old.called.items callee (record {
-      callers = (called_at waiting.old callee).callers;
-      last_end = Some position;
-    }) }
+    ensures called { waiting.new.called.items ≡ set waiting.old.called.items callee
+        (with_end (called_at waiting.old callee) position done) }
     ensures callers { waiting.new.callers.items ≡ waiting.old.callers.items }
 {
     let called = waiting.called[callee as usize];
     waiting.called[callee as usize] = Called {
-        callers: called.callers,
+        first: called.first,
+        last: called.last,
         last_end: Some(position),
+        last_done: done,
     };
 }
 
-/// The place + 1 of the last caller of the instance, and 0 where there is none.
-pub(crate) fn last_caller(waiting: &Waiting, callee: u32) -> u32
+/// The place + 1 of the first caller of the instance, and 0 where there is none.
+pub(crate) fn first_caller(waiting: &Waiting, callee: u32) -> u32
     requires there { callee < length waiting.now.called.items }
-    ensures { result ≡ (called_at waiting.now callee).callers }
+    ensures { result ≡ (called_at waiting.now callee).first }
 {
-    waiting.called[callee as usize].callers
+    waiting.called[callee as usize].first
 }

@@ -1,25 +1,44 @@
 use Rattle.std.proofs.Common.{◌≡◌, refl, sym, subst, ◌∙◌}
+use Rattle.std.proofs.lemmas.Result.{on_ok_weaker}
 use Rattle.ig_plain.specs.declared.found.Found.{Found}
 use Rattle.ig_plain.specs.Found.{Adds, means}
 use Rattle.ig_plain.proofs.Growth.{grows_not, past_named, past_means}
+use Rattle.ig_plain.proofs.Sets.{extends_itself}
 use Rattle.ig_plain.proofs.Additions.{adds_exit, adds_after, adds_alike}
+use Rattle.ig_plain.proofs.Recording.{not_here, records_past}
 use Rattle.ig_plain.proofs.found.go_on.Goals as goal
 
-pub returns-in_err-behind : goal.returns-in_err-behind
-returns-in_err-behind c =
+pub returns-in_err-behind-clause-adds : goal.returns-in_err-behind-clause-adds
+returns-in_err-behind-clause-adds c =
     adds_exit c.args.end _ c.args.budget c.args.found.now _ c.from_residual.result c.from_residual.ensures.1
     (grows_not c.args.end _ c.args.found.now _ c.in_err-behind.ensures.extends c.in_err-behind.ensures.once refl refl refl refl)
 
-pub add-requires : goal.add-requires
-add-requires c =
-    record { named = past_named c.args.found.now.envs.keys c.past.new.envs.keys c.args.found.now.keys.keys c.args.item c.args.bound c.args.end c.in_ok-behind.behind c.requires.named c.in_ok-behind.ensures.past }
+pub add_new-requires-clause-named : goal.add_new-requires-clause-named
+add_new-requires-clause-named c =
+    past_named c.args.found.now.envs.keys c.past.new.envs.keys c.args.found.now.keys c.args.item c.args.bound c.args.end c.in_ok-behind.behind c.requires.named c.in_ok-behind.ensures.past
 
-pub returns : goal.returns
-returns c =
+pub add_new-requires-clause-new : goal.add_new-requires-clause-new
+add_new-requires-clause-new c =
     let mid : Found = record { done = c.args.found.now.done; here = c.args.found.now.here; later = c.args.found.now.later; envs = c.past.new.envs; keys = c.args.found.now.keys } in
-    let means_is = past_means c.args.found.now.envs.keys c.past.new.envs.keys c.args.found.now.keys.keys c.args.item c.args.bound c.args.end c.in_ok-behind.behind
+    not_here c.args.found.now mid c.requires.all_named c.in_ok-behind.ensures.extends (extends_itself c.args.found.now.keys) c.in_ok-behind.behind _
+    (past_means c.args.found.now.envs.keys c.past.new.envs.keys c.args.found.now.keys c.args.item c.args.bound c.args.end c.in_ok-behind.behind
+    c.in_ok-behind.ensures.extends c.requires.all_named.values c.requires.named c.in_ok-behind.ensures.past) c.requires.new
+
+pub returns-clause-adds : goal.returns-clause-adds
+returns-clause-adds c =
+    let mid : Found = record { done = c.args.found.now.done; here = c.args.found.now.here; later = c.args.found.now.later; envs = c.past.new.envs; keys = c.args.found.now.keys } in
+    let means_is = past_means c.args.found.now.envs.keys c.past.new.envs.keys c.args.found.now.keys c.args.item c.args.bound c.args.end c.in_ok-behind.behind
     c.in_ok-behind.ensures.extends c.requires.all_named.values c.requires.named c.in_ok-behind.ensures.past in
-    adds_after c.args.end _ c.args.budget c.args.found.now mid c.add.new.found c.add.result c.requires.all_named
+    adds_after c.args.end _ c.args.budget c.args.found.now mid c.add_new.new.found c.add_new.result c.requires.all_named
     (grows_not c.args.end _ c.args.found.now mid c.in_ok-behind.ensures.extends c.in_ok-behind.ensures.once refl refl refl refl) refl
-    (adds_alike c.args.end (λ x. x ≡ means mid c.in_ok-behind.behind) _ c.args.budget mid c.add.new.found c.add.result (λ x e. e ∙ means_is) (λ x e. e ∙ sym means_is)
-    (subst (λ z. Adds z (λ x. x ≡ means mid c.in_ok-behind.behind) c.args.budget mid c.add.new.found c.add.result) c.in_ok-behind.ensures.past.position c.add.ensures))
+    (adds_alike c.args.end (λ x. x ≡ means mid c.in_ok-behind.behind) _ c.args.budget mid c.add_new.new.found c.add_new.result (λ x e. e ∙ means_is) (λ x e. e ∙ sym means_is)
+    (subst (λ z. Adds z (λ x. x ≡ means mid c.in_ok-behind.behind) c.args.budget mid c.add_new.new.found c.add_new.result) c.in_ok-behind.ensures.past.position c.add_new.ensures.adds))
+
+pub returns-clause-ways : goal.returns-clause-ways
+returns-clause-ways c =
+    let mid : Found = record { done = c.args.found.now.done; here = c.args.found.now.here; later = c.args.found.now.later; envs = c.past.new.envs; keys = c.args.found.now.keys } in
+    on_ok_weaker c.add_new.result
+    (λ r. records_past c.args.found.now mid c.add_new.new.found c.args.trail.now c.add_new.new.trail c.args.way c.in_ok-behind.behind _
+    c.requires.all_named c.in_ok-behind.ensures.extends refl refl refl refl
+    (past_means c.args.found.now.envs.keys c.past.new.envs.keys c.args.found.now.keys c.args.item c.args.bound c.args.end c.in_ok-behind.behind
+    c.in_ok-behind.ensures.extends c.requires.all_named.values c.requires.named c.in_ok-behind.ensures.past) r) c.add_new.ensures.ways

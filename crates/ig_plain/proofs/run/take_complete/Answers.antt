@@ -1,23 +1,37 @@
-use Rattle.std.proofs.Common.{refl, sym, ap, subst, ◌∙◌, length, arith}
+use Rattle.std.proofs.Common.{refl, sym, ap, ◌∙◌, subst, length, arith}
+use Rattle.std.specs.Prelude.{OnOk}
 use Rattle.ig_plain.specs.Waiting.{called_at}
 use Rattle.ig_plain.specs.Run.{IsChainOf, IsReturnToOne}
 use Rattle.ig_plain.specs.Found.{Adds}
+use Rattle.ig_plain.specs.Trail.{Records, AreNumbered, IsReturnBy}
+use Rattle.ig_plain.proofs.Distinct.{found_once}
 use Rattle.ig_plain.proofs.Waiters.{ended_set, set_length}
 use Rattle.ig_plain.proofs.Completes.{called_there, nothing_new, chain_of, completes, run_at, head_now}
+use Rattle.ig_plain.proofs.Onward.{trail_at}
+use Rattle.ig_plain.proofs.TakenOn.{again_on, completes_on}
 use Rattle.ig_plain.proofs.run.take_complete.Goals as goal
 
-pub has_end-requires : goal.has_end-requires
-has_end-requires c =
+pub end_at-requires : goal.end_at-requires
+end_at-requires c =
     record {
       there = called_there c.args.core.now c.args.text.now c.reachable_is_closed.ensures c.args.budget c.args.item.position c.requires.taking.number c.args.found.now c.args.waiting.now c.args.item
           refl c.requires.taking.run c.requires.taking.at;
     }
 
-pub returns-then-has_end : goal.returns-then-has_end
-returns-then-has_end c =
+pub returns-in-Some-clause-takes : goal.returns-in-Some-clause-takes
+returns-in-Some-clause-takes c =
     λ k e. nothing_new c.args.core.now c.args.text.now c.reachable_is_closed.ensures c.args.budget c.args.item.position k c.args.found.now c.args.waiting.now c.args.item
     refl (run_at c.args.core.now c.args.text.now c.args.budget c.args.item c.args.found.now c.args.waiting.now c.requires.taking k e) e c.requires.complete
-    (c.has_end.ensures.0 c.if-has_end.true)
+    c.in-Some.ensures.some.0
+
+pub returns-in-Some-clause-trail : goal.returns-in-Some-clause-trail
+returns-in-Some-clause-trail c =
+    λ k e.
+    let h = trail_at c.args.core.now c.args.text.now c.args.item.position c.args.item c.args.number c.args.found.now c.args.waiting.now c.args.trail.now
+    c.requires.taking.run.taking.stored c.requires.next k e in
+    again_on c.args.core.now c.args.text.now c.reachable_is_closed.ensures c.args.budget c.args.item.position k c.args.found.now c.args.waiting.now c.args.trail.now
+    c.args.item c.args.number refl (run_at c.args.core.now c.args.text.now c.args.budget c.args.item c.args.found.now c.args.waiting.now c.requires.taking k e) e
+    h.1 h.0 c.requires.complete c.in-Some.first _ c.in-Some.ensures.some.0 c.in-Some.ensures.some.1 c.in_ok-push_end.ensures.ok refl
 
 pub add_end-requires : goal.add_end-requires
 add_end-requires c =
@@ -26,8 +40,8 @@ add_end-requires c =
           refl c.requires.taking.run c.requires.taking.at;
     }
 
-pub last_caller-head-requires : goal.last_caller-head-requires
-last_caller-head-requires c =
+pub first_caller-head-requires : goal.first_caller-head-requires
+first_caller-head-requires c =
     let l = called_there c.args.core.now c.args.text.now c.reachable_is_closed.ensures c.args.budget c.args.item.position c.requires.taking.number c.args.found.now c.args.waiting.now c.args.item
     refl c.requires.taking.run c.requires.taking.at in
     let e = ap length c.add_end.ensures.called ∙ set_length c.args.waiting.now.called.items c.args.item.instance _ in
@@ -37,23 +51,52 @@ pub return_to_all-requires-clause-chain : goal.return_to_all-requires-clause-cha
 return_to_all-requires-clause-chain c =
     let l = called_there c.args.core.now c.args.text.now c.reachable_is_closed.ensures c.args.budget c.args.item.position c.requires.taking.number c.args.found.now c.args.waiting.now c.args.item
     refl c.requires.taking.run c.requires.taking.at in
-    subst (λ z. IsChainOf c.args.core.now z c.last_caller-head.result c.args.found.now) (sym (c.as_slice-callers.ensures.value ∙ c.add_end.ensures.callers))
+    subst (λ z. IsChainOf c.args.core.now z c.first_caller-head.result c.args.found.now) (sym (c.as_slice-callers.ensures.value ∙ c.add_end.ensures.callers))
     (subst (λ z. IsChainOf c.args.core.now c.args.waiting.now.callers.items z c.args.found.now)
-    (sym (c.last_caller-head.ensures ∙ head_now c.args.waiting.now c.add_end.new.waiting c.args.item.instance c.args.item.position l c.add_end.ensures.called))
+    (sym (c.first_caller-head.ensures ∙ head_now c.args.waiting.now c.add_end.new.waiting c.args.item.instance c.args.item.position c.args.number l c.add_end.ensures.called))
     (chain_of c.args.core.now c.args.text.now c.reachable_is_closed.ensures c.args.budget c.args.item.position c.requires.taking.number c.args.found.now c.args.waiting.now c.args.item
     refl c.requires.taking.run c.requires.taking.at c.requires.complete))
 
-pub returns : goal.returns
-returns c =
+pub return_to_all-requires-clause-numbers : goal.return_to_all-requires-clause-numbers
+return_to_all-requires-clause-numbers c =
+    subst (AreNumbered c.args.found.now) (sym (c.as_slice-callers.ensures.value ∙ c.add_end.ensures.callers)) c.requires.next.trail.callers
+
+pub return_to_all-requires-clause-once : goal.return_to_all-requires-clause-once
+return_to_all-requires-clause-once c = found_once c.args.item.position c.args.found.now c.requires.taking.run.taking.stored
+
+pub returns-clause-takes : goal.returns-clause-takes
+returns-clause-takes c =
     λ k e.
     let l = called_there c.args.core.now c.args.text.now c.reachable_is_closed.ensures c.args.budget c.args.item.position c.requires.taking.number c.args.found.now c.args.waiting.now c.args.item
     refl c.requires.taking.run c.requires.taking.at in
     completes c.args.core.now c.args.text.now c.reachable_is_closed.ensures c.args.budget c.args.item.position k c.args.found.now c.args.waiting.now c.args.item
     refl (run_at c.args.core.now c.args.text.now c.args.budget c.args.item c.args.found.now c.args.waiting.now c.requires.taking k e) e c.requires.complete
     c.return_to_all.new.found _ c.return_to_all.result
-    (ended_set c.args.waiting.now c.add_end.new.waiting c.args.item.instance c.args.item.position l c.add_end.ensures.callers c.add_end.ensures.called)
-    (subst (λ z. Adds c.args.item.position (IsReturnToOne c.args.core.now c.args.text.now z (called_at c.args.waiting.now c.args.item.instance).callers c.args.item.position c.args.found.now) c.args.budget c.args.found.now c.return_to_all.new.found c.return_to_all.result)
+    (ended_set c.args.waiting.now c.add_end.new.waiting c.args.item.instance c.args.item.position c.args.number l c.add_end.ensures.callers c.add_end.ensures.called)
+    (subst (λ z. Adds c.args.item.position (IsReturnToOne c.args.core.now c.args.text.now z (called_at c.args.waiting.now c.args.item.instance).first c.args.item.position c.args.found.now) c.args.budget c.args.found.now c.return_to_all.new.found c.return_to_all.result)
     (c.as_slice-callers.ensures.value ∙ c.add_end.ensures.callers)
     (subst (λ z. Adds c.args.item.position (IsReturnToOne c.args.core.now c.args.text.now c.as_slice-callers.result.now z c.args.item.position c.args.found.now) c.args.budget c.args.found.now c.return_to_all.new.found c.return_to_all.result)
-    (c.last_caller-head.ensures ∙ head_now c.args.waiting.now c.add_end.new.waiting c.args.item.instance c.args.item.position l c.add_end.ensures.called)
-    c.return_to_all.ensures))
+    (c.first_caller-head.ensures ∙ head_now c.args.waiting.now c.add_end.new.waiting c.args.item.instance c.args.item.position c.args.number l c.add_end.ensures.called)
+    c.return_to_all.ensures.adds))
+
+pub returns-clause-trail : goal.returns-clause-trail
+returns-clause-trail c =
+    λ k e.
+    let l = called_there c.args.core.now c.args.text.now c.reachable_is_closed.ensures c.args.budget c.args.item.position c.requires.taking.number c.args.found.now c.args.waiting.now c.args.item
+    refl c.requires.taking.run c.requires.taking.at in
+    let cells = c.as_slice-callers.ensures.value ∙ c.add_end.ensures.callers in
+    let head = c.first_caller-head.ensures ∙ head_now c.args.waiting.now c.add_end.new.waiting c.args.item.instance c.args.item.position c.args.number l c.add_end.ensures.called in
+    let h = trail_at c.args.core.now c.args.text.now c.args.item.position c.args.item c.args.number c.args.found.now c.args.waiting.now c.args.trail.now
+    c.requires.taking.run.taking.stored c.requires.next k e in
+    completes_on c.args.core.now c.args.text.now c.reachable_is_closed.ensures c.args.budget c.args.item.position k c.args.found.now c.args.waiting.now c.args.trail.now
+    c.args.item c.args.number refl (run_at c.args.core.now c.args.text.now c.args.budget c.args.item c.args.found.now c.args.waiting.now c.requires.taking k e) e
+    h.1 h.0 c.requires.complete c.in_default.ensures.none c.return_to_all.new.found _ c.return_to_all.new.trail c.return_to_all.result
+    c.add_end.ensures.callers c.add_end.ensures.called
+    (subst (λ z. Adds c.args.item.position (IsReturnToOne c.args.core.now c.args.text.now z (called_at c.args.waiting.now c.args.item.instance).first c.args.item.position c.args.found.now) c.args.budget c.args.found.now c.return_to_all.new.found c.return_to_all.result)
+    cells
+    (subst (λ z. Adds c.args.item.position (IsReturnToOne c.args.core.now c.args.text.now c.as_slice-callers.result.now z c.args.item.position c.args.found.now) c.args.budget c.args.found.now c.return_to_all.new.found c.return_to_all.result)
+    head c.return_to_all.ensures.adds))
+    (subst (λ z. OnOk c.return_to_all.result (Records (IsReturnBy c.args.core.now c.args.text.now z (called_at c.args.waiting.now c.args.item.instance).first c.args.number c.args.item.position c.args.found.now) c.args.found.now c.return_to_all.new.found c.args.trail.now c.return_to_all.new.trail))
+    cells
+    (subst (λ z. OnOk c.return_to_all.result (Records (IsReturnBy c.args.core.now c.args.text.now c.as_slice-callers.result.now z c.args.number c.args.item.position c.args.found.now) c.args.found.now c.return_to_all.new.found c.args.trail.now c.return_to_all.new.trail))
+    head c.return_to_all.ensures.ways))

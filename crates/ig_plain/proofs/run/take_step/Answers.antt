@@ -1,41 +1,163 @@
-use Rattle.std.proofs.Common.{refl, ap, subst, ◌≡◌, [], ◌∷◌, true}
+use Rattle.std.proofs.Common.{refl, ap, sym, subst}
+use Rattle.std.specs.Prelude.{OnOk}
 use Rattle.ig_expr.specs.View.{expression_of}
-use Rattle.ig_expr.specs.declared.value.Value.{Value}
-use Rattle.ig_expr.specs.declared.value.Value.TheVariants.{Bool as truth}
 use Rattle.ig_item.specs.View.{step_of}
-use Rattle.ig_item.specs.Items.{StandsBefore, HasValue, past}
+use Rattle.ig_item.specs.Items.{StandsBefore}
+use Rattle.ig_item.specs.declared.ways.Way.TheVariants.{Pass}
+use Rattle.ig_plain.specs.Rules.{IsBehind}
 use Rattle.ig_plain.specs.Found.{means, Adds, AddsTerminal}
+use Rattle.ig_plain.specs.Trail.{By, Records, RecordsTerminal, Unfound, IsBehindTest, IsBehindBind}
 use Rattle.ig_plain.proofs.Lists.{contains_from_at}
 use Rattle.ig_plain.proofs.Completes.{run_at}
+use Rattle.ig_plain.proofs.Fresh.{new_test, new_bind, new_terminal}
+use Rattle.ig_plain.proofs.Onward.{trail_at, not_taken}
 use Rattle.ig_plain.proofs.Alone.{takes_test, takes_bind, takes_terminal, names_are}
+use Rattle.ig_plain.proofs.TakenOn.{test_on, bind_on, terminal_on}
 use Rattle.ig_plain.proofs.run.take_step.Goals as goal
 
 pub take_terminal-requires-clause-named : goal.take_terminal-requires-clause-named
-take_terminal-requires-clause-named c = (c.requires.taking.run.taking.stored.named.here c.args.item (contains_from_at c.args.found.now.here.keys c.requires.taking.number c.args.item c.requires.taking.at))
+take_terminal-requires-clause-named c = c.requires.taking.run.taking.stored.named.here c.args.item
+    (contains_from_at c.args.found.now.here c.requires.taking.number c.args.item c.requires.taking.at)
 
 pub take_test-requires-clause-named : goal.take_test-requires-clause-named
-take_test-requires-clause-named c = (c.requires.taking.run.taking.stored.named.here c.args.item (contains_from_at c.args.found.now.here.keys c.requires.taking.number c.args.item c.requires.taking.at))
+take_test-requires-clause-named c = c.requires.taking.run.taking.stored.named.here c.args.item
+    (contains_from_at c.args.found.now.here c.requires.taking.number c.args.item c.requires.taking.at)
 
 pub take_bind-requires-clause-named : goal.take_bind-requires-clause-named
-take_bind-requires-clause-named c = (c.requires.taking.run.taking.stored.named.here c.args.item (contains_from_at c.args.found.now.here.keys c.requires.taking.number c.args.item c.requires.taking.at))
+take_bind-requires-clause-named c = c.requires.taking.run.taking.stored.named.here c.args.item
+    (contains_from_at c.args.found.now.here c.requires.taking.number c.args.item c.requires.taking.at)
 
-pub returns-in-Term : goal.returns-in-Term
-returns-in-Term c =
-    λ k e.
-    takes_terminal c.args.core.now c.args.text.now c.reachable_is_closed.ensures c.args.budget c.args.item.position k c.args.found.now c.args.waiting.now c.args.item refl (run_at c.args.core.now c.args.text.now c.args.budget c.args.item c.args.found.now c.args.waiting.now c.requires.taking k e) e c.requires.stands.names c.in-Term.what c.in-Term.label c.in-Term.not (subst (StandsBefore c.args.core.now (means c.args.found.now c.args.item) c.requires.stands.names) (ap step_of c.in-Term.is) c.requires.stands.before) c.take_terminal.new.found c.take_terminal.result
-    (subst (λ z. AddsTerminal c.args.text.now c.in-Term.what c.in-Term.label z c.args.budget c.args.item.position (means c.args.found.now c.args.item) c.args.found.now c.take_terminal.new.found c.take_terminal.result)
-    c.as_slice.ensures c.take_terminal.ensures)
+pub take_terminal-requires-clause-new : goal.take_terminal-requires-clause-new
+take_terminal-requires-clause-new c =
+    subst (λ z. Unfound c.args.found.now (IsBehind c.args.text.now c.in-Term.what c.in-Term.label z (means c.args.found.now c.args.item)))
+    (sym c.as_slice-not.ensures)
+    (new_terminal c.args.core.now c.args.text.now c.args.found.now c.args.trail.now _ c.requires.next.trail.ways (means c.args.found.now c.args.item)
+    (not_taken c.args.core.now c.args.text.now c.args.item.position c.requires.next.place c.args.found.now c.args.waiting.now c.args.trail.now
+    c.args.item c.args.number
+    c.requires.taking.run.taking.stored c.requires.next.at c.requires.next.numbered c.requires.next.trail)
+    c.requires.stands.names c.in-Term.what c.in-Term.label c.in-Term.not (subst (StandsBefore c.args.core.now
+    (means c.args.found.now c.args.item) c.requires.stands.names) (ap step_of c.in-Term.is) c.requires.stands.before))
 
-pub returns-in-Some : goal.returns-in-Some
-returns-in-Some c =
+pub returns-in-Term-clause-takes : goal.returns-in-Term-clause-takes
+returns-in-Term-clause-takes c =
     λ k e.
-    takes_test c.args.core.now c.args.text.now c.reachable_is_closed.ensures c.args.budget c.args.item.position k c.args.found.now c.args.waiting.now c.args.item refl (run_at c.args.core.now c.args.text.now c.args.budget c.args.item c.args.found.now c.args.waiting.now c.requires.taking k e) e c.requires.stands.names (expression_of c.in-Test.condition) (subst (StandsBefore c.args.core.now (means c.args.found.now c.args.item) c.requires.stands.names) (ap step_of c.in-Test.is) c.requires.stands.before) c.take_test.new.found c.take_test.result
-    (subst (λ z. Adds c.args.item.position (λ x. HasValue c.args.text.now (means c.args.found.now c.args.item) z (expression_of c.in-Test.condition) (truth true) × (x ≡ past (means c.args.found.now c.args.item) [] c.args.item.position)) c.args.budget c.args.found.now c.take_test.new.found c.take_test.result)
-    (names_are c.args.core.now (means c.args.found.now c.args.item) _ c.args.nonterminal _ c.requires.stands c.requires.nonterminal (λ m d. c.in-Some.ensures c.args.core.now m d c.requires.names)) c.take_test.ensures)
+    takes_terminal c.args.core.now c.args.text.now c.reachable_is_closed.ensures c.args.budget c.args.item.position k c.args.found.now
+    c.args.waiting.now c.args.item refl (run_at c.args.core.now c.args.text.now c.args.budget c.args.item c.args.found.now c.args.waiting.now
+    c.requires.taking k e) e
+    c.requires.stands.names c.in-Term.what c.in-Term.label c.in-Term.not (subst (StandsBefore c.args.core.now
+    (means c.args.found.now c.args.item) c.requires.stands.names) (ap step_of c.in-Term.is) c.requires.stands.before)
+    c.take_terminal.new.found c.take_terminal.result
+    (subst (λ z. AddsTerminal c.args.text.now c.in-Term.what c.in-Term.label z c.args.budget c.args.item.position
+    (means c.args.found.now c.args.item) c.args.found.now c.take_terminal.new.found c.take_terminal.result)
+    c.as_slice-not.ensures c.take_terminal.ensures.adds)
 
-pub returns-in-Some-names_at : goal.returns-in-Some-names_at
-returns-in-Some-names_at c =
+pub returns-in-Term-clause-trail : goal.returns-in-Term-clause-trail
+returns-in-Term-clause-trail c =
     λ k e.
-    takes_bind c.args.core.now c.args.text.now c.reachable_is_closed.ensures c.args.budget c.args.item.position k c.args.found.now c.args.waiting.now c.args.item refl (run_at c.args.core.now c.args.text.now c.args.budget c.args.item c.args.found.now c.args.waiting.now c.requires.taking k e) e c.requires.stands.names c.in-Bind.field-0 (expression_of c.in-Bind.expression) (subst (StandsBefore c.args.core.now (means c.args.found.now c.args.item) c.requires.stands.names) (ap step_of c.in-Bind.is) c.requires.stands.before) c.take_bind.new.found c.take_bind.result
-    (subst (λ z. Adds c.args.item.position (λ x. (v : Value) × HasValue c.args.text.now (means c.args.found.now c.args.item) z (expression_of c.in-Bind.expression) v × (x ≡ past (means c.args.found.now c.args.item) (v ∷ []) c.args.item.position)) c.args.budget c.args.found.now c.take_bind.new.found c.take_bind.result)
-    (names_are c.args.core.now (means c.args.found.now c.args.item) _ c.args.nonterminal _ c.requires.stands c.requires.nonterminal (λ m d. c.in-Some-names_at.ensures c.args.core.now m d c.requires.names)) c.take_bind.ensures)
+    let h = trail_at c.args.core.now c.args.text.now c.args.item.position c.args.item c.args.number c.args.found.now c.args.waiting.now
+    c.args.trail.now
+    c.requires.taking.run.taking.stored c.requires.next k e in
+    terminal_on c.args.core.now c.args.text.now c.reachable_is_closed.ensures c.args.budget c.args.item.position k c.args.found.now
+    c.args.waiting.now c.args.trail.now c.args.item c.args.number refl
+    (run_at c.args.core.now c.args.text.now c.args.budget c.args.item c.args.found.now c.args.waiting.now c.requires.taking k e) e h.1 h.0
+    c.requires.stands.names c.in-Term.what c.in-Term.label c.in-Term.not (subst (StandsBefore c.args.core.now
+    (means c.args.found.now c.args.item) c.requires.stands.names) (ap step_of c.in-Term.is) c.requires.stands.before)
+    c.take_terminal.new.found c.take_terminal.new.trail c.take_terminal.result
+    (subst (λ z. AddsTerminal c.args.text.now c.in-Term.what c.in-Term.label z c.args.budget c.args.item.position
+    (means c.args.found.now c.args.item) c.args.found.now c.take_terminal.new.found c.take_terminal.result)
+    c.as_slice-not.ensures c.take_terminal.ensures.adds)
+    (subst (λ z. OnOk c.take_terminal.result (RecordsTerminal c.args.text.now c.in-Term.what c.in-Term.label z c.args.number
+    (means c.args.found.now c.args.item) c.args.found.now c.take_terminal.new.found c.args.trail.now c.take_terminal.new.trail))
+    c.as_slice-not.ensures c.take_terminal.ensures.ways)
+
+pub take_test-requires-clause-new : goal.take_test-requires-clause-new
+take_test-requires-clause-new c =
+    subst (λ z. Unfound c.args.found.now (IsBehindTest c.args.text.now z (expression_of c.in-Test.condition) (means c.args.found.now c.args.item)))
+    (sym (names_are c.args.core.now (means c.args.found.now c.args.item) _ c.args.nonterminal _ c.requires.stands c.requires.nonterminal
+    (λ m d. c.in-Some.ensures c.args.core.now m d c.requires.names)))
+    (new_test c.args.core.now c.args.text.now c.args.found.now c.args.trail.now _ c.requires.next.trail.ways (means c.args.found.now c.args.item)
+    (not_taken c.args.core.now c.args.text.now c.args.item.position c.requires.next.place c.args.found.now c.args.waiting.now c.args.trail.now
+    c.args.item c.args.number
+    c.requires.taking.run.taking.stored c.requires.next.at c.requires.next.numbered c.requires.next.trail)
+    c.requires.stands.names (expression_of c.in-Test.condition) (subst (StandsBefore c.args.core.now
+    (means c.args.found.now c.args.item) c.requires.stands.names) (ap step_of c.in-Test.is) c.requires.stands.before))
+
+pub returns-in-Some-clause-takes : goal.returns-in-Some-clause-takes
+returns-in-Some-clause-takes c =
+    λ k e.
+    takes_test c.args.core.now c.args.text.now c.reachable_is_closed.ensures c.args.budget c.args.item.position k c.args.found.now c.args.waiting.now
+    c.args.item refl (run_at c.args.core.now c.args.text.now c.args.budget c.args.item c.args.found.now c.args.waiting.now c.requires.taking k e) e
+    c.requires.stands.names (expression_of c.in-Test.condition) (subst (StandsBefore c.args.core.now
+    (means c.args.found.now c.args.item) c.requires.stands.names) (ap step_of c.in-Test.is) c.requires.stands.before)
+    c.take_test.new.found c.take_test.result
+    (subst (λ z. Adds c.args.item.position (IsBehindTest c.args.text.now z (expression_of c.in-Test.condition) (means c.args.found.now c.args.item))
+    c.args.budget c.args.found.now c.take_test.new.found c.take_test.result)
+    (names_are c.args.core.now (means c.args.found.now c.args.item) _ c.args.nonterminal _ c.requires.stands c.requires.nonterminal
+    (λ m d. c.in-Some.ensures c.args.core.now m d c.requires.names)) c.take_test.ensures.adds)
+
+pub returns-in-Some-clause-trail : goal.returns-in-Some-clause-trail
+returns-in-Some-clause-trail c =
+    λ k e.
+    let h = trail_at c.args.core.now c.args.text.now c.args.item.position c.args.item c.args.number c.args.found.now c.args.waiting.now
+    c.args.trail.now
+    c.requires.taking.run.taking.stored c.requires.next k e in
+    test_on c.args.core.now c.args.text.now c.reachable_is_closed.ensures c.args.budget c.args.item.position k c.args.found.now c.args.waiting.now
+    c.args.trail.now c.args.item c.args.number refl (run_at c.args.core.now c.args.text.now c.args.budget c.args.item c.args.found.now
+    c.args.waiting.now c.requires.taking k e) e h.1 h.0
+    c.requires.stands.names (expression_of c.in-Test.condition) (subst (StandsBefore c.args.core.now
+    (means c.args.found.now c.args.item) c.requires.stands.names) (ap step_of c.in-Test.is) c.requires.stands.before)
+    c.take_test.new.found c.take_test.new.trail c.take_test.result
+    (subst (λ z. Adds c.args.item.position (IsBehindTest c.args.text.now z (expression_of c.in-Test.condition) (means c.args.found.now c.args.item))
+    c.args.budget c.args.found.now c.take_test.new.found c.take_test.result)
+    (names_are c.args.core.now (means c.args.found.now c.args.item) _ c.args.nonterminal _ c.requires.stands c.requires.nonterminal
+    (λ m d. c.in-Some.ensures c.args.core.now m d c.requires.names)) c.take_test.ensures.adds)
+    (subst (λ z. OnOk c.take_test.result (Records (By (Pass c.args.number) (IsBehindTest c.args.text.now z (expression_of c.in-Test.condition)
+    (means c.args.found.now c.args.item))) c.args.found.now c.take_test.new.found c.args.trail.now c.take_test.new.trail))
+    (names_are c.args.core.now (means c.args.found.now c.args.item) _ c.args.nonterminal _ c.requires.stands c.requires.nonterminal
+    (λ m d. c.in-Some.ensures c.args.core.now m d c.requires.names)) c.take_test.ensures.ways)
+
+pub take_bind-requires-clause-new : goal.take_bind-requires-clause-new
+take_bind-requires-clause-new c =
+    subst (λ z. Unfound c.args.found.now (IsBehindBind c.args.text.now z (expression_of c.in-Bind.expression) (means c.args.found.now c.args.item)))
+    (sym (names_are c.args.core.now (means c.args.found.now c.args.item) _ c.args.nonterminal _ c.requires.stands c.requires.nonterminal
+    (λ m d. c.in-Some-names_at.ensures c.args.core.now m d c.requires.names)))
+    (new_bind c.args.core.now c.args.text.now c.args.found.now c.args.trail.now _ c.requires.next.trail.ways (means c.args.found.now c.args.item)
+    (not_taken c.args.core.now c.args.text.now c.args.item.position c.requires.next.place c.args.found.now c.args.waiting.now c.args.trail.now
+    c.args.item c.args.number
+    c.requires.taking.run.taking.stored c.requires.next.at c.requires.next.numbered c.requires.next.trail)
+    c.requires.stands.names c.in-Bind.field-0 (expression_of c.in-Bind.expression) (subst (StandsBefore c.args.core.now
+    (means c.args.found.now c.args.item) c.requires.stands.names) (ap step_of c.in-Bind.is) c.requires.stands.before))
+
+pub returns-in-Some-names_at-clause-takes : goal.returns-in-Some-names_at-clause-takes
+returns-in-Some-names_at-clause-takes c =
+    λ k e.
+    takes_bind c.args.core.now c.args.text.now c.reachable_is_closed.ensures c.args.budget c.args.item.position k c.args.found.now c.args.waiting.now
+    c.args.item refl (run_at c.args.core.now c.args.text.now c.args.budget c.args.item c.args.found.now c.args.waiting.now c.requires.taking k e) e
+    c.requires.stands.names c.in-Bind.field-0 (expression_of c.in-Bind.expression) (subst (StandsBefore c.args.core.now
+    (means c.args.found.now c.args.item) c.requires.stands.names) (ap step_of c.in-Bind.is) c.requires.stands.before)
+    c.take_bind.new.found c.take_bind.result
+    (subst (λ z. Adds c.args.item.position (IsBehindBind c.args.text.now z (expression_of c.in-Bind.expression) (means c.args.found.now c.args.item))
+    c.args.budget c.args.found.now c.take_bind.new.found c.take_bind.result)
+    (names_are c.args.core.now (means c.args.found.now c.args.item) _ c.args.nonterminal _ c.requires.stands c.requires.nonterminal
+    (λ m d. c.in-Some-names_at.ensures c.args.core.now m d c.requires.names)) c.take_bind.ensures.adds)
+
+pub returns-in-Some-names_at-clause-trail : goal.returns-in-Some-names_at-clause-trail
+returns-in-Some-names_at-clause-trail c =
+    λ k e.
+    let h = trail_at c.args.core.now c.args.text.now c.args.item.position c.args.item c.args.number c.args.found.now c.args.waiting.now
+    c.args.trail.now
+    c.requires.taking.run.taking.stored c.requires.next k e in
+    bind_on c.args.core.now c.args.text.now c.reachable_is_closed.ensures c.args.budget c.args.item.position k c.args.found.now c.args.waiting.now
+    c.args.trail.now c.args.item c.args.number refl (run_at c.args.core.now c.args.text.now c.args.budget c.args.item c.args.found.now
+    c.args.waiting.now c.requires.taking k e) e h.1 h.0
+    c.requires.stands.names c.in-Bind.field-0 (expression_of c.in-Bind.expression) (subst (StandsBefore c.args.core.now
+    (means c.args.found.now c.args.item) c.requires.stands.names) (ap step_of c.in-Bind.is) c.requires.stands.before)
+    c.take_bind.new.found c.take_bind.new.trail c.take_bind.result
+    (subst (λ z. Adds c.args.item.position (IsBehindBind c.args.text.now z (expression_of c.in-Bind.expression) (means c.args.found.now c.args.item))
+    c.args.budget c.args.found.now c.take_bind.new.found c.take_bind.result)
+    (names_are c.args.core.now (means c.args.found.now c.args.item) _ c.args.nonterminal _ c.requires.stands c.requires.nonterminal
+    (λ m d. c.in-Some-names_at.ensures c.args.core.now m d c.requires.names)) c.take_bind.ensures.adds)
+    (subst (λ z. OnOk c.take_bind.result (Records (By (Pass c.args.number) (IsBehindBind c.args.text.now z (expression_of c.in-Bind.expression)
+    (means c.args.found.now c.args.item))) c.args.found.now c.take_bind.new.found c.args.trail.now c.take_bind.new.trail))
+    (names_are c.args.core.now (means c.args.found.now c.args.item) _ c.args.nonterminal _ c.requires.stands c.requires.nonterminal
+    (λ m d. c.in-Some-names_at.ensures c.args.core.now m d c.requires.names)) c.take_bind.ensures.ways)

@@ -1,6 +1,8 @@
-use Rattle.std.proofs.Common.{take}
-use Rattle.ig_plain.specs.Arrival.{IsParted}
+use Rattle.ig_plain.proofs.Arriving.{IsPartedTo}
 use Rattle.ig_plain.proofs.saturation.part.Given as goal
 
-abbrev pub invariant-loop-item : goal.invariant-loop-item
-invariant-loop-item l = IsParted l.position (take l.item-index l.later) l.initial.here.keys l.here.keys l.rest.items
+abbrev pub invariant-loop-place : goal.invariant-loop-place
+invariant-loop-place l = record {
+  parted : IsPartedTo l.position l.initial.later.items l.later.items l.initial.prevs.items l.prevs.items l.initial.here l.here l.initial.ways l.ways
+      l.kept l.place;
+}

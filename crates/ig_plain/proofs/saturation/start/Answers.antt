@@ -1,12 +1,59 @@
-use Rattle.std.proofs.Common.{refl, ap, ◌∙◌, Some}
+use Rattle.std.proofs.Common.{[], ◌∷◌, ◌++◌, refl, ap, ◌∙◌, Some}
+use Rattle.std.proofs.lemmas.Result.{on_ok_weaker}
+use Rattle.ig_item.specs.Tables.{instance_by}
+use Rattle.ig_plain.specs.declared.found.Found.{Found}
+use Rattle.ig_plain.specs.Waiting.{not_called}
 use Rattle.ig_plain.proofs.Starts.{starts, alone}
+use Rattle.ig_plain.proofs.Starting.{nothing_found, none_unfound, starts_on}
 use Rattle.ig_plain.proofs.saturation.start.Goals as goal
 
-pub returns : goal.returns
-returns c =
+pub add_firsts-requires-clause-new : goal.add_firsts-requires-clause-new
+add_firsts-requires-clause-new c =
+    let s : Found = record {
+      done = c.args.found.now.done;
+      here = c.args.found.now.here;
+      later = c.args.found.now.later;
+      envs = c.enter_values.new.envs;
+      keys = c.enter.new.self;
+    } in
+    none_unfound s _ (nothing_found s c.requires.empty.done c.requires.empty.here)
+
+pub returns-clause-run : goal.returns-clause-run
+returns-clause-run c =
+    let s : Found = record {
+      done = c.args.found.now.done;
+      here = c.args.found.now.here;
+      later = c.args.found.now.later;
+      envs = c.enter_values.new.envs;
+      keys = c.enter.new.self;
+    } in
     λ text.
-    starts c.args.core.now text c.reachable_is_closed.ensures c.keep_well_kinded.ensures c.args.budget c.args.found.now c.args.waiting.now c.requires.empty
-    (record { done = c.args.found.now.done; here = c.args.found.now.here; later = c.args.found.now.later; envs = c.enter_values.new.envs; keys = c.enter_key.new.keys })
-    c.in_ok-env.env c.in_ok-env.ensures.once (c.in_ok-env.ensures.enters.there ∙ ap Some c.new.ensures) refl refl refl
-    (alone c.args.found.now.keys.keys _ _ c.in_ok-root.root c.in_ok-root.field-0-1 c.requires.empty.keys c.in_ok-root.ensures.enters.there c.in_ok-root.ensures.new c.in_ok-root.ensures.old)
-    c.add_called.new.waiting c.add_firsts.new.found c.add_firsts.result c.in_ok-add_called.ensures.called c.add_firsts.ensures
+    starts c.args.core.now text c.reachable_is_closed.ensures c.keep_well_kinded.ensures c.args.budget c.args.found.now c.args.waiting.now
+    c.requires.empty s c.in_ok-env.env c.in_ok-env.ensures.once (c.in_ok-env.ensures.enters.there ∙ ap Some c.new.ensures) refl refl refl
+    (alone c.args.found.now.keys _ _ c.in_ok-root.root c.in_ok-root.field-0-1 c.requires.empty.keys c.in_ok-root.ensures.enters.there
+    c.in_ok-root.ensures.new c.in_ok-root.ensures.old)
+    c.add_called.new.waiting c.add_firsts.new.found c.add_firsts.result c.in_ok-add_called.ensures.called c.add_firsts.ensures.adds
+
+pub returns-clause-trail : goal.returns-clause-trail
+returns-clause-trail c =
+    let s : Found = record {
+      done = c.args.found.now.done;
+      here = c.args.found.now.here;
+      later = c.args.found.now.later;
+      envs = c.enter_values.new.envs;
+      keys = c.enter.new.self;
+    } in
+    λ text.
+    on_ok_weaker c.add_firsts.result
+    (λ d.
+    starts_on c.args.core.now text
+    (instance_by c.enter_values.new.envs.keys (record { nonterminal = 0; env = c.in_ok-env.env; start = 0 }))
+    s
+    c.add_firsts.new.found c.add_called.new.waiting c.args.trail.now c.add_firsts.new.trail
+    (nothing_found s c.requires.empty.done c.requires.empty.here) (c.add_firsts.ensures.adds.grows.done ∙ c.requires.empty.done) c.requires.empty.later
+    (c.in_ok-add_called.ensures.called ∙ ap (λ z. z ++ not_called ∷ []) c.requires.empty.called)
+    (record {
+      ways = c.requires.untrodden.ways;
+      later = c.requires.untrodden.later;
+      callers = c.in_ok-add_called.ensures.callers ∙ c.requires.untrodden.callers;
+    }) d) c.add_firsts.ensures.ways

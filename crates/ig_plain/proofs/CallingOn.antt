@@ -1,0 +1,129 @@
+-- An item before a call is taken: the trail, as its callee is entered, and behind that.
+use Rattle.std.proofs.Common.{◌≡◌, ℕ, suc, ◌+◌, List, Some, Option, length, map, set, refl, sym, ap, ◌∙◌, slice_get}
+use Rattle.std.specs.Prelude.{Result, Ok, OnOk}
+use Rattle.ig_text.specs.declared.pattern.Pattern.{Pattern}
+use Rattle.ig_expr.specs.Expression.{Expression}
+use Rattle.ig_expr.specs.Evaluation.{value_of}
+use Rattle.ig_expr.specs.declared.value.Value.{Value}
+use Rattle.ig_item.specs.Step.{Call}
+use Rattle.ig_item.specs.Items.{MatchesNone, StandsBefore, past, span_of}
+use Rattle.ig_item.specs.Laws.{ReachableIsClosed, ItemsAreInText}
+use Rattle.ig_item.specs.Tables.{instance_by}
+use Rattle.ig_item.specs.WellKinded.{NoneTwice}
+use Rattle.ig_item.specs.declared.core_grammar.Nonterminal.{Nonterminal}
+use Rattle.ig_item.specs.declared.items.InstanceKey.{InstanceKey}
+use Rattle.ig_item.specs.declared.items.Item as stored
+use Rattle.ig_item.specs.declared.run_fault.RunFault.{RunFault}
+use Rattle.ig_item.specs.declared.ways.Way.TheVariants.{Node}
+use Rattle.ig_plain.specs.declared.found.Found.{Found}
+use Rattle.ig_plain.specs.declared.trail.Trail.{Trail}
+use Rattle.ig_plain.specs.declared.waiting.Waiting.{Waiting}
+use Rattle.ig_plain.specs.Tables.{Extends}
+use Rattle.ig_plain.specs.Found.{means, Adds}
+use Rattle.ig_plain.specs.Waiting.{called_at, lengthened, with_caller}
+use Rattle.ig_plain.specs.Run.{IsRun, EntersInstance}
+use Rattle.ig_plain.specs.Trail.{By, Records, HasTrail, EntersOn}
+use Rattle.ig_plain.proofs.Calling as calling
+use Rattle.ig_plain.proofs.Entered.{trail_moved}
+use Rattle.ig_plain.proofs.TakenOn.{idle_on, waits_on, past_on}
+
+module _ (core : List Nonterminal) (text : List ℕ) (law : ReachableIsClosed) (inside : ItemsAreInText) (budget k : ℕ) (s : Found) (w : Waiting)
+    (item : stored.Item)
+    (r : IsRun core text budget item.position k s w) (at : slice_get s.here k ≡ Some item) (names : List (List ℕ)) (nonterminal : ℕ)
+    (arguments : List Expression) (label : Option (List ℕ)) (excluded : List Pattern)
+    (before : StandsBefore core (means s item) names (Call nonterminal arguments label excluded))
+    (trail : Trail) (number : ℕ) (is : number ≡ length s.done.items + k) (h : HasTrail core text item.position k s w trail) where
+  abbrev p : ℕ
+  p = item.position
+
+  -- an argument has no value
+  pub no_call_on : (values : List Value) → values ≡ (means s item).env →
+      ((vs : List Value) → map (value_of text names values item.position) arguments ≡ map Some vs → ⊥) → HasTrail core text p (suc k) s w trail
+  no_call_on values same none =
+      idle_on core text law budget p k s w trail item number refl r at is h names nonterminal arguments label excluded before
+      (calling.calls_none core text law inside budget p k s w item refl r at names nonterminal arguments label excluded before values same none)
+
+  -- the arguments have values, which are an environment now; the callee is entered
+  module _ (s1 : Found) (env : ℕ) (values vs : List Value) (same : values ≡ (means s item).env) (envs : Extends s.envs.keys s1.envs.keys)
+      (once : NoneTwice s1.envs.keys) (there : slice_get s1.envs.keys env ≡ Some vs) (keys : s1.keys ≡ s.keys) (done : s1.done.items ≡ s.done.items)
+      (here_same : s1.here ≡ s.here) (later : s1.later.items ≡ s.later.items)
+      (are : map (value_of text names values item.position) arguments ≡ map Some vs) (t : Found) (v : Waiting) (i : ℕ)
+      (entered : EntersInstance core budget (record { nonterminal = nonterminal; env = env; start = item.position }) s1 t w v (Ok i))
+      (u : Trail) (entered_on : EntersOn core budget (record { nonterminal = nonterminal; env = env; start = item.position }) s1 t w v trail u
+      (Ok i)) where
+    abbrev key : InstanceKey
+    key = record { nonterminal = nonterminal; env = env; start = item.position }
+
+    run_1 : IsRun core text budget p k s1 w
+    run_1 =
+        calling.run_1 core text law inside budget p k s w item refl r at names nonterminal arguments label excluded before s1 env values vs same envs
+        once there keys
+        done here_same later are
+
+    trail_1 : HasTrail core text p k s1 w trail
+    trail_1 =
+        trail_moved core text p k s s1 w trail r.taking.stored
+        (calling.moved core text law inside budget p k s w item refl r at names nonterminal arguments label excluded before s1 env values vs same
+        envs once there keys
+        done here_same later are) h keys
+
+    run_2 : IsRun core text budget p k t v
+    run_2 =
+        calling.run_2 core text law inside budget p k s w item refl r at names nonterminal arguments label excluded before s1 env values vs same envs
+        once there keys
+        done here_same later are t v i refl entered
+
+    trail_2 : HasTrail core text p k t v u
+    trail_2 = entered_on text k run_1 trail_1
+
+    at_2 : slice_get t.here k ≡ Some item
+    at_2 =
+        calling.at_2 core text law inside budget p k s w item refl r at names nonterminal arguments label excluded before s1 env values vs same envs
+        once there keys
+        done here_same later are t v i refl entered
+
+    number_2 : number ≡ length t.done.items + k
+    number_2 =
+        let e = (calling.result core text law inside budget p k s w item refl r at names nonterminal arguments label excluded before s1 env values vs
+        same envs once there
+        keys done here_same later are t v i refl entered).done in
+        is ∙ ap (λ (z : List stored.Item). length z + k) (sym (e ∙ done))
+
+    module _ (x : Waiting) (cells : x.callers.items ≡ lengthened v.callers.items (called_at v i).last item number)
+        (called : x.called.items ≡ set v.called.items i (with_caller (called_at v i) (suc (length v.callers.items)))) where
+      -- the callee has no end here
+      pub only_waits_on : ((called_at x i).last_end ≡ Some p → ⊥) → HasTrail core text p (suc k) t x u
+      only_waits_on apart =
+          waits_on core text law budget p k t v u item number refl run_2 at_2 number_2 trail_2 inside i (instance_by t.envs.keys key) label excluded
+          (calling.instance_2 core text law inside budget p k s w item refl r at names nonterminal arguments label excluded before s1 env values vs
+          same envs once there
+          keys done here_same later are t v i refl entered)
+          (calling.calls_2 core text law inside budget p k s w item refl r at names nonterminal arguments label excluded before s1 env values vs same
+          envs once there
+          keys done here_same later are t v i refl entered)
+          x cells called
+          (λ e. apart (calling.end_same core text law inside budget p k s w item refl r at names nonterminal arguments label excluded before s1 env
+          values vs same envs
+          once there keys done here_same later are t v i refl entered x number cells called ∙ e))
+
+      -- the callee ended here
+      pub goes_past_on : (d : ℕ) → (called_at x i).last_end ≡ Some p → d ≡ (called_at x i).last_done →
+          (f : Found) (y : Trail) (o : Result (Unit {0}) RunFault) →
+          Adds p (λ z. MatchesNone text excluded p p × (z ≡ past (means t item) (span_of label p p) p)) budget t f o →
+          OnOk o (Records (By (Node number d) (λ z. MatchesNone text excluded p p × (z ≡ past (means t item) (span_of label p p) p))) t f u y) →
+          OnOk o (HasTrail core text p (suc k) f x y)
+      goes_past_on d last d_is f y o adds rec =
+          past_on core text law budget p k t v u item number refl run_2 at_2 number_2 trail_2 inside i (instance_by t.envs.keys key) label excluded
+          (calling.instance_2 core text law inside budget p k s w item refl r at names nonterminal arguments label excluded before s1 env values vs
+          same envs once there
+          keys done here_same later are t v i refl entered)
+          (calling.calls_2 core text law inside budget p k s w item refl r at names nonterminal arguments label excluded before s1 env values vs same
+          envs once there
+          keys done here_same later are t v i refl entered)
+          x cells called d
+          (sym (calling.end_same core text law inside budget p k s w item refl r at names nonterminal arguments label excluded before s1 env values
+          vs same envs
+          once there keys done here_same later are t v i refl entered x number cells called) ∙ last)
+          (d_is ∙ calling.done_same core text law inside budget p k s w item refl r at names nonterminal arguments label excluded before s1 env
+          values vs same envs
+          once there keys done here_same later are t v i refl entered x number cells called) f y o adds rec

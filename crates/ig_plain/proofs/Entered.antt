@@ -1,0 +1,171 @@
+-- The trail of a run stays as tables grow and an instance is entered.
+use Rattle.std.proofs.Common.{◌≡◌, ⊎_elim, inl, ℕ, ◌+◌, ◌<◌, List, [], ◌∷◌, ◌++◌, Some, length, Contains, refl, sym, ap, ◌∙◌, subst, arith, slice_get, append_assoc}
+use Rattle.std.specs.Prelude.{Ok, slice_index_or}
+use Rattle.std.proofs.lemmas.Option.{slice_get_within, slice_get-get_or}
+use Rattle.ig_item.specs.Items.{Item}
+use Rattle.ig_item.specs.Tables.{instance_by}
+use Rattle.ig_item.specs.WellKinded.{NoneTwice}
+use Rattle.ig_item.specs.Ways as ways
+use Rattle.ig_item.specs.Ways.{IsWay, IsFirstEnd}
+use Rattle.ig_item.specs.declared.core_grammar.Nonterminal.{Nonterminal}
+use Rattle.ig_item.specs.declared.items.Instance.{Instance}
+use Rattle.ig_item.specs.declared.items.InstanceKey.{InstanceKey}
+use Rattle.ig_item.specs.declared.items.Item as stored
+use Rattle.ig_item.specs.declared.ways.Way.{Way}
+use Rattle.ig_item.specs.declared.ways.Way.TheVariants.{Begin}
+use Rattle.ig_plain.specs.declared.found.Found.{Found}
+use Rattle.ig_plain.specs.declared.trail.Trail.{Trail}
+use Rattle.ig_plain.specs.declared.waiting.Waiting.{Waiting}
+use Rattle.ig_plain.specs.declared.waiting.Called.{Called}
+use Rattle.ig_plain.specs.Tables.{Extends, IsNew, no_key}
+use Rattle.ig_plain.specs.Found.{means, found_in, taken_in, instances_in, Named, AreNamed, IsStored, Adds}
+use Rattle.ig_plain.specs.Rules.{IsFirstOf}
+use Rattle.ig_plain.specs.Waiting.{not_called}
+use Rattle.ig_plain.specs.Run.{IsRun}
+use Rattle.ig_plain.specs.Trail.{By, Records, FollowTrail, HasTrail, AreNumbered, Unfound}
+use Rattle.ig_plain.proofs.Lists.{contains_from_at, sides, one_in, unmapped_in, right_contains, it_is_in}
+use Rattle.ig_plain.proofs.Sets.{extends_same}
+use Rattle.ig_plain.proofs.Growth.{extends_at, extends_or, found_named}
+use Rattle.ig_plain.proofs.Distinct.{one_instance}
+use Rattle.ig_plain.proofs.Running.{stored_grown, taken_grown}
+use Rattle.ig_plain.proofs.Completes.{keeps_grown}
+use Rattle.ig_plain.proofs.Moving.{Moved, moved_found, moved_later, moved_taken, moved_stored, moved_taking}
+use Rattle.ig_plain.proofs.Instances as instances
+use Rattle.ig_plain.proofs.Instances.{moved_keeps, moved_same, named_keys}
+use Rattle.ig_plain.proofs.Trails.{EndsGrow, RecordsMore, ends_found, ends_none, first_on, follow, more_here, more_none}
+use Rattle.ig_plain.proofs.Onward.{items_once, taken_below}
+
+-- what is taken stays, and what was found and recorded follows from it
+pub trail_kept : (core : List Nonterminal) (text : List ℕ) (p k : ℕ) (s t : Found) (w v : Waiting) (trail u : Trail) (may : Way → Item → Type 0) →
+    HasTrail core text p k s w trail → RecordsMore may s t trail u → Extends (found_in s) (found_in t) → NoneTwice (found_in t) →
+    taken_in t k ≡ taken_in s k → Extends (s.done.items ++ s.here) (t.done.items ++ t.here) → u.ways.ends ≡ trail.ways.ends →
+    ((way : Way) (x : Item) → may way x → IsWay core text (Contains (taken_in s k)) (found_in t) x way) → AreNumbered s v.callers.items →
+    ((i : ℕ) (callee : Instance) (called : Called) → slice_get (instances_in t) i ≡ Some callee → slice_get v.called.items i ≡ Some called →
+    called.last_end ≡ Some p → (slice_get (instances_in s) i ≡ Some callee) × (slice_get w.called.items i ≡ Some called)) →
+    HasTrail core text p k t v u
+trail_kept core text p k s t w v trail u may h more found once taken numbers same sound callers known =
+    let was = taken_in s k in
+    let n = length s.done.items + k in
+    let grow : EndsGrow core (Contains was) (Contains was) (found_in s) (found_in t) n (λ key. ⊥) =
+    ends_found core was (found_in s) (found_in t) n found once (taken_below s k) in
+    record {
+      ways = subst (FollowTrail core text t u) (sym taken)
+          (follow core text may s t trail u was was n (λ key. ⊥) h.ways more grow
+          (ends_none core (Contains was) (Contains was) (found_in s) (found_in t) n (λ key. ⊥) grow trail.ways u.ways same
+          (λ key q. absurd q) h.ways.ends)
+          sound (λ x prev what q. inl q));
+      callers = λ cell c. extends_at (s.done.items ++ s.here) (t.done.items ++ t.here) cell.number cell.item numbers (callers cell c);
+      ends = λ i callee called there at last.
+          let o = known i callee called there at last in
+          subst (λ (z : List Item). IsFirstEnd core (Contains z) (found_in t) (record { instance = callee; end = p }) called.last_done) (sym taken)
+          (first_on core (Contains was) (Contains was) (found_in s) (found_in t) n (λ key. ⊥) grow
+          (record { instance = callee; end = p }) called.last_done
+          (h.ends i callee called o.0 o.1 last));
+    }
+
+module _ (core : List Nonterminal) (text : List ℕ) (p k : ℕ) (s t : Found) (w : Waiting) (trail : Trail) (r : IsStored p s) (m : Moved s t)
+    (h : HasTrail core text p k s w trail) where
+  -- tables grow, and the items stay
+  trail_in : (v : Waiting) → AreNumbered s v.callers.items →
+      ((i : ℕ) (callee : Instance) (called : Called) → slice_get (instances_in t) i ≡ Some callee → slice_get v.called.items i ≡ Some called →
+      called.last_end ≡ Some p → (slice_get (instances_in s) i ≡ Some callee) × (slice_get w.called.items i ≡ Some called)) →
+      HasTrail core text p k t v trail
+  trail_in v callers known =
+      let found = moved_found s t r.named m in
+      trail_kept core text p k s t w v trail trail (λ way x. ⊥) h
+      (more_none core text s t trail trail (taken_in s k) h.ways found (moved_later s t r.named m) refl refl refl)
+      (extends_same (found_in s) (found_in t) found) (items_once p t (moved_stored s t r.named m p r)) (moved_taken s t r.named m k)
+      (extends_same (s.done.items ++ s.here) (t.done.items ++ t.here)
+      (ap (λ (z : List stored.Item). z ++ t.here) m.done ∙ ap (λ (z : List stored.Item). s.done.items ++ z) m.here))
+      refl (λ way x q. absurd q) callers known
+
+  -- without a new instance
+  pub trail_moved : t.keys ≡ s.keys → HasTrail core text p k t w trail
+  trail_moved same =
+      trail_in w h.callers
+      (λ i callee called there at last.
+      (subst (λ (z : List Instance). slice_get z i ≡ Some callee) (moved_keeps s t r.named m same).instances there, at))
+
+  -- with a new instance, which has no callers and no ends
+  pub trail_added : (v : Waiting) (fresh : Instance) → length w.called.items ≡ length (instances_in s) →
+      instances_in t ≡ instances_in s ++ fresh ∷ [] →
+      v.called.items ≡ w.called.items ++ not_called ∷ [] → v.callers.items ≡ w.callers.items → HasTrail core text p k t v trail
+  trail_added v fresh lens all called cells =
+      trail_in v (subst (AreNumbered s) (sym cells) h.callers)
+      (λ i callee c there at last.
+      ⊎_elim
+      (λ (q : slice_get w.called.items i ≡ Some c).
+      ⊎_elim (λ (e : slice_get (instances_in s) i ≡ Some callee). (e, q))
+      (λ (e : (j : ℕ) × (i ≡ length (instances_in s) + j) × (slice_get (fresh ∷ []) j ≡ Some callee)).
+      let l = slice_get_within w.called.items i c q in absurd (omega (arith, l, e.1, lens)))
+      (sides (instances_in s) (fresh ∷ []) i callee (subst (λ (z : List Instance). slice_get z i ≡ Some callee) all there)))
+      (λ (q : (j : ℕ) × (i ≡ length w.called.items + j) × (slice_get (not_called ∷ []) j ≡ Some c)).
+      let e : not_called ≡ c = sym (one_in not_called c (contains_from_at (not_called ∷ []) q.0 c q.2)) in
+      absurd (never p (ap (λ (z : Called). z.last_end) e ∙ last)))
+      (sides w.called.items (not_called ∷ []) i c (subst (λ (z : List Called). slice_get z i ≡ Some c) called at)))
+    where
+      never : (n : ℕ) → not_called.last_end ≡ Some n → ⊥
+      never n e = cc
+
+module _ (core : List Nonterminal) (text : List ℕ) (budget k : ℕ) (key : InstanceKey) (s : Found) (w : Waiting) (trail : Trail)
+    (r : IsRun core text budget key.start k s w) (env : key.env < length s.envs.keys) (h : HasTrail core text key.start k s w trail) where
+  -- the instance is there
+  pub old_on : (t : Found) → t.envs.keys ≡ s.envs.keys → t.done.items ≡ s.done.items → t.here ≡ s.here → t.later.items ≡ s.later.items →
+      t.keys ≡ s.keys → HasTrail core text key.start k t w trail
+  old_on t envs done here later keys =
+      trail_moved core text key.start k s t w trail r.taking.stored (moved_same core text budget k key s w r env t envs done here later keys) h keys
+
+  -- the instance is new: its first items were added
+  pub new_on : (s1 : Found) (i : ℕ) (envs : s1.envs.keys ≡ s.envs.keys) (done : s1.done.items ≡ s.done.items) (here : s1.here ≡ s.here)
+      (later : s1.later.items ≡ s.later.items) (once : NoneTwice s1.keys) (new : IsNew s.keys s1.keys key i) (t : Found) (v : Waiting) (u : Trail) →
+      v.called.items ≡ w.called.items ++ not_called ∷ [] → v.callers.items ≡ w.callers.items →
+      Adds key.start (IsFirstOf core (instance_by s1.envs.keys key)) budget s1 t (Ok tt) →
+      Records (By Begin (IsFirstOf core (instance_by s1.envs.keys key))) s1 t trail u → HasTrail core text key.start k t v u
+  new_on s1 i envs done here later once new t v u called cells d rec =
+      let callee = instance_by s1.envs.keys key in
+      let m = instances.moved core text budget k key s w r env s1 i envs done here later once new in
+      let taking = moved_taking s s1 r.taking.stored.named m core text budget key.start k r.taking in
+      let h1 : HasTrail core text key.start k s1 v trail =
+      trail_added core text key.start k s s1 w trail r.taking.stored m h v (instance_by s.envs.keys key) r.waiting.lengths
+      (instances.all_instances core text budget k key s w r env s1 i envs done here later once new) called cells in
+      trail_kept core text key.start k s1 t v v trail u (By Begin (IsFirstOf core callee)) h1
+      (more_here core text s1 t trail u (taken_in s1 k) h1.ways (By Begin (IsFirstOf core callee)) rec) rec.found
+      (items_once key.start t (stored_grown key.start (IsFirstOf core callee) s1 t taking.stored d.grows))
+      (taken_grown key.start (IsFirstOf core callee) s1 t k taking.stored.named d.grows taking.few)
+      (record {
+        more = d.grows.here.more;
+        is = ap (λ (z : List stored.Item). z ++ t.here) d.grows.done ∙ ap (λ (z : List stored.Item). s1.done.items ++ z) d.grows.here.is ∙
+            sym (append_assoc s1.done.items s1.here d.grows.here.more);
+      })
+      rec.ends
+      (λ way x q. subst (IsWay core text (Contains (taken_in s1 k)) (found_in t) x) (sym q.0) (ways.begin (ap (λ (z : Item). z.dot) q.1.4)))
+      h1.callers
+      (λ j other c there at last. (
+        subst (λ (z : List Instance). slice_get z j ≡ Some other)
+            (keeps_grown key.start (IsFirstOf core callee) s1 t taking.stored.named d.grows).instances there,
+        at,
+      ))
+
+-- the first items of a new instance aren't found
+pub new_firsts : (core : List Nonterminal) (s s1 : Found) (key : InstanceKey) (i : ℕ) → AreNamed s → key.env < length s.envs.keys →
+    NoneTwice s.envs.keys →
+    NoneTwice s1.keys → IsNew s.keys s1.keys key i → s1.envs.keys ≡ s.envs.keys → s1.done.items ≡ s.done.items → s1.here ≡ s.here →
+    s1.later.items ≡ s.later.items → Unfound s1 (IsFirstOf core (instance_by s1.envs.keys key))
+new_firsts core s s1 key i n env envs_once once new envs done here later x m c =
+    let n1 = named_keys s s1 key i n env new envs done here later in
+    let u = unmapped_in (means s1) (s1.done.items ++ s1.here) x c in
+    let inside : Named s u.0 =
+    found_named s n u.0
+    (subst (λ (z : List stored.Item). Contains z u.0)
+    (ap (λ (z : List stored.Item). z ++ s1.here) done ∙ ap (λ (z : List stored.Item). s.done.items ++ z) here) u.1) in
+    let grown : Extends s.keys s1.keys = record { more = key ∷ []; is = new.added } in
+    let named1 = found_named s1 n1 u.0 u.1 in
+    let its = slice_index_or s1.keys u.0.instance no_key in
+    let its_there : Contains s1.keys its = contains_from_at s1.keys u.0.instance its (slice_get-get_or s1.keys u.0.instance no_key named1.instance) in
+    let key_there : Contains s1.keys key =
+    subst (λ (z : List InstanceKey). Contains z key) (sym new.added) (right_contains s.keys (key ∷ []) key (it_is_in key)) in
+    let same : its ≡ key =
+    one_instance s1.envs.keys s1.keys (subst NoneTwice (sym envs) envs_once) once n1.values its key its_there key_there
+    (ap (λ (z : Item). z.instance) (u.2 ∙ m.4)) in
+    let old : its ≡ slice_index_or s.keys u.0.instance no_key = extends_or s.keys s1.keys u.0.instance no_key grown inside.instance in
+    new.new (contains_from_at s.keys u.0.instance key (slice_get-get_or s.keys u.0.instance no_key inside.instance ∙ ap Some (sym old ∙ same)))

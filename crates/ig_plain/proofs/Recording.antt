@@ -1,0 +1,345 @@
+-- What is recorded of the ways to items, one after the other.
+use Rattle.std.proofs.Common.{◌≡◌, ◌⊎◌, ⊎_elim, inl, inr, ℕ, zero, suc, ◌+◌, ◌<◌, List, [], ◌∷◌, ◌++◌, Some, length, Contains, refl, sym, ap, ◌∙◌, subst, arith, slice_get, length-append, append_assoc, map}
+use Rattle.std.specs.Prelude.{Result, Ok, Err, OnOk, Option, option_map}
+use Rattle.std.proofs.lemmas.List.{map-append}
+use Rattle.std.proofs.lemmas.Option.{same_Some, slice_get_within, slice_get-map}
+use Rattle.ig_text.specs.Pattern.{Matches}
+use Rattle.ig_text.specs.declared.pattern.Pattern.{Pattern}
+use Rattle.ig_item.specs.Items.{Item, MatchesNone, past, span_of}
+use Rattle.ig_item.specs.Ways.{WayLists, WayTo, found, again}
+use Rattle.ig_item.specs.declared.items.Item as stored
+use Rattle.ig_item.specs.declared.ways.Way.{Way}
+use Rattle.ig_item.specs.declared.ways.Way.TheVariants.{Leaf, Node}
+use Rattle.ig_item.specs.declared.ways.FurtherWay.{FurtherWay}
+use Rattle.ig_plain.specs.declared.found.Found.{Found}
+use Rattle.ig_plain.specs.declared.trail.Trail.{Trail}
+use Rattle.ig_plain.specs.Tables.{Extends}
+use Rattle.ig_plain.specs.Rules.{IsBehind}
+use Rattle.ig_plain.specs.Found.{means, found_in, later_in, Named, AreNamed}
+use Rattle.ig_plain.specs.Trail.{IsRecorded, here, later, By, Unfound, Records, RecordsLater, RecordsTerminal}
+use Rattle.ig_plain.proofs.Lists.{sides, right_at, right_contains, contains_sides, none_in, one_in, it_is_in, some_at, mapped_in, same_map}
+use Rattle.ig_plain.proofs.Growth.{means_kept, found_named, longer, extends_at, extends_in, extends_then, extends_cases}
+use Rattle.ig_plain.proofs.Sets.{extends_itself, extends_by, extends_same}
+use Rattle.ig_plain.proofs.Terminals.{same_end, one_behind}
+
+-- what holds anyway holds where there is a value
+pub ok_of : {T E P : Type 0} (r : Result T E) → P → OnOk r P
+ok_of (Ok x) p = p
+ok_of (Err e) p = tt
+
+-- one item more at the position
+pub found_one : (a : Found) (at : List stored.Item) (x : stored.Item) → at ≡ a.here ++ x ∷ [] →
+    map (means a) (a.done.items ++ at) ≡ found_in a ++ means a x ∷ []
+found_one a at x is =
+    ap (map (means a))
+    (ap (λ (z : List stored.Item). a.done.items ++ z) is ∙ sym (append_assoc a.done.items a.here (x ∷ []))) ∙
+    map-append (means a) (a.done.items ++ a.here) (x ∷ [])
+
+-- the item of that number
+pub found_at : (a : Found) (number place : ℕ) (x : stored.Item) → slice_get a.here place ≡ Some x → number ≡ length a.done.items + place →
+    slice_get (found_in a) number ≡ Some (means a x)
+found_at a number place x at is =
+    slice_get-map (means a) (a.done.items ++ a.here) number ∙
+    ap (option_map (means a)) (right_at a.done.items a.here number place x is at)
+
+-- tables grew
+module _ (a b : Found) (named : AreNamed a) (envs : Extends a.envs.keys b.envs.keys) (keys : Extends a.keys b.keys) where
+  pub means_same : (x : stored.Item) → Named a x → means b x ≡ means a x
+  means_same x n = means_kept a.envs.keys b.envs.keys a.keys b.keys x envs keys named.values n
+
+  pub found_same : b.done.items ≡ a.done.items → b.here ≡ a.here → found_in b ≡ found_in a
+  found_same done at =
+      ap (map (means b)) (ap (λ (z : List stored.Item). z ++ b.here) done ∙ ap (λ (z : List stored.Item). a.done.items ++ z) at) ∙
+      same_map (means b) (means a) (a.done.items ++ a.here) (λ x c. means_same x (found_named a named x c))
+
+  later_map : map (means b) a.later.items ≡ later_in a
+  later_map = same_map (means b) (means a) a.later.items (λ x c. means_same x (named.later x c))
+
+  pub behind_same : b.later.items ≡ a.later.items → later_in b ≡ later_in a
+  behind_same is = ap (map (means b)) is ∙ later_map
+
+  pub behind_one : (x : stored.Item) (y : Item) → b.later.items ≡ a.later.items ++ x ∷ [] → means b x ≡ y → later_in b ≡ later_in a ++ y ∷ []
+  behind_one x y is means_is =
+      ap (map (means b)) is ∙ map-append (means b) a.later.items (x ∷ []) ∙ ap (λ (z : List Item). z ++ means b x ∷ []) later_map ∙
+      ap (λ (z : Item). later_in a ++ z ∷ []) means_is
+
+  -- an item that means none of those found isn't there
+  pub not_here : (x : stored.Item) (y : Item) → means b x ≡ y → Unfound a (λ z. z ≡ y) → Contains a.here x → ⊥
+  not_here x y is new c =
+      new (means a x) (sym (means_same x (named.here x c)) ∙ is)
+      (mapped_in (means a) (a.done.items ++ a.here) x (right_contains a.done.items a.here x c))
+
+-- a way stays one as the lists grow
+pub way_more : (v w : WayLists) (k : ℕ) (way : Way) → Extends v.firsts w.firsts → Extends v.further w.further → WayTo v k way →
+    WayTo w k way
+way_more v w k way firsts further (found at) = found (extends_at v.firsts w.firsts k way firsts at)
+way_more v w k way firsts further (again more c item is) = again more (extends_in v.further w.further more further c) item is
+
+-- what is recorded stays so
+pub recorded_more : (may : Way → Item → Type 0) (a b : Found) (t u : Trail) (way : Way) (x : Item) → Records may a b t u →
+    IsRecorded a t way x → IsRecorded b u way x
+recorded_more may a b t u way x r (here k at to) =
+    here k (extends_at (found_in a) (found_in b) k x r.found at) (way_more t.ways u.ways k way r.firsts r.further to)
+recorded_more may a b t u way x r (later n (k, at, from) is) =
+    later n (k, ap (λ (z : List Item). slice_get z k) r.behind ∙ at, ap (λ (z : List ℕ). slice_get z k) r.later ∙ from) is
+
+-- nothing is to be recorded
+pub records_nothing : (may : Way → Item → Type 0) (a : Found) (t : Trail) → ((way : Way) (x : Item) → may way x → ⊥) → Records may a a t t
+records_nothing may a t never =
+    record {
+      found = extends_itself (found_in a);
+      behind = refl;
+      firsts = extends_itself t.ways.firsts;
+      further = extends_itself t.ways.further;
+      ends = refl;
+      later = refl;
+      numbered = λ e. e;
+      there = λ more c. absurd (none_in more c);
+      each = λ e k way x at to. inl to;
+      has = λ e way x m. absurd (never way x m);
+    }
+
+-- the same ways are allowed
+pub records_alike : (may other : Way → Item → Type 0) (a b : Found) (t u : Trail) → ((way : Way) (x : Item) → may way x → other way x) →
+    ((way : Way) (x : Item) → other way x → may way x) → Records may a b t u → Records other a b t u
+records_alike may other a b t u into back r =
+    record {
+      found = r.found;
+      behind = r.behind;
+      firsts = r.firsts;
+      further = r.further;
+      ends = r.ends;
+      later = r.later;
+      numbered = r.numbered;
+      there = r.there;
+      each = λ e k way x at to.
+          ⊎_elim (λ (h : WayTo t.ways k way). inl h) (λ (h : may way x). inr (into way x h)) (r.each e k way x at to);
+      has = λ e way x m. r.has e way x (back way x m);
+    }
+
+-- tables grew before
+pub records_after : (may : Way → Item → Type 0) (a b c : Found) (t u : Trail) → found_in b ≡ found_in a → later_in b ≡ later_in a →
+    Records may b c t u → Records may a c t u
+records_after may a b c t u same_found same_later r =
+    record {
+      found = subst (λ (z : List Item). Extends z (found_in c)) same_found r.found;
+      behind = r.behind ∙ same_later;
+      firsts = r.firsts;
+      further = r.further;
+      ends = r.ends;
+      later = r.later;
+      numbered = λ e. r.numbered (e ∙ ap length (sym same_found));
+      there = r.there;
+      each = λ e. r.each (e ∙ ap length (sym same_found));
+      has = λ e. r.has (e ∙ ap length (sym same_found));
+    }
+
+-- one after the other
+module _ (may first second : Way → Item → Type 0) (a b c : Found) (t u v : Trail) (d : Records first a b t u) (e : Records second b c u v)
+    (one : (way : Way) (x : Item) → first way x → may way x) (other : (way : Way) (x : Item) → second way x → may way x)
+    (split : (way : Way) (x : Item) → may way x → first way x ⊎ second way x) where
+  within : (more : FurtherWay) → Contains d.further.more more → more.item < length (found_in c)
+  within more m = let l = longer (found_in b) (found_in c) e.found in let n = d.there more m in omega (arith, l, n)
+
+  -- a way of the one between to an item of that number, which is below the number of its items or was there before
+  between : length t.ways.firsts ≡ length (found_in a) → (k : ℕ) (way : Way) (x : Item) → slice_get (found_in c) k ≡ Some x →
+      WayTo u.ways k way → WayTo t.ways k way ⊎ first way x
+  between n k way x at to = go to
+    where
+      below : k < length (found_in b) → WayTo t.ways k way ⊎ first way x
+      below lt =
+          let y = some_at (found_in b) k lt in
+          let same : y.0 ≡ x = same_Some y.0 x (sym (extends_at (found_in b) (found_in c) k y.0 e.found y.1) ∙ at) in
+          d.each n k way x (y.1 ∙ ap Some same) to
+
+      go : WayTo u.ways k way → WayTo t.ways k way ⊎ first way x
+      go (found f) = below (let l = slice_get_within u.ways.firsts k way f in let q = d.numbered n in omega (arith, l, q))
+      go (again more m item is) =
+          ⊎_elim (λ (h : Contains t.ways.further more). inl (again more h item is))
+          (λ (h : Contains d.further.more more). below (let l = d.there more h in omega (arith, l, item)))
+          (extends_cases t.ways.further u.ways.further more d.further m)
+
+  pub records_then : Records may a c t v
+  records_then =
+      record {
+        found = extends_then (found_in a) (found_in b) (found_in c) d.found e.found;
+        behind = e.behind ∙ d.behind;
+        firsts = extends_then t.ways.firsts u.ways.firsts v.ways.firsts d.firsts e.firsts;
+        further = extends_then t.ways.further u.ways.further v.ways.further d.further e.further;
+        ends = e.ends ∙ d.ends;
+        later = e.later ∙ d.later;
+        numbered = λ n. e.numbered (d.numbered n);
+        there = λ more m.
+            ⊎_elim (within more) (e.there more) (contains_sides d.further.more e.further.more more m);
+        each = λ n k way x at to.
+            ⊎_elim
+            (λ (h : WayTo u.ways k way).
+            ⊎_elim (λ (g : WayTo t.ways k way). inl g) (λ (g : first way x). inr (one way x g)) (between n k way x at h))
+            (λ (h : second way x). inr (other way x h)) (e.each (d.numbered n) k way x at to);
+        has = λ n way x m.
+            ⊎_elim (λ (h : first way x). recorded_more second b c u v way x e (d.has n way x h))
+            (λ (h : second way x). e.has (d.numbered n) way x h) (split way x m);
+      }
+
+-- one new item, with its way
+module _ (a b : Found) (t u : Trail) (x : Item) (way : Way) (more_found : found_in b ≡ found_in a ++ x ∷ []) (same_later : later_in b ≡ later_in a)
+    (ways : u.ways ≡ record t.ways { firsts = t.ways.firsts ++ way ∷ [] }) (same_prevs : u.later.items ≡ t.later.items) where
+  firsts_are : u.ways.firsts ≡ t.ways.firsts ++ way ∷ []
+  firsts_are = ap (λ (w : WayLists). w.firsts) ways
+
+  further_are : u.ways.further ≡ t.ways.further
+  further_are = ap (λ (w : WayLists). w.further) ways
+
+  new_each : length t.ways.firsts ≡ length (found_in a) → (k : ℕ) (w : Way) (y : Item) → slice_get (found_in b) k ≡ Some y → WayTo u.ways k w →
+      WayTo t.ways k w ⊎ By way (λ z. z ≡ x) w y
+  new_each n k w y at (found f) =
+      ⊎_elim (λ (h : slice_get t.ways.firsts k ≡ Some w). inl (found h))
+      (λ (h : (m : ℕ) × (k ≡ length t.ways.firsts + m) × (slice_get (way ∷ []) m ≡ Some w)). inr (new h.0 h.1 h.2))
+      (sides t.ways.firsts (way ∷ []) k w (ap (λ (z : List Way). slice_get z k) (sym firsts_are) ∙ f))
+    where
+      at_end : (m : ℕ) → slice_get (way ∷ []) m ≡ Some w → (m ≡ 0) × (w ≡ way)
+      at_end zero e = (refl, sym (same_Some way w e))
+      at_end (suc m) e = cc
+
+      new : (m : ℕ) → k ≡ length t.ways.firsts + m → slice_get (way ∷ []) m ≡ Some w → By way (λ z. z ≡ x) w y
+      new m is e =
+          let p = at_end m e in
+          let last : slice_get (found_in b) k ≡ Some x =
+          ap (λ (z : List Item). slice_get z k) more_found ∙
+          right_at (found_in a) (x ∷ []) k 0 x (let q = p.0 in omega (arith, is, q, n)) refl in (p.1, same_Some y x (sym at ∙ last))
+  new_each n k w y at (again more c item is) = inl (again more (subst (λ (z : List FurtherWay). Contains z more) further_are c) item is)
+
+  pub records_new : Records (By way (λ z. z ≡ x)) a b t u
+  records_new =
+      record {
+        found = extends_by (found_in a) (found_in b) (x ∷ []) more_found;
+        behind = same_later;
+        firsts = extends_by t.ways.firsts u.ways.firsts (way ∷ []) firsts_are;
+        further = extends_same t.ways.further u.ways.further further_are;
+        ends = ap (λ (w : WayLists). w.ends) ways;
+        later = same_prevs;
+        numbered = λ n.
+            let p = ap length firsts_are ∙ length-append t.ways.firsts (way ∷ []) in
+            let q = ap length more_found ∙ length-append (found_in a) (x ∷ []) in omega (arith, n, p, q);
+        there = λ more c. absurd (none_in more c);
+        each = new_each;
+        has = λ n w y m.
+            here (length (found_in a))
+            (ap (λ (z : List Item). slice_get z (length (found_in a))) more_found ∙
+            right_at (found_in a) (x ∷ []) (length (found_in a)) 0 y (omega arith) (ap Some (sym m.1)))
+            (found (ap (λ (z : List Way). slice_get z (length (found_in a))) firsts_are ∙
+            right_at t.ways.firsts (way ∷ []) (length (found_in a)) 0 w (omega (arith, n)) (ap Some (sym m.0))));
+      }
+
+-- a further way to the item of that number
+module _ (a : Found) (t u : Trail) (x : Item) (number prev done : ℕ) (at : slice_get (found_in a) number ≡ Some x)
+    (ways : u.ways ≡ record t.ways { further = t.ways.further ++ record { item = number; prev = prev; done = done } ∷ [] })
+    (same_prevs : u.later.items ≡ t.later.items) where
+  abbrev one_more : FurtherWay
+  one_more = record { item = number; prev = prev; done = done }
+
+  with_one : u.ways.further ≡ t.ways.further ++ one_more ∷ []
+  with_one = ap (λ (w : WayLists). w.further) ways
+
+  same_firsts : u.ways.firsts ≡ t.ways.firsts
+  same_firsts = ap (λ (w : WayLists). w.firsts) ways
+
+  further_each : (k : ℕ) (w : Way) (y : Item) → slice_get (found_in a) k ≡ Some y → WayTo u.ways k w →
+      WayTo t.ways k w ⊎ By (Node prev done) (λ z. z ≡ x) w y
+  further_each k w y there (found f) = inl (found (ap (λ (z : List Way). slice_get z k) (sym same_firsts) ∙ f))
+  further_each k w y there (again more c item is) =
+      ⊎_elim (λ (h : Contains t.ways.further more). inl (again more h item is))
+      (λ (h : Contains (one_more ∷ []) more).
+      let same : more ≡ one_more = one_in one_more more h in
+      let k_is : number ≡ k = sym (ap (λ (z : FurtherWay). z.item) same) ∙ item in
+      inr (is ∙ ap (λ (z : FurtherWay). Node z.prev z.done) same, same_Some y x (sym there ∙ ap (slice_get (found_in a)) (sym k_is) ∙ at)))
+      (contains_sides t.ways.further (one_more ∷ []) more (subst (λ (z : List FurtherWay). Contains z more) with_one c))
+
+  pub records_further : Records (By (Node prev done) (λ z. z ≡ x)) a a t u
+  records_further =
+      record {
+        found = extends_itself (found_in a);
+        behind = refl;
+        firsts = extends_same t.ways.firsts u.ways.firsts same_firsts;
+        further = extends_by t.ways.further u.ways.further (one_more ∷ []) with_one;
+        ends = ap (λ (w : WayLists). w.ends) ways;
+        later = same_prevs;
+        numbered = λ n. ap length same_firsts ∙ n;
+        there = λ more c.
+            let i = ap (λ (z : FurtherWay). z.item) (one_in one_more more c) in
+            let l = slice_get_within (found_in a) number x at in omega (arith, i, l);
+        each = λ n. further_each;
+        has = λ n w y m.
+            here number (at ∙ ap Some (sym m.1))
+            (again one_more
+            (subst (λ (z : List FurtherWay). Contains z one_more) (sym with_one)
+            (right_contains t.ways.further (one_more ∷ []) one_more (it_is_in one_more))) refl m.0);
+      }
+
+-- of other items that are the same
+pub records_same : (way : Way) (may other : Item → Type 0) (a b : Found) (t u : Trail) → ((x : Item) → may x → other x) →
+    ((x : Item) → other x → may x) → Records (By way may) a b t u → Records (By way other) a b t u
+records_same way may other a b t u into back r =
+    records_alike (By way may) (By way other) a b t u (λ w x m. (m.0, into x m.1)) (λ w x m. (m.0, back x m.1)) r
+
+-- the item was named in tables that grew before
+pub records_past : (a b c : Found) (t u : Trail) (way : Way) (x : stored.Item) (y : Item) → AreNamed a → Extends a.envs.keys b.envs.keys →
+    b.keys ≡ a.keys → b.done.items ≡ a.done.items → b.here ≡ a.here → b.later.items ≡ a.later.items → means b x ≡ y →
+    Records (By way (λ z. z ≡ means b x)) b c t u → Records (By way (λ z. z ≡ y)) a c t u
+records_past a b c t u way x y named envs keys done at behind is r =
+    let same = extends_same a.keys b.keys keys in
+    records_after (By way (λ z. z ≡ y)) a b c t u (found_same a b named envs same done at) (behind_same a b named envs same behind)
+    (records_same way (λ z. z ≡ means b x) (λ z. z ≡ y) b c t u (λ z e. e ∙ is) (λ z e. e ∙ sym is) r)
+
+-- where a condition holds, and where it doesn't
+pub records_where : (C : Type 0) (way : Way) (may : Item → Type 0) (a b : Found) (t u : Trail) → C → Records (By way may) a b t u →
+    Records (By way (λ x. C × may x)) a b t u
+records_where C way may a b t u holds r =
+    records_alike (By way may) (By way (λ x. C × may x)) a b t u (λ w x m. (m.0, (holds, m.1))) (λ w x m. (m.0, m.1.1)) r
+
+pub records_nowhere : (C : Type 0) (way : Way) (may : Item → Type 0) (a : Found) (t : Trail) → (C → ⊥) → Records (By way (λ x. C × may x)) a a t t
+records_nowhere C way may a t never = records_nothing (By way (λ x. C × may x)) a t (λ w x m. never m.1.0)
+
+-- with the one value that there is
+pub records_with : {V : Type 0} (C : V → Type 0) (way : Way) (may : V → Item → Type 0) (v : V) (a b : Found) (t u : Trail) → C v →
+    ((w : V) → C w → w ≡ v) → Records (By way (may v)) a b t u → Records (By way (λ x. (w : V) × C w × may w x)) a b t u
+records_with {V} C way may v a b t u holds only r =
+    records_same way (may v) (λ x. (w : V) × C w × may w x) a b t u (λ x m. (v, holds, m))
+    (λ x m. subst (λ (w : V). may w x) (only m.0 m.1) m.2) r
+
+pub records_without : {V : Type 0} (C : V → Type 0) (way : Way) (may : V → Item → Type 0) (a : Found) (t : Trail) → ((w : V) → C w → ⊥) →
+    Records (By way (λ x. (w : V) × C w × may w x)) a a t t
+records_without {V} C way may a t never = records_nothing (By way (λ x. (w : V) × C w × may w x)) a t (λ w x m. never m.1.0 m.1.1)
+
+-- an item was added at a later position
+pub records_later : (n : ℕ) (x : stored.Item) (y : Item) (a b : Found) (t u : Trail) → AreNamed a → Extends a.envs.keys b.envs.keys →
+    b.keys ≡ a.keys → b.done.items ≡ a.done.items → b.here ≡ a.here → b.later.items ≡ a.later.items ++ x ∷ [] → means b x ≡ y →
+    u.ways ≡ t.ways → u.later.items ≡ t.later.items ++ n ∷ [] → RecordsLater n y a b t u
+records_later n x y a b t u named envs keys done at behind is ways prevs =
+    let same = extends_same a.keys b.keys keys in
+    record { found = found_same a b named envs same done at; behind = behind_one a b named envs same x y behind is; ways = ways; later = prevs }
+
+-- behind a terminal
+module _ (text : List ℕ) (what : Pattern) (label : Option (List ℕ)) (excluded : List Pattern) (n : ℕ) (it : Item) (a : Found) (t : Trail) where
+  pub records_no_match : ((j : ℕ) → Matches text what it.position j → ⊥) → RecordsTerminal text what label excluded n it a a t t
+  records_no_match never =
+      here (records_nothing (By (Leaf n) (IsBehind text what label excluded it)) a t (λ w x m. never m.1.0 m.1.1))
+
+  pub records_excluded : (j : ℕ) → Matches text what it.position j → (MatchesNone text excluded it.position j → ⊥) →
+      RecordsTerminal text what label excluded n it a a t t
+  records_excluded j m never =
+      here (records_nothing (By (Leaf n) (IsBehind text what label excluded it)) a t
+      (λ w x q. never (subst (MatchesNone text excluded it.position) (same_end text what it.position q.1.0 j q.1.1 m) q.1.2)))
+
+  module _ (b : Found) (u : Trail) (j : ℕ) (m : Matches text what it.position j) (free : MatchesNone text excluded it.position j) where
+    only : (x : Item) → IsBehind text what label excluded it x → x ≡ past it (span_of label it.position j) j
+    only = one_behind text what label excluded 0 0 it a j m
+
+    pub records_here : Records (By (Leaf n) (λ x. x ≡ past it (span_of label it.position j) j)) a b t u →
+        RecordsTerminal text what label excluded n it a b t u
+    records_here r =
+        here (records_same (Leaf n) (λ x. x ≡ past it (span_of label it.position j) j) (IsBehind text what label excluded it) a b t u
+        (λ x e. (j, m, free, e)) only r)
+
+    pub records_behind : RecordsLater n (past it (span_of label it.position j) j) a b t u → RecordsTerminal text what label excluded n it a b t u
+    records_behind r = later (past it (span_of label it.position j) j) (j, m, free, refl) only r

@@ -1,0 +1,122 @@
+-- A run starts: the first items of the root begin, and nothing is taken.
+use Rattle.std.proofs.Common.{◌≡◌, ⊎_elim, ℕ, ◌<◌, List, [], ◌∷◌, ◌++◌, Some, None, length, map, Contains, sym, ap, ◌∙◌, subst, slice_get}
+use Rattle.ig_item.specs.Items.{Item}
+use Rattle.ig_item.specs.Gives as given
+use Rattle.ig_item.specs.Gives.{Taken, Gives}
+use Rattle.ig_item.specs.Ways as ways
+use Rattle.ig_item.specs.Ways.{WayLists, WayTo, IsWay, AreEnds}
+use Rattle.ig_item.specs.declared.core_grammar.Nonterminal.{Nonterminal}
+use Rattle.ig_item.specs.declared.items.Instance.{Instance}
+use Rattle.ig_item.specs.declared.items.Item as stored
+use Rattle.ig_item.specs.declared.ways.Way.{Way}
+use Rattle.ig_item.specs.declared.ways.Way.TheVariants.{Begin}
+use Rattle.ig_item.specs.declared.ways.FurtherWay.{FurtherWay}
+use Rattle.ig_item.specs.declared.ways.FurtherEnd.{FurtherEnd}
+use Rattle.ig_plain.specs.declared.found.Found.{Found}
+use Rattle.ig_plain.specs.declared.trail.Trail.{Trail}
+use Rattle.ig_plain.specs.declared.waiting.Waiting.{Waiting}
+use Rattle.ig_plain.specs.declared.waiting.Called.{Called}
+use Rattle.ig_plain.specs.declared.waiting.Caller.{Caller}
+use Rattle.ig_plain.specs.Found.{means, found_in, later_in, taken_in}
+use Rattle.ig_plain.specs.Rules.{IsFirstOf}
+use Rattle.ig_plain.specs.Waiting.{not_called}
+use Rattle.ig_plain.specs.Trail as trail
+use Rattle.ig_plain.specs.Trail.{IsRecorded, FollowTrail, HasTrail, Records, By, IsUntrodden, Unfound}
+use Rattle.ig_plain.proofs.Lists.{contains_from_at, one_in, none_in}
+use Rattle.ig_plain.proofs.Growth.{extends_cases}
+
+-- from no items nothing is given
+none_given : (core : List Nonterminal) (text : List ℕ) (known : Item → Type 0) (prev x : Item) (taken : Taken) →
+    ((y : Item) → known y → ⊥) → Gives core text known prev taken x → ⊥
+none_given core text known prev x taken none (given.test p names e y k before holds is) = none p k
+none_given core text known prev x taken none (given.bind p names name e v y k before has is) = none p k
+none_given core text known prev x taken none (given.terminal p names what label excluded j t y k before matches free leaf is) = none p k
+none_given core text known prev x taken none (given.return p done label excluded key y k l calls completes free is) = none p k
+
+-- nothing is found
+pub nothing_found : (s : Found) → s.done.items ≡ [] → s.here ≡ [] → found_in s ≡ []
+nothing_found s done here =
+    ap (λ (z : List stored.Item). map (means s) (z ++ s.here)) done ∙ ap (λ (z : List stored.Item). map (means s) z) here
+
+pub none_unfound : (s : Found) (may : Item → Type 0) → found_in s ≡ [] → Unfound s may
+none_unfound s may none x m c = none_in x (subst (λ (z : List Item). Contains z x) none c)
+
+module _ (core : List Nonterminal) (text : List ℕ) (root : Instance) (s t : Found) (v : Waiting) (tr u : Trail) (nothing : found_in s ≡ [])
+    (done : t.done.items ≡ []) (later : s.later.items ≡ []) (called : v.called.items ≡ not_called ∷ []) (untrodden : IsUntrodden v tr)
+    (r : Records (By Begin (IsFirstOf core root)) s t tr u) where
+  abbrev known : List Item
+  known = taken_in t 0
+
+  none_taken : (x : Item) → Contains known x → ⊥
+  none_taken x c =
+      none_in x
+      (subst (λ (z : List Item). Contains z x) (ap (λ (z : List stored.Item). map (means t) (z ++ [])) done) c)
+
+  none_last : u.later.items ≡ []
+  none_last = r.later ∙ untrodden.later
+
+  none_later : later_in t ≡ []
+  none_later = r.behind ∙ ap (λ (z : List stored.Item). map (means s) z) later
+
+  even : length tr.ways.firsts ≡ length (found_in s)
+  even = ap (λ (z : WayLists). length z.firsts) untrodden.ways ∙ sym (ap length nothing)
+
+  further_there : (more : FurtherWay) → Contains u.ways.further more → more.item < length (found_in t)
+  further_there more c =
+      ⊎_elim
+      (λ (h : Contains tr.ways.further more). absurd (none_in more (subst (λ (z : WayLists). Contains z.further more) untrodden.ways h)))
+      (λ (h : Contains r.further.more more). r.there more h)
+      (extends_cases tr.ways.further u.ways.further more r.further c)
+
+  none_before : (k : ℕ) (way : Way) → WayTo tr.ways k way → ⊥
+  none_before k way (ways.found f) =
+      none_in way (contains_from_at [] k way (subst (λ (z : WayLists). slice_get z.firsts k ≡ Some way) untrodden.ways f))
+  none_before k way (ways.again more c is e) =
+      none_in more (subst (λ (z : WayLists). Contains z.further more) untrodden.ways c)
+
+  -- what is allowed begins
+  begins : (way : Way) (x : Item) → By Begin (IsFirstOf core root) way x → IsWay core text (Contains known) (found_in t) x way
+  begins way x m =
+      subst (IsWay core text (Contains known) (found_in t) x) (sym m.0) (ways.begin (ap (λ (z : Item). z.dot) m.1.4))
+
+  sound : (way : Way) (x : Item) → IsRecorded t u way x → IsWay core text (Contains known) (found_in t) x way
+  sound way x (trail.here k at to) =
+      ⊎_elim (λ (h : WayTo tr.ways k way). absurd (none_before k way h)) (λ (h : By Begin (IsFirstOf core root) way x). begins way x h)
+      (r.each even k way x at to)
+  sound way x (trail.later n pair e) =
+      absurd (none_in n (contains_from_at [] pair.0 n (subst (λ (z : List ℕ). slice_get z pair.0 ≡ Some n) none_last pair.2)))
+
+  no_ends : u.ways.ends ≡ []
+  no_ends = r.ends ∙ ap (λ (z : WayLists). z.ends) untrodden.ways
+
+  ends : AreEnds core (Contains known) (found_in t) u.ways
+  ends =
+      record {
+        first = λ x key k c. absurd (none_taken x k);
+        exact = λ end. (
+          λ c. absurd (none_in end (subst (λ (z : List FurtherEnd). Contains z end) no_ends c)),
+          λ q. absurd (none_taken q.further.item q.further.is_known),
+        );
+      }
+
+  follow : FollowTrail core text t u known
+  follow =
+      record {
+        numbered = r.numbered even;
+        later_numbered = ap length none_last ∙ sym (ap length none_later);
+        there = further_there;
+        sound = sound;
+        complete = λ x prev what g. absurd (none_given core text (Contains known) prev x what none_taken g);
+        ends = ends;
+      }
+
+  pub starts_on : HasTrail core text 0 0 t v u
+  starts_on =
+      record {
+        ways = follow;
+        callers = λ cell c. absurd (none_in cell (subst (λ (z : List Caller). Contains z cell) untrodden.callers c));
+        ends = λ i callee one at there e.
+            let is : one ≡ not_called =
+            one_in not_called one (subst (λ (z : List Called). Contains z one) called (contains_from_at v.called.items i one there)) in
+            let z : None ≡ Some 0 = sym (ap (λ (q : Called). q.last_end) is) ∙ e in cc;
+      }

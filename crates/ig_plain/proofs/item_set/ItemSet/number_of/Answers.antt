@@ -1,0 +1,32 @@
+use Rattle.std.proofs.Common.{◌≡◌, ◌-◌, sym, ◌∙◌, subst, arith, Contains, Some, slice_get, true, false, slice_index_or}
+use Rattle.ig_plain.proofs.Equality.{item_eq-decides}
+use Rattle.ig_plain.proofs.Chains.{walk_starts, walk_smaller, walk_goes, walk_finds, walk_ends}
+use Rattle.ig_plain.proofs.item_set.ItemSet.number_of.Goals as goal
+
+pub loop-at-init : goal.loop-at-init
+loop-at-init c =
+    walk_starts _ _ c.self.inside.heads.items _ _ _ c.self.invariant
+    (subst (λ z. c.index-at.result.now ≡ slice_index_or c.self.inside.heads.items z c.index-at.result.now) c.bucket_of.ensures c.index-at.ensures)
+
+pub loop-at-smaller : goal.loop-at-smaller
+loop-at-smaller c =
+    let s = walk_smaller c.self.inside.mask c.self.inside.base c.self.inside.heads.items c.self.inside.cells.items c.args.item c.loop-at.at c.index.result.now
+    c.self.invariant c.loop-at.invariant c.loop-at-test.true c.index.ensures in
+    omega (arith, s, c.loop-at-test.true)
+
+pub loop-at-preserved : goal.loop-at-preserved
+loop-at-preserved c =
+    walk_goes _ _ c.self.inside.heads.items _ _ c.loop-at.at _ c.self.invariant c.loop-at.invariant c.loop-at-test.true c.index.ensures
+    (λ e. let no : true ≡ false = sym ((item_eq-decides _ _).1 e) ∙ sym c.eq.ensures ∙ c.if-eq.false in cc)
+
+pub returns-then-eq-clause-some : goal.returns-then-eq-clause-some
+returns-then-eq-clause-some c =
+    let at = c.loop-at.at - c.self.inside.base - 1 in
+    subst (λ z. slice_get z at ≡ Some c.args.item) c.self.view_is
+    (walk_finds c.self.inside.cells.items c.args.item at c.index.result.now (omega (arith, c.loop-at.invariant.within, c.loop-at-test.true)) c.index.ensures
+    ((item_eq-decides _ _).0 (sym c.eq.ensures ∙ c.if-eq.true)))
+
+pub returns-clause-none : goal.returns-clause-none
+returns-clause-none c h =
+    absurd (walk_ends _ _ c.self.inside.cells.items c.args.item c.loop-at.at c.loop-at.invariant c.loop-at-test.false
+    (subst (λ z. Contains z c.args.item) (sym c.self.view_is) h))
