@@ -23,11 +23,12 @@ use Rattle.ig_item.specs.Visible.{names_at}
 use Rattle.ig_item.specs.WellKinded.{IsWellKinded}
 use Rattle.ig_item.specs.declared.core_grammar.Nonterminal.{Nonterminal}
 use Rattle.ig_item.specs.declared.core_grammar.CoreAlt.{CoreAlt}
-use Rattle.ig_forest.specs.Live as live
-use Rattle.ig_forest.specs.Live.{NodeKey, Taken, Gives}
+use Rattle.ig_item.specs.Gives as rules
+use Rattle.ig_item.specs.Gives.{NodeKey, Taken}
+use Rattle.ig_forest.specs.Live.{Gives}
 use Rattle.ig_forest.proofs.Given.{GivenValues}
 use Rattle.ig_forest.proofs.Cursors.{node_parts}
-use Rattle.ig_forest.proofs.Targets.{same_values}
+use Rattle.ig_forest.proofs.Lists.{same_listed}
 
 -- none behind the trees
 join-none : (ts : Trees) → join ts none ≡ ts
@@ -141,16 +142,16 @@ module _ (core : List Nonterminal) (text : List ℕ) where
         }
 
     -- where a rule takes nothing, what stands behind the step stands before it
-    pub by_nothing : {p x : Item} {taken : Taken} → Gives core text p taken x → taken ≡ live.nothing → (us : plain.Trees)
+    pub by_nothing : {p x : Item} {taken : Taken} → Gives core text p taken x → taken ≡ rules.nothing → (us : plain.Trees)
         (zs : Trees) → Valued x us zs → Valued p us zs
-    by_nothing (live.test p names e x reachable before holds is) f us zs v =
+    by_nothing (rules.test p names e x reachable before holds is) f us zs v =
         let t = turned p names (Test e) [] p.position us zs before (subst (λ (y : Item). Valued y us zs) is v) in
         no_tree p names (Test e) us zs t t.turn.alone.1
-    by_nothing (live.bind p names name e w x reachable before has is) f us zs v =
+    by_nothing (rules.bind p names name e w x reachable before has is) f us zs v =
         let t = turned p names (Bind name e) (w ∷ []) p.position us zs before (subst (λ (y : Item). Valued y us zs) is v) in
         no_tree p names (Bind name e) us zs t t.turn.alone.3
-    by_nothing (live.terminal p names what label excluded j taken x reachable before matches free t is) f us zs v = cc
-    by_nothing (live.return p done label excluded key x reachable r calls completes free is) f us zs v = cc
+    by_nothing (rules.terminal p names what label excluded j taken x reachable before matches free t is) f us zs v = cc
+    by_nothing (rules.return p done label excluded key x reachable r calls completes free is) f us zs v = cc
 
     -- the last tree with its values, and those before it
     pub record Last (p : Item) (ts : plain.Trees) (t : plain.Tree) (zs : Trees) : Type 0 where
@@ -203,19 +204,19 @@ module _ (core : List Nonterminal) (text : List ℕ) where
         }
 
     -- where a rule takes a leaf, the last tree is that leaf
-    pub by_leaf : {p x : Item} {taken : Taken} → Gives core text p taken x → (span : Span) → taken ≡ live.leaf span →
+    pub by_leaf : {p x : Item} {taken : Taken} → Gives core text p taken x → (span : Span) → taken ≡ rules.leaf span →
         (ts : plain.Trees) (zs : Trees) → Comes core text p ts →
         Valued x (plain.join ts (plain.one (plain.Leaf span.begin span.end))) zs →
         Last p ts (plain.Leaf span.begin span.end) zs
-    by_leaf (live.test p names e x reachable before holds is) span f ts zs comes v = cc
-    by_leaf (live.bind p names name e w x reachable before has is) span f ts zs comes v = cc
-    by_leaf (live.terminal p names what label excluded j taken x reachable before matches free t is) span f ts zs comes v =
+    by_leaf (rules.test p names e x reachable before holds is) span f ts zs comes v = cc
+    by_leaf (rules.bind p names name e w x reachable before has is) span f ts zs comes v = cc
+    by_leaf (rules.terminal p names what label excluded j taken x reachable before matches free t is) span f ts zs comes v =
         let us = plain.join ts (plain.one (plain.Leaf span.begin span.end)) in
         let step = Term what label excluded in
         let u =
         turned p names step (span_of label p.position j) j us zs before (subst (λ (y : Item). Valued y us zs) is v) in
         one_tree p names step ts (plain.Leaf span.begin span.end) zs (Leaf u.turn.h u.to) u u.turn.alone.0 comes refl
-    by_leaf (live.return p done label excluded key x reachable r calls completes free is) span f ts zs comes v = cc
+    by_leaf (rules.return p done label excluded key x reachable r calls completes free is) span f ts zs comes v = cc
 
     -- the last tree is one of the key's instance
     pub record LastOfKey (p : Item) (ts : plain.Trees) (t : plain.Tree) (zs : Trees) (key : NodeKey) : Type 0 where
@@ -228,13 +229,13 @@ module _ (core : List Nonterminal) (text : List ℕ) where
     begins_within (annotated.node n a vs nonterminal alternative i j ts after t has leaves is) = ap begin_of is
 
     -- where a rule takes a tree of a node, the last tree is one of it
-    pub by_tree : {p x : Item} {taken : Taken} → Gives core text p taken x → (key : NodeKey) → taken ≡ live.tree key →
+    pub by_tree : {p x : Item} {taken : Taken} → Gives core text p taken x → (key : NodeKey) → taken ≡ rules.tree key →
         (ts : plain.Trees) (t : plain.Tree) (zs : Trees) → Comes core text p ts →
         Valued x (plain.join ts (plain.one t)) zs → LastOfKey p ts t zs key
-    by_tree (live.test p names e x reachable before holds is) key f ts t zs comes v = cc
-    by_tree (live.bind p names name e w x reachable before has is) key f ts t zs comes v = cc
-    by_tree (live.terminal p names what label excluded j taken x reachable before matches free g is) key f ts t zs comes v = cc
-    by_tree (live.return p done label excluded own x reachable r calls completes free is) key f ts t zs comes v =
+    by_tree (rules.test p names e x reachable before holds is) key f ts t zs comes v = cc
+    by_tree (rules.bind p names name e w x reachable before has is) key f ts t zs comes v = cc
+    by_tree (rules.terminal p names what label excluded j taken x reachable before matches free g is) key f ts t zs comes v = cc
+    by_tree (rules.return p done label excluded own x reachable r calls completes free is) key f ts t zs comes v =
         let same : own ≡ key = cc in
         let us = plain.join ts (plain.one t) in
         let step = Call own.instance.nonterminal calls.arguments label excluded in
@@ -245,7 +246,7 @@ module _ (core : List Nonterminal) (text : List ℕ) where
         let last = one_tree p calls.names step ts t zs alone.1 u alone.4 comes (begins_within alone.3) in
         let meets = met p calls.names step ts t zs alone.1 u alone.4 comes in
         let own_values : alone.0 ≡ own.instance.values =
-        same_values core text values.given alone.0 own.instance.values
+        same_listed alone.0 own.instance.values
         (sym alone.2 ∙ (λ i. map (value_of text (u.visible i) (meets.1 i) (meets.0 i)) calls.arguments) ∙ calls.values) in
         subst (λ (k : NodeKey). LastOfKey p ts t zs k) same
         (record {

@@ -1,12 +1,12 @@
 -- The ordered table of lists of values, and places in it.
-use Rattle.std.proofs.Common.{◌≡◌, ℕ, ◌+◌, ◌<◌, ◌≤◌, List, [], ◌∷◌, ◌++◌, Some, Less, Equal, Greater, Bool, Bor, length, map, take, get_or, slice_get, Contains, IsPermutation, IsSorted, sym, ap, ◌∙◌, subst}
+use Rattle.std.proofs.Common.{◌≡◌, ℕ, ◌+◌, ◌<◌, List, [], ◌∷◌, ◌++◌, Some, Less, Equal, Greater, Bool, Bor, length, map, take, get_or, slice_get, Contains, IsPermutation, IsSorted, sym, ap, ◌∙◌, subst}
 use Rattle.std.specs.declared.cmp.Ordering.{Ordering}
 use Rattle.std.specs.Cmp.Lexicographic.{slice_cmp, pointwise, lists_ties}
 use Rattle.std.specs.List.{dedup}
 use Rattle.std.specs.List.Retain.{IsFiltered, DiffersFromLast}
 use Rattle.std.specs.List.Sorted.{IsStrictlySortedBy, IsNonDecreasingBy, IsPartitionPoint}
 use Rattle.std.specs.Ordering.{ordering_index, eq_by_cmp}
-use Rattle.std.proofs.lemmas.List.{take_more, map-append, take_all}
+use Rattle.std.proofs.lemmas.List.{take_more, map-append}
 use Rattle.std.proofs.lemmas.List.Filters.{dedup_is}
 use Rattle.std.proofs.lemmas.Option.{slice_get-get_or, slice_get_within, get_or_from_slice_get}
 use Rattle.ig_forest.proofs.Lists.{contains_from_at}
@@ -51,8 +51,12 @@ map_next f done more x ys k y more_is so_far at is =
     ap (map f) more_is ∙ map-append f done (x ∷ []) ∙ ap (λ (z : List _). z ++ f x ∷ []) so_far ∙
     ap (λ (z : _). take k ys ++ z ∷ []) is ∙ sym (take_next ys k y at)
 
-pub map_all : {X : Type 0} (done xs : List X) (k : ℕ) → done ≡ take k xs → length xs ≤ k → done ≡ xs
-map_all done xs k so_far le = so_far ∙ take_all k xs le
+-- one more row
+pub row_next : {X Y : Type 0} (f : X → Y) (done more : List Y) (row : Y) (xs : List X) (k : ℕ) (x : X) → more ≡ done ++ row ∷ [] →
+    done ≡ map f (take k xs) → slice_get xs k ≡ Some x → row ≡ f x → more ≡ map f (take (k + 1) xs)
+row_next f done more row xs k x more_is so_far at is =
+    more_is ∙ ap (λ (z : List _). z ++ row ∷ []) so_far ∙ ap (λ (z : _). map f (take k xs) ++ z ∷ []) is ∙
+    sym (map-append f (take k xs) (x ∷ [])) ∙ ap (map f) (sym (take_next xs k x at))
 
 pub are_lists : (environments : List (List Value)) (xs ys zs : List (Bor (List Value))) → map now_of xs ≡ environments →
     IsPermutation xs ys → IsSorted (λ x y. slice_cmp value_derived x.now y.now) ys →

@@ -1,4 +1,4 @@
--- What the rules say at each step, and what tells rows apart.
+-- What the rules say at each step.
 use Rattle.std.proofs.Common.{◌≡◌, ℕ, ◌<◌, List, [], ◌∷◌, Some, Option, length, slice_get, refl, sym, ap, ◌∙◌, subst, subst₂}
 use Rattle.std.proofs.lemmas.Option.{slice_get-get_or, same_Some}
 use Rattle.ig_text.specs.declared.pattern.Pattern.{Pattern}
@@ -8,15 +8,17 @@ use Rattle.ig_expr.specs.declared.value.Value.{Value}
 use Rattle.ig_expr.specs.declared.value.Value.TheVariants.{Bool}
 use Rattle.ig_item.specs.Step.{Step, Test, Bind, Term, Call}
 use Rattle.ig_item.specs.Core.{IsAlternative}
-use Rattle.ig_item.specs.Items.{Item, Reachable, StandsBefore, HasValue, Calls, MatchesNone, past, span_of, IsComplete}
+use Rattle.ig_item.specs.Items.{Item, Reachable, StandsBefore, HasValue, MatchesNone, past, span_of, IsComplete}
 use Rattle.ig_item.specs.declared.core_grammar.Nonterminal.{Nonterminal}
 use Rattle.ig_item.specs.declared.core_grammar.CoreAlt.{CoreAlt}
-use Rattle.ig_forest.specs.Live as live
-use Rattle.ig_forest.specs.Live.{NodeKey, Taken, Gives, Completes, nothing, leaf, tree}
-use Rattle.ig_forest.specs.CodeTables.{RowFits, item_by, list_at, list_cmp}
-use Rattle.ig_forest.specs.CodeSteps.{StandsAt, StandsLast, HasNames}
+use Rattle.ig_item.specs.Gives as rules
+use Rattle.ig_item.specs.Gives.{NodeKey, Taken, Completes, nothing, leaf, tree}
+use Rattle.ig_forest.specs.Live.{Gives}
+use Rattle.ig_forest.specs.CodeTables.{item_by, list_at, list_cmp}
+use Rattle.ig_forest.specs.CodeDone.{StandsLast}
 use Rattle.ig_forest.specs.declared.rows.ItemRow.{ItemRow}
-use Rattle.ig_forest.proofs.Lists.{one_place}
+use Rattle.ig_forest.proofs.Lists.{one_place, same_listed}
+use Rattle.ig_forest.proofs.Uniqueness.{same_key}
 use Rattle.ig_forest.proofs.CodeOrders.{list_total}
 use Rattle.std.specs.List.Sorted.{IsStrictlySortedBy}
 
@@ -35,20 +37,6 @@ same_step core it ns ms s t p q =
           ap (λ (z : CoreAlt). Rattle.ig_item.specs.Visible.names_at q.nonterminal z it.dot) e.1 ∙ sym q.visible,
     )
 
--- where a row's item stands
-pub names_there : (core : List Nonterminal) (lists : List (List Value)) (row : ItemRow) (step : Step) → StandsAt core row step →
-    (names : List (List ℕ)) × HasNames core row names × StandsBefore core (item_by lists row) names step
-names_there core lists row step s =
-    let names = Rattle.ig_item.specs.Visible.names_at s.nonterminal s.alternative row.dot in (
-      names,
-      record { nonterminal = s.nonterminal; alternative = s.alternative; has = s.has; visible = refl },
-      record { nonterminal = s.nonterminal; alternative = s.alternative; has = s.has; next = s.next; visible = refl },
-    )
-
-pub stands_at : (core : List Nonterminal) (lists : List (List Value)) (row : ItemRow) (names : List (List ℕ)) (step : Step) →
-    StandsBefore core (item_by lists row) names step → StandsAt core row step
-stands_at core lists row names step s = record { nonterminal = s.nonterminal; alternative = s.alternative; has = s.has; next = s.next }
-
 abbrev pub complete_from_last : (core : List Nonterminal) (lists : List (List Value)) (row : ItemRow) → StandsLast core row → IsComplete core (item_by lists row)
 complete_from_last core lists row s = record { nonterminal = s.nonterminal; alternative = s.alternative; has = s.has; last = s.last }
 
@@ -57,16 +45,16 @@ last_from_complete core lists row s = record { nonterminal = s.nonterminal; alte
 
 module _ (core : List Nonterminal) (text : List ℕ) where
   pub any_step : {prev x : Item} {taken : Taken} → Gives core text prev taken x → (names : List (List ℕ)) × (step : Step) × StandsBefore core prev names step
-  any_step (live.test prev ns f x r before holds is) = (ns, Test f, before)
-  any_step (live.bind prev ns name f v x r before has is) = (ns, Bind name f, before)
-  any_step (live.terminal prev ns what label excluded j taken x r before matches free t is) = (ns, Term what label excluded, before)
-  any_step (live.return prev done label excluded key x r d calls c free is) =
+  any_step (rules.test prev ns f x r before holds is) = (ns, Test f, before)
+  any_step (rules.bind prev ns name f v x r before has is) = (ns, Bind name f, before)
+  any_step (rules.terminal prev ns what label excluded j taken x r before matches free t is) = (ns, Term what label excluded, before)
+  any_step (rules.return prev done label excluded key x r d calls c free is) =
       (calls.names, Call key.instance.nonterminal calls.arguments label excluded, calls.before)
 
   pub by_test : {prev x : Item} {taken : Taken} → Gives core text prev taken x → (names : List (List ℕ)) (e : Expression) →
       StandsBefore core prev names (Test e) →
       (taken ≡ nothing) × HasValue text prev names e (Bool Rattle.std.specs.Prelude.true) × (x ≡ past prev [] prev.position)
-  by_test (live.test prev ns f x r before holds is) names e stands =
+  by_test (rules.test prev ns f x r before holds is) names e stands =
       let s = same_step core prev ns names (Test f) (Test e) before stands in
       let t = s.0 in
       let fe : f ≡ e = cc in (
@@ -74,26 +62,26 @@ module _ (core : List Nonterminal) (text : List ℕ) where
         subst₂ (λ (z : List (List ℕ)) (w : Expression). HasValue text prev z w (Bool Rattle.std.specs.Prelude.true)) s.1 fe holds,
         is,
       )
-  by_test (live.bind prev ns name f v x r before has is) names e stands =
+  by_test (rules.bind prev ns name f v x r before has is) names e stands =
       let s = (same_step core prev ns names (Bind name f) (Test e) before stands).0 in cc
-  by_test (live.terminal prev ns what label excluded j taken x r before matches free t is) names e stands =
+  by_test (rules.terminal prev ns what label excluded j taken x r before matches free t is) names e stands =
       let s = (same_step core prev ns names (Term what label excluded) (Test e) before stands).0 in cc
-  by_test (live.return prev done label excluded key x r d calls c free is) names e stands =
+  by_test (rules.return prev done label excluded key x r d calls c free is) names e stands =
       let s = (same_step core prev calls.names names (Call key.instance.nonterminal calls.arguments label excluded) (Test e) calls.before stands).0 in cc
 
   pub by_bind : {prev x : Item} {taken : Taken} → Gives core text prev taken x → (names : List (List ℕ)) (name : List ℕ) (e : Expression) →
       StandsBefore core prev names (Bind name e) →
       (taken ≡ nothing) × (v : Value) × HasValue text prev names e v × (x ≡ past prev (v ∷ []) prev.position)
-  by_bind (live.test prev ns f x r before holds is) names name e stands =
+  by_bind (rules.test prev ns f x r before holds is) names name e stands =
       let s = (same_step core prev ns names (Test f) (Bind name e) before stands).0 in cc
-  by_bind (live.bind prev ns other f v x r before has is) names name e stands =
+  by_bind (rules.bind prev ns other f v x r before has is) names name e stands =
       let s = same_step core prev ns names (Bind other f) (Bind name e) before stands in
       let t = s.0 in
       let fe : f ≡ e = cc in
       (refl, v, subst₂ (λ (z : List (List ℕ)) (w : Expression). HasValue text prev z w v) s.1 fe has, is)
-  by_bind (live.terminal prev ns what label excluded j taken x r before matches free t is) names name e stands =
+  by_bind (rules.terminal prev ns what label excluded j taken x r before matches free t is) names name e stands =
       let s = (same_step core prev ns names (Term what label excluded) (Bind name e) before stands).0 in cc
-  by_bind (live.return prev done label excluded key x r d calls c free is) names name e stands =
+  by_bind (rules.return prev done label excluded key x r d calls c free is) names name e stands =
       let s = (same_step core prev calls.names names (Call key.instance.nonterminal calls.arguments label excluded) (Bind name e) calls.before stands).0 in cc
 
   pub record ByTerm (prev : Item) (taken : Taken) (x : Item) (what : Pattern) (label : Option (List ℕ)) (excluded : List Pattern) : Type 0 where
@@ -105,11 +93,11 @@ module _ (core : List Nonterminal) (text : List ℕ) where
 
   pub by_term : {prev x : Item} {taken : Taken} → Gives core text prev taken x → (names : List (List ℕ)) (what : Pattern) (label : Option (List ℕ))
       (excluded : List Pattern) → StandsBefore core prev names (Term what label excluded) → ByTerm prev taken x what label excluded
-  by_term (live.test prev ns f x r before holds is) names what label excluded stands =
+  by_term (rules.test prev ns f x r before holds is) names what label excluded stands =
       let s = (same_step core prev ns names (Test f) (Term what label excluded) before stands).0 in cc
-  by_term (live.bind prev ns other f v x r before has is) names what label excluded stands =
+  by_term (rules.bind prev ns other f v x r before has is) names what label excluded stands =
       let s = (same_step core prev ns names (Bind other f) (Term what label excluded) before stands).0 in cc
-  by_term (live.terminal prev ns w l ex j taken x r before matches free t is) names what label excluded stands =
+  by_term (rules.terminal prev ns w l ex j taken x r before matches free t is) names what label excluded stands =
       let s = (same_step core prev ns names (Term w l ex) (Term what label excluded) before stands).0 in
       let we : w ≡ what = cc in
       let le : l ≡ label = cc in
@@ -121,7 +109,7 @@ module _ (core : List Nonterminal) (text : List ℕ) where
         takes = t;
         item = is ∙ ap (λ (z : Option (List ℕ)). past prev (span_of z prev.position j) j) le;
       }
-  by_term (live.return prev done l ex key x r d calls c free is) names what label excluded stands =
+  by_term (rules.return prev done l ex key x r d calls c free is) names what label excluded stands =
       let s = (same_step core prev calls.names names (Call key.instance.nonterminal calls.arguments l ex) (Term what label excluded) calls.before stands).0 in cc
 
   pub record ByCall (prev : Item) (taken : Taken) (x : Item) (names : List (List ℕ)) (callee : ℕ) (arguments : List Expression) (label : Option (List ℕ)) (excluded : List Pattern) : Type 0 where
@@ -139,13 +127,13 @@ module _ (core : List Nonterminal) (text : List ℕ) where
   pub by_call : {prev x : Item} {taken : Taken} → Gives core text prev taken x → (names : List (List ℕ)) (callee : ℕ) (arguments : List Expression)
       (label : Option (List ℕ)) (excluded : List Pattern) → StandsBefore core prev names (Call callee arguments label excluded) →
       ByCall prev taken x names callee arguments label excluded
-  by_call (live.test prev ns f x r before holds is) names callee arguments label excluded stands =
+  by_call (rules.test prev ns f x r before holds is) names callee arguments label excluded stands =
       let s = (same_step core prev ns names (Test f) (Call callee arguments label excluded) before stands).0 in cc
-  by_call (live.bind prev ns other f v x r before has is) names callee arguments label excluded stands =
+  by_call (rules.bind prev ns other f v x r before has is) names callee arguments label excluded stands =
       let s = (same_step core prev ns names (Bind other f) (Call callee arguments label excluded) before stands).0 in cc
-  by_call (live.terminal prev ns w l ex j taken x r before matches free t is) names callee arguments label excluded stands =
+  by_call (rules.terminal prev ns w l ex j taken x r before matches free t is) names callee arguments label excluded stands =
       let s = (same_step core prev ns names (Term w l ex) (Call callee arguments label excluded) before stands).0 in cc
-  by_call (live.return prev done l ex key x r d calls c free is) names callee arguments label excluded stands =
+  by_call (rules.return prev done l ex key x r d calls c free is) names callee arguments label excluded stands =
       let b = same_step core prev calls.names names (Call key.instance.nonterminal calls.arguments l ex) (Call callee arguments label excluded) calls.before stands in
       let s = b.0 in
       let ne : key.instance.nonterminal ≡ callee = cc in
@@ -165,25 +153,23 @@ module _ (core : List Nonterminal) (text : List ℕ) where
         item = is ∙ ap (λ (z : Option (List ℕ)). past prev (span_of z prev.position key.end) key.end) le;
       }
 
+  -- the rules take one thing from one item to another
+  pub gives_one : {prev x : Item} {taken other : Taken} → Gives core text prev taken x → Gives core text prev other x → taken ≡ other
+  gives_one (rules.test prev ns f x r before holds is) g = sym (by_test g ns f before).0
+  gives_one (rules.bind prev ns name f v x r before has is) g = sym (by_bind g ns name f before).0
+  gives_one (rules.terminal prev ns what label excluded j taken x r before matches free t is) g =
+      let b = by_term g ns what label excluded before in
+      let e : j ≡ b.end = ap (λ (z : Item). z.position) (sym is ∙ b.item) in
+      t ∙ ap (λ (z : ℕ). leaf (record { begin = prev.position; end = z })) e ∙ sym b.takes
+  gives_one (rules.return prev done label excluded key x r d calls c free is) g =
+      let b = by_call g calls.names key.instance.nonterminal calls.arguments label excluded calls.before in
+      let v : key.instance.values ≡ b.key.instance.values = same_listed key.instance.values b.key.instance.values (sym calls.values ∙ b.values) in
+      let e : key.end ≡ b.key.end = ap (λ (z : Item). z.position) (sym is ∙ b.item) in
+      ap tree (same_key key b.key (sym b.nonterminal) v (calls.here ∙ sym b.here) e) ∙ sym b.takes
+
 -- lists at two places of a table in which each stands once
 pub same_list_place : (lists : List (List Value)) (p q : ℕ) → IsStrictlySortedBy list_cmp lists → p < length lists → q < length lists →
     list_at lists p ≡ list_at lists q → p ≡ q
 same_list_place lists p q sorted lt mt same =
     one_place list_cmp list_total lists p q (list_at lists p) sorted (slice_get-get_or lists p [] lt)
     (slice_get-get_or lists q [] mt ∙ ap Some (sym same))
-
--- rows of one item are the same
-pub same_row : (lists : List (List Value)) (a b : ItemRow) → IsStrictlySortedBy list_cmp lists → RowFits lists a → RowFits lists b →
-    item_by lists a ≡ item_by lists b → a ≡ b
-same_row lists a b sorted fa fb e =
-    let v : a.values ≡ b.values = same_list_place lists a.values b.values sorted fa.values fb.values (ap (λ (z : Item). z.instance.values) e) in
-    let n : a.env ≡ b.env = same_list_place lists a.env b.env sorted fa.env fb.env (ap (λ (z : Item). z.env) e) in
-    λ i. record {
-      start = ap (λ (z : Item). z.instance.start) e i;
-      position = ap (λ (z : Item). z.position) e i;
-      nonterminal = ap (λ (z : Item). z.instance.nonterminal) e i;
-      values = v i;
-      alternative = ap (λ (z : Item). z.alternative) e i;
-      dot = ap (λ (z : Item). z.dot) e i;
-      env = n i;
-    }

@@ -1,48 +1,26 @@
 -- Rows in order are items and nodes in order.
-use Rattle.std.proofs.Common.{◌≡◌, ◌⊎◌, inl, inr, ℕ, ◌<◌, suc, Bool, true, List, [], ◌∷◌, Some, Less, Equal, Greater, length, map, slice_get, Contains, refl, sym, ap, ap₂, ◌∙◌, subst, arith}
+use Rattle.std.proofs.Common.{◌≡◌, inl, inr, ℕ, ◌<◌, List, [], Equal, Greater, length, map, Contains, refl, sym, ap, ap₂, ◌∙◌, subst}
 use Rattle.std.specs.declared.cmp.Ordering.{Ordering}
-use Rattle.std.specs.List.{AllByRecursion}
 use Rattle.std.specs.List.Sorted.{IsStrictlySortedBy}
-use Rattle.std.proofs.lemmas.Bool.Decides.{nat_tests}
 use Rattle.std.specs.Ordering.{nat_cmp, ordering_then, ordering_reverse}
 use Rattle.std.proofs.lemmas.Cmp.{tied_itself, nat_cmp_total}
-use Rattle.std.proofs.lemmas.Option.{slice_get-get_or, slice_get_within, same_Some}
+use Rattle.std.proofs.lemmas.Option.{slice_get-get_or}
 use Rattle.ig_expr.specs.declared.value.Value.{Value}
 use Rattle.ig_item.specs.Items.{Item}
 use Rattle.ig_item.specs.declared.core_grammar.Nonterminal.{Nonterminal}
-use Rattle.ig_forest.specs.Live.{NodeKey, Completes, IsLive}
+use Rattle.ig_item.specs.Gives.{NodeKey, Completes}
+use Rattle.ig_forest.specs.Live.{IsLive}
 use Rattle.ig_forest.specs.Orders.{item_cmp, node_cmp}
 use Rattle.ig_forest.specs.Reduced.{AreItems, AreNodes}
 use Rattle.ig_forest.specs.CodeTables.{RowFits, AreRows, item_by, key_by, list_at, list_cmp, node_of, row_cmp, node_row_cmp}
 use Rattle.ig_forest.specs.CodeDone.{AreNodesOf}
 use Rattle.ig_forest.specs.declared.rows.ItemRow.{ItemRow}
 use Rattle.ig_forest.specs.declared.rows.NodeRow.{NodeRow}
-use Rattle.ig_forest.specs.CodeKept.{AreKept, AreTaken}
-use Rattle.ig_forest.proofs.Lists.{rises, contains_from_at, at_from_contains}
-use Rattle.ig_forest.proofs.CodeOrders.{list_total, row_total}
-use Rattle.ig_forest.proofs.CodeSorted.{map_member, member_of_map, map_at, at_of_map, strict_map}
+use Rattle.ig_forest.proofs.Lists.{rises, three_ways}
+use Rattle.ig_forest.proofs.CodeOrders.{list_total}
+use Rattle.ig_forest.proofs.CodeSorted.{map_member, member_of_map, strict_map}
 use Rattle.ig_forest.proofs.CodeGives.{complete_from_last, last_from_complete}
 use Rattle.ig_forest.proofs.CodeKeeping.{less_number}
-
-pub less_is : {a b : ℕ} → nat_cmp a b ≡ Less → a < b
-less_is {a} {b} e = grind (arith, nat_tests)
-
--- a list is strictly sorted where each element is below those after it
-all_below : {X : Type 0} (P : X → Type 0) (xs : List X) → ((k : ℕ) (y : X) → slice_get xs k ≡ Some y → P y) → AllByRecursion P xs
-all_below P [] h = tt
-all_below P (x ∷ xs) h = (h 0 x refl, all_below P xs (λ k y e. h (suc k) y e))
-
-pub from_rises : {X : Type 0} (c : X → X → Ordering) (xs : List X) →
-    ((i j : ℕ) (x y : X) → i < j → slice_get xs i ≡ Some x → slice_get xs j ≡ Some y → c x y ≡ Less) → IsStrictlySortedBy c xs
-unfolding IsStrictlySortedBy
-from_rises c [] h = tt
-from_rises c (x ∷ xs) h = (
-  all_below (λ y. c x y ≡ Less) xs (λ k y e. h 0 (suc k) x y (omega arith) refl e),
-  from_rises c xs (λ i j y z lt at_y at_z. h (suc i) (suc j) y z (omega (arith, lt)) at_y at_z),
-)
-
-three_ways : (i j : ℕ) → (i < j) ⊎ ((i ≡ j) ⊎ (j < i))
-three_ways i j = grind arith
 
 -- places have the order of their lists
 pub rank : (lists : List (List Value)) (a b : ℕ) → IsStrictlySortedBy list_cmp lists → a < length lists → b < length lists →
@@ -126,45 +104,3 @@ module _ (lists : List (List Value)) (sorted : IsStrictlySortedBy list_cmp lists
         strict_map (key_by lists) node_row_cmp node_cmp (λ (z : NodeRow). z.values < length lists) (λ x y fx fy e. sym (node_as_key x y fx fy) ∙ e) nodes
         (nodes_fit core rows nodes fit are) are.order;
   }
-
--- the rows that are kept are those of the items with P, where what is marked is
-pub kept_rows : (lists : List (List Value)) (rows live : List ItemRow) (kept : List ℕ) (marked : List Bool) (P Q : Item → Type 0) → AreRows P lists rows →
-    AreKept marked (length rows) kept → AreTaken rows kept live →
-    ((k : ℕ) (row : ItemRow) → slice_get rows k ≡ Some row → slice_get marked k ≡ Some true → Q (item_by lists row)) →
-    ((x : Item) → Q x → (k : ℕ) × (row : ItemRow) × (slice_get rows k ≡ Some row) × (item_by lists row ≡ x) × (slice_get marked k ≡ Some true)) →
-    AreRows Q lists live
-kept_rows lists rows live kept marked P Q are keeps takes to from = record {
-  fit = λ row c. let f = from_live row c in are.fit row (contains_from_at rows f.0 row f.2);
-  sound = λ row c. let f = from_live row c in to f.0 row f.2 ((keeps.members f.0).0 f.1).1;
-  complete =
-      λ x q.
-      let (k, row, at, is, m) = from x q in
-      let lt = slice_get_within rows k row at in
-      let in_kept = at_from_contains kept k ((keeps.members k).1 (lt, m)) in
-      let taken = taken_at in_kept.0 k row in_kept.1 at in
-      (row, contains_from_at live in_kept.0 row taken, is);
-  order = ordered;
-}
-  where
-    taken_at : (i k : ℕ) (row : ItemRow) → slice_get kept i ≡ Some k → slice_get rows k ≡ Some row → slice_get live i ≡ Some row
-    taken_at i k row at_k at_row =
-        let a = map_at (slice_get rows) kept i k at_k in
-        let (r, at_r, e) = at_of_map Some live i (slice_get rows k) (sym (ap (λ z. slice_get z i) takes) ∙ a) in
-        at_r ∙ ap Some (same_Some r row (e ∙ at_row))
-
-    from_live : (row : ItemRow) → Contains live row → (k : ℕ) × Contains kept k × (slice_get rows k ≡ Some row)
-    from_live row c =
-        let at = at_from_contains live row c in
-        let a = map_at Some live at.0 row at.1 in
-        let (k, at_k, e) = at_of_map (slice_get rows) kept at.0 (Some row) (ap (λ z. slice_get z at.0) takes ∙ a) in
-        (k, contains_from_at kept at.0 k at_k, e)
-
-    ordered : IsStrictlySortedBy row_cmp live
-    ordered =
-        from_rises row_cmp live
-        (λ i j x y lt at_x at_y.
-        let a = map_at Some live i x at_x in
-        let b = map_at Some live j y at_y in
-        let (k, at_k, e) = at_of_map (slice_get rows) kept i (Some x) (ap (λ z. slice_get z i) takes ∙ a) in
-        let (m, at_m, f) = at_of_map (slice_get rows) kept j (Some y) (ap (λ z. slice_get z j) takes ∙ b) in
-        rises row_cmp row_total rows k m x y are.order e f (less_is (rises nat_cmp nat_cmp_total kept i j k m keeps.order at_k at_m lt)))

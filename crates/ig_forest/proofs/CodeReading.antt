@@ -8,7 +8,7 @@ use Rattle.ig_forest.specs.CodeTables.{list_at}
 use Rattle.ig_forest.specs.CodeForest.{node_by, item_node_by, forest_by, name_at, FitsForest}
 use Rattle.ig_forest.specs.declared.entry.Choice.{Choice}
 use Rattle.ig_forest.specs.declared.entry.Entry.{Entry}
-use Rattle.ig_forest.specs.CodeNodeParts.{StoredNode}
+use Rattle.ig_forest.specs.CodeNodeRows.{StoredNode}
 use Rattle.ig_forest.specs.CodeParts.{StoredItem}
 use Rattle.ig_forest.proofs.CodeSorted.{map_at}
 

@@ -15,8 +15,9 @@ use Rattle.ig_forest.specs.Forest as forest
 use Rattle.ig_forest.specs.Forest.{Forest, ItemNode}
 use Rattle.ig_forest.specs.Unfold as ways
 use Rattle.ig_forest.specs.Unfold.{OfNode, OfItem, noted}
-use Rattle.ig_forest.specs.Live as live
-use Rattle.ig_forest.specs.Live.{NodeKey, Taken, Gives}
+use Rattle.ig_item.specs.Gives as rules
+use Rattle.ig_item.specs.Gives.{NodeKey, Taken}
+use Rattle.ig_forest.specs.Live.{Gives}
 use Rattle.ig_forest.specs.Orders.{item_cmp, node_cmp, choice_cmp, entry_cmp}
 use Rattle.ig_forest.specs.Reduced.{IsReduced, IsChoice}
 use Rattle.ig_forest.specs.Laws.{HasOneCursor}
@@ -97,7 +98,7 @@ module _ (given : Given) (core : List Nonterminal) (text : List ℕ) (f : Forest
     pub prev : Item
     pub number : ℕ
     pub at : slice_get r.items number ≡ Some prev
-    pub gives : Gives core text prev live.nothing y
+    pub gives : Gives core text prev rules.nothing y
     pub rest : List ℕ
     pub unfolds : OfItem f number e rest us
     pub entered : Entered m (Pass number) rest ds
@@ -107,7 +108,7 @@ module _ (given : Given) (core : List Nonterminal) (text : List ℕ) (f : Forest
     pub number : ℕ
     pub span : Span
     pub at : slice_get r.items number ≡ Some prev
-    pub gives : Gives core text prev (live.leaf span) y
+    pub gives : Gives core text prev (rules.leaf span) y
     pub rest : List ℕ
     pub trees : Trees
     pub unfolds : OfItem f number e rest trees
@@ -121,7 +122,7 @@ module _ (given : Given) (core : List Nonterminal) (text : List ℕ) (f : Forest
     pub key : NodeKey
     pub at : slice_get r.items number ≡ Some prev
     pub at_key : slice_get r.keys node ≡ Some key
-    pub gives : Gives core text prev (live.tree key) y
+    pub gives : Gives core text prev (rules.tree key) y
     pub first : List ℕ
     pub rest : List ℕ
     pub trees : Trees
@@ -160,7 +161,7 @@ module _ (given : Given) (core : List Nonterminal) (text : List ℕ) (f : Forest
       begin_only core text r.items r.keys ((n.entries Begin).0 (contains_from_at it.entries i Begin among)) refl
 
   -- the second of two alike items unfolds as the first one does: by its form
-  pub as_pass : {m e : ℕ} {ds : List ℕ} {us : Trees} → OfItem f m e ds us → (p x y : Item) → Gives core text p live.nothing x →
+  pub as_pass : {m e : ℕ} {ds : List ℕ} {us : Trees} → OfItem f m e ds us → (p x y : Item) → Gives core text p rules.nothing x →
       Alike x y → slice_get r.items m ≡ Some y → ByPass m e ds us y
   as_pass (ways.begin k d i it cs at among c) p x y g a has =
       let further : x.dot ≡ suc p.dot = given_dot core text g in
@@ -184,7 +185,7 @@ module _ (given : Given) (core : List Nonterminal) (text : List ℕ) (f : Forest
       absurd (omega (arith, same_form core text given g h.gives (alike_before core text g h.gives a)))
 
   pub as_leaf : {m e : ℕ} {ds : List ℕ} {us : Trees} → OfItem f m e ds us → (span : Span) (p x y : Item) →
-      Gives core text p (live.leaf span) x → Alike x y → slice_get r.items m ≡ Some y → ByLeaf m e ds us y
+      Gives core text p (rules.leaf span) x → Alike x y → slice_get r.items m ≡ Some y → ByLeaf m e ds us y
   as_leaf (ways.begin k d i it cs at among c) span p x y g a has =
       let further : x.dot ≡ suc p.dot = given_dot core text g in
       absurd (omega (arith, begin_entry k i it y has at among, a.dot))
@@ -210,7 +211,7 @@ module _ (given : Given) (core : List Nonterminal) (text : List ℕ) (f : Forest
       absurd (omega (arith, same_form core text given g h.gives (alike_before core text g h.gives a)))
 
   pub as_node : {m e : ℕ} {ds : List ℕ} {us : Trees} → OfItem f m e ds us → (key : NodeKey) (p x y : Item) →
-      Gives core text p (live.tree key) x → Alike x y → slice_get r.items m ≡ Some y → ByNode m e ds us y
+      Gives core text p (rules.tree key) x → Alike x y → slice_get r.items m ≡ Some y → ByNode m e ds us y
   as_node (ways.begin k d i it cs at among c) key p x y g a has =
       let further : x.dot ≡ suc p.dot = given_dot core text g in
       absurd (omega (arith, begin_entry k i it y has at among, a.dot))
@@ -335,7 +336,7 @@ module _ (given : Given) (core : List Nonterminal) (text : List ℕ) (f : Forest
         let prevs = same_item prev s.number p.prev s.prev p.at s.at h.0 in
         let target : x ≡ y =
         same_target core text given p.gives
-        (subst (λ (z : Item). Gives core text z live.nothing y) (sym prevs) s.gives) in
+        (subst (λ (z : Item). Gives core text z rules.nothing y) (sym prevs) s.gives) in
         let number = item_number k m x y has has_y target in
         let entered : Entered k (Pass prev) bs cs = record { it = it; there = at; i = i; among = among; cursor = c } in
         (number, finish k m x (Pass prev) (Pass s.number) bs s.rest cs ds has number (ap Pass h.0) h.1 entered s.entered)
@@ -351,7 +352,7 @@ module _ (given : Given) (core : List Nonterminal) (text : List ℕ) (f : Forest
         let spans = same_span span s.span parts.last in
         let target : x ≡ y =
         same_target core text given p.gives
-        (subst₂ (λ (z : Item) (t : Span). Gives core text z (live.leaf t) y) (sym prevs) (sym spans) s.gives) in
+        (subst₂ (λ (z : Item) (t : Span). Gives core text z (rules.leaf t) y) (sym prevs) (sym spans) s.gives) in
         let number = item_number k m x y has has_y target in
         let entry = Take prev (child.Leaf span) in
         let entered : Entered k entry bs cs = record { it = it; there = at; i = i; among = among; cursor = c } in (
@@ -367,14 +368,14 @@ module _ (given : Given) (core : List Nonterminal) (text : List ℕ) (f : Forest
         one_item of_prev s.number e s.first s.trees s.unfolds p.prev s.prev p.at s.at parts.before
         (alike_before core text p.gives s.gives a) in
         let prevs = same_item prev s.number p.prev s.prev p.at s.at h.0 in
-        let gives = subst (λ (z : Item). Gives core text z (live.tree s.key) y) (sym prevs) s.gives in
+        let gives = subst (λ (z : Item). Gives core text z (rules.tree s.key) y) (sym prevs) s.gives in
         let callee = one_callee core text given p.key s.key p.gives gives in
         let end : p.key.end ≡ s.key.end =
         sym (ends_at of_node p.key p.at_key) ∙ ap end_of_tree parts.last ∙ ends_at s.of_node s.key s.at_key in
         let keys : p.key ≡ s.key = (λ i. record { instance = callee i; end = end i }) in
         let node = one_place node_cmp node_total r.keys v s.node p.key r.are_nodes.order p.at_key (s.at_key ∙ ap Some (sym keys)) in
         let target : x ≡ y =
-        same_target core text given p.gives (subst (λ (z : NodeKey). Gives core text p.prev (live.tree z) y) (sym keys) gives) in
+        same_target core text given p.gives (subst (λ (z : NodeKey). Gives core text p.prev (rules.tree z) y) (sym keys) gives) in
         let number = item_number k m x y has has_y target in
         let inside = one_node of_node s.node e s.rest s.tree s.of_node node parts.last in
         let entry = Take prev (child.Node v) in

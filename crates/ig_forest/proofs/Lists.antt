@@ -1,5 +1,5 @@
 -- Places in lists, lists that belong together place by place, and strictly sorted lists.
-use Rattle.std.proofs.Common.{◌≡◌, ◌↔◌, ◌⊎◌, inl, inr, ℕ, zero, suc, ◌<◌, List, [], ◌∷◌, Some, Less, Equal, length, slice_get, Contains, refl, sym, ap, ap₂, ◌∙◌, subst, subst₂, arith}
+use Rattle.std.proofs.Common.{◌≡◌, ◌↔◌, ◌⊎◌, inl, inr, ℕ, zero, suc, ◌<◌, List, [], ◌∷◌, Some, Less, Equal, length, map, slice_get, Contains, refl, sym, ap, ap₂, ◌∙◌, subst, subst₂, arith}
 use Rattle.std.specs.declared.cmp.Ordering.{Ordering}
 use Rattle.std.specs.Cmp.{IsTotalOrder}
 use Rattle.std.specs.List.{AllByRecursion}
@@ -54,12 +54,22 @@ pub same_length : {X Y : Type 0} {P : X → Y → Type 0} {xs : List X} {ys : Li
 same_length reduced.none = refl
 same_length (reduced.more a b xs ys p each) = ap suc (same_length each)
 
+-- members are known by what `Some` makes of them
+pub same_listed : {X : Type 0} (us vs : List X) → map Some us ≡ map Some vs → us ≡ vs
+same_listed [] [] e = refl
+same_listed [] (v ∷ vs) e = cc
+same_listed (u ∷ us) [] e = cc
+same_listed (u ∷ us) (v ∷ vs) e =
+    let first : u ≡ v = cc in
+    let others : map Some us ≡ map Some vs = cc in
+    let rest = same_listed us vs others in λ i. first i ∷ rest i
+
 all_at : {X : Type 0} (P : X → Type 0) (xs : List X) (k : ℕ) (x : X) → AllByRecursion P xs → slice_get xs k ≡ Some x → P x
 all_at P [] k x all e = cc
 all_at P (y ∷ xs) zero x all e = subst P (same_Some y x e) all.0
 all_at P (y ∷ xs) (suc k) x all e = all_at P xs k x all.1 e
 
-three_ways : (i j : ℕ) → (i < j) ⊎ ((i ≡ j) ⊎ (j < i))
+pub three_ways : (i j : ℕ) → (i < j) ⊎ ((i ≡ j) ⊎ (j < i))
 three_ways i j = grind arith
 
 -- a strictly sorted list is determined by its members

@@ -2,16 +2,18 @@
 use Rattle.std.proofs.Common.{ℕ, List}
 use Rattle.ig_item.specs.Items.{Item, Reachable}
 use Rattle.ig_item.specs.declared.core_grammar.Nonterminal.{Nonterminal}
+use Rattle.ig_item.specs.Gives as rules
 use Rattle.ig_forest.specs.Live as live
-use Rattle.ig_forest.specs.Live.{Taken, NodeKey, Completes, Gives, IsLive}
+use Rattle.ig_item.specs.Gives.{Taken, NodeKey, Completes}
+use Rattle.ig_forest.specs.Live.{Gives, IsLive}
 use Rattle.ig_forest.specs.Laws.{LiveIsReachable, LiveIsLeast}
 
 module _ (core : List Nonterminal) (text : List ℕ) where
   pub previous_reachable : {prev x : Item} {taken : Taken} → Gives core text prev taken x → Reachable core text prev
-  previous_reachable (live.test prev names e x reachable before holds is) = reachable
-  previous_reachable (live.bind prev names name e v x reachable before has is) = reachable
-  previous_reachable (live.terminal prev names what label excluded j taken x reachable before matches free t is) = reachable
-  previous_reachable (live.return prev done label excluded key x reachable r calls c free is) = reachable
+  previous_reachable (rules.test prev names e x reachable before holds is) = reachable
+  previous_reachable (rules.bind prev names name e v x reachable before has is) = reachable
+  previous_reachable (rules.terminal prev names what label excluded j taken x reachable before matches free t is) = reachable
+  previous_reachable (rules.return prev done label excluded key x reachable r calls c free is) = reachable
 
 pub live_is_reachable : LiveIsReachable
 live_is_reachable core text _ (live.root x reachable root end) = reachable

@@ -29,8 +29,9 @@ use Rattle.ig_forest.specs.Forest as forest
 use Rattle.ig_forest.specs.Forest.{Forest, ItemNode}
 use Rattle.ig_forest.specs.Unfold as ways
 use Rattle.ig_forest.specs.Unfold.{OfNode, OfItem, noted}
-use Rattle.ig_forest.specs.Live as live
-use Rattle.ig_forest.specs.Live.{NodeKey, Taken, Gives}
+use Rattle.ig_item.specs.Gives as rules
+use Rattle.ig_item.specs.Gives.{NodeKey, Taken}
+use Rattle.ig_forest.specs.Live.{Gives}
 use Rattle.ig_forest.specs.Orders.{item_cmp, node_cmp, choice_cmp, entry_cmp, previous}
 use Rattle.ig_forest.specs.Reduced.{IsReduced, IsChoice, root_key}
 use Rattle.ig_forest.specs.Laws.{CursorsAreOrderedAsTrees}
@@ -119,8 +120,8 @@ module _ (values : GivenValues) (core : List Nonterminal) (text : List ℕ) (f :
   comes_to g = ap (λ (y : Item). y.position) (stepped core text g).is
 
   -- an item takes one node to come to another item
-  one_key : {p x : Item} (key other : NodeKey) → Gives core text p (live.tree key) x →
-      Gives core text p (live.tree other) x → key ≡ other
+  one_key : {p x : Item} (key other : NodeKey) → Gives core text p (rules.tree key) x →
+      Gives core text p (rules.tree other) x → key ≡ other
   one_key key other g h =
       let callee = one_callee core text values.given key other g h in
       let end : key.end ≡ other.end = sym (comes_to g) ∙ comes_to h in λ i. record { instance = callee i; end = end i }
@@ -333,7 +334,7 @@ module _ (values : GivenValues) (core : List Nonterminal) (text : List ℕ) (f :
         (record { it = it; there = at; i = i; among = among; cursor = c }) s.entered
         (λ number same.
         let keys =
-        one_key p.key s.key p.gives (subst (λ (m : Item). Gives core text m (live.tree s.key) x) (sym same) s.gives) in
+        one_key p.key s.key p.gives (subst (λ (m : Item). Gives core text m (rules.tree s.key) x) (sym same) s.gives) in
         let node =
         one_place node_cmp node_total r.keys v s.node p.key r.are_nodes.order p.at_key (s.at_key ∙ ap Some (sym keys)) in
         joined_cmp ps s.first gs s.rest before last

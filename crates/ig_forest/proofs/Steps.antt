@@ -6,8 +6,9 @@ use Rattle.ig_text.specs.declared.text.Span.{Span}
 use Rattle.ig_item.specs.Items.{Item, span_of}
 use Rattle.ig_item.specs.CoreTrees.{HasTree}
 use Rattle.ig_item.specs.declared.core_grammar.Nonterminal.{Nonterminal}
-use Rattle.ig_forest.specs.Live as live
-use Rattle.ig_forest.specs.Live.{NodeKey, Taken, nothing, leaf, tree, Gives}
+use Rattle.ig_item.specs.Gives as rules
+use Rattle.ig_item.specs.Gives.{NodeKey, Taken, nothing, leaf, tree}
+use Rattle.ig_forest.specs.Live.{Gives}
 use Rattle.ig_forest.specs.Reduced as reduced
 use Rattle.ig_forest.specs.Reduced.{IsEntry}
 use Rattle.ig_forest.specs.declared.entry.Entry.{Entry}
@@ -31,35 +32,35 @@ parted_height (more s ts) us d low = let others = parted_height ts us d (omega a
 module _ (core : List Nonterminal) (text : List ℕ) where
   -- the item behind has its dot one further
   pub given_dot : {prev x : Item} {taken : Taken} → Gives core text prev taken x → x.dot ≡ suc prev.dot
-  given_dot (live.test prev names e x reachable before holds is) = ap (λ (y : Item). y.dot) is
-  given_dot (live.bind prev names name e v x reachable before has is) = ap (λ (y : Item). y.dot) is
-  given_dot (live.terminal prev names what label excluded j taken x reachable before matches free t is) =
+  given_dot (rules.test prev names e x reachable before holds is) = ap (λ (y : Item). y.dot) is
+  given_dot (rules.bind prev names name e v x reachable before has is) = ap (λ (y : Item). y.dot) is
+  given_dot (rules.terminal prev names what label excluded j taken x reachable before matches free t is) =
       ap (λ (y : Item). y.dot) is
-  given_dot (live.return prev done label excluded key x reachable r calls c free is) = ap (λ (y : Item). y.dot) is
+  given_dot (rules.return prev done label excluded key x reachable r calls c free is) = ap (λ (y : Item). y.dot) is
 
   -- the trees before the dot, behind one more step
   pub comes_by_nothing : {prev x : Item} {taken : Taken} → Gives core text prev taken x → taken ≡ nothing → (ts : Trees) →
       Comes core text prev ts → Comes core text x ts
-  comes_by_nothing (live.test prev names e x reachable before holds is) t ts c =
+  comes_by_nothing (rules.test prev names e x reachable before holds is) t ts c =
       reached.further prev [] prev.position ts none ts x c (reached.test names e prev.position before holds refl) is
       (sym (join-none ts))
-  comes_by_nothing (live.bind prev names name e v x reachable before has is) t ts c =
+  comes_by_nothing (rules.bind prev names name e v x reachable before has is) t ts c =
       reached.further prev (v ∷ []) prev.position ts none ts x c (reached.bind names name e v prev.position before has refl) is
       (sym (join-none ts))
-  comes_by_nothing (live.terminal prev names what label excluded j taken x reachable before matches free t is) e ts c = cc
-  comes_by_nothing (live.return prev done label excluded key x reachable r calls completes free is) e ts c = cc
+  comes_by_nothing (rules.terminal prev names what label excluded j taken x reachable before matches free t is) e ts c = cc
+  comes_by_nothing (rules.return prev done label excluded key x reachable r calls completes free is) e ts c = cc
 
   pub comes_by_leaf : {prev x : Item} {taken : Taken} → Gives core text prev taken x → (span : Span) → taken ≡ leaf span →
       (ts : Trees) → Comes core text prev ts → Comes core text x (join ts (one (Leaf span.begin span.end)))
-  comes_by_leaf (live.test prev names e x reachable before holds is) span t ts c = cc
-  comes_by_leaf (live.bind prev names name e v x reachable before has is) span t ts c = cc
-  comes_by_leaf (live.terminal prev names what label excluded j taken x reachable before matches free t is) span e ts c =
+  comes_by_leaf (rules.test prev names e x reachable before holds is) span t ts c = cc
+  comes_by_leaf (rules.bind prev names name e v x reachable before has is) span t ts c = cc
+  comes_by_leaf (rules.terminal prev names what label excluded j taken x reachable before matches free t is) span e ts c =
       let same : span ≡ record { begin = prev.position; end = j } = cc in
       reached.further prev (span_of label prev.position j) j ts (one (Leaf prev.position j))
       (join ts (one (Leaf span.begin span.end))) x c
       (reached.terminal names what label excluded (span_of label prev.position j) j (one (Leaf prev.position j)) before
       matches free refl refl) is (ap (λ (s : Span). join ts (one (Leaf s.begin s.end))) same)
-  comes_by_leaf (live.return prev done label excluded key x reachable r calls completes free is) span e ts c = cc
+  comes_by_leaf (rules.return prev done label excluded key x reachable r calls completes free is) span e ts c = cc
 
   -- the tree is one of the instance, over the key's part of the text
   abbrev pub HasKeyTree : NodeKey → Tree → Type 0
@@ -67,10 +68,10 @@ module _ (core : List Nonterminal) (text : List ℕ) where
 
   pub comes_by_tree : {prev x : Item} {taken : Taken} → Gives core text prev taken x → (key : NodeKey) → taken ≡ tree key →
       (ts : Trees) (t : Tree) → HasKeyTree key t → Comes core text prev ts → Comes core text x (join ts (one t))
-  comes_by_tree (live.test prev names e x reachable before holds is) key e1 ts t h c = cc
-  comes_by_tree (live.bind prev names name e v x reachable before has is) key e1 ts t h c = cc
-  comes_by_tree (live.terminal prev names what label excluded j taken x reachable before matches free e2 is) key e ts t h c = cc
-  comes_by_tree (live.return prev done label excluded own x reachable r calls completes free is) key e ts t h c =
+  comes_by_tree (rules.test prev names e x reachable before holds is) key e1 ts t h c = cc
+  comes_by_tree (rules.bind prev names name e v x reachable before has is) key e1 ts t h c = cc
+  comes_by_tree (rules.terminal prev names what label excluded j taken x reachable before matches free e2 is) key e ts t h c = cc
+  comes_by_tree (rules.return prev done label excluded own x reachable r calls completes free is) key e ts t h c =
       let same : key ≡ own = cc in
       let end = own.end in
       reached.further prev (span_of label prev.position end) end ts (one t) (join ts (one t)) x c

@@ -8,9 +8,11 @@ use Rattle.ig_item.specs.Items.{Item, past, span_of, StandsBefore, Calls}
 use Rattle.ig_item.specs.Step.{Step, Test, Bind, Term, Call}
 use Rattle.ig_item.specs.declared.core_grammar.Nonterminal.{Nonterminal}
 use Rattle.ig_item.specs.declared.items.Instance.{Instance}
-use Rattle.ig_forest.specs.Live as live
-use Rattle.ig_forest.specs.Live.{NodeKey, Taken, Gives}
+use Rattle.ig_item.specs.Gives as rules
+use Rattle.ig_item.specs.Gives.{NodeKey, Taken}
+use Rattle.ig_forest.specs.Live.{Gives}
 use Rattle.ig_forest.proofs.Given.{Given}
+use Rattle.ig_forest.proofs.Lists.{same_listed}
 use Rattle.ig_forest.proofs.Steps.{given_dot}
 
 -- the same alternative of the same instance, at the same dot
@@ -21,9 +23,9 @@ pub record Alike (x y : Item) : Type 0 where
 
 -- what forms steps and what they take have
 abbrev pub form : Taken → ℕ
-form live.nothing = 0
-form (live.leaf span) = 1
-form (live.tree key) = 2
+form rules.nothing = 0
+form (rules.leaf span) = 1
+form (rules.tree key) = 2
 
 abbrev step_form : Step → ℕ
 step_form (Test e) = 0
@@ -33,9 +35,9 @@ step_form (Call callee arguments label excluded) = 2
 
 -- to where the item comes that takes this
 abbrev pub end_of : Item → Taken → ℕ
-end_of prev live.nothing = prev.position
-end_of prev (live.leaf span) = span.end
-end_of prev (live.tree key) = key.end
+end_of prev rules.nothing = prev.position
+end_of prev (rules.leaf span) = span.end
+end_of prev (rules.tree key) = key.end
 
 abbrev listed : Option Value → List Value
 listed None = []
@@ -58,9 +60,9 @@ module _ (core : List Nonterminal) (text : List ℕ) where
     pub is : x ≡ past prev (bound text names prev (end_of prev taken) step) (end_of prev taken)
 
   pub stepped : {prev x : Item} {taken : Taken} → Gives core text prev taken x → Stepped prev taken x
-  stepped (live.test prev names e x reachable before holds is) =
+  stepped (rules.test prev names e x reachable before holds is) =
       record { names = names; step = Test e; before = before; formed = refl; is = is }
-  stepped (live.bind prev names name e v x reachable before has is) =
+  stepped (rules.bind prev names name e v x reachable before has is) =
       record {
         names = names;
         step = Bind name e;
@@ -68,7 +70,7 @@ module _ (core : List Nonterminal) (text : List ℕ) where
         formed = refl;
         is = is ∙ ap (λ (o : Option Value). past prev (listed o) prev.position) (sym has);
       }
-  stepped (live.terminal prev names what label excluded j taken x reachable before matches free t is) =
+  stepped (rules.terminal prev names what label excluded j taken x reachable before matches free t is) =
       let ends : end_of prev taken ≡ j = ap (end_of prev) t in
       record {
         names = names;
@@ -77,7 +79,7 @@ module _ (core : List Nonterminal) (text : List ℕ) where
         formed = sym (ap form t);
         is = is ∙ ap (λ (z : ℕ). past prev (span_of label prev.position z) z) (sym ends);
       }
-  stepped (live.return prev done label excluded key x reachable r calls c free is) =
+  stepped (rules.return prev done label excluded key x reachable r calls c free is) =
       record {
         names = calls.names;
         step = Call key.instance.nonterminal calls.arguments label excluded;
@@ -136,25 +138,16 @@ module _ (core : List Nonterminal) (text : List ℕ) where
         s.is ∙ (λ i. past p (bound text (one.0 i) p end (one.1 i)) end) ∙ sym t.is
 
     -- an item calls one instance
-    called : {p x : Item} {taken : Taken} → Gives core text p taken x → (key : NodeKey) → taken ≡ live.tree key →
+    called : {p x : Item} {taken : Taken} → Gives core text p taken x → (key : NodeKey) → taken ≡ rules.tree key →
         (label : Option (List ℕ)) × ((excluded : List _) × Calls core text p key.instance label excluded)
-    called (live.test prev names e x reachable before holds is) key h = cc
-    called (live.bind prev names name e v x reachable before has is) key h = cc
-    called (live.terminal prev names what label excluded j taken x reachable before matches free t is) key h = cc
-    called (live.return prev done label excluded own x reachable r calls c free is) key h =
+    called (rules.test prev names e x reachable before holds is) key h = cc
+    called (rules.bind prev names name e v x reachable before has is) key h = cc
+    called (rules.terminal prev names what label excluded j taken x reachable before matches free t is) key h = cc
+    called (rules.return prev done label excluded own x reachable r calls c free is) key h =
         let same : own ≡ key = cc in
         (label, (excluded, subst (λ (k : NodeKey). Calls core text prev k.instance label excluded) same calls))
 
-    pub same_values : (us vs : List Value) → map Some us ≡ map Some vs → us ≡ vs
-    same_values [] [] e = refl
-    same_values [] (v ∷ vs) e = cc
-    same_values (u ∷ us) [] e = cc
-    same_values (u ∷ us) (v ∷ vs) e =
-        let first : u ≡ v = cc in
-        let others : map Some us ≡ map Some vs = cc in
-        let rest = same_values us vs others in λ i. first i ∷ rest i
-
-    pub one_callee : {p x y : Item} (k m : NodeKey) → Gives core text p (live.tree k) x → Gives core text p (live.tree m) y →
+    pub one_callee : {p x y : Item} (k m : NodeKey) → Gives core text p (rules.tree k) x → Gives core text p (rules.tree m) y →
         k.instance ≡ m.instance
     one_callee {p = p} k m g h =
         let s = called g k refl in
@@ -166,6 +159,6 @@ module _ (core : List Nonterminal) (text : List ℕ) where
         let arguments : a.arguments ≡ b.arguments = cc in
         let both : map (value_of text a.names p.env p.position) a.arguments ≡ map (value_of text b.names p.env p.position) b.arguments =
         (λ i. map (value_of text (one.0 i) p.env p.position) (arguments i)) in
-        let values = same_values k.instance.values m.instance.values (sym a.values ∙ both ∙ b.values) in
+        let values = same_listed k.instance.values m.instance.values (sym a.values ∙ both ∙ b.values) in
         let start = a.here ∙ sym b.here in
         λ i. record { nonterminal = callee i; values = values i; start = start i }

@@ -10,7 +10,7 @@ use Rattle.std.proofs.lemmas.Cmp.{nat_cmp_total, int_cmp_total, lists_total, on_
 use Rattle.ig_expr.specs.declared.value.Value.{Value}
 use Rattle.ig_expr.specs.declared.value.Value.TheVariants.{Int, Bool as Truth, Span}
 use Rattle.ig_item.specs.Items.{Item}
-use Rattle.ig_forest.specs.Live.{NodeKey}
+use Rattle.ig_item.specs.Gives.{NodeKey}
 use Rattle.ig_expr.specs.ValueOrder.{value_cmp}
 use Rattle.ig_forest.specs.Orders.{item_cmp, node_cmp, choice_cmp, entry_cmp, previous}
 use Rattle.ig_forest.specs.declared.entry.Choice.{Choice}

@@ -13,8 +13,9 @@ use Rattle.ig_item.specs.Items.{Item, past}
 use Rattle.ig_item.specs.declared.core_grammar.Nonterminal.{Nonterminal}
 use Rattle.ig_item.specs.Laws.{ItemsAreInText}
 use Rattle.ig_forest.specs.Forest.{Forest, ItemNode, IsForest, IsPrevious, EntryFits, PreviousIsBefore, PreviousAreBefore, item_of}
-use Rattle.ig_forest.specs.Live as live
-use Rattle.ig_forest.specs.Live.{Taken, Gives}
+use Rattle.ig_item.specs.Gives as rules
+use Rattle.ig_item.specs.Gives.{Taken}
+use Rattle.ig_forest.specs.Live.{Gives}
 use Rattle.ig_expr.specs.ValueOrder.{values_cmp}
 use Rattle.ig_forest.specs.Orders.{item_cmp, entry_cmp}
 use Rattle.ig_forest.specs.Reduced as reduced
@@ -56,14 +57,14 @@ below_past x bound j h =
 
 module _ (in_text : ItemsAreInText) (core : List Nonterminal) (text : List ℕ) where
   below_given : {prev x : Item} {taken : Taken} → Gives core text prev taken x → item_cmp prev x ≡ Less
-  below_given (live.test prev names e x reachable before holds is) =
+  below_given (rules.test prev names e x reachable before holds is) =
       subst (λ (y : Item). item_cmp prev y ≡ Less) (sym is) (below_past prev [] prev.position (omega arith))
-  below_given (live.bind prev names name e v x reachable before has is) =
+  below_given (rules.bind prev names name e v x reachable before has is) =
       subst (λ (y : Item). item_cmp prev y ≡ Less) (sym is) (below_past prev (v ∷ []) prev.position (omega arith))
-  below_given (live.terminal prev names what label excluded j taken x reachable before matches free t is) =
+  below_given (rules.terminal prev names what label excluded j taken x reachable before matches free t is) =
       subst (λ (y : Item). item_cmp prev y ≡ Less) (sym is)
       (below_past prev _ j (onward text what prev.position j matches))
-  below_given (live.return prev done label excluded key x reachable r calls c free is) =
+  below_given (rules.return prev done label excluded key x reachable r calls c free is) =
       let h = (in_text core text done r).onward in
       let start : done.instance.start ≡ key.instance.start = ap (λ i. i.start) c.instance in
       subst (λ (y : Item). item_cmp prev y ≡ Less) (sym is)
@@ -86,13 +87,13 @@ module _ (in_text : ItemsAreInText) (core : List Nonterminal) (text : List ℕ) 
     fits x it e is (reduced.begin _ dot e_is) =
         subst (λ (z : Entry). EntryFits f it.dot z) (sym e_is) (ap (λ (y : Item). y.dot) is ∙ dot)
     fits x it e is (reduced.pass k prev _ at gives e_is) =
-        subst (λ (z : Entry). EntryFits f it.dot z) (sym e_is) (previous_fits x it k prev live.nothing is at gives)
+        subst (λ (z : Entry). EntryFits f it.dot z) (sym e_is) (previous_fits x it k prev rules.nothing is at gives)
     fits x it e is (reduced.take_leaf k prev span _ at gives e_is) =
-        subst (λ (z : Entry). EntryFits f it.dot z) (sym e_is) (previous_fits x it k prev (live.leaf span) is at gives)
+        subst (λ (z : Entry). EntryFits f it.dot z) (sym e_is) (previous_fits x it k prev (rules.leaf span) is at gives)
     fits x it e is (reduced.take_node k v prev key _ at at_v gives e_is) =
         let within = slice_get_within r.keys v key at_v in
         subst (λ (z : Entry). EntryFits f it.dot z) (sym e_is) (
-          previous_fits x it k prev (live.tree key) is at gives,
+          previous_fits x it k prev (rules.tree key) is at gives,
           omega (arith, within, same_length r.nodes),
         )
 
@@ -148,11 +149,11 @@ module _ (in_text : ItemsAreInText) (core : List Nonterminal) (text : List ℕ) 
         PreviousIsBefore k e
     before k x e at (reduced.begin _ d e_is) = subst (PreviousIsBefore k) (sym e_is) tt
     before k x e at (reduced.pass m prev _ at_prev gives e_is) =
-        subst (PreviousIsBefore k) (sym e_is) (comes_before k m x prev live.nothing at at_prev gives)
+        subst (PreviousIsBefore k) (sym e_is) (comes_before k m x prev rules.nothing at at_prev gives)
     before k x e at (reduced.take_leaf m prev span _ at_prev gives e_is) =
-        subst (PreviousIsBefore k) (sym e_is) (comes_before k m x prev (live.leaf span) at at_prev gives)
+        subst (PreviousIsBefore k) (sym e_is) (comes_before k m x prev (rules.leaf span) at at_prev gives)
     before k x e at (reduced.take_node m v prev key _ at_prev at_v gives e_is) =
-        subst (PreviousIsBefore k) (sym e_is) (comes_before k m x prev (live.tree key) at at_prev gives)
+        subst (PreviousIsBefore k) (sym e_is) (comes_before k m x prev (rules.tree key) at at_prev gives)
 
     pub onward_items : PreviousAreBefore f
     onward_items k it e at among =

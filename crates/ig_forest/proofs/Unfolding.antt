@@ -17,8 +17,10 @@ use Rattle.ig_item.specs.declared.items.Instance.{Instance}
 use Rattle.ig_forest.specs.Forest.{Forest}
 use Rattle.ig_forest.specs.Unfold as ways
 use Rattle.ig_forest.specs.Unfold.{OfNode, OfItem, noted}
+use Rattle.ig_item.specs.Gives as rules
 use Rattle.ig_forest.specs.Live as live
-use Rattle.ig_forest.specs.Live.{NodeKey, Taken, nothing, leaf, tree, Gives, IsLive}
+use Rattle.ig_item.specs.Gives.{NodeKey, Taken, nothing, leaf, tree}
+use Rattle.ig_forest.specs.Live.{Gives, IsLive}
 use Rattle.ig_forest.specs.Reduced as reduced
 use Rattle.ig_forest.specs.Reduced.{IsReduced, IsNode, IsItemNode, root_key}
 use Rattle.ig_forest.specs.Laws.{UnfoldsToCoreTrees}
@@ -184,7 +186,7 @@ module _ (given : Given) (core : List Nonterminal) (text : List ℕ) (f : Forest
       }
 
   -- a complete item of the forest, whose trees are those of one of its node's
-  abbrev pub chosen : (x : Item) (key : NodeKey) (d : ℕ) (ts : Trees) (t : Tree) (c : live.Completes core x key) →
+  abbrev pub chosen : (x : Item) (key : NodeKey) (d : ℕ) (ts : Trees) (t : Tree) (c : rules.Completes core x key) →
       t ≡ Node c.complete.alternative.tag key.instance.start key.end ts → Unfolded x d ts → (v : ℕ) →
       slice_get r.keys v ≡ Some key → (cs : List ℕ) × OfNode f v (suc d) cs t
   chosen x key d ts t c e u v has =
@@ -207,7 +209,7 @@ module _ (given : Given) (core : List Nonterminal) (text : List ℕ) (f : Forest
 
   -- the reachable complete items of the node are live
   abbrev pub Ended : NodeKey → Type 0
-  Ended key = (done : Item) → Reachable core text done → live.Completes core done key → IsLive core text done
+  Ended key = (done : Item) → Reachable core text done → rules.Completes core done key → IsLive core text done
 
   -- to that depth, nodes unfold to the trees of their instances
   abbrev pub NodesUnfold : ℕ → Type 0
@@ -257,10 +259,10 @@ module _ (given : Given) (core : List Nonterminal) (text : List ℕ) (f : Forest
         let c = (given.instance_trees core text callee j t).0 has in
         let done_reachable =
         (given.items_by_trees core text c.item).1 (begun_of callee c.item begun c.of_instance c.complete, c.trees, c.comes) in
-        let completes : live.Completes core c.item key =
+        let completes : rules.Completes core c.item key =
         record { complete = c.complete; instance = c.of_instance; end = c.to } in
         let gives : Gives core text it (tree key) x =
-        live.return it c.item label excluded key x reachable done_reachable calls completes free is in
+        rules.return it c.item label excluded key x reachable done_reachable calls completes free is in
         let ended : Ended key = λ done reach completes. live.child x it done key l gives reach completes in
         let among =
         (r.are_nodes.members key).1
@@ -275,7 +277,7 @@ module _ (given : Given) (core : List Nonterminal) (text : List ℕ) (f : Forest
     item_unfolds (reached.further it _ j ts us vs x comes (reached.test names e _ before holds here) is joins) l low =
         let reachable = stands_reachable it x ts l (ap (λ (y : Item). y.instance) is) (ap (λ (y : Item). y.alternative) is) comes in
         let gives : Gives core text it nothing x =
-        live.test it names e x reachable before holds (is ∙ ap (past it []) here) in
+        rules.test it names e x reachable before holds (is ∙ ap (past it []) here) in
         let same : vs ≡ ts = joins ∙ join-none ts in
         let low_ts : greatest_height ts ≤ d = subst (λ (zs : Trees). greatest_height zs ≤ d) same low in
         let u = item_unfolds comes (live.previous x it nothing l gives) low_ts in
@@ -283,7 +285,7 @@ module _ (given : Given) (core : List Nonterminal) (text : List ℕ) (f : Forest
     item_unfolds (reached.further it _ j ts us vs x comes (reached.bind names name e v _ before has here) is joins) l low =
         let reachable = stands_reachable it x ts l (ap (λ (y : Item). y.instance) is) (ap (λ (y : Item). y.alternative) is) comes in
         let gives : Gives core text it nothing x =
-        live.bind it names name e v x reachable before has (is ∙ ap (past it (v ∷ [])) here) in
+        rules.bind it names name e v x reachable before has (is ∙ ap (past it (v ∷ [])) here) in
         let same : vs ≡ ts = joins ∙ join-none ts in
         let low_ts : greatest_height ts ≤ d = subst (λ (zs : Trees). greatest_height zs ≤ d) same low in
         let u = item_unfolds comes (live.previous x it nothing l gives) low_ts in
@@ -293,7 +295,7 @@ module _ (given : Given) (core : List Nonterminal) (text : List ℕ) (f : Forest
         let span : Span = record { begin = it.position; end = j } in
         let reachable = stands_reachable it x ts l (ap (λ (y : Item). y.instance) is) (ap (λ (y : Item). y.alternative) is) comes in
         let gives : Gives core text it (leaf span) x =
-        live.terminal it names what label excluded j (leaf span) x reachable before matches free refl
+        rules.terminal it names what label excluded j (leaf span) x reachable before matches free refl
         (is ∙ ap (λ (b : List Value). past it b j) binds) in
         let same : vs ≡ join ts (one (Leaf it.position j)) = joins ∙ ap (join ts) leaves in
         let lows = parted_height ts (one (Leaf it.position j)) d (subst (λ (zs : Trees). greatest_height zs ≤ d) same low) in
@@ -320,7 +322,7 @@ module _ (given : Given) (core : List Nonterminal) (text : List ℕ) (f : Forest
       let reachable =
       (given.items_by_trees core text c.item).1
       (begun_of key.instance c.item begun c.of_instance c.complete, c.trees, c.comes) in
-      let completes : live.Completes core c.item key =
+      let completes : rules.Completes core c.item key =
       record { complete = c.complete; instance = c.of_instance; end = c.to } in
       let low_ts : greatest_height c.trees ≤ d = omega (arith, ap height c.tree) in
       let u =

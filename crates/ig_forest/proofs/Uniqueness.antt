@@ -5,7 +5,8 @@ use Rattle.ig_text.specs.declared.text.Span.{Span}
 use Rattle.ig_item.specs.Items.{Item}
 use Rattle.ig_item.specs.declared.core_grammar.Nonterminal.{Nonterminal}
 use Rattle.ig_forest.specs.Forest.{Node, ItemNode, item_of}
-use Rattle.ig_forest.specs.Live.{NodeKey, Completes, IsLive}
+use Rattle.ig_item.specs.Gives.{NodeKey, Completes}
+use Rattle.ig_forest.specs.Live.{IsLive}
 use Rattle.ig_forest.specs.Orders.{item_cmp, node_cmp, choice_cmp, entry_cmp}
 use Rattle.ig_forest.specs.Reduced.{Each, IsNamed, AreNodes, IsNode, IsItemNode, IsChoice, IsEntry, root_key}
 use Rattle.ig_forest.specs.Laws.{OnlyOne, ReducedHasNoKeyTwice, RootIsThere}
@@ -76,7 +77,7 @@ only_one core text f g p q =
     q.item_nodes) in
     λ i. record { root = root i; nodes = nodes i; items = item_nodes i }
 
-same_key : (x y : NodeKey) → x.instance.nonterminal ≡ y.instance.nonterminal → x.instance.values ≡ y.instance.values →
+pub same_key : (x y : NodeKey) → x.instance.nonterminal ≡ y.instance.nonterminal → x.instance.values ≡ y.instance.values →
     x.instance.start ≡ y.instance.start → x.end ≡ y.end → x ≡ y
 same_key x y n v s e =
     λ i. record { instance = record { nonterminal = n i; values = v i; start = s i }; end = e i }

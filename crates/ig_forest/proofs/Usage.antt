@@ -10,8 +10,10 @@ use Rattle.ig_forest.specs.Forest as forest
 use Rattle.ig_forest.specs.Forest.{Forest, ItemNode}
 use Rattle.ig_forest.specs.Unfold as ways
 use Rattle.ig_forest.specs.Unfold.{OfNode, OfItem, Part, TheNode, TheAlternative, TheEntry, node_uses, item_uses, noted, IsUsed, HasNoDeadPart, IsTrim}
+use Rattle.ig_item.specs.Gives as rules
 use Rattle.ig_forest.specs.Live as live
-use Rattle.ig_forest.specs.Live.{NodeKey, Taken, Gives, IsLive}
+use Rattle.ig_item.specs.Gives.{NodeKey, Taken}
+use Rattle.ig_forest.specs.Live.{Gives, IsLive}
 use Rattle.ig_forest.specs.Orders.{item_cmp, node_cmp}
 use Rattle.ig_forest.specs.Reduced as reduced
 use Rattle.ig_forest.specs.Reduced.{IsReduced, IsEntry, root_key}
@@ -197,11 +199,11 @@ module _ (core : List Nonterminal) (text : List ℕ) where
   -- a rule gives an item from one that stands before a step
   before_step : {prev x : Item} {taken : Taken} → Gives core text prev taken x →
       (step : Step) × ((names : List (List ℕ)) × StandsBefore core prev names step)
-  before_step (live.test prev names e x reachable before holds is) = (Test e, (names, before))
-  before_step (live.bind prev names name e v x reachable before has is) = (Bind name e, (names, before))
-  before_step (live.terminal prev names what label excluded j taken x reachable before matches free t is) =
+  before_step (rules.test prev names e x reachable before holds is) = (Test e, (names, before))
+  before_step (rules.bind prev names name e v x reachable before has is) = (Bind name e, (names, before))
+  before_step (rules.terminal prev names what label excluded j taken x reachable before matches free t is) =
       (Term what label excluded, (names, before))
-  before_step (live.return prev done label excluded key x reachable reach calls c free is) =
+  before_step (rules.return prev done label excluded key x reachable reach calls c free is) =
       (Call key.instance.nonterminal calls.arguments label excluded, (calls.names, calls.before))
 
 module _ (given : Given) (core : List Nonterminal) (text : List ℕ) (f : Forest) (r : IsReduced core text f) where
@@ -228,13 +230,13 @@ module _ (given : Given) (core : List Nonterminal) (text : List ℕ) (f : Forest
     of_node : OfNode f v depth cursor tree
 
   -- the tree of a complete item, over what it unfolds to
-  abbrev completed : (x : Item) (key : NodeKey) (d : ℕ) (ts : Trees) (c : live.Completes core x key) →
+  abbrev completed : (x : Item) (key : NodeKey) (d : ℕ) (ts : Trees) (c : rules.Completes core x key) →
       Unfolded given core text f r x d ts → (v : ℕ) → slice_get r.keys v ≡ Some key →
       (cs : List ℕ) × OfNode f v (suc d) cs (Node c.complete.alternative.tag key.instance.start key.end ts)
   completed x key d ts c u v at =
       chosen given core text f r x key d ts (Node c.complete.alternative.tag key.instance.start key.end ts) c refl u v at
 
-  some_tree : (x : Item) (key : NodeKey) → IsLive core text x → live.Completes core x key → (v : ℕ) →
+  some_tree : (x : Item) (key : NodeKey) → IsLive core text x → rules.Completes core x key → (v : ℕ) →
       slice_get r.keys v ≡ Some key → SomeTree v
   some_tree x key l c v at =
       let s = live_unfolds x l in
@@ -248,14 +250,14 @@ module _ (given : Given) (core : List Nonterminal) (text : List ℕ) (f : Forest
     unfolded : Unfolded given core text f r x depth trees
     keeps : (part : Part) → uses part → item_uses f unfolded.unfolds part
 
-  key_number : (key : NodeKey) (x : Item) → IsLive core text x → live.Completes core x key →
+  key_number : (key : NodeKey) (x : Item) → IsLive core text x → rules.Completes core x key →
       (v : ℕ) × (slice_get r.keys v ≡ Some key)
   key_number key x l c =
       at_from_contains r.keys key ((r.are_nodes.members key).1 (x, (r.are_items.members x).1 l, c))
 
   -- behind a previous item and a tree, with all parts of both
   behind_both : (prev x : Item) (key : NodeKey) (d e v : ℕ) (cs : List ℕ) (ts : Trees) (t : Tree) → IsLive core text x →
-      Gives core text prev (live.tree key) x → slice_get r.keys v ≡ Some key → (u : Unfolded given core text f r prev d ts) →
+      Gives core text prev (rules.tree key) x → slice_get r.keys v ≡ Some key → (u : Unfolded given core text f r prev d ts) →
       (o : OfNode f v e cs t) → Through x (λ part. item_uses f u.unfolds part ⊎ node_uses f o part)
   behind_both prev x key d e v cs ts t l gives at u o =
       let i = item_beside f e u.unfolds in
@@ -273,38 +275,38 @@ module _ (given : Given) (core : List Nonterminal) (text : List ℕ) (f : Forest
   record Returned (key : NodeKey) : Type 0 where
     done : Item
     alive : IsLive core text done
-    completes : live.Completes core done key
+    completes : rules.Completes core done key
 
   returned : {prev x : Item} {taken : Taken} → Gives core text prev taken x → IsLive core text x → (key : NodeKey) →
-      taken ≡ live.tree key → Returned key
-  returned (live.test prev names e x reachable before holds is) l key h = cc
-  returned (live.bind prev names name e v x reachable before has is) l key h = cc
-  returned (live.terminal prev names what label excluded j taken x reachable before matches free t is) l key h = cc
-  returned (live.return prev done label excluded own x reachable reach calls c free is) l key h =
+      taken ≡ rules.tree key → Returned key
+  returned (rules.test prev names e x reachable before holds is) l key h = cc
+  returned (rules.bind prev names name e v x reachable before has is) l key h = cc
+  returned (rules.terminal prev names what label excluded j taken x reachable before matches free t is) l key h = cc
+  returned (rules.return prev done label excluded own x reachable reach calls c free is) l key h =
       let same : own ≡ key = cc in
       record {
         done = done;
-        alive = live.child x prev done own l (live.return prev done label excluded own x reachable reach calls c free is) reach c;
-        completes = subst (λ (k : NodeKey). live.Completes core done k) same c;
+        alive = live.child x prev done own l (rules.return prev done label excluded own x reachable reach calls c free is) reach c;
+        completes = subst (λ (k : NodeKey). rules.Completes core done k) same c;
       }
 
   through : (prev x : Item) (taken : Taken) → IsLive core text x → Gives core text prev taken x → (d : ℕ) (ts : Trees)
       (u : Unfolded given core text f r prev d ts) → Through x (item_uses f u.unfolds)
-  through prev x live.nothing l gives d ts u =
+  through prev x rules.nothing l gives d ts u =
       record {
         depth = d;
         trees = ts;
         unfolded = by_pass given core text f r prev x d ts u l gives;
         keeps = λ part h. inr h;
       }
-  through prev x (live.leaf span) l gives d ts u =
+  through prev x (rules.leaf span) l gives d ts u =
       record {
         depth = d;
         trees = join ts (one (Leaf span.begin span.end));
         unfolded = by_leaf given core text f r prev x d ts span u l gives;
         keeps = λ part h. inr h;
       }
-  through prev x (live.tree key) l gives d ts u =
+  through prev x (rules.tree key) l gives d ts u =
       let m = returned gives l key refl in
       let v = key_number key m.done m.alive m.completes in
       let s = some_tree m.done key m.alive m.completes v.0 v.1 in
@@ -315,7 +317,7 @@ module _ (given : Given) (core : List Nonterminal) (text : List ℕ) (f : Forest
   item_context : {x : Item} → IsLive core text x → (d : ℕ) (ts : Trees) (u : Unfolded given core text f r x d ts) →
       InTree f (item_uses f u.unfolds)
   item_context (live.root x reachable root end) d ts u =
-      let c : live.Completes core x (root_key text) =
+      let c : rules.Completes core x (root_key text) =
       record { complete = root.complete; instance = root.of_root; end = end } in
       let n = completed x (root_key text) d ts c u f.root r.root in
       weaken f {many = node_uses f n.1} (λ part h. inr (inr h)) (itself f n.1)
@@ -325,7 +327,7 @@ module _ (given : Given) (core : List Nonterminal) (text : List ℕ) (f : Forest
   item_context (live.child x prev done key l gives reachable c) d ts u =
       let v = key_number key done (live.child x prev done key l gives reachable c) c in
       let n = completed done key d ts c u v.0 v.1 in
-      let s = live_unfolds prev (live.previous x prev (live.tree key) l gives) in
+      let s = live_unfolds prev (live.previous x prev (rules.tree key) l gives) in
       let b = behind_both prev x key s.depth (suc d) v.0 n.0 s.trees _ l gives v.1 s.unfolded n.1 in
       weaken f {many = item_uses f b.unfolded.unfolds} (λ part h. b.keeps part (inr (inr (inr h))))
       (item_context l b.depth b.trees b.unfolded)
@@ -340,7 +342,7 @@ module _ (given : Given) (core : List Nonterminal) (text : List ℕ) (f : Forest
       omega (arith, within, c.last, ap (λ (a : CoreAlt). length a.steps) same.alternatives)
 
   -- whatever a node unfolds to, some tree of the root uses its parts
-  node_context : (x : Item) → IsLive core text x → (key : NodeKey) → live.Completes core x key → (v : ℕ) →
+  node_context : (x : Item) → IsLive core text x → (key : NodeKey) → rules.Completes core x key → (v : ℕ) →
       slice_get r.keys v ≡ Some key → InTrees f v
   node_context _ (live.root x reachable root end) key c v at =
       let same : root_key text ≡ key =
@@ -352,9 +354,9 @@ module _ (given : Given) (core : List Nonterminal) (text : List ℕ) (f : Forest
   node_context _ (live.child x prev done own l gives reachable other) key c v at =
       let same : own ≡ key =
       λ i. record { instance = (sym other.instance ∙ c.instance) i; end = (sym other.end ∙ c.end) i } in
-      let gives_key = subst (λ (k : NodeKey). Gives core text prev (live.tree k) x) same gives in
+      let gives_key = subst (λ (k : NodeKey). Gives core text prev (rules.tree k) x) same gives in
       λ d cs t o.
-      let s = live_unfolds prev (live.previous x prev (live.tree own) l gives) in
+      let s = live_unfolds prev (live.previous x prev (rules.tree own) l gives) in
       let b = behind_both prev x key s.depth d v cs s.trees t l gives_key at s.unfolded o in
       weaken f {many = item_uses f b.unfolded.unfolds} (λ part h. b.keeps part (inr h))
       (item_context l b.depth b.trees b.unfolded)

@@ -1,18 +1,10 @@
 -- The forest of the stored nodes and item nodes, and what the code knows of their parts.
-use Rattle.std.specs.Prelude.{◌≡◌, ◌↔◌, ℕ, ◌<◌, List, [], map, length, Contains, Some, slice_get, slice_index_or}
-use Rattle.std.specs.List.Sorted.{IsStrictlySortedBy}
-use Rattle.ig_text.specs.declared.tag.Tag.{Tag}
+use Rattle.std.specs.Prelude.{ℕ, ◌<◌, List, [], map, length, Contains, slice_index_or}
 use Rattle.ig_expr.specs.declared.value.Value.{Value}
-use Rattle.ig_item.specs.declared.core_grammar.Nonterminal.{Nonterminal}
 use Rattle.ig_forest.specs.Forest as parts
 use Rattle.ig_forest.specs.Unfold.{IsTrim}
-use Rattle.ig_forest.specs.Orders.{choice_cmp}
-use Rattle.ig_forest.specs.CodeTables.{list_at, node_of}
-use Rattle.ig_forest.specs.CodeSteps.{StandsLast}
-use Rattle.ig_forest.specs.declared.entry.Choice.{Choice}
-use Rattle.ig_forest.specs.declared.rows.ItemRow.{ItemRow}
-use Rattle.ig_forest.specs.declared.rows.NodeRow.{NodeRow}
-use Rattle.ig_forest.specs.CodeNodeParts.{StoredNode}
+use Rattle.ig_forest.specs.CodeTables.{list_at}
+use Rattle.ig_forest.specs.CodeNodeRows.{StoredNode}
 use Rattle.ig_forest.specs.CodeParts.{StoredItem}
 
 abbrev pub name_at : List (List ℕ) → ℕ → List ℕ
@@ -45,22 +37,6 @@ item_node_by names lists it =
 abbrev pub forest_by : ℕ → List (List ℕ) → List (List Value) → List StoredNode → List StoredItem → parts.Forest
 forest_by root names lists nodes items =
     record { root = root; nodes = map (node_by names lists) nodes; items = map (item_node_by names lists) items }
-
--- the row is of a complete item, with the tag of its alternative
-pub record IsTagged (core : List Nonterminal) (row : ItemRow) (tag : Tag) : Type 0 where
-  pub last : StandsLast core row
-  pub tagged : tag ≡ last.alternative.tag
-
--- the choice is a complete item of the node, by number, with the tag of its alternative
-pub record IsChoiceRow (core : List Nonterminal) (rows : List ItemRow) (node : NodeRow) (choice : Choice) : Type 0 where
-  pub row : ItemRow
-  pub numbered : slice_get rows choice.item ≡ Some row
-  pub node_is : node_of row ≡ node
-  pub tag : IsTagged core row choice.tag
-
-pub record HasChoices (core : List Nonterminal) (rows : List ItemRow) (node : NodeRow) (choices : List Choice) : Type 0 where
-  pub members : (choice : Choice) → Contains choices choice ↔ IsChoiceRow core rows node choice
-  pub order : IsStrictlySortedBy choice_cmp choices
 
 -- the forest is trim, and what the stored nodes and items name is there
 pub record FitsForest (root : ℕ) (names : List (List ℕ)) (lists : List (List Value)) (nodes : List StoredNode)

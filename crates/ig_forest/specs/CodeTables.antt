@@ -5,9 +5,8 @@ use Rattle.std.specs.Cmp.Lexicographic.{slice_cmp}
 use Rattle.std.specs.Ordering.{nat_cmp, ordering_then}
 use Rattle.std.specs.declared.cmp.Ordering.{Ordering}
 use Rattle.ig_expr.specs.declared.value.Value.{Value}
-use Rattle.ig_item.specs.Items.{Item, IsComplete}
-use Rattle.ig_item.specs.declared.core_grammar.Nonterminal.{Nonterminal}
-use Rattle.ig_forest.specs.Live.{NodeKey}
+use Rattle.ig_item.specs.Items.{Item}
+use Rattle.ig_item.specs.Gives.{NodeKey}
 use Rattle.ig_expr.specs.ValueOrder.{value_cmp}
 use Rattle.ig_forest.specs.declared.rows.ItemRow.{ItemRow}
 use Rattle.ig_forest.specs.declared.rows.NodeRow.{NodeRow}
@@ -64,11 +63,10 @@ node_row_cmp x y =
     (ordering_then (nat_cmp x.end y.end)
     (ordering_then (nat_cmp x.nonterminal y.nonterminal) (nat_cmp x.values y.values)))
 
--- the lists that the row names are there, and its dot is a number of its type
+-- the lists that the row names are there
 pub record RowFits (lists : List (List Value)) (row : ItemRow) : Type 0 where
   pub values : row.values < length lists
   pub env : row.env < length lists
-  pub dot : row.dot < 4294967296
 
 -- the rows are those of the items with P, each once, in order
 pub record AreRows (P : Item → Type 0) (lists : List (List Value)) (rows : List ItemRow) : Type 0 where
@@ -80,14 +78,3 @@ pub record AreRows (P : Item → Type 0) (lists : List (List Value)) (rows : Lis
 -- the node of an item, once it is complete
 abbrev pub node_of : ItemRow → NodeRow
 node_of row = record { start = row.start; end = row.position; nonterminal = row.nonterminal; values = row.values }
-
--- the row is of a complete item of that node
-pub record IsDone (core : List Nonterminal) (lists : List (List Value)) (node : NodeRow) (row : ItemRow) : Type 0 where
-  pub complete : IsComplete core (item_by lists row)
-  pub node_is : node_of row ≡ node
-
--- the nodes are those of the complete items among these, each once, in order
-pub record AreNodeRows (core : List Nonterminal) (lists : List (List Value)) (rows : List ItemRow) (nodes : List NodeRow) :
-    Type 0 where
-  pub members : (node : NodeRow) → Contains nodes node ↔ ((row : ItemRow) × Contains rows row × IsDone core lists node row)
-  pub order : IsStrictlySortedBy node_row_cmp nodes

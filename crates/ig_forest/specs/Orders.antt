@@ -4,7 +4,7 @@ use Rattle.std.specs.Ordering.{nat_cmp, ordering_then}
 use Rattle.std.specs.declared.cmp.Ordering.{Ordering}
 use Rattle.ig_expr.specs.ValueOrder.{values_cmp}
 use Rattle.ig_item.specs.Items.{Item}
-use Rattle.ig_forest.specs.Live.{NodeKey}
+use Rattle.ig_item.specs.Gives.{NodeKey}
 use Rattle.ig_forest.specs.declared.entry.Choice.{Choice}
 use Rattle.ig_forest.specs.declared.entry.Entry.{Entry}
 use Rattle.ig_forest.specs.declared.entry.Entry.TheVariants.{Begin, Pass, Take}

@@ -5,7 +5,8 @@ use Rattle.ig_text.specs.declared.text.Span.{Span}
 use Rattle.ig_item.specs.Items.{Item, root_instance}
 use Rattle.ig_item.specs.declared.core_grammar.Nonterminal.{Nonterminal}
 use Rattle.ig_forest.specs.Forest.{Forest, Node, ItemNode, item_of}
-use Rattle.ig_forest.specs.Live.{NodeKey, nothing, leaf, tree, Completes, Gives, IsLive}
+use Rattle.ig_item.specs.Gives.{NodeKey, nothing, leaf, tree, Completes}
+use Rattle.ig_forest.specs.Live.{Gives, IsLive}
 use Rattle.ig_forest.specs.Orders.{item_cmp, node_cmp, choice_cmp, entry_cmp}
 use Rattle.ig_forest.specs.declared.entry.Choice.{Choice}
 use Rattle.ig_forest.specs.declared.entry.Entry.{Entry}

@@ -1,119 +1,111 @@
-//! How the reduced forest is made from the tables of a run.
-ghost use Rattle.std.specs.Prelude.{◌≡◌, ◌≤◌, ◌<◌, ◌∷◌, [], ◌++◌, IfOk, OnOk, MatchOption, map};
-ghost use Rattle.std.specs.Prelude.{length};
-ghost use Rattle.ig_item.specs.Items.{RootIsComplete};
-ghost use Rattle.ig_forest.specs.CodeBuilder.{AreLiveNumbers, RootIsLive};
-ghost use Rattle.ig_forest.specs.CodeEntries.{AreFinal};
-ghost use Rattle.ig_forest.specs.CodeKept.{AreTaken};
-ghost use Rattle.ig_forest.specs.CodeLinks.{AreLinks, AreSources};
-ghost use Rattle.ig_forest.specs.CodeRoot.{IsRootAt};
+//! How the reduced forest is made of what was recorded.
+ghost use Rattle.std.specs.Prelude.{◌≡◌, ◌∷◌, [], ◌++◌, IfOk, OnOk, map, length};
+ghost use Rattle.ig_forest.specs.CodeFirstRoot.{IsFirstRoot};
+ghost use Rattle.ig_forest.specs.CodeLiveItems.{AreLiveItems, recording_in};
 ghost use Rattle.ig_forest.specs.Reduced.{IsReduced};
 
-use crate::alternatives::with_alternatives;
-use crate::done::nodes_of;
-use crate::entries::{Kept, number_of_node};
+use crate::environments::{lists_of, places_of};
 use crate::forest::Forest;
+use crate::found::Found;
+use crate::item_nodes::{Sources, numbers_of};
 use crate::laws::reduced_forest_is_trim;
-use crate::links::{Link, Sources, links_of};
-use crate::live::{LiveNumbers, kept_of, rows_at};
-use crate::places::{Places, places_of_nodes, places_of_targets, ranks_of};
-use crate::reach::{Graph, reached};
-use crate::root::root_of;
+use crate::live_order::order_of;
+use crate::mark::Mark;
+use crate::marks::marks_of;
+use crate::nodes::{Nodes, nodes_of};
+use crate::ways::Links;
 use ig_expr::Value;
-use ig_item::{Core, EnvironmentTable};
-use ig_text::{Copied, Word, Words};
+use ig_item::{Core, EnvironmentTable, Recorded, environments_fit};
+use ig_text::{Copied, Text, Word, Words};
 use std::alloc::{AllocError, Global};
 
-/// The reduced forest, where the root has a node.
-pub(crate) fn from_sources(alloc: Global, sources: &Sources) -> Result<Option<Forest>, AllocError>
-    requires sources { AreSources sources.now }
-    requires few { length sources.now.nodes.now < 4294967296 }
-    ensures { IfOk result (λ forest. MatchOption forest
-        (RootIsComplete sources.now.core.now sources.now.text.now → ⊥)
-        (IsReduced sources.now.core.now sources.now.text.now)) }
-{
-    let Some(root) = root_of(sources) else {
-        return Ok(None);
-    };
-    let link_table = links_of(alloc, sources)?;
-    let links = link_table.as_slice();
-    let place_table = places_of_targets(alloc, links, sources.rows.len() as u32)?;
-    let places = place_table.as_slice();
-    let numbers = live_numbers(alloc, sources, links, places, root)?;
-    let kept = numbers.kept.as_slice();
-    let live_table = rows_at(alloc, sources.rows, kept)?;
-    let live = live_table.as_slice();
-    let node_table = nodes_of(alloc, sources.core, live)?;
-    let nodes = node_table.as_slice();
-    let tables = Kept {
-        sources: *sources,
-        links,
-        live,
-        nodes,
-        places,
-        ranks: numbers.ranks.as_slice(),
-    };
-    let forest = finished(alloc, tables, kept, root)?;
-    Ok(Some(forest))
+/// The live items of what was recorded, with the tables that they are read from.
+#[derive(Clone, Copy)]
+pub(crate) struct LiveItems<'a, 'v> {
+    pub core: &'a Core,
+    pub text: &'a Text,
+    pub links: &'a Links<'a>,
+    pub found: Found<'a>,
+    pub lists: &'a [&'v [Value]],
+    pub marks: &'a [Mark],
+    /// The numbers of the live items, in the order of their rows.
+    pub order: &'a [u32],
 }
 
-/// The numbers of the live items, in order.
-fn live_numbers(
+/// The reduced forest of what was recorded, where that is the number of the first complete item of
+/// the root over the whole text.
+pub(crate) fn from_recorded(
     alloc: Global,
-    sources: &Sources,
-    links: &[Link],
-    links_at: &[u32],
+    recorded: &Recorded,
     root: u32,
-) -> Result<LiveNumbers, AllocError>
-    requires sources { AreSources sources.now }
-    requires few { length sources.now.nodes.now < 4294967296 }
-    requires links { AreLinks sources.now links.now }
-    requires root { IsRootAt sources.now root }
-    ensures numbers { IfOk result (λ l. AreLiveNumbers sources.now l.kept.items) }
-    ensures few { IfOk result (λ l. length l.kept.items ≤ length sources.now.rows.now) }
+) -> Result<Forest, AllocError>
+    requires { IsFirstRoot recorded.now root }
+    ensures { IfOk result (IsReduced recorded.now.core recorded.now.text) }
 {
-    let graph = Graph {
-        core: sources.core,
-        rows: sources.rows,
-        nodes: sources.nodes,
-        links,
+    let items = recorded.items();
+    let links = Links::of(alloc, recorded)?;
+    let mark_table = marks_of(alloc, &links, root)?;
+    let list_table = lists_of(alloc, items)?;
+    let lists = list_table.as_slice();
+    let place_table = places_of(alloc, items, lists)?;
+    let found = Found {
+        items: items.items(),
+        keys: items.instance_keys(),
+        places: place_table.as_slice(),
     };
-    let nodes_at = places_of_nodes(alloc, sources.rows, sources.nodes)?;
-    let places = Places {
-        links: links_at,
-        nodes: nodes_at.as_slice(),
+    let marks = mark_table.as_slice();
+    let order_table = order_of(alloc, &found, marks, recorded.text().len())?;
+    let live = LiveItems {
+        core: recorded.core(),
+        text: recorded.text(),
+        links: &links,
+        found,
+        lists,
+        marks,
+        order: order_table.as_slice(),
     };
-    let marks = reached(alloc, &graph, places, sources.rows.len() + root as usize)?;
-    let marked = marks.marked.as_slice();
-    let kept = kept_of(alloc, marked, sources.rows.len())?;
-    let ranks = ranks_of(alloc, marked)?;
-    Ok(LiveNumbers { kept, ranks })
+    let forest = live.forest(alloc, root)?;
+    Ok(forest)
 }
 
-/// The forest of the kept items and nodes.
-fn finished(alloc: Global, tables: Kept, kept: &[u32], root: u32) -> Result<Forest, AllocError>
-    requires tables { AreFinal tables }
-    requires kept { AreTaken tables.sources.rows.now kept.now tables.live.now }
-    requires root { IsRootAt tables.sources root }
-    requires root_live { RootIsLive tables root }
-    ensures { IfOk result
-        (IsReduced tables.entry.sources.core.now tables.entry.sources.text.now) }
-{
-    reduced_forest_is_trim();
-    let sources = tables.sources;
-    let nonterminals = sources.core.nonterminals();
-    let nodes = with_alternatives(alloc, sources.core, tables.live, tables.nodes)?;
-    let items = tables.with_entries(alloc, kept)?;
-    let names = copied_names(alloc, sources.core, nonterminals)?;
-    let lists = copied_lists(alloc, sources.lists)?;
-    let root = number_of_node(tables.nodes, root, sources.nodes[root as usize]);
-    Ok(Forest {
-        root,
-        names,
-        lists,
-        nodes,
-        items,
-    })
+impl<'a, 'v> LiveItems<'a, 'v> {
+    /// The reduced forest, where that is the number of the first complete item of the root over the
+    /// whole text.
+    fn forest(&self, alloc: Global, root: u32) -> Result<Forest, AllocError>
+        requires live { AreLiveItems self.now }
+        requires root { IsFirstRoot (recording_in self.now) root }
+        ensures { IfOk result (IsReduced self.now.core.now self.now.text.now) }
+    {
+        reduced_forest_is_trim();
+        environments_fit();
+        let nonterminals = self.core.nonterminals();
+        let Nodes { table, numbers } = nodes_of(
+            alloc,
+            self.core,
+            &self.found,
+            self.marks,
+            self.order,
+        )?;
+        let places = numbers_of(alloc, self.marks.len(), self.order)?;
+        let sources = Sources {
+            found: self.found,
+            links: self.links,
+            order: self.order,
+            numbers: places.as_slice(),
+            nodes: numbers.as_slice(),
+        };
+        let items = sources.item_nodes(alloc)?;
+        let root = sources.node(root);
+        let names = copied_names(alloc, self.core, nonterminals)?;
+        let lists = copied_lists(alloc, self.lists)?;
+        Ok(Forest {
+            root,
+            names,
+            lists,
+            nodes: table,
+            items,
+        })
+    }
 }
 
 /// The names of the nonterminals.

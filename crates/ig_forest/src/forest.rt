@@ -8,18 +8,14 @@ ghost use Rattle.ig_forest.specs.Reduced.{IsReduced};
 ghost use Rattle.ig_forest.specs.Unfold.{IsTrim};
 ghost use Rattle.ig_forest.specs.CodeViews.{item_node_view, node_view};
 
-use crate::builder::from_sources;
-use crate::done::nodes_of;
+use crate::builder::from_recorded;
 use crate::entry::{Choice, Entry};
-use crate::environments::lists_of;
-use crate::filed::file_nodes;
-use crate::item_rows::rows_of;
 use crate::item_table::ItemTable;
-use crate::links::Sources;
-use crate::names::names_of_core;
-use crate::node_table::NodeTable;
+use crate::node_rows::NodeRows;
+use crate::root::first_root;
 use ig_expr::Value;
-use ig_item::{Core, EnvironmentTable, Items, environments_fit, reachable_is_closed};
+use ig_item::{Core, EnvironmentTable, Items, Recorded, RunFault};
+use ig_plain::{budgets_suffice, saturate_with_ways};
 use ig_text::{Span, Text, Word, Words};
 use std::alloc::{AllocError, Global};
 use std::marker::Model;
@@ -30,7 +26,7 @@ pub struct Forest {
     pub(crate) root: u32,
     pub(crate) names: Words,
     pub(crate) lists: EnvironmentTable,
-    pub(crate) nodes: NodeTable,
+    pub(crate) nodes: NodeRows,
     pub(crate) items: ItemTable,
 }
 
@@ -83,29 +79,26 @@ impl Forest {
         ensures { IfOk result (λ forest. MatchOption forest
             (RootIsComplete core.now text.now → ⊥) (IsReduced core.now text.now)) }
     {
-        reachable_is_closed();
-        environments_fit();
-        let nonterminals = core.nonterminals();
-        let list_table = lists_of(alloc, items)?;
-        let lists = list_table.as_slice();
-        let row_table = rows_of(alloc, items, lists, text.len())?;
-        let rows = row_table.as_slice();
-        let node_table = nodes_of(alloc, core, rows)?;
-        let nodes = node_table.as_slice();
-        let filed_table = file_nodes(alloc, nodes, nonterminals)?;
-        let filed = filed_table.as_slice();
-        let name_table = names_of_core(alloc, core)?;
-        let names = name_table.as_slice();
-        let sources = Sources {
-            core,
-            text,
-            names,
-            lists,
-            rows,
-            nodes,
-            filed,
+        budgets_suffice();
+        match saturate_with_ways(alloc, core, text, items.len()) {
+            Ok(recorded) => Forest::of_recorded(alloc, &recorded),
+            Err(RunFault::Budget) => unreachable!(),
+            Err(RunFault::Memory) => Err(AllocError),
+        }
+    }
+
+    /// The reduced forest of what was recorded. `None` exactly where no complete item of the root
+    /// over the whole text is reachable.
+    pub fn of_recorded(alloc: Global, recorded: &Recorded) -> Result<Option<Forest>, AllocError>
+        ensures { IfOk result (λ forest. MatchOption forest
+            (RootIsComplete recorded.now.core recorded.now.text → ⊥)
+            (IsReduced recorded.now.core recorded.now.text)) }
+    {
+        let Some(root) = first_root(recorded) else {
+            return Ok(None);
         };
-        from_sources(alloc, &sources)
+        let forest = from_recorded(alloc, recorded, root)?;
+        Ok(Some(forest))
     }
 
     /// The number of the root's node. Takes no memory.

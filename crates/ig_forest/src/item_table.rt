@@ -88,6 +88,19 @@ impl ItemTable {
         self.parts.push(Part { row, begin, end })?;
         Ok(())
     }
+
+    /// Adds an item node with one entry at the end. Refused for want of memory, and where all would
+    /// have 4,294,967,296 entries.
+    pub(crate) fn push_one(&mut self, row: ItemRow, entry: Entry) -> Result<(), AllocError>
+        ensures { OnOk result
+            (self.new ≡ self.old ++ record { row = row; entries = entry ∷ [] } ∷ []) }
+    {
+        let begin = place(self.entries.as_slice().len())?;
+        let end = place(self.entries.as_slice().len().saturating_add(1))?;
+        self.entries.push(entry)?;
+        self.parts.push(Part { row, begin, end })?;
+        Ok(())
+    }
 }
 
 /// The entries of a part.

@@ -9,37 +9,37 @@
 //! in the order of the trees with their values where tags rise with the alternatives, and that no
 //! part of it is dead.
 //!
-//! [`Forest::build`] gives exactly that forest, `None` exactly where the root isn't complete; every
-//! `Forest` is trim. It numbers lists of values in order, so that items and nodes are rows of
-//! numbers. It finds the links between items from each item forward, marks what is live by a work
-//! list backward, and keeps that. The readers hand out borrowing views.
+//! [`Forest::of_recorded`] gives exactly that forest of what a run recorded, `None` exactly where
+//! the root isn't complete; every `Forest` is trim. It reads the ways by which items came about,
+//! and evaluates nothing. Live items are marked from the root backward, by a work list. A counting
+//! sort by starts and a sort of each small group put them into order, as rows of numbers: the lists
+//! of values are numbered in order, too. One pass over them gives the nodes with their
+//! alternatives, and another one the entries of all items, which stand side by side.
+//! [`Forest::build`] makes it of items alone, whose ways it records first. The readers hand out
+//! borrowing views.
 #![tactic(auto)]
 
-mod alternatives;
 mod builder;
-mod done;
-mod dots;
-mod entries;
 mod entry;
 mod environments;
-mod filed;
 mod forest;
-mod item_rows;
+mod found;
+mod grouped;
+mod item_nodes;
 mod item_table;
 mod laws;
-mod links;
-mod live;
-mod names;
-mod node_table;
-mod ordered;
-mod places;
+mod live_order;
+mod mark;
+mod marks;
+mod node_rows;
+mod nodes;
 mod placing;
-mod reach;
 mod root;
 mod rows;
 mod stored;
 mod tree;
 mod tree_laws;
+mod ways;
 
 pub use entry::{Child, Choice, Entry};
 pub use forest::{Forest, ItemNode, Node};

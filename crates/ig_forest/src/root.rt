@@ -1,44 +1,72 @@
-//! The node of the root over the whole text.
-ghost use Rattle.std.specs.Prelude.{◌≡◌, ◌<◌, MatchOption, Some, Contains, length, slice_get};
-ghost use Rattle.std.specs.List.Sorted.{IsStrictlySortedBy};
-ghost use Rattle.ig_item.specs.Items.{RootIsComplete};
-ghost use Rattle.ig_forest.specs.CodeLinks.{AreSources};
-ghost use Rattle.ig_forest.specs.CodeRoot.{IsRootAt};
-ghost use Rattle.ig_forest.specs.CodeTables.{node_row_cmp};
+//! The root over the whole text.
+ghost use Rattle.std.specs.Prelude.{◌≡◌, ◌↔◌, ◌<◌, IsTrue, MatchOption, length, slice_index_or};
+ghost use Rattle.ig_item.specs.Gives.{Completes};
+ghost use Rattle.ig_item.specs.Items.{RootIsComplete, root_instance};
+ghost use Rattle.ig_item.specs.Tables.{instance_of, item_of};
+ghost use Rattle.ig_forest.specs.CodeFirstRoot.{IsFirstRoot, IsLastDot};
 
-use crate::environments::place_of;
-use crate::links::Sources;
-use crate::rows::NodeRow;
+use ig_item::{Core, InstanceView, Item, Items, Recorded};
 
-/// The number of the root's node over the whole text; `None` exactly where no complete item of the
-/// root stands at its end.
-pub(crate) fn root_of(sources: &Sources) -> Option<u32>
-    requires sources { AreSources sources.now }
-    requires few { length sources.now.nodes.now < 4294967296 }
-    ensures { MatchOption result
-        (RootIsComplete sources.now.core.now sources.now.text.now → ⊥) (IsRootAt sources.now) }
+/// The number of the first complete item of the root over the whole text; `None` exactly where
+/// there is none.
+pub(crate) fn first_root(recorded: &Recorded) -> Option<u32>
+    ensures { MatchOption result (RootIsComplete recorded.now.core recorded.now.text → ⊥)
+        (IsFirstRoot recorded.now) }
 {
-    let Some(values) = place_of(sources.lists, &[]) else {
-        return None;
-    };
-    let row = NodeRow {
-        start: 0,
-        end: sources.text.len(),
-        nonterminal: 0,
-        values,
-    };
-    find_node(sources.nodes, row)
+    let items = recorded.items();
+    let core = recorded.core();
+    let end = recorded.text().len();
+    let found = items.items();
+    for number in 0..found.len() {
+        if is_root(items, core, found[number], end) {
+            return Some(number as u32);
+        }
+    }
+    None
 }
 
-/// The number of a node; `None` exactly where it isn't there.
-fn find_node(nodes: &[NodeRow], row: NodeRow) -> Option<u32>
-    requires order { IsStrictlySortedBy node_row_cmp nodes.now }
-    requires few { length nodes.now < 4294967296 }
-    ensures { MatchOption result (Contains nodes.now row → ⊥)
-        (λ v. slice_get nodes.now v ≡ Some row) }
+/// Whether the item is a complete one of the root, and came to that position.
+fn is_root(items: &Items, core: &Core, item: Item, end: u32) -> bool
+    requires { item.instance < length items.now.instances }
+    ensures { IsTrue result ↔ Completes core.now (item_of items.now item)
+        (record { instance = root_instance; end = end }) }
 {
-    match nodes.binary_search(&row) {
-        Ok(number) => Some(number as u32),
-        Err(_) => None,
+    item.position == end
+        && is_of_root(items, item.instance)
+        && is_last_dot(core, 0, item.alternative, item.dot)
+}
+
+/// Whether the instance of that number is the root, called at 0.
+fn is_of_root(items: &Items, instance: u32) -> bool
+    requires { instance < length items.now.instances }
+    ensures { IsTrue result ↔
+        (slice_index_or items.now.instances instance root_instance ≡ root_instance) }
+{
+    let Some(view) = items.instance(instance) else {
+        unreachable!()
+    };
+    is_root_view(view)
+}
+
+/// Whether this is the root, called at 0.
+fn is_root_view(view: InstanceView) -> bool
+    ensures { IsTrue result ↔ (instance_of view.entry ≡ root_instance) }
+{
+    if view.nonterminal > 0 {
+        return false;
+    }
+    if view.start > 0 {
+        return false;
+    }
+    view.values.is_empty()
+}
+
+/// Whether the dot stands behind the last step of that alternative.
+fn is_last_dot(core: &Core, nonterminal: u32, alternative: u32, dot: u32) -> bool
+    ensures { IsTrue result ↔ IsLastDot core.now nonterminal alternative dot }
+{
+    match core.steps(nonterminal, alternative) {
+        Some(steps) => dot as usize == steps.as_slice().len(),
+        None => false,
     }
 }

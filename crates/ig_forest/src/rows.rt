@@ -14,7 +14,7 @@ pub(crate) struct ItemRow {
 }
 
 /// A node: an instance, and where its trees end. Its values are a place in the same table.
-#[derive(Clone, Copy, PartialEq, Eq, PartialOrd, Ord)]
+#[derive(Clone, Copy, PartialEq, Eq)]
 pub(crate) struct NodeRow {
     pub start: u32,
     pub end: u32,

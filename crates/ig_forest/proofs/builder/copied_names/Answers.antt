@@ -1,4 +1,4 @@
-use Rattle.ig_forest.proofs.CodeBuilding.{name_next, names_all}
+use Rattle.ig_forest.proofs.CodeCopies.{name_next, names_all}
 use Rattle.ig_forest.proofs.builder.copied_names.Goals as goal
 
 pub loop-nt-preserved : goal.loop-nt-preserved

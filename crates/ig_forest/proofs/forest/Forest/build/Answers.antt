@@ -1,10 +1,14 @@
-use Rattle.ig_forest.proofs.CodeBuilding.{are_sources_by}
+use Rattle.std.proofs.Common.{sym, ◌∙◌, subst}
+use Rattle.std.proofs.lemmas.List.{length-map}
+use Rattle.ig_item.specs.Items.{MoreThan}
+use Rattle.ig_item.specs.Tables.{item_of, items_of}
+use Rattle.ig_item.specs.declared.run_fault.RunFault.{RunFault}
+use Rattle.ig_plain.specs.Run.{Refuses}
 use Rattle.ig_forest.proofs.forest.Forest.build.Goals as goal
 
-pub from_sources-requires-clause-sources : goal.from_sources-requires-clause-sources
-from_sources-requires-clause-sources c =
-    are_sources_by _ c.args.items.now c.reachable_is_closed.ensures c.environments_fit.ensures c.nonterminals-nonterminals.ensures.well_kinded c.requires
-    c.in_ok-list_table.list_table.items c.in_ok-row_table.row_table.items c.in_ok-node_table.node_table.items c.in_ok-filed_table.filed_table.items c.in_ok-name_table.name_table
-    c.as_slice-lists.ensures.value c.as_slice-rows.ensures.value c.as_slice-nodes.ensures.value c.as_slice-filed.ensures.value c.as_slice-names.ensures
-    c.in_ok-list_table.ensures.lists c.in_ok-row_table.ensures.rows c.in_ok-node_table.ensures.nodes c.in_ok-filed_table.ensures c.in_ok-name_table.ensures
-    c.in_ok-list_table.ensures.few c.in_ok-row_table.ensures.few
+pub unreachable-requires : goal.unreachable-requires
+unreachable-requires c =
+    c.budgets_suffice.ensures c.args.core.now c.args.text.now (items_of c.args.items.now) (λ x r. (c.requires x).1 r)
+    (subst (MoreThan c.args.core.now c.args.text.now)
+    (c.len.ensures.number ∙ sym (length-map c.args.items.now.items (item_of c.args.items.now)))
+    (subst (λ (z : RunFault). Refuses c.args.core.now c.args.text.now c.len.result z) c.in-Err-Budget.field-0-is c.in-Err-Budget.ensures.fault))
