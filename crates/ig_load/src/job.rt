@@ -1,5 +1,6 @@
 //! The whole of a load.
 ghost use Rattle.std.specs.Prelude.{◌≡◌, ◌≤◌, IfOk};
+ghost use Rattle.ig_core.specs.Lowered.{CoreOf};
 ghost use Rattle.ig_core.specs.Notation.{unchanged};
 ghost use Rattle.ig_item.specs.Tables.{items_of};
 ghost use Rattle.ig_item.specs.WellKinded.{NoneTwice};
@@ -16,11 +17,10 @@ use crate::summary::Summary;
 use ig_core::{CoreFault, notation_is_buildable};
 use ig_grammar::Checked;
 use ig_heights::Heights;
-use ig_item::Items;
+use ig_item::Recorded;
 use ig_notation::read_grammars_are_regular;
 use ig_parse::{Parser, ambiguity_is_two_permitted};
 use ig_query::is_ambiguous;
-use ig_text::Text;
 use std::alloc::{AllocError, Global};
 
 /// What the forest of the load's grammar and the input of this size and number has, where no more
@@ -34,8 +34,8 @@ pub fn load(alloc: Global, size: u32, number: u64, budget: u32) -> Result<Summar
     let grammar = load_grammar(alloc)?;
     let input = load_input(alloc, size, number)?;
     let parser = parser_of(alloc, &grammar)?;
-    let items = parser.saturate(alloc, &input, budget)?;
-    let summary = summarize(alloc, &parser, &items, &input)?;
+    let recorded = parser.saturate(alloc, &input, budget)?;
+    let summary = summarize(alloc, &parser, &recorded)?;
     Ok(summary)
 }
 
@@ -54,27 +54,27 @@ fn parser_of(alloc: Global, grammar: &Checked) -> Result<Parser<'_>, AllocError>
     }
 }
 
-/// What the forest of the parser's grammar and the input has, whose reachable items these have to
-/// be, each once. A tree has to be permitted.
+/// What the forest of the parser's grammar and the input has, of which this was recorded. A tree has
+/// to be permitted.
 fn summarize(
     alloc: Global,
     parser: &Parser<'_>,
-    items: &Items,
-    input: &Text,
+    recorded: &Recorded<'_>,
 ) -> Result<Summary, AllocError>
-    requires reachable { AreReachable parser.now input.now items.now }
-    requires once { NoneTwice (items_of items.now) }
-    requires parsed { IsParsed parser.now input.now }
-    ensures { IfOk result (IsSummaryOf parser.now input.now) }
+    requires own { recorded.now.core ≡ CoreOf parser.now }
+    requires reachable { AreReachable parser.now recorded.now.text recorded.now.tables }
+    requires once { NoneTwice (items_of recorded.now.tables) }
+    requires parsed { IsParsed parser.now recorded.now.text }
+    ensures { IfOk result (IsSummaryOf parser.now recorded.now.text) }
 {
     ambiguity_is_two_permitted();
-    let Some(forest) = parser.forest(alloc, items, input)? else {
+    let Some(forest) = parser.forest(alloc, recorded)? else {
         unreachable!()
     };
     let _root = forest.root();
     let heights = Heights::of(alloc, &forest)?;
     Ok(Summary {
-        items: items.len(),
+        items: recorded.items().len(),
         nodes: forest.nodes(),
         ambiguous: is_ambiguous(&forest),
         cyclic: heights.is_cyclic(),

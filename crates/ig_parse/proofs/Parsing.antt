@@ -1,5 +1,5 @@
 -- What a run over the core grammar says of the grammar.
-use Rattle.std.proofs.Common.{◌≡◌, ◌≢◌, ◌↔◌, ℕ, List, Contains, Option, None, Some, Result, Ok, Err, IfOk, IfErr, MatchOption, sym, ◌∙◌, subst}
+use Rattle.std.proofs.Common.{◌≡◌, ◌≢◌, ◌↔◌, ℕ, List, Contains, Option, None, Some, Result, Ok, Err, IfOk, IfErr, MatchOption, sym, ◌∙◌, subst, subst₂}
 use Rattle.ig_text.specs.Tree.{Tree}
 use Rattle.ig_grammar.specs.Checked.{CheckedGrammar}
 use Rattle.ig_expr.specs.ValuedTree as valued
@@ -8,6 +8,7 @@ use Rattle.ig_meaning.specs.Order.{Precedes}
 use Rattle.ig_meaning.specs.Permitted.{Permitted}
 use Rattle.ig_item.specs.Items.{Item, MoreThan, Reachable, RootIsComplete}
 use Rattle.ig_item.specs.Laws.{TreesByItems}
+use Rattle.ig_item.specs.Recorded.{Recording, IsRecorded}
 use Rattle.ig_item.specs.Tables.{Tables, items_of}
 use Rattle.ig_item.specs.WellKinded.{IsWellKinded, NoneTwice}
 use Rattle.ig_item.specs.declared.run_fault.RunFault.{RunFault}
@@ -56,17 +57,28 @@ runs_of c inside core same kept kinded =
 
 -- what a run finds, and why it finds nothing
 module _ (c : CheckedGrammar) (text : List ℕ) (budget : ℕ) (core : List Nonterminal) (runs : Runs c core) where
-  pub saturates : (r : Result Tables RunFault) → IfOk r (λ t. (x : Item) → Contains (items_of t) x ↔ Reachable core text x) →
-      IfOk r (λ t. NoneTwice (items_of t)) → IfOk r (λ t. MoreThan core text budget → ⊥) → IfErr r (Refuses core text budget) →
-      Saturates c text budget r
-  saturates (Ok t) reached once within fault =
+  pub saturates : (r : Result Recording RunFault) → IfOk r (λ z. z.core ≡ core) → IfOk r (λ z. z.text ≡ text) → IfOk r IsRecorded →
+      IfOk r (λ _. MoreThan core text budget → ⊥) → IfErr r (Refuses core text budget) → Saturates c text budget r
+  saturates (Ok z) core_is text_is recorded within fault =
       record {
-        suffices = subst (λ z. MoreThan z text budget → ⊥) runs.is within;
-        reachable = subst (λ z. (x : Item) → Contains (items_of t) x ↔ Reachable z text x) runs.is reached;
-        once = once;
+        suffices = subst (λ k. MoreThan k text budget → ⊥) runs.is within;
+        core = core_is ∙ runs.is;
+        text_is = text_is;
+        reachable = subst₂ (λ k t. (x : Item) → Contains (items_of z.tables) x ↔ Reachable k t x) (core_is ∙ runs.is) text_is recorded.reachable;
+        once = recorded.once;
       }
-  saturates (Err run_fault.Budget) reached once within fault = subst (λ z. MoreThan z text budget) runs.is fault
-  saturates (Err run_fault.Memory) reached once within fault = tt
+  saturates (Err run_fault.Budget) core_is text_is recorded within fault = subst (λ k. MoreThan k text budget) runs.is fault
+  saturates (Err run_fault.Memory) core_is text_is recorded within fault = tt
+
+-- the core grammar of a recording, where it is the parser's
+pub runs_recorded : (c : CheckedGrammar) (core other : List Nonterminal) → Runs c core → other ≡ CoreOf c → Runs c other
+runs_recorded c core other runs is =
+    record {
+      buildable = runs.buildable;
+      numbered = runs.numbered;
+      is = is;
+      kinded = subst IsWellKinded (runs.is ∙ sym is) runs.kinded;
+    }
 
 -- the items are those of the core grammar that a parser keeps
 pub reached_inside : (c : CheckedGrammar) (text : List ℕ) (core : List Nonterminal) → Runs c core → (t : Tables) → AreReachable c text t →

@@ -7,6 +7,7 @@ use Rattle.ig_meaning.specs.Permitted.{Permitted}
 use Rattle.ig_item.specs.Core.{dots}
 use Rattle.ig_item.specs.Items.{Item, MoreThan, Reachable}
 use Rattle.ig_item.specs.Limits.{most_dots}
+use Rattle.ig_item.specs.Recorded.{Recording}
 use Rattle.ig_item.specs.Tables.{Tables, items_of}
 use Rattle.ig_item.specs.WellKinded.{NoneTwice}
 use Rattle.ig_item.specs.declared.run_fault.RunFault.{RunFault}
@@ -59,14 +60,16 @@ module _ (c : CheckedGrammar) (text : List ℕ) where
       pub parsed : IsParsed
       pub is : IsForestOf f
 
-    -- the budget suffices, and the items are the reachable ones, each once
-    pub record HasItems (tables : Tables) : Type 0 where
+    -- the budget suffices, and what was recorded of the core grammar and the text are the reachable items, each once
+    pub record HasItems (recording : Recording) : Type 0 where
       pub suffices : IsOver → ⊥
-      pub reachable : AreReachable tables
-      pub once : NoneTwice (items_of tables)
+      pub core : recording.core ≡ CoreOf c
+      pub text_is : recording.text ≡ text
+      pub reachable : AreReachable recording.tables
+      pub once : NoneTwice (items_of recording.tables)
 
-    abbrev pub Saturates : Result Tables RunFault → Type 0
-    Saturates (Ok tables) = HasItems tables
+    abbrev pub Saturates : Result Recording RunFault → Type 0
+    Saturates (Ok recording) = HasItems recording
     Saturates (Err run_fault.Budget) = IsOver
     Saturates (Err run_fault.Memory) = Unit {0}
 

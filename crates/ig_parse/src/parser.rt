@@ -17,9 +17,9 @@ use ig_forest::{
     reduced_forest_unfolds_to_core_trees, tree_has_one_cursor,
 };
 use ig_grammar::Checked;
-use ig_item::{Core, Items, RunFault, complete_root_items_are_trees};
+use ig_item::{Core, Items, Recorded, RunFault, complete_root_items_are_trees};
 use ig_meaning::derivations_are_annotated;
-use ig_plain::saturate;
+use ig_plain::saturate_with_ways;
 use ig_query::report;
 use ig_show::Report;
 use ig_text::Text;
@@ -77,26 +77,30 @@ impl<'g> Parser<'g> {
         &self.core
     }
 
-    /// The reachable items of the core grammar and the text, each once. `Budget` comes exactly
-    /// where there are more than `budget`, if memory doesn't run out before.
-    pub fn saturate(&self, alloc: Global, text: &Text, budget: u32) -> Result<Items, RunFault>
+    /// The reachable items of the core grammar and the text, each once, and how they come about.
+    /// `Budget` comes exactly where there are more than `budget`, if memory doesn't run out before.
+    pub fn saturate<'p>(
+        &'p self,
+        alloc: Global,
+        text: &'p Text,
+        budget: u32,
+    ) -> Result<Recorded<'p>, RunFault>
         ensures { Saturates self.now text.now budget result }
     {
         let _nonterminals = self.core.nonterminals();
-        saturate(alloc, &self.core, text, budget)
+        saturate_with_ways(alloc, &self.core, text, budget)
     }
 
-    /// The reduced forest of exactly the permitted trees of the whole text, whose reachable items
-    /// these have to be; `None` exactly where no tree is permitted. Refuses only for want of
-    /// memory.
+    /// The reduced forest of exactly the permitted trees of the whole text that was recorded with
+    /// the parser's core grammar; `None` exactly where no tree is permitted. Refuses only for want
+    /// of memory.
     pub fn forest(
         &self,
         alloc: Global,
-        items: &Items,
-        text: &Text,
+        recorded: &Recorded<'_>,
     ) -> Result<Option<Forest>, AllocError>
-        requires reachable { AreReachable self.now text.now items.now }
-        ensures { IfOk result (MayHaveForest self.now text.now) }
+        requires own { recorded.now.core ≡ CoreOf self.now }
+        ensures { IfOk result (MayHaveForest self.now recorded.now.text) }
     {
         core_trees_are_permitted_trees();
         complete_root_items_are_trees();
@@ -109,7 +113,7 @@ impl<'g> Parser<'g> {
         derivations_are_annotated();
         values_are_those_of_core();
         let _nonterminals = self.core.nonterminals();
-        Forest::build(alloc, items, &self.core, text)
+        Forest::of_recorded(alloc, recorded)
     }
 
     /// How far the items came in the text, whose reachable items these have to be, and what they
@@ -129,11 +133,11 @@ impl<'g> Parser<'g> {
         ensures parses { Parses self.now text.now budget result }
         ensures dots { IfErr result (λ fault. fault ≢ TooManyDots) }
     {
-        let items = self.saturate(alloc, text, budget)?;
-        match self.forest(alloc, &items, text)? {
+        let recorded = self.saturate(alloc, text, budget)?;
+        match self.forest(alloc, &recorded)? {
             Some(forest) => Ok(forest),
             None => {
-                let report = self.report(alloc, &items, text)?;
+                let report = self.report(alloc, recorded.items(), text)?;
                 Err(ParseFault::NoParse(report))
             }
         }

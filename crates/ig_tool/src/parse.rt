@@ -57,18 +57,18 @@ pub(crate) fn parse(
     tags_name_nonterminals();
     let core = parser.core();
     let _nonterminals = core.nonterminals();
-    let items = match parser.saturate(alloc, input, budget) {
-        Ok(items) => items,
+    let recorded = match parser.saturate(alloc, input, budget) {
+        Ok(recorded) => recorded,
         Err(RunFault::Budget) => return Err(over_budget(alloc, budget)),
         Err(RunFault::Memory) => return Err(Stop::Memory),
     };
-    let Some(forest) = parser.forest(alloc, &items, input)? else {
-        let report = parser.report(alloc, &items, input)?;
+    let Some(forest) = parser.forest(alloc, &recorded)? else {
+        let report = parser.report(alloc, recorded.items(), input)?;
         return Err(unparsed(alloc, &report));
     };
     let _root = forest.root();
     cursors_are_short(&forest);
-    finish(alloc, parser, input, items, &forest, job)
+    finish(alloc, parser, input, recorded.into_items(), &forest, job)
 }
 
 /// What comes of a job by the forest of the parser's grammar and the input, whose reachable items

@@ -1,3 +1,4 @@
+use Rattle.std.proofs.Common.{◌∙◌, ap, length}
 use Rattle.ig_load.proofs.Summaries.{summary_is}
 use Rattle.ig_load.proofs.job.summarize.Goals as goal
 
@@ -8,6 +9,6 @@ unreachable-requires c =
 pub returns : goal.returns
 returns c =
     let has = rw c.in-Some.is at c.in_ok-forest.ensures in
-    summary_is c.args.parser.now c.args.input.now c.in-Some.forest has.1 c.args.items.now c.in_ok-heights.heights _
+    summary_is c.args.parser.now c.args.recorded.now.text c.in-Some.forest has.1 c.args.recorded.now.tables c.in_ok-heights.heights _
     c.requires.reachable c.requires.once c.root-root.ensures.trim c.ambiguity_is_two_permitted.ensures c.in_ok-heights.ensures
-    c.len.ensures.number c.nodes.ensures c.is_ambiguous.ensures c.is_cyclic.ensures
+    (c.len.ensures.number ∙ ap (λ t. length t.items) c.items.ensures.items) c.nodes.ensures c.is_ambiguous.ensures c.is_cyclic.ensures

@@ -1,12 +1,5 @@
-use Rattle.ig_parse.proofs.Parsing.{runs_of, reached_inside, may_have_forest}
+use Rattle.ig_parse.proofs.Parsing.{runs_of, runs_recorded, may_have_forest}
 use Rattle.ig_parse.proofs.parser.Parser.forest.Goals as goal
-
-pub build-requires : goal.build-requires
-build-requires c =
-    reached_inside c.args.self.now c.args.text.now c.self.inside.core
-    (runs_of c.args.self.now c.self.inside.grammar.now c.self.inside.core c.self.view_is c.self.invariant
-    c.nonterminals-nonterminals.ensures.well_kinded)
-    c.args.items.now c.requires.reachable
 
 pub returns : goal.returns
 returns c =
@@ -23,6 +16,7 @@ returns c =
       annotated = c.derivations_are_annotated.ensures;
       values = c.values_are_those_of_core.ensures;
     })
-    c.args.self.now c.args.text.now c.self.inside.core
+    c.args.self.now c.args.recorded.now.text c.args.recorded.now.core
+    (runs_recorded c.args.self.now c.self.inside.core c.args.recorded.now.core
     (runs_of c.args.self.now c.self.inside.grammar.now c.self.inside.core c.self.view_is c.self.invariant
-    c.nonterminals-nonterminals.ensures.well_kinded) c.build.result c.build.ensures
+    c.nonterminals-nonterminals.ensures.well_kinded) c.requires.own) c.of_recorded.result c.of_recorded.ensures

@@ -6,4 +6,5 @@ returns c =
     saturates c.args.self.now c.args.text.now c.args.budget c.self.inside.core
     (runs_of c.args.self.now c.self.inside.grammar.now c.self.inside.core c.self.view_is c.self.invariant
     c.nonterminals-nonterminals.ensures.well_kinded)
-    c.saturate.result c.saturate.ensures.items c.saturate.ensures.once c.saturate.ensures.exact c.saturate.ensures.fault
+    c.saturate_with_ways.result c.saturate_with_ways.ensures.core c.saturate_with_ways.ensures.text c.saturate_with_ways.ensures.recorded
+    c.saturate_with_ways.ensures.exact c.saturate_with_ways.ensures.fault
