@@ -14,7 +14,7 @@ use Rattle.ig_forest.specs.Unfold as ways
 use Rattle.ig_forest.specs.Unfold.{OfNode, IsTrim}
 use Rattle.ig_item.specs.Core.{IsAlternative}
 use Rattle.ig_text.specs.Tree.{Tree}
-use Rattle.ig_forest.specs.Live.{NodeKey}
+use Rattle.ig_item.specs.Gives.{NodeKey}
 use Rattle.ig_forest.specs.Reduced as reduced
 use Rattle.ig_forest.specs.Reduced.{Each, IsNamed, IsNode, IsReduced}
 use Rattle.ig_forest.specs.declared.entry.Choice.{Choice}
