@@ -4,8 +4,8 @@
 //! alternatives are lists of [`Step`]s. It is well kinded, as `specs/WellKinded.antt` says.
 //! Contracts see it as the list of its nonterminals, and a step as that of `specs/Step.antt`, with
 //! expressions as syntax trees. [`Items`] are what a run finds: three tables, of instances, of
-//! environments and of items that name them by number. [`Ways`] say how each of them came about, and
-//! a [`Recorded`] keeps the items and the ways of a core grammar and a text.
+//! environments and of items that name them by number. [`Ways`] say how each of them came about,
+//! and a [`Recorded`] keeps the items and the ways of a core grammar and a text.
 //!
 //! `specs/Items.antt` defines which items of a core grammar and a text are reachable,
 //! `specs/Gives.antt` which item gives which by a rule, `specs/Ways.antt` how items came about,

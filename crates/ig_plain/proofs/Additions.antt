@@ -96,7 +96,7 @@ module _ (p : ℕ) where
       subst (Adds p may budget a b) (sym q.1) (subst (λ (z : RunFault). Adds p may budget a b (Err z)) (sym q.2) d)
 
   pub adds_here : (budget : ℕ) (a b : Found) (x : stored.Item) (r : Result (Unit {0}) RunFault) → Grows p (λ y. y ≡ means a x) a b →
-      b.envs.keys ≡ a.envs.keys → b.keys ≡ a.keys → Contains b.here x →
+      b.envs.keys ≡ a.envs.keys → b.keys ≡ a.keys → Contains b.here.items x →
       OnOk r (count b ≤ budget) → IfErr r (λ f. f ≡ Budget → budget < count b) → Adds p (λ y. y ≡ means a x) budget a b r
   adds_here budget a b x (Ok u) g envs keys c within fault =
       record {
@@ -104,7 +104,7 @@ module _ (p : ℕ) where
         has = λ y e.
             left_contains (found_in b) (later_in b) y
             (subst (Contains (found_in b)) (same_means a b x envs keys ∙ sym e)
-            (mapped_in (means b) (b.done.items ++ b.here) x (right_contains b.done.items b.here x c)));
+            (mapped_in (means b) (b.done.items ++ b.here.items) x (right_contains b.done.items b.here.items x c)));
         within = λ h. within;
         fault = tt;
       }

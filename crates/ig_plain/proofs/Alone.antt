@@ -21,6 +21,8 @@ use Rattle.ig_item.specs.declared.run_fault.RunFault.{RunFault}
 use Rattle.ig_item.specs.declared.run_fault.RunFault.TheVariants.{Budget, Memory}
 use Rattle.ig_plain.specs.declared.found.Found.{Found}
 use Rattle.ig_plain.specs.declared.waiting.Waiting.{Waiting}
+use Rattle.ig_plain.specs.declared.compiled.Form.{Form}
+use Rattle.ig_plain.specs.Compiled.{form_of, expressions_of}
 use Rattle.ig_plain.specs.Found as found
 use Rattle.ig_plain.specs.Found.{means, instances_in, found_in, later_in, taken_in, count, Named, Grows, GrowsLater, Has, Adds, AddsLater, AddsTerminal}
 use Rattle.ig_plain.specs.Rules as rules
@@ -36,7 +38,7 @@ use Rattle.ig_plain.proofs.Returns.{alternative_there}
 use Rattle.ig_plain.proofs.Calls.{visible_one}
 
 module _ (core : List Nonterminal) (text : List ℕ) (law : ReachableIsClosed) (budget p k : ℕ) (s : Found) (w : Waiting) (item : stored.Item)
-    (here : item.position ≡ p) (r : IsRun core text budget p k s w) (at : slice_get s.here k ≡ Some item) where
+    (here : item.position ≡ p) (r : IsRun core text budget p k s w) (at : slice_get s.here.items k ≡ Some item) where
   abbrev it : Item
   it = means s item
 
@@ -160,7 +162,7 @@ module _ (core : List Nonterminal) (text : List ℕ) (law : ReachableIsClosed) (
 
 -- the item stands in an alternative
 module _ (core : List Nonterminal) (text : List ℕ) (budget p k : ℕ) (s : Found) (w : Waiting) (item : stored.Item)
-    (r : IsRun core text budget p k s w) (at : slice_get s.here k ≡ Some item) where
+    (r : IsRun core text budget p k s w) (at : slice_get s.here.items k ≡ Some item) where
   pub fits : EnvironmentsFit → IsWellKinded core → EnvironmentFits core (means s item)
   fits law2 kinded =
       law2 core text (means s item) kinded
@@ -202,6 +204,16 @@ pub names_are : (core : List Nonterminal) (it : Item) (step : Step) (n : ℕ) (n
 names_are core it step n names h n_is all =
     all h.before.nonterminal h.before.alternative
     (subst (λ (z : ℕ). IsAlternative core z it.alternative h.before.nonterminal h.before.alternative) (sym n_is) h.before.has) ∙ sym h.before.visible
+
+-- the forms that are known at the dot of an item before a step
+pub forms_are : (core : List Nonterminal) (it : Item) (step s : Step) (n : ℕ) (names : List (List ℕ)) (forms : List Form) → Stands core it step →
+    step ≡ s → n ≡ it.instance.nonterminal →
+    ((m : Nonterminal) (c : CoreAlt) (t : Step) → IsAlternative core n it.alternative m c → slice_get c.steps it.dot ≡ Some t →
+    forms ≡ map (form_of names) (expressions_of t)) → forms ≡ map (form_of names) (expressions_of s)
+forms_are core it step s n names forms h is n_is all =
+    subst (λ (z : Step). forms ≡ map (form_of names) (expressions_of z)) is
+    (all h.before.nonterminal h.before.alternative step
+    (subst (λ (z : ℕ). IsAlternative core z it.alternative h.before.nonterminal h.before.alternative) (sym n_is) h.before.has) h.before.next)
 
 -- one more is taken
 pub taken_next : (core : List Nonterminal) (text : List ℕ) (budget p q k : ℕ) (t : Found) (w : Waiting) (result : Result (Unit {0}) RunFault) → q ≡ p →

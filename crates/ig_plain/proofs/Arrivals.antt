@@ -96,7 +96,7 @@ parts_kept position xs h0 h r item p away =
     }
 
 pub arrives_with : (position : ℕ) (a b : Found) (empty : List stored.Item) → empty ≡ [] → b.envs.keys ≡ a.envs.keys → b.keys ≡ a.keys →
-    b.done.items ≡ a.done.items ++ a.here → IsParted position a.later.items empty b.here b.later.items → ArrivesWith position a b
+    b.done.items ≡ a.done.items ++ a.here.items → IsParted position a.later.items empty b.here.items b.later.items → ArrivesWith position a b
 arrives_with position a b empty none envs keys done p =
     let never : (x : stored.Item) → Contains empty x → ⊥ = λ x c. none_in x (subst (λ (z : List stored.Item). Contains z x) none c) in
     record {
@@ -111,7 +111,7 @@ arrives_with position a b empty none envs keys done p =
       count = let l = p.count in let e = ap length none in omega (arith, l, e);
     }
 
-module _ (core : List Nonterminal) (text : List ℕ) (budget p : ℕ) (a b : Found) (w : Waiting) (r : IsRun core text budget p (length a.here) a w)
+module _ (core : List Nonterminal) (text : List ℕ) (budget p : ℕ) (a b : Found) (w : Waiting) (r : IsRun core text budget p (length a.here.items) a w)
     (m : ArrivesWith (p + 1) a b) where
   abbrev n : AreNamed a
   n = r.taking.stored.named
@@ -126,25 +126,25 @@ module _ (core : List Nonterminal) (text : List ℕ) (budget p : ℕ) (a b : Fou
   -- all that was at the position or before is taken
   pub taken_all : taken_in b 0 ≡ found_in a
   taken_all =
-      ap (map (means b)) (append-nil b.done.items ∙ m.done) ∙ same_map (means b) (means a) (a.done.items ++ a.here) (λ x c. same x)
+      ap (map (means b)) (append-nil b.done.items ∙ m.done) ∙ same_map (means b) (means a) (a.done.items ++ a.here.items) (λ x c. same x)
 
-  pub taken_was : taken_in a (length a.here) ≡ found_in a
-  taken_was = ap (λ (z : List stored.Item). map (means a) (a.done.items ++ z)) (take-length a.here)
+  pub taken_was : taken_in a (length a.here.items) ≡ found_in a
+  taken_was = ap (λ (z : List stored.Item). map (means a) (a.done.items ++ z)) (take-length a.here.items)
 
   stays : (x : Item) → Contains (found_in a ++ later_in a) x → Contains (found_in b ++ later_in b) x
   stays x c =
       ⊎_elim
       (λ (h : Contains (found_in a) x).
-      let u = unmapped_in (means a) (a.done.items ++ a.here) x h in
+      let u = unmapped_in (means a) (a.done.items ++ a.here.items) x h in
       left_contains (found_in b) (later_in b) x
       (subst (Contains (found_in b)) (same u.0 ∙ u.2)
-      (mapped_in (means b) (b.done.items ++ b.here) u.0 (left_contains b.done.items b.here u.0 (subst (λ (z : List stored.Item). Contains z u.0) (sym m.done) u.1)))))
+      (mapped_in (means b) (b.done.items ++ b.here.items) u.0 (left_contains b.done.items b.here.items u.0 (subst (λ (z : List stored.Item). Contains z u.0) (sym m.done) u.1)))))
       (λ (h : Contains (later_in a) x).
       let u = unmapped_in (means a) a.later.items x h in
       ⊎_elim
-      (λ (k : Contains b.here u.0).
+      (λ (k : Contains b.here.items u.0).
       left_contains (found_in b) (later_in b) x
-      (subst (Contains (found_in b)) (same u.0 ∙ u.2) (mapped_in (means b) (b.done.items ++ b.here) u.0 (right_contains b.done.items b.here u.0 k))))
+      (subst (Contains (found_in b)) (same u.0 ∙ u.2) (mapped_in (means b) (b.done.items ++ b.here.items) u.0 (right_contains b.done.items b.here.items u.0 k))))
       (λ (k : Contains b.later.items u.0).
       right_contains (found_in b) (later_in b) x (subst (Contains (later_in b)) (same u.0 ∙ u.2) (mapped_in (means b) b.later.items u.0 k))) (m.moved u.0 u.1))
       (contains_sides (found_in a) (later_in a) x c)
@@ -158,15 +158,15 @@ module _ (core : List Nonterminal) (text : List ℕ) (budget p : ℕ) (a b : Fou
   was_found x c =
       ⊎_elim
       (λ (h : Contains (found_in b) x).
-      let u = unmapped_in (means b) (b.done.items ++ b.here) x h in
+      let u = unmapped_in (means b) (b.done.items ++ b.here.items) x h in
       ⊎_elim
       (λ (k : Contains b.done.items u.0).
       left_contains (found_in a) (later_in a) x
-      (subst (Contains (found_in a)) (sym (same u.0) ∙ u.2) (mapped_in (means a) (a.done.items ++ a.here) u.0 (subst (λ (z : List stored.Item). Contains z u.0) m.done k))))
-      (λ (k : Contains b.here u.0).
+      (subst (Contains (found_in a)) (sym (same u.0) ∙ u.2) (mapped_in (means a) (a.done.items ++ a.here.items) u.0 (subst (λ (z : List stored.Item). Contains z u.0) m.done k))))
+      (λ (k : Contains b.here.items u.0).
       right_contains (found_in a) (later_in a) x
       (subst (Contains (later_in a)) (sym (same u.0) ∙ u.2) (mapped_in (means a) a.later.items u.0 (m.here u.0 k).0)))
-      (contains_sides b.done.items b.here u.0 u.1))
+      (contains_sides b.done.items b.here.items u.0 u.1))
       (λ (h : Contains (later_in b) x). right_contains (found_in a) (later_in a) x (later_was x h))
       (contains_sides (found_in b) (later_in b) x c)
 
@@ -181,18 +181,18 @@ module _ (core : List Nonterminal) (text : List ℕ) (budget p : ℕ) (a b : Fou
           values = subst (λ (z : List InstanceKey). HaveValues b.envs.keys z) (sym m.keys) (subst (λ z. HaveValues z a.keys) (sym m.envs) n.values);
           done = λ x c.
               named x
-              (⊎_elim (n.done x) (n.here x) (contains_sides a.done.items a.here x (subst (λ (z : List stored.Item). Contains z x) m.done c)));
+              (⊎_elim (n.done x) (n.here x) (contains_sides a.done.items a.here.items x (subst (λ (z : List stored.Item). Contains z x) m.done c)));
           here = λ x c. named x (n.later x (m.here x c).0);
           later = λ x c. named x (n.later x (m.later x c).0);
         };
         before = λ x c.
             ⊎_elim (λ (h : Contains a.done.items x). let l = r.taking.stored.before x h in omega (arith, l))
-            (λ (h : Contains a.here x). let e = r.taking.stored.at x h in omega (arith, e))
-            (contains_sides a.done.items a.here x (subst (λ (z : List stored.Item). Contains z x) m.done c));
+            (λ (h : Contains a.here.items x). let e = r.taking.stored.at x h in omega (arith, e))
+            (contains_sides a.done.items a.here.items x (subst (λ (z : List stored.Item). Contains z x) m.done c));
         at = λ x c. (m.here x c).1;
         behind = λ x c. further x.position (r.taking.stored.behind x (m.later x c).0) (m.later x c).1;
         done_once = subst NoneTwice (sym m.done)
-            (once_both a.done.items a.here r.taking.stored.done_once r.taking.stored.here_once
+            (once_both a.done.items a.here.items r.taking.stored.done_once r.taking.stored.here_once
             (λ x c d. let l = r.taking.stored.before x c in let e = r.taking.stored.at x d in omega (arith, l, e)));
         here_once = m.here_once r.taking.stored.later_once;
         later_once = m.later_once r.taking.stored.later_once;
@@ -212,16 +212,16 @@ module _ (core : List Nonterminal) (text : List ℕ) (budget p : ℕ) (a b : Fou
             let h = r.taking.came x (later_was x c) in
             (h.0, subst (λ (z : List Item). Contains z h.0) (taken_was ∙ sym taken_all) h.1, h.2);
         few = omega arith;
-        within = let l = r.taking.within in let d = ap length m.done ∙ length-append a.done.items a.here in let c = m.count in omega (arith, l, d, c);
+        within = let l = r.taking.within in let d = ap length m.done ∙ length-append a.done.items a.here.items in let c = m.count in omega (arith, l, d, c);
       }
 
   past_taken : (x : Item) → Contains (found_in a) x → x.position ≤ p
   past_taken x c =
-      let u = unmapped_in (means a) (a.done.items ++ a.here) x c in
+      let u = unmapped_in (means a) (a.done.items ++ a.here.items) x c in
       let e : u.0.position ≡ x.position = ap (λ (z : Item). z.position) u.2 in
       ⊎_elim (λ (h : Contains a.done.items u.0). let l = r.taking.stored.before u.0 h in omega (arith, l, e))
-      (λ (h : Contains a.here u.0). let l = r.taking.stored.at u.0 h in omega (arith, l, e))
-      (contains_sides a.done.items a.here u.0 u.1)
+      (λ (h : Contains a.here.items u.0). let l = r.taking.stored.at u.0 h in omega (arith, l, e))
+      (contains_sides a.done.items a.here.items u.0 u.1)
 
   instances_same : instances_in b ≡ instances_in a
   instances_same = ap (λ z. map (instance_by z) b.keys) m.envs ∙ ap (map (instance_by a.envs.keys)) m.keys
@@ -238,7 +238,7 @@ module _ (core : List Nonterminal) (text : List ℕ) (budget p : ℕ) (a b : Fou
       old : (i : ℕ) (callee : Instance) → slice_get (instances_in b) i ≡ Some callee → slice_get (instances_in a) i ≡ Some callee
       old i callee e = subst (λ (z : List Instance). slice_get z i ≡ Some callee) instances_same e
 
-      waits : IsWaiting core text (p + 1) b (taken_in a (length a.here)) w
+      waits : IsWaiting core text (p + 1) b (taken_in a (length a.here.items)) w
       waits =
           record {
             lengths = r.waiting.lengths ∙ ap length (sym instances_same);
@@ -251,7 +251,7 @@ module _ (core : List Nonterminal) (text : List ℕ) (budget p : ℕ) (a b : Fou
                   named = λ y c. named y (h.named y c);
                   callers = λ y c.
                       let q = h.callers y c in let e = sym (same y) in
-                      (subst (Contains (taken_in a (length a.here))) e q.0, subst (λ (z : Item). IsCaller core text z callee) e q.1);
+                      (subst (Contains (taken_in a (length a.here.items))) e q.0, subst (λ (z : Item). IsCaller core text z callee) e q.1);
                   all = λ x c d. let q = h.all x c d in (q.0, q.1, same q.0 ∙ q.2);
                 };
             ends = λ i callee called at known. (

@@ -20,13 +20,15 @@ use Rattle.ig_plain.specs.Run.{IsRun}
 use Rattle.ig_plain.specs.Arrival.{IsParted, ArrivesWith}
 use Rattle.ig_plain.specs.Trail as trail
 use Rattle.ig_plain.specs.Trail.{Pairs, IsRecorded, FollowTrail, HasTrail, PartsTrail, ArrivesOn}
-use Rattle.ig_plain.proofs.Lists.{at_from_contains, left_at, right_at, sides, take_step, same_map, unmapped_at}
+use Rattle.ig_plain.proofs.Lists.{at_from_contains, right_at, sides, take_step, same_map, unmapped_at}
 use Rattle.ig_plain.proofs.Growth.{longer, extends_at}
 use Rattle.ig_plain.proofs.Distinct.{different}
 use Rattle.ig_plain.proofs.Pairing.{IsSameFrom, all_same, same_more, same_set, front_at, behind_at, mapped_at, pairs_left, pairs_right, pairs_sides, pairs_mapped, pairs_unmapped}
 use Rattle.ig_plain.proofs.Sets.{extends_same}
 use Rattle.ig_plain.proofs.Recording.{way_more}
 use Rattle.ig_plain.proofs.Trails.{RecordsMore, follow, ends_found, ends_none}
+use Rattle.ig_plain.proofs.Indexing.{indexed_same, indexed_next}
+use Rattle.ig_plain.proofs.Onward.{known_more}
 use Rattle.ig_plain.proofs.Arrivals.{once_left, parts_none, parts_here, parts_kept, same, taken_all, taken_was, stored_next}
 
 -- one more of the later items is at the position
@@ -202,10 +204,10 @@ module _ (position : ℕ) (later left : List stored.Item) (prevs numbers : List 
       }
 
 module _ (core : List Nonterminal) (text : List ℕ) (budget p : ℕ) (a b : Found) (w : Waiting) (t u : Trail)
-    (r : IsRun core text budget p (length a.here) a w) (m : ArrivesWith (p + 1) a b) (o : ArrivesOn a b t u)
-    (h : HasTrail core text p (length a.here) a w t) where
+    (r : IsRun core text budget p (length a.here.items) a w) (m : ArrivesWith (p + 1) a b) (o : ArrivesOn a b t u)
+    (h : HasTrail core text p (length a.here.items) a w t) (cleared : u.returned ≡ []) where
   abbrev known : List Item
-  known = taken_in a (length a.here)
+  known = taken_in a (length a.here.items)
 
   abbrev means_same : (x : stored.Item) → means b x ≡ means a x
   means_same x = same core text budget p a b w r m x
@@ -213,10 +215,10 @@ module _ (core : List Nonterminal) (text : List ℕ) (budget p : ℕ) (a b : Fou
   -- those that arrive stand behind those found
   abbrev found_next : found_in b ≡ found_in a ++ map (means a) o.more
   found_next =
-      ap (λ (z : List stored.Item). map (means b) (z ++ b.here)) m.done ∙
-      ap (λ (z : List stored.Item). map (means b) ((a.done.items ++ a.here) ++ z)) o.here_is ∙
-      same_map (means b) (means a) ((a.done.items ++ a.here) ++ o.more) (λ x c. means_same x) ∙
-      map-append (means a) (a.done.items ++ a.here) o.more
+      ap (λ (z : List stored.Item). map (means b) (z ++ b.here.items)) m.done ∙
+      ap (λ (z : List stored.Item). map (means b) ((a.done.items ++ a.here.items) ++ z)) o.here_is ∙
+      same_map (means b) (means a) ((a.done.items ++ a.here.items) ++ o.more) (λ x c. means_same x) ∙
+      map-append (means a) (a.done.items ++ a.here.items) o.more
 
   abbrev grow : Extends (found_in a) (found_in b)
   grow = record { more = map (means a) o.more; is = found_next }
@@ -288,6 +290,10 @@ module _ (core : List Nonterminal) (text : List ℕ) (budget p : ℕ) (a b : Fou
         keeps = recorded_stays;
         splits = λ way x c. inl (recorded_was way x c);
         has = λ way x c. absurd c;
+        indexed = λ i.
+            indexed_same (a.done.items ++ a.here.items) b.done.items o.more b.here.items (t.ways.firsts ++ map Leaf o.numbers) u.ways.firsts []
+            u.returned m.done o.here_is o.firsts cleared
+            (indexed_next a.done.items a.here.items o.more t.ways.firsts o.numbers t.returned o.numbered i);
       }
     where
       even : length t.ways.firsts + length (map Leaf o.numbers) ≡ length (found_in a) + length (map (means a) o.more)
@@ -315,9 +321,9 @@ module _ (core : List Nonterminal) (text : List ℕ) (budget p : ℕ) (a b : Fou
   arrives_on =
       record {
         ways = subst (FollowTrail core text b u) (taken_was core text budget p a b w r m ∙ sym (taken_all core text budget p a b w r m)) follows;
-        callers = λ cell c.
-            subst (λ (z : List stored.Item). slice_get (z ++ b.here) cell.number ≡ Some cell.item) (sym m.done)
-            (left_at (a.done.items ++ a.here) b.here cell.number cell.item (h.callers cell c));
+        callers = known_more core a b w.callers.items r.taking.stored.named
+            (record { more = b.here.items; is = ap (λ (z : List stored.Item). z ++ b.here.items) m.done }) (λ x n. means_same x) h.callers;
         ends = λ i callee called at known_called e.
             let l = r.waiting.before i called (p + 1) known_called e in absurd (omega (arith, l));
+        indexed = recorded.indexed h.indexed;
       }

@@ -1,6 +1,6 @@
 -- An item before a call is taken: its arguments, its callee, and where the callee ended.
 use Rattle.std.proofs.Common.{◌≡◌, ℕ, suc, ◌<◌, ◌≤◌, List, [], Some, Option, length, map, set, refl, sym, ap, ◌∙◌, subst, arith, slice_get}
-use Rattle.std.specs.Prelude.{Result, Ok, Err, slice_index_or, option_map}
+use Rattle.std.specs.Prelude.{Bool, Result, Ok, Err, slice_index_or, option_map}
 use Rattle.std.proofs.lemmas.Option.{slice_get_within, get_or_from_slice_get, slice_get-map}
 use Rattle.ig_text.specs.declared.pattern.Pattern.{Pattern}
 use Rattle.ig_expr.specs.Expression.{Expression}
@@ -37,7 +37,7 @@ use Rattle.ig_plain.proofs.Instances.{run_moved}
 use Rattle.ig_plain.proofs.Calls.{calls_only, calls_past, last_there, visible_one}
 
 module _ (core : List Nonterminal) (text : List ℕ) (law : ReachableIsClosed) (inside : ItemsAreInText) (budget p k : ℕ) (s : Found) (w : Waiting) (item : stored.Item)
-    (here : item.position ≡ p) (r : IsRun core text budget p k s w) (at : slice_get s.here k ≡ Some item) (names : List (List ℕ)) (nonterminal : ℕ)
+    (here : item.position ≡ p) (r : IsRun core text budget p k s w) (at : slice_get s.here.items k ≡ Some item) (names : List (List ℕ)) (nonterminal : ℕ)
     (arguments : List Expression) (label : Option (List ℕ)) (excluded : List Pattern)
     (before : StandsBefore core (means s item) names (Call nonterminal arguments label excluded)) where
   abbrev it : Item
@@ -87,7 +87,7 @@ module _ (core : List Nonterminal) (text : List ℕ) (law : ReachableIsClosed) (
   -- the arguments have values, which are an environment now
   module _ (s1 : Found) (env : ℕ) (values vs : List Value) (same : values ≡ it.env) (envs : Extends s.envs.keys s1.envs.keys) (once : NoneTwice s1.envs.keys)
       (there : slice_get s1.envs.keys env ≡ Some vs) (keys : s1.keys ≡ s.keys) (done : s1.done.items ≡ s.done.items)
-      (here_same : s1.here ≡ s.here) (later : s1.later.items ≡ s.later.items)
+      (here_same : s1.here.items ≡ s.here.items) (later : s1.later.items ≡ s.later.items)
       (are : map (value_of text names values item.position) arguments ≡ map Some vs) where
     abbrev key : InstanceKey
     key = record { nonterminal = nonterminal; env = env; start = item.position }
@@ -145,8 +145,8 @@ module _ (core : List Nonterminal) (text : List ℕ) (law : ReachableIsClosed) (
       pub means_2 : means t item ≡ it
       means_2 = result.same item (moved_named s s1 r.taking.stored.named moved item named_item) ∙ means_1
 
-      pub at_2 : slice_get t.here k ≡ Some item
-      at_2 = extends_at s1.here t.here k item result.here (subst (λ (z : List stored.Item). slice_get z k ≡ Some item) (sym here_same) at)
+      pub at_2 : slice_get t.here.items k ≡ Some item
+      at_2 = extends_at s1.here.items t.here.items k item result.here (subst (λ (z : List stored.Item). slice_get z k ≡ Some item) (sym here_same) at)
 
       pub instance_2 : slice_get (instances_in t) i ≡ Some (instance_by t.envs.keys key)
       instance_2 = slice_get-map (instance_by t.envs.keys) t.keys i ∙ ap (option_map (instance_by t.envs.keys)) result.there
@@ -165,9 +165,9 @@ module _ (core : List Nonterminal) (text : List ℕ) (law : ReachableIsClosed) (
           last_there core text law inside budget p k t v item here run_2 at_2 i (instance_by t.envs.keys key) label excluded instance_2 calls_2
 
       pub named_2 : Named t item
-      named_2 = run_2.taking.stored.named.here item (contains_from_at t.here k item at_2)
+      named_2 = run_2.taking.stored.named.here item (contains_from_at t.here.items k item at_2)
 
-      module _ (u : Waiting) (number : ℕ) (cells : u.callers.items ≡ lengthened v.callers.items (called_at v i).last item number)
+      module _ (u : Waiting) (number : ℕ) (is_bare : Bool) (cells : u.callers.items ≡ lengthened v.callers.items (called_at v i).last item number is_bare)
           (called : u.called.items ≡ set v.called.items i (with_caller (called_at v i) (suc (length v.callers.items)))) where
         pub end_same : (called_at u i).last_end ≡ (called_at v i).last_end
         end_same =
@@ -188,12 +188,12 @@ module _ (core : List Nonterminal) (text : List ℕ) (law : ReachableIsClosed) (
 
         pub only_waits : ((called_at u i).last_end ≡ Some p → ⊥) → IsRun core text budget p (suc k) t u
         only_waits apart =
-            calls_only core text law inside budget p k t v item here run_2 at_2 i (instance_by t.envs.keys key) label excluded instance_2 calls_2 u number cells called
+            calls_only core text law inside budget p k t v item here run_2 at_2 i (instance_by t.envs.keys key) label excluded instance_2 calls_2 u number is_bare cells called
             (λ e. apart (end_same ∙ e))
 
         pub goes_past : (called_at u i).last_end ≡ Some p → (f : Found) (o : Result (Unit {0}) RunFault) →
             Adds p (λ x. MatchesNone text excluded item.position p × (x ≡ past (means t item) (span_of label item.position p) p)) budget t f o →
             IsTaken core text budget p k f u o
         goes_past last f o d =
-            calls_past core text law inside budget p k t v item here run_2 at_2 i (instance_by t.envs.keys key) label excluded instance_2 calls_2 u number cells called
+            calls_past core text law inside budget p k t v item here run_2 at_2 i (instance_by t.envs.keys key) label excluded instance_2 calls_2 u number is_bare cells called
             (sym end_same ∙ last) f o d

@@ -1,12 +1,12 @@
 -- An item before a call is taken: the trail, as its callee is entered, and behind that.
-use Rattle.std.proofs.Common.{◌≡◌, ℕ, suc, ◌+◌, List, Some, Option, length, map, set, refl, sym, ap, ◌∙◌, slice_get}
-use Rattle.std.specs.Prelude.{Result, Ok, OnOk}
+use Rattle.std.proofs.Common.{◌≡◌, ℕ, suc, ◌+◌, List, [], Some, Option, length, map, set, refl, sym, ap, ◌∙◌, subst, slice_get}
+use Rattle.std.specs.Prelude.{Bool, IsTrue, None, Result, Ok, OnOk}
 use Rattle.ig_text.specs.declared.pattern.Pattern.{Pattern}
 use Rattle.ig_expr.specs.Expression.{Expression}
 use Rattle.ig_expr.specs.Evaluation.{value_of}
 use Rattle.ig_expr.specs.declared.value.Value.{Value}
 use Rattle.ig_item.specs.Step.{Call}
-use Rattle.ig_item.specs.Items.{MatchesNone, StandsBefore, past, span_of}
+use Rattle.ig_item.specs.Items.{Item, MatchesNone, StandsBefore, past, span_of}
 use Rattle.ig_item.specs.Laws.{ReachableIsClosed, ItemsAreInText}
 use Rattle.ig_item.specs.Tables.{instance_by}
 use Rattle.ig_item.specs.WellKinded.{NoneTwice}
@@ -20,16 +20,18 @@ use Rattle.ig_plain.specs.declared.trail.Trail.{Trail}
 use Rattle.ig_plain.specs.declared.waiting.Waiting.{Waiting}
 use Rattle.ig_plain.specs.Tables.{Extends}
 use Rattle.ig_plain.specs.Found.{means, Adds}
+use Rattle.ig_plain.specs.Rules.{StandsAtBareCall}
 use Rattle.ig_plain.specs.Waiting.{called_at, lengthened, with_caller}
 use Rattle.ig_plain.specs.Run.{IsRun, EntersInstance}
-use Rattle.ig_plain.specs.Trail.{By, Records, HasTrail, EntersOn}
+use Rattle.ig_plain.specs.Trail.{By, ComeByNodes, Records, HasTrail, EntersOn}
 use Rattle.ig_plain.proofs.Calling as calling
 use Rattle.ig_plain.proofs.Entered.{trail_moved}
+use Rattle.ig_plain.proofs.Fresh.{found_by_node}
 use Rattle.ig_plain.proofs.TakenOn.{idle_on, waits_on, past_on}
 
 module _ (core : List Nonterminal) (text : List ℕ) (law : ReachableIsClosed) (inside : ItemsAreInText) (budget k : ℕ) (s : Found) (w : Waiting)
     (item : stored.Item)
-    (r : IsRun core text budget item.position k s w) (at : slice_get s.here k ≡ Some item) (names : List (List ℕ)) (nonterminal : ℕ)
+    (r : IsRun core text budget item.position k s w) (at : slice_get s.here.items k ≡ Some item) (names : List (List ℕ)) (nonterminal : ℕ)
     (arguments : List Expression) (label : Option (List ℕ)) (excluded : List Pattern)
     (before : StandsBefore core (means s item) names (Call nonterminal arguments label excluded))
     (trail : Trail) (number : ℕ) (is : number ≡ length s.done.items + k) (h : HasTrail core text item.position k s w trail) where
@@ -46,7 +48,7 @@ module _ (core : List Nonterminal) (text : List ℕ) (law : ReachableIsClosed) (
   -- the arguments have values, which are an environment now; the callee is entered
   module _ (s1 : Found) (env : ℕ) (values vs : List Value) (same : values ≡ (means s item).env) (envs : Extends s.envs.keys s1.envs.keys)
       (once : NoneTwice s1.envs.keys) (there : slice_get s1.envs.keys env ≡ Some vs) (keys : s1.keys ≡ s.keys) (done : s1.done.items ≡ s.done.items)
-      (here_same : s1.here ≡ s.here) (later : s1.later.items ≡ s.later.items)
+      (here_same : s1.here.items ≡ s.here.items) (later : s1.later.items ≡ s.later.items)
       (are : map (value_of text names values item.position) arguments ≡ map Some vs) (t : Found) (v : Waiting) (i : ℕ)
       (entered : EntersInstance core budget (record { nonterminal = nonterminal; env = env; start = item.position }) s1 t w v (Ok i))
       (u : Trail) (entered_on : EntersOn core budget (record { nonterminal = nonterminal; env = env; start = item.position }) s1 t w v trail u
@@ -73,10 +75,10 @@ module _ (core : List Nonterminal) (text : List ℕ) (law : ReachableIsClosed) (
         once there keys
         done here_same later are t v i refl entered
 
-    trail_2 : HasTrail core text p k t v u
+    pub trail_2 : HasTrail core text p k t v u
     trail_2 = entered_on text k run_1 trail_1
 
-    at_2 : slice_get t.here k ≡ Some item
+    at_2 : slice_get t.here.items k ≡ Some item
     at_2 =
         calling.at_2 core text law inside budget p k s w item refl r at names nonterminal arguments label excluded before s1 env values vs same envs
         once there keys
@@ -89,7 +91,33 @@ module _ (core : List Nonterminal) (text : List ℕ) (law : ReachableIsClosed) (
         keys done here_same later are t v i refl entered).done in
         is ∙ ap (λ (z : List stored.Item). length z + k) (sym (e ∙ done))
 
-    module _ (x : Waiting) (cells : x.callers.items ≡ lengthened v.callers.items (called_at v i).last item number)
+    -- what is behind the call was found by nodes
+    pub by_nodes_2 : ComeByNodes t u (λ z. MatchesNone text excluded p p × (z ≡ past (means t item) (span_of label p p) p))
+    by_nodes_2 x m j at_j =
+        found_by_node core text t u _ trail_2.ways (means t item) names nonterminal arguments label excluded
+        (subst (λ (z : Item). StandsBefore core z names (Call nonterminal arguments label excluded))
+        (sym (calling.means_2 core text law inside budget p k s w item refl r at names nonterminal arguments label excluded before s1 env values vs
+        same envs once
+        there keys done here_same later are t v i refl entered)) before) x (span_of label p p) p m.1 j at_j
+
+    -- a call that has neither a label nor an excluded pattern is bare
+    bare_2 : (is_bare : Bool) → (IsTrue is_bare → (label ≡ None) × (excluded ≡ [])) → IsTrue is_bare → StandsAtBareCall core (means t item)
+    bare_2 is_bare told b =
+        let e = told b in
+        record {
+          names = names;
+          callee = nonterminal;
+          arguments = arguments;
+          before = subst (λ (z : Item). StandsBefore core z names (Call nonterminal arguments None []))
+              (sym (calling.means_2 core text law inside budget p k s w item refl r at names nonterminal arguments label excluded before s1 env values
+              vs same envs
+              once there keys done here_same later are t v i refl entered))
+              (subst (λ (z : Option (List ℕ)). StandsBefore core (means s item) names (Call nonterminal arguments z [])) e.0
+              (subst (λ (z : List Pattern). StandsBefore core (means s item) names (Call nonterminal arguments label z)) e.1 before));
+        }
+
+    module _ (x : Waiting) (is_bare : Bool) (told : IsTrue is_bare → (label ≡ None) × (excluded ≡ []))
+        (cells : x.callers.items ≡ lengthened v.callers.items (called_at v i).last item number is_bare)
         (called : x.called.items ≡ set v.called.items i (with_caller (called_at v i) (suc (length v.callers.items)))) where
       -- the callee has no end here
       pub only_waits_on : ((called_at x i).last_end ≡ Some p → ⊥) → HasTrail core text p (suc k) t x u
@@ -101,10 +129,10 @@ module _ (core : List Nonterminal) (text : List ℕ) (law : ReachableIsClosed) (
           (calling.calls_2 core text law inside budget p k s w item refl r at names nonterminal arguments label excluded before s1 env values vs same
           envs once there
           keys done here_same later are t v i refl entered)
-          x cells called
+          x is_bare (bare_2 is_bare told) cells called
           (λ e. apart (calling.end_same core text law inside budget p k s w item refl r at names nonterminal arguments label excluded before s1 env
           values vs same envs
-          once there keys done here_same later are t v i refl entered x number cells called ∙ e))
+          once there keys done here_same later are t v i refl entered x number is_bare cells called ∙ e))
 
       -- the callee ended here
       pub goes_past_on : (d : ℕ) → (called_at x i).last_end ≡ Some p → d ≡ (called_at x i).last_done →
@@ -120,10 +148,10 @@ module _ (core : List Nonterminal) (text : List ℕ) (law : ReachableIsClosed) (
           (calling.calls_2 core text law inside budget p k s w item refl r at names nonterminal arguments label excluded before s1 env values vs same
           envs once there
           keys done here_same later are t v i refl entered)
-          x cells called d
+          x is_bare (bare_2 is_bare told) cells called d
           (sym (calling.end_same core text law inside budget p k s w item refl r at names nonterminal arguments label excluded before s1 env values
           vs same envs
-          once there keys done here_same later are t v i refl entered x number cells called) ∙ last)
+          once there keys done here_same later are t v i refl entered x number is_bare cells called) ∙ last)
           (d_is ∙ calling.done_same core text law inside budget p k s w item refl r at names nonterminal arguments label excluded before s1 env
           values vs same envs
-          once there keys done here_same later are t v i refl entered x number cells called) f y o adds rec
+          once there keys done here_same later are t v i refl entered x number is_bare cells called) f y o adds rec

@@ -1,6 +1,6 @@
 -- An item before a call is taken.
 use Rattle.std.proofs.Common.{◌≡◌, ◌⊎◌, ⊎_elim, inl, inr, ℕ, suc, ◌<◌, ◌≤◌, List, [], ◌∷◌, ◌++◌, Some, Option, length, map, set, take, Contains, refl, sym, ap, ◌∙◌, subst, arith, slice_get}
-use Rattle.std.specs.Prelude.{Result, Ok, Err}
+use Rattle.std.specs.Prelude.{Bool, Result, Ok, Err}
 use Rattle.std.proofs.lemmas.Option.{same_Some, slice_get_within, slice_get-get_or}
 use Rattle.ig_text.specs.declared.pattern.Pattern.{Pattern}
 use Rattle.ig_expr.specs.Evaluation.{value_of}
@@ -71,7 +71,7 @@ calls_one core text it a b l m e f p q =
 module _ (core : List Nonterminal) (text : List ℕ) (p : ℕ) (s t : Found) (taken : List Item) (item : stored.Item) (v u : Waiting) (i : ℕ) (callee : Instance)
     (keeps : Keeps s t) (named : Named s item) (r : IsWaiting core text p s taken v) (once : NoneTwice (instances_in s))
     (at : slice_get (instances_in s) i ≡ Some callee) (calls : IsCaller core text (means s item) callee)
-    (number : ℕ) (cells : u.callers.items ≡ lengthened v.callers.items (called_at v i).last item number)
+    (number : ℕ) (is_bare : Bool) (cells : u.callers.items ≡ lengthened v.callers.items (called_at v i).last item number is_bare)
     (called : u.called.items ≡ set v.called.items i (with_caller (called_at v i) (suc (length v.callers.items)))) where
   abbrev it : Item
   it = means s item
@@ -114,9 +114,9 @@ module _ (core : List Nonterminal) (text : List ℕ) (p : ℕ) (s t : Found) (ta
       record {
         chain = old.chain ++ item ∷ [];
         chained = subst (λ (z : List Caller). Chains z (first_or before.first place) (old.chain ++ item ∷ [])) (sym cells)
-            (chain_longer v.callers.items item number before.first before.last old.ended old.chain old.chained);
+            (chain_longer v.callers.items item number is_bare before.first before.last old.ended old.chain old.chained);
         ended = subst (λ (z : List Caller). ChainEnds z (first_or before.first place) place) (sym cells)
-            (end_longer v.callers.items item number before.first before.last old.ended);
+            (end_longer v.callers.items item number is_bare before.first before.last old.ended);
         named = λ y c.
             ⊎_elim (λ (h : Contains old.chain y). keeps.named y (old.named y h))
             (λ (h : Contains (item ∷ []) y). keeps.named y (subst (Named s) (sym (one_in item y h)) named))
@@ -145,9 +145,9 @@ module _ (core : List Nonterminal) (text : List ℕ) (p : ℕ) (s t : Found) (ta
   other_stays : (j : ℕ) (other : Instance) (after : Called) (e : slice_get (instances_in s) j ≡ Some other) → (j ≡ i → ⊥) →
       (known : slice_get v.called.items j ≡ Some after) → (k : ℕ) (cell : Caller) → slice_get v.callers.items k ≡ Some cell →
       Contains (r.callers j other after e known).chain cell.item →
-      slice_get (lengthened v.callers.items before.last item number) k ≡ Some cell
+      slice_get (lengthened v.callers.items before.last item number is_bare) k ≡ Some cell
   other_stays j other after e apart known k cell there among =
-      stays_at v.callers.items item number before.last k cell
+      stays_at v.callers.items item number is_bare before.last k cell
       (λ is.
       let a = ((r.callers j other after e known).callers cell.item among).1 in
       let b = (old.callers cell.item (last_in v.callers.items before.first before.last old.ended old.chain old.chained k cell (sym is) there)).1 in
@@ -165,9 +165,9 @@ module _ (core : List Nonterminal) (text : List ℕ) (p : ℕ) (s t : Found) (ta
       (record {
         chain = h.chain;
         chained = subst (λ (z : List Caller). Chains z after.first h.chain) (sym cells)
-            (chain_stays v.callers.items (lengthened v.callers.items before.last item number) after.first h.chain h.chained stays);
+            (chain_stays v.callers.items (lengthened v.callers.items before.last item number is_bare) after.first h.chain h.chained stays);
         ended = subst (λ (z : List Caller). ChainEnds z after.first after.last) (sym cells)
-            (end_stays v.callers.items (lengthened v.callers.items before.last item number) after.first after.last h.ended h.chain h.chained stays);
+            (end_stays v.callers.items (lengthened v.callers.items before.last item number is_bare) after.first after.last h.ended h.chain h.chained stays);
         named = h.named;
         callers = h.callers;
         all = h.all;
@@ -212,7 +212,7 @@ module _ (core : List Nonterminal) (text : List ℕ) (p : ℕ) (s t : Found) (ta
       }
 
 module _ (core : List Nonterminal) (text : List ℕ) (law : ReachableIsClosed) (inside : ItemsAreInText) (budget p k : ℕ) (s : Found) (v : Waiting) (item : stored.Item)
-    (here : item.position ≡ p) (r : IsRun core text budget p k s v) (at : slice_get s.here k ≡ Some item) (i : ℕ) (callee : Instance)
+    (here : item.position ≡ p) (r : IsRun core text budget p k s v) (at : slice_get s.here.items k ≡ Some item) (i : ℕ) (callee : Instance)
     (label : Option (List ℕ)) (excluded : List Pattern) (there : slice_get (instances_in s) i ≡ Some callee)
     (calls : Calls core text (means s item) callee label excluded) where
   abbrev one : Item
@@ -221,11 +221,11 @@ module _ (core : List Nonterminal) (text : List ℕ) (law : ReachableIsClosed) (
   -- a taken item isn't behind the position
   taken_past : (x : Item) → Contains (taken_in s k) x → x.position ≤ p
   taken_past x c =
-      let a = unmapped_in (means s) (s.done.items ++ take k s.here) x c in
+      let a = unmapped_in (means s) (s.done.items ++ take k s.here.items) x c in
       let e : a.0.position ≡ x.position = ap (λ (z : Item). z.position) a.2 in
       ⊎_elim (λ (h : Contains s.done.items a.0). let l = r.taking.stored.before a.0 h in omega (arith, l, e))
-      (λ (h : Contains (take k s.here) a.0). let l = r.taking.stored.at a.0 (front_in s.here k a.0 h) in omega (arith, l, e))
-      (contains_sides s.done.items (take k s.here) a.0 a.1)
+      (λ (h : Contains (take k s.here.items) a.0). let l = r.taking.stored.at a.0 (front_in s.here.items k a.0 h) in omega (arith, l, e))
+      (contains_sides s.done.items (take k s.here.items) a.0 a.1)
 
   -- a complete item of the callee ends here
   pub ends_here : (done : Item) → Contains (taken_in s k) done → done.instance ≡ callee → done.position ≡ p
@@ -270,14 +270,14 @@ module _ (core : List Nonterminal) (text : List ℕ) (law : ReachableIsClosed) (
       )
   sorts x (rules.returned caller l ex c calls2 complete free e) = absurd (not_both core text one calls.names _ calls.before complete)
 
-  module _ (u : Waiting) (number : ℕ) (cells : u.callers.items ≡ lengthened v.callers.items (called_at v i).last item number)
+  module _ (u : Waiting) (number : ℕ) (is_bare : Bool) (cells : u.callers.items ≡ lengthened v.callers.items (called_at v i).last item number is_bare)
       (called : u.called.items ≡ set v.called.items i (with_caller (called_at v i) (suc (length v.callers.items)))) where
     waits_then : (t : Found) → Keeps s t → IsWaiting core text p t (taken_in s k ++ one ∷ []) u
     waits_then t keeps =
         waits_call core text p s t (taken_in s k) item v u i callee keeps
         (item_named core text law budget p k s v item here r at) r.waiting
         (instances_once s r.taking.stored.named r.taking.stored.tables.environments r.taking.stored.tables.instances) there
-        (record { label = label; excluded = excluded; calls = calls }) number cells called
+        (record { label = label; excluded = excluded; calls = calls }) number is_bare cells called
 
     -- the callee has no end here
     pub calls_only : ((called_at v i).last_end ≡ Some p → ⊥) → IsRun core text budget p (suc k) s u

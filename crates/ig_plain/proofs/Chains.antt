@@ -1,6 +1,6 @@
 -- Items in chains of cells.
 use Rattle.std.proofs.Common.{◌≡◌, ℕ, zero, suc, ◌+◌, ◌-◌, ◌<◌, ◌≤◌, ◌≢◌, List, [], ◌∷◌, ◌++◌, length, refl, sym, ap, ◌∙◌, subst, arith, Bool, true, false, nat_eq, inl, inr, ◌⊎◌, ⊎_elim}
-use Rattle.std.specs.Prelude.{slice_index_or, if◌then◌else◌, slice_get, option_map, Some}
+use Rattle.std.specs.Prelude.{slice_index_or, if◌then◌else◌, Some}
 use Rattle.std.proofs.lemmas.Bool.{eqb-true}
 use Rattle.std.proofs.lemmas.Nat.{and_le_r}
 use Rattle.std.proofs.Common.{set, eqb, eq-eqb}
@@ -8,14 +8,14 @@ use Rattle.std.proofs.lemmas.List.{get_or_append_left, get_or_push, length_push,
 use Rattle.std.proofs.lemmas.Grind.{get_or-set_at}
 use Rattle.std.proofs.lemmas.Bool.Decides.{eqb_tells}
 use Rattle.std.proofs.Common.{Contains}
-use Rattle.std.proofs.lemmas.Option.{slice_get_within, get_or_from_slice_get, slice_get-map, slice_get-get_or}
+use Rattle.std.proofs.lemmas.Option.{slice_get_within, get_or_from_slice_get, slice_get-get_or}
 use Rattle.ig_item.specs.declared.items.Item.{Item}
 use Rattle.ig_item.specs.WellKinded.{NoneTwice}
 use Rattle.ig_plain.specs.Tables.{AddsOnly}
-use Rattle.ig_plain.specs.declared.item_set.Cell.{Cell}
-use Rattle.ig_plain.proofs.Lists.{at_from_contains, unmapped_in, one_in, it_is_in, right_contains}
+use Rattle.ig_plain.specs.declared.returned.Cell.{Cell}
+use Rattle.ig_plain.proofs.Lists.{at_from_contains, contains_from_at, mapped_in, unmapped_in, one_in, it_is_in, right_contains}
 use Rattle.ig_plain.proofs.Distinct.{once_both, once_single}
-use Rattle.ig_plain.specs.ItemSet.{nothing, last, bucket_of, hash_of, items_of, AreChained, Walks}
+use Rattle.ig_plain.specs.Returned.{Entry, entry, nothing, last, bucket_of, hash_of, entries_of, AreChained, Walks}
 
 -- a cell is below the bound
 pub last_below : (mask : ℕ) (cells : List Cell) (bucket n : ℕ) → last mask cells bucket n ≤ n
@@ -245,28 +245,31 @@ walk_goes mask base heads cells item at cell b w lt cell_is not_here =
 
 -- where the walk found the item, and where it came to an end
 pub walk_finds : (cells : List Cell) (item : Item) (k : ℕ) (cell : Cell) → k < length cells → cell ≡ slice_index_or cells k cell →
-    cell.item ≡ item → slice_get (items_of cells) k ≡ Some item
+    cell.item ≡ item → Contains (entries_of cells) (entry item cell.number)
 walk_finds cells item k cell within cell_is is =
-    slice_get-map (λ (c : Cell). c.item) cells k ∙
-    ap (option_map (λ (c : Cell). c.item)) (slice_get-get_or cells k cell within ∙ ap Some (sym cell_is)) ∙ ap Some is
+    subst (λ (z : Item). Contains (entries_of cells) (entry z cell.number)) is
+    (mapped_in (λ (c : Cell). entry c.item c.number) cells cell
+    (contains_from_at cells k cell (slice_get-get_or cells k cell within ∙ ap Some (sym cell_is))))
 
 pub walk_ends : (mask base : ℕ) (cells : List Cell) (item : Item) (at : ℕ) → Walks mask base cells item at → at ≤ base →
-    Contains (items_of cells) item → ⊥
-walk_ends mask base cells item at w le c =
-    let u = unmapped_in (λ (c : Cell). c.item) cells item c in
+    (number : ℕ) → Contains (entries_of cells) (entry item number) → ⊥
+walk_ends mask base cells item at w le number c =
+    let u = unmapped_in (λ (c : Cell). entry c.item c.number) cells (entry item number) c in
     let k = at_from_contains cells u.0 u.1 in
     let within = slice_get_within cells k.0 u.0 k.1 in
-    w.passed k.0 (omega arith) within (ap (λ (c : Cell). c.item) (get_or_from_slice_get cells k.0 u.0 nothing k.1) ∙ u.2)
+    w.passed k.0 (omega arith) within
+    (ap (λ (c : Cell). c.item) (get_or_from_slice_get cells k.0 u.0 nothing k.1) ∙ ap (λ (e : Entry). e.item) u.2)
 
-pub added_by : (mask base : ℕ) (heads : List ℕ) (cells more : List Cell) (item : Item) (next place : ℕ) → AreChained mask base heads cells →
-    next ≡ slice_index_or heads (bucket_of mask item) next → more ≡ cells ++ record { item = item; next = next } ∷ [] →
+pub added_by : (mask base : ℕ) (heads : List ℕ) (cells more : List Cell) (item : Item) (number next place : ℕ) →
+    AreChained mask base heads cells →
+    next ≡ slice_index_or heads (bucket_of mask item) next → more ≡ cells ++ record { item = item; number = number; next = next } ∷ [] →
     place ≡ base + length cells + 1 → AreChained mask base (set heads (bucket_of mask item) place) more
-added_by mask base heads cells more item next place b next_is more_is place_is =
+added_by mask base heads cells more item number next place b next_is more_is place_is =
     let le = and_le_r (hash_of item) mask in
     let same : next ≡ slice_index_or heads (bucket_of mask item) 0 = next_is ∙ any_default heads (bucket_of mask item) next 0 (omega (arith, le, b.all)) in
     subst (λ (z : List Cell). AreChained mask base (set heads (bucket_of mask item) place) z) (sym more_is)
-    (subst (λ (z : ℕ). AreChained mask base (set heads (bucket_of mask item) z) (cells ++ record { item = item; next = next } ∷ [])) (sym place_is)
-    (added mask base heads cells (record { item = item; next = next }) b le same))
+    (subst (λ (z : ℕ). AreChained mask base (set heads (bucket_of mask item) z) (cells ++ record { item = item; number = number; next = next } ∷ [])) (sym place_is)
+    (added mask base heads cells (record { item = item; number = number; next = next }) b le same))
 
 -- a list that got an item that it hadn't
 pub added_only : (xs ys : List Item) (x : Item) → ys ≡ xs ++ x ∷ [] → AddsOnly xs ys x

@@ -54,12 +54,12 @@ keeps_grown p may a b n g =
     }
 
 module _ (core : List Nonterminal) (text : List ℕ) (law : ReachableIsClosed) (budget p k : ℕ) (s : Found) (w : Waiting) (item : stored.Item)
-    (here : item.position ≡ p) (r : IsRun core text budget p k s w) (at : slice_get s.here k ≡ Some item) where
+    (here : item.position ≡ p) (r : IsRun core text budget p k s w) (at : slice_get s.here.items k ≡ Some item) where
   abbrev it : Item
   it = means s item
 
   pub item_named : Named s item
-  item_named = r.taking.stored.named.here item (contains_from_at s.here k item at)
+  item_named = r.taking.stored.named.here item (contains_from_at s.here.items k item at)
 
   pub called_there : item.instance < length w.called.items
   called_there =
@@ -183,7 +183,7 @@ module _ (core : List Nonterminal) (text : List ℕ) (law : ReachableIsClosed) (
 
 -- the run, at the number of the item
 pub run_at : (core : List Nonterminal) (text : List ℕ) (budget : ℕ) (item : stored.Item) (s : Found) (w : Waiting) → Taking core text budget item s w →
-    (k : ℕ) → slice_get s.here k ≡ Some item → IsRun core text budget item.position k s w
+    (k : ℕ) → slice_get s.here.items k ≡ Some item → IsRun core text budget item.position k s w
 run_at core text budget item s w t k e =
     subst (λ (n : ℕ). IsRun core text budget item.position n s w) (t.run.taking.stored.here_once t.number k item t.at e) t.run
 

@@ -80,33 +80,33 @@ module _ (envs : List (List Value)) (keys : List InstanceKey) (envs_once : NoneT
       (same_number envs x.env y.env [] envs_once m.env n.env (ap (λ (z : Item). z.env) e)) (ap (λ (z : Item). z.position) e)
 
 module _ (p : ℕ) (s : Found) (r : IsStored p s) where
-  named : (x : stored.Item) → Contains ((s.done.items ++ s.here) ++ s.later.items) x → Named s x
+  named : (x : stored.Item) → Contains ((s.done.items ++ s.here.items) ++ s.later.items) x → Named s x
   named x c =
-      ⊎_elim (λ (h : Contains (s.done.items ++ s.here) x). ⊎_elim (r.named.done x) (r.named.here x) (contains_sides s.done.items s.here x h))
-      (r.named.later x) (contains_sides (s.done.items ++ s.here) s.later.items x c)
+      ⊎_elim (λ (h : Contains (s.done.items ++ s.here.items) x). ⊎_elim (r.named.done x) (r.named.here x) (contains_sides s.done.items s.here.items x h))
+      (r.named.later x) (contains_sides (s.done.items ++ s.here.items) s.later.items x c)
 
-  pub found_once : NoneTwice (s.done.items ++ s.here)
-  found_once = once_both s.done.items s.here r.done_once r.here_once (λ x c d. let e = r.at x d in omega (arith, r.before x c, e))
+  pub found_once : NoneTwice (s.done.items ++ s.here.items)
+  found_once = once_both s.done.items s.here.items r.done_once r.here_once (λ x c d. let e = r.at x d in omega (arith, r.before x c, e))
 
-  all_once : NoneTwice ((s.done.items ++ s.here) ++ s.later.items)
+  all_once : NoneTwice ((s.done.items ++ s.here.items) ++ s.later.items)
   all_once =
-      once_both (s.done.items ++ s.here) s.later.items found_once r.later_once
+      once_both (s.done.items ++ s.here.items) s.later.items found_once r.later_once
       (λ x c d.
       ⊎_elim (λ (h : Contains s.done.items x). omega (arith, r.before x h, r.behind x d))
-      (λ (h : Contains s.here x). let e = r.at x h in omega (arith, e, r.behind x d)) (contains_sides s.done.items s.here x c))
+      (λ (h : Contains s.here.items x). let e = r.at x h in omega (arith, e, r.behind x d)) (contains_sides s.done.items s.here.items x c))
 
   pub different : NoneTwice (found_in s ++ later_in s)
   different =
-      subst NoneTwice (map-append (means s) (s.done.items ++ s.here) s.later.items)
-      (once_mapped (means s) ((s.done.items ++ s.here) ++ s.later.items) all_once
+      subst NoneTwice (map-append (means s) (s.done.items ++ s.here.items) s.later.items)
+      (once_mapped (means s) ((s.done.items ++ s.here.items) ++ s.later.items) all_once
       (λ x y c d e. one_item s.envs.keys s.keys r.tables.environments r.tables.instances r.named.values x y (named x c) (named y d) e))
 
   pub counted : length (found_in s ++ later_in s) ≡ count s
   counted =
       let a = length-append (found_in s) (later_in s) in
-      let b : length (found_in s) ≡ length (s.done.items ++ s.here) = mapped (s.done.items ++ s.here) in
+      let b : length (found_in s) ≡ length (s.done.items ++ s.here.items) = mapped (s.done.items ++ s.here.items) in
       let c : length (later_in s) ≡ length s.later.items = mapped s.later.items in
-      let d = length-append s.done.items s.here in omega (arith, a, b, c, d)
+      let d = length-append s.done.items s.here.items in omega (arith, a, b, c, d)
     where
       mapped : (xs : List stored.Item) → length (map (means s) xs) ≡ length xs
       mapped [] = refl

@@ -34,9 +34,9 @@ ends_same core known other items to back =
     }
 
 module _ (core : List Nonterminal) (text : List ℕ) (law : ItemsAreInText) (budget : ℕ) (s : Found) (w : Waiting)
-    (r : IsRun core text budget (length text) (length s.here) s w) (t : Trail) (h : HasTrail core text (length text) (length s.here) s w t) where
+    (r : IsRun core text budget (length text) (length s.here.items) s w) (t : Trail) (h : HasTrail core text (length text) (length s.here.items) s w t) where
   abbrev known : Item → Type 0
-  known = Contains (taken_in s (length s.here))
+  known = Contains (taken_in s (length s.here.items))
 
   abbrev reached : Item → Type 0
   reached = Reachable core text
@@ -57,7 +57,7 @@ module _ (core : List Nonterminal) (text : List ℕ) (law : ItemsAreInText) (bud
       none_in x (contains_from_at [] p.0 x (subst (λ (z : List Item). slice_get z p.0 ≡ Some x) none p.1))
 
   came : (k : ℕ) (x prev : Item) (what : Taken) → slice_get (found_in s) k ≡ Some x →
-      IsCame core s t (taken_in s (length s.here)) x prev what → CameBy core text reached (found_in s) t.ways k x prev what
+      IsCame core s t (taken_in s (length s.here.items)) x prev what → CameBy core text reached (found_in s) t.ways k x prev what
   came k x prev what at c =
       record {
         way = c.way;
@@ -86,7 +86,7 @@ module _ (core : List Nonterminal) (text : List ℕ) (law : ItemsAreInText) (bud
       }
 
   -- what the run records is what is told of it
-  pub is_recorded : (tables : Tables) → tables ≡ tables_by s.keys s.envs.keys (s.done.items ++ s.here) →
+  pub is_recorded : (tables : Tables) → tables ≡ tables_by s.keys s.envs.keys (s.done.items ++ s.here.items) →
       recorded.IsRecorded (recording core text tables t.ways)
   is_recorded tables is =
       subst (λ (z : Tables). recorded.IsRecorded (recording core text z t.ways)) (sym is)

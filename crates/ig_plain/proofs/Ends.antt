@@ -27,7 +27,7 @@ use Rattle.ig_plain.proofs.Completes.{instances_once}
 use Rattle.ig_plain.proofs.Fewer.{at_most}
 
 module _ (core : List Nonterminal) (text : List ℕ) (law : ItemsAreInText) (budget : ℕ) (s : Found) (w : Waiting)
-    (r : IsRun core text budget (length text) (length s.here) s w) where
+    (r : IsRun core text budget (length text) (length s.here.items) s w) where
   pub no_later : s.later.items ≡ []
   no_later = none s.later.items (λ x c. never x c)
     where
@@ -47,8 +47,8 @@ module _ (core : List Nonterminal) (text : List ℕ) (law : ItemsAreInText) (bud
   all_found : found_in s ++ later_in s ≡ found_in s
   all_found = ap (λ (z : List stored.Item). found_in s ++ map (means s) z) no_later ∙ append-nil (found_in s)
 
-  pub taken_all : taken_in s (length s.here) ≡ found_in s
-  taken_all = ap (λ (z : List stored.Item). map (means s) (s.done.items ++ z)) (take-length s.here)
+  pub taken_all : taken_in s (length s.here.items) ≡ found_in s
+  taken_all = ap (λ (z : List stored.Item). map (means s) (s.done.items ++ z)) (take-length s.here.items)
 
   pub sound : (x : Item) → Contains (found_in s) x → Reachable core text x
   sound x c = r.taking.reachable x (left_contains (found_in s) (later_in s) x c)
@@ -69,7 +69,7 @@ module _ (core : List Nonterminal) (text : List ℕ) (law : ItemsAreInText) (bud
 
   -- the tables of the answer
   abbrev tables : Tables
-  tables = tables_by s.keys s.envs.keys (s.done.items ++ s.here)
+  tables = tables_by s.keys s.envs.keys (s.done.items ++ s.here.items)
 
   key_same : (x : stored.Item) → Named s x → item_of tables x ≡ means s x
   key_same x n =
@@ -82,7 +82,7 @@ module _ (core : List Nonterminal) (text : List ℕ) (law : ItemsAreInText) (bud
 
   pub items_same : items_of tables ≡ found_in s
   items_same =
-      same_map (item_of tables) (means s) (s.done.items ++ s.here) (λ x c. key_same x (found_named s r.taking.stored.named x c))
+      same_map (item_of tables) (means s) (s.done.items ++ s.here.items) (λ x c. key_same x (found_named s r.taking.stored.named x c))
 
   pub exactly : AreReachable core text tables
   exactly x =
@@ -91,9 +91,9 @@ module _ (core : List Nonterminal) (text : List ℕ) (law : ItemsAreInText) (bud
   pub none_twice : NoneTwice (items_of tables)
   none_twice = subst NoneTwice (sym items_same) once
 
-  pub items_few : length (s.done.items ++ s.here) ≤ budget
+  pub items_few : length (s.done.items ++ s.here.items) ≤ budget
   items_few =
-      let b = length-append s.done.items s.here in let c = ap length no_later in let l = r.taking.within in omega (arith, b, c, l)
+      let b = length-append s.done.items s.here.items in let c = ap length no_later in let l = r.taking.within in omega (arith, b, c, l)
 
   pub no_more : MoreThan core text budget → ⊥
   no_more m =
@@ -102,7 +102,7 @@ module _ (core : List Nonterminal) (text : List ℕ) (law : ItemsAreInText) (bud
   pub keys_once : NoneTwice tables.instances
   keys_once = instances_once s r.taking.stored.named r.taking.stored.tables.environments r.taking.stored.tables.instances
 
-  pub inside : (x : stored.Item) → Contains (s.done.items ++ s.here) x → Named s x
+  pub inside : (x : stored.Item) → Contains (s.done.items ++ s.here.items) x → Named s x
   inside x c = found_named s r.taking.stored.named x c
 
 mapped_length : {A B : Type 0} (f : A → B) (xs : List A) → length (map f xs) ≡ length xs

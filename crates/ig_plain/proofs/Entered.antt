@@ -22,28 +22,29 @@ use Rattle.ig_plain.specs.Found.{means, found_in, taken_in, instances_in, Named,
 use Rattle.ig_plain.specs.Rules.{IsFirstOf}
 use Rattle.ig_plain.specs.Waiting.{not_called}
 use Rattle.ig_plain.specs.Run.{IsRun}
-use Rattle.ig_plain.specs.Trail.{By, Records, FollowTrail, HasTrail, AreNumbered, Unfound}
+use Rattle.ig_plain.specs.Trail.{By, Records, FollowTrail, HasTrail, AreKnown, Unfound}
 use Rattle.ig_plain.proofs.Lists.{contains_from_at, sides, one_in, unmapped_in, right_contains, it_is_in}
 use Rattle.ig_plain.proofs.Sets.{extends_same}
-use Rattle.ig_plain.proofs.Growth.{extends_at, extends_or, found_named}
+use Rattle.ig_plain.proofs.Growth.{extends_or, found_named, means_grown}
 use Rattle.ig_plain.proofs.Distinct.{one_instance}
 use Rattle.ig_plain.proofs.Running.{stored_grown, taken_grown}
 use Rattle.ig_plain.proofs.Completes.{keeps_grown}
-use Rattle.ig_plain.proofs.Moving.{Moved, moved_found, moved_later, moved_taken, moved_stored, moved_taking}
+use Rattle.ig_plain.proofs.Moving.{Moved, moved_found, moved_later, moved_taken, moved_stored, moved_taking, moved_means}
 use Rattle.ig_plain.proofs.Instances as instances
 use Rattle.ig_plain.proofs.Instances.{moved_keeps, moved_same, named_keys}
 use Rattle.ig_plain.proofs.Trails.{EndsGrow, RecordsMore, ends_found, ends_none, first_on, follow, more_here, more_none}
-use Rattle.ig_plain.proofs.Onward.{items_once, taken_below}
+use Rattle.ig_plain.proofs.Indexing.{indexed_same}
+use Rattle.ig_plain.proofs.Onward.{items_once, known_more, taken_below}
 
 -- what is taken stays, and what was found and recorded follows from it
 pub trail_kept : (core : List Nonterminal) (text : List ℕ) (p k : ℕ) (s t : Found) (w v : Waiting) (trail u : Trail) (may : Way → Item → Type 0) →
     HasTrail core text p k s w trail → RecordsMore may s t trail u → Extends (found_in s) (found_in t) → NoneTwice (found_in t) →
-    taken_in t k ≡ taken_in s k → Extends (s.done.items ++ s.here) (t.done.items ++ t.here) → u.ways.ends ≡ trail.ways.ends →
-    ((way : Way) (x : Item) → may way x → IsWay core text (Contains (taken_in s k)) (found_in t) x way) → AreNumbered s v.callers.items →
+    taken_in t k ≡ taken_in s k → u.ways.ends ≡ trail.ways.ends →
+    ((way : Way) (x : Item) → may way x → IsWay core text (Contains (taken_in s k)) (found_in t) x way) → AreKnown core t v.callers.items →
     ((i : ℕ) (callee : Instance) (called : Called) → slice_get (instances_in t) i ≡ Some callee → slice_get v.called.items i ≡ Some called →
     called.last_end ≡ Some p → (slice_get (instances_in s) i ≡ Some callee) × (slice_get w.called.items i ≡ Some called)) →
     HasTrail core text p k t v u
-trail_kept core text p k s t w v trail u may h more found once taken numbers same sound callers known =
+trail_kept core text p k s t w v trail u may h more found once taken same sound callers known =
     let was = taken_in s k in
     let n = length s.done.items + k in
     let grow : EndsGrow core (Contains was) (Contains was) (found_in s) (found_in t) n (λ key. ⊥) =
@@ -54,30 +55,35 @@ trail_kept core text p k s t w v trail u may h more found once taken numbers sam
           (ends_none core (Contains was) (Contains was) (found_in s) (found_in t) n (λ key. ⊥) grow trail.ways u.ways same
           (λ key q. absurd q) h.ways.ends)
           sound (λ x prev what q. inl q));
-      callers = λ cell c. extends_at (s.done.items ++ s.here) (t.done.items ++ t.here) cell.number cell.item numbers (callers cell c);
+      callers = callers;
       ends = λ i callee called there at last.
           let o = known i callee called there at last in
           subst (λ (z : List Item). IsFirstEnd core (Contains z) (found_in t) (record { instance = callee; end = p }) called.last_done) (sym taken)
           (first_on core (Contains was) (Contains was) (found_in s) (found_in t) n (λ key. ⊥) grow
           (record { instance = callee; end = p }) called.last_done
           (h.ends i callee called o.0 o.1 last));
+      indexed = more.indexed h.indexed;
     }
 
 module _ (core : List Nonterminal) (text : List ℕ) (p k : ℕ) (s t : Found) (w : Waiting) (trail : Trail) (r : IsStored p s) (m : Moved s t)
     (h : HasTrail core text p k s w trail) where
   -- tables grow, and the items stay
-  trail_in : (v : Waiting) → AreNumbered s v.callers.items →
+  trail_in : (v : Waiting) → AreKnown core s v.callers.items →
       ((i : ℕ) (callee : Instance) (called : Called) → slice_get (instances_in t) i ≡ Some callee → slice_get v.called.items i ≡ Some called →
       called.last_end ≡ Some p → (slice_get (instances_in s) i ≡ Some callee) × (slice_get w.called.items i ≡ Some called)) →
       HasTrail core text p k t v trail
   trail_in v callers known =
       let found = moved_found s t r.named m in
       trail_kept core text p k s t w v trail trail (λ way x. ⊥) h
-      (more_none core text s t trail trail (taken_in s k) h.ways found (moved_later s t r.named m) refl refl refl)
+      (more_none core text s t trail trail (taken_in s k) h.ways found (moved_later s t r.named m) refl refl refl
+      (indexed_same s.done.items t.done.items s.here.items t.here.items trail.ways.firsts trail.ways.firsts trail.returned trail.returned
+      m.done m.here refl refl))
       (extends_same (found_in s) (found_in t) found) (items_once p t (moved_stored s t r.named m p r)) (moved_taken s t r.named m k)
-      (extends_same (s.done.items ++ s.here) (t.done.items ++ t.here)
-      (ap (λ (z : List stored.Item). z ++ t.here) m.done ∙ ap (λ (z : List stored.Item). s.done.items ++ z) m.here))
-      refl (λ way x q. absurd q) callers known
+      refl (λ way x q. absurd q)
+      (known_more core s t v.callers.items r.named
+      (extends_same (s.done.items ++ s.here.items) (t.done.items ++ t.here.items)
+      (ap (λ (z : List stored.Item). z ++ t.here.items) m.done ∙ ap (λ (z : List stored.Item). s.done.items ++ z) m.here))
+      (moved_means s t r.named m) callers) known
 
   -- without a new instance
   pub trail_moved : t.keys ≡ s.keys → HasTrail core text p k t w trail
@@ -91,7 +97,7 @@ module _ (core : List Nonterminal) (text : List ℕ) (p k : ℕ) (s t : Found) (
       instances_in t ≡ instances_in s ++ fresh ∷ [] →
       v.called.items ≡ w.called.items ++ not_called ∷ [] → v.callers.items ≡ w.callers.items → HasTrail core text p k t v trail
   trail_added v fresh lens all called cells =
-      trail_in v (subst (AreNumbered s) (sym cells) h.callers)
+      trail_in v (subst (AreKnown core s) (sym cells) h.callers)
       (λ i callee c there at last.
       ⊎_elim
       (λ (q : slice_get w.called.items i ≡ Some c).
@@ -110,13 +116,13 @@ module _ (core : List Nonterminal) (text : List ℕ) (p k : ℕ) (s t : Found) (
 module _ (core : List Nonterminal) (text : List ℕ) (budget k : ℕ) (key : InstanceKey) (s : Found) (w : Waiting) (trail : Trail)
     (r : IsRun core text budget key.start k s w) (env : key.env < length s.envs.keys) (h : HasTrail core text key.start k s w trail) where
   -- the instance is there
-  pub old_on : (t : Found) → t.envs.keys ≡ s.envs.keys → t.done.items ≡ s.done.items → t.here ≡ s.here → t.later.items ≡ s.later.items →
+  pub old_on : (t : Found) → t.envs.keys ≡ s.envs.keys → t.done.items ≡ s.done.items → t.here.items ≡ s.here.items → t.later.items ≡ s.later.items →
       t.keys ≡ s.keys → HasTrail core text key.start k t w trail
   old_on t envs done here later keys =
       trail_moved core text key.start k s t w trail r.taking.stored (moved_same core text budget k key s w r env t envs done here later keys) h keys
 
   -- the instance is new: its first items were added
-  pub new_on : (s1 : Found) (i : ℕ) (envs : s1.envs.keys ≡ s.envs.keys) (done : s1.done.items ≡ s.done.items) (here : s1.here ≡ s.here)
+  pub new_on : (s1 : Found) (i : ℕ) (envs : s1.envs.keys ≡ s.envs.keys) (done : s1.done.items ≡ s.done.items) (here : s1.here.items ≡ s.here.items)
       (later : s1.later.items ≡ s.later.items) (once : NoneTwice s1.keys) (new : IsNew s.keys s1.keys key i) (t : Found) (v : Waiting) (u : Trail) →
       v.called.items ≡ w.called.items ++ not_called ∷ [] → v.callers.items ≡ w.callers.items →
       Adds key.start (IsFirstOf core (instance_by s1.envs.keys key)) budget s1 t (Ok tt) →
@@ -132,14 +138,15 @@ module _ (core : List Nonterminal) (text : List ℕ) (budget k : ℕ) (key : Ins
       (more_here core text s1 t trail u (taken_in s1 k) h1.ways (By Begin (IsFirstOf core callee)) rec) rec.found
       (items_once key.start t (stored_grown key.start (IsFirstOf core callee) s1 t taking.stored d.grows))
       (taken_grown key.start (IsFirstOf core callee) s1 t k taking.stored.named d.grows taking.few)
-      (record {
-        more = d.grows.here.more;
-        is = ap (λ (z : List stored.Item). z ++ t.here) d.grows.done ∙ ap (λ (z : List stored.Item). s1.done.items ++ z) d.grows.here.is ∙
-            sym (append_assoc s1.done.items s1.here d.grows.here.more);
-      })
       rec.ends
       (λ way x q. subst (IsWay core text (Contains (taken_in s1 k)) (found_in t) x) (sym q.0) (ways.begin (ap (λ (z : Item). z.dot) q.1.4)))
-      h1.callers
+      (known_more core s1 t v.callers.items taking.stored.named
+      (record {
+        more = d.grows.here.more;
+        is = ap (λ (z : List stored.Item). z ++ t.here.items) d.grows.done ∙ ap (λ (z : List stored.Item). s1.done.items ++ z) d.grows.here.is ∙
+            sym (append_assoc s1.done.items s1.here.items d.grows.here.more);
+      })
+      (λ x n. means_grown key.start (IsFirstOf core callee) s1 t x d.grows taking.stored.named.values n) h1.callers)
       (λ j other c there at last. (
         subst (λ (z : List Instance). slice_get z j ≡ Some other)
             (keeps_grown key.start (IsFirstOf core callee) s1 t taking.stored.named d.grows).instances there,
@@ -149,15 +156,15 @@ module _ (core : List Nonterminal) (text : List ℕ) (budget k : ℕ) (key : Ins
 -- the first items of a new instance aren't found
 pub new_firsts : (core : List Nonterminal) (s s1 : Found) (key : InstanceKey) (i : ℕ) → AreNamed s → key.env < length s.envs.keys →
     NoneTwice s.envs.keys →
-    NoneTwice s1.keys → IsNew s.keys s1.keys key i → s1.envs.keys ≡ s.envs.keys → s1.done.items ≡ s.done.items → s1.here ≡ s.here →
+    NoneTwice s1.keys → IsNew s.keys s1.keys key i → s1.envs.keys ≡ s.envs.keys → s1.done.items ≡ s.done.items → s1.here.items ≡ s.here.items →
     s1.later.items ≡ s.later.items → Unfound s1 (IsFirstOf core (instance_by s1.envs.keys key))
 new_firsts core s s1 key i n env envs_once once new envs done here later x m c =
     let n1 = named_keys s s1 key i n env new envs done here later in
-    let u = unmapped_in (means s1) (s1.done.items ++ s1.here) x c in
+    let u = unmapped_in (means s1) (s1.done.items ++ s1.here.items) x c in
     let inside : Named s u.0 =
     found_named s n u.0
     (subst (λ (z : List stored.Item). Contains z u.0)
-    (ap (λ (z : List stored.Item). z ++ s1.here) done ∙ ap (λ (z : List stored.Item). s.done.items ++ z) here) u.1) in
+    (ap (λ (z : List stored.Item). z ++ s1.here.items) done ∙ ap (λ (z : List stored.Item). s.done.items ++ z) here) u.1) in
     let grown : Extends s.keys s1.keys = record { more = key ∷ []; is = new.added } in
     let named1 = found_named s1 n1 u.0 u.1 in
     let its = slice_index_or s1.keys u.0.instance no_key in

@@ -130,18 +130,18 @@ module _ (core : List Nonterminal) (instance : ℕ) (key : InstanceKey) (budget 
         (λ w x m. ⊎_elim (λ (h : IsFirst core callee n x). inl (m.0, h)) (λ (h : x ≡ means b next). inr (m.0, h)) (splits x m.1))
 
     -- it isn't there
-    pub is_new : Unfound a (IsFirstOf core callee) → Contains b.here next → ⊥
+    pub is_new : Unfound a (IsFirstOf core callee) → Contains b.here.items next → ⊥
     is_new new c =
         ⊎_elim
-        (λ (h : Contains a.here next).
+        (λ (h : Contains a.here.items next).
         let same : means b next ≡ means a next = means_grown key.start (IsFirst core callee n) a b next g named.values (named.here next h) in
         new (means a next) (first_of (n + 1) (means a next) (is_first (means a next) (sym same)))
-        (mapped_in (means a) (a.done.items ++ a.here) next (right_contains a.done.items a.here next h)))
+        (mapped_in (means a) (a.done.items ++ a.here.items) next (right_contains a.done.items a.here.items next h)))
         (λ (h : Contains g.here.more next).
         let m = g.each next h in
         let numbers : m.number ≡ n + 1 = ap (λ (z : Item). z.alternative) (sym m.is ∙ first_means n b g) in
         let few = m.few in omega (arith, numbers, few))
-        (extends_cases a.here b.here next g.here c)
+        (extends_cases a.here.items b.here.items next g.here c)
 
   few_firsts : (n : ℕ) (nonterminal : Nonterminal) → slice_get core key.nonterminal ≡ Some nonterminal → length nonterminal.alternatives ≤ n →
       (x : Item) → IsFirstOf core callee x → IsFirst core callee n x

@@ -1,6 +1,6 @@
 -- What the rules give an item by the step before which the previous one stands; and that an item behind a test, a binding or
 -- a terminal, which comes from one item, isn't found before that is taken.
-use Rattle.std.proofs.Common.{◌≡◌, ◌⊎◌, ⊎_elim, inl, inr, ℕ, suc, List, [], ◌∷◌, Option, Contains, refl, sym, ap, ◌∙◌, subst, arith, slice_get, true}
+use Rattle.std.proofs.Common.{◌≡◌, ◌⊎◌, ⊎_elim, inl, inr, ℕ, suc, List, [], ◌∷◌, Option, Some, Contains, refl, sym, ap, ◌∙◌, subst, arith, slice_get, true}
 use Rattle.std.proofs.lemmas.List.{append-nil, same_from_push}
 use Rattle.std.proofs.lemmas.Option.{slice_get_within}
 use Rattle.ig_text.specs.Pattern.{Matches}
@@ -15,16 +15,17 @@ use Rattle.ig_item.specs.Items.{Item, Calls, IsComplete, StandsBefore, HasValue,
 use Rattle.ig_item.specs.Gives as given
 use Rattle.ig_item.specs.Gives.{NodeKey, Taken, nothing, leaf, tree, Completes, Gives}
 use Rattle.ig_item.specs.Ways as ways
-use Rattle.ig_item.specs.Ways.{IsWay}
+use Rattle.ig_item.specs.Ways.{IsWay, Says}
 use Rattle.ig_item.specs.declared.core_grammar.Nonterminal.{Nonterminal}
 use Rattle.ig_item.specs.declared.items.Instance.{Instance}
 use Rattle.ig_item.specs.declared.ways.Way.{Way}
+use Rattle.ig_item.specs.declared.ways.Way.TheVariants.{Node}
 use Rattle.ig_plain.specs.declared.found.Found.{Found}
 use Rattle.ig_plain.specs.declared.trail.Trail.{Trail}
 use Rattle.ig_plain.specs.Rules.{IsBehind}
 use Rattle.ig_plain.specs.Found.{found_in}
 use Rattle.ig_plain.specs.Trail as trails
-use Rattle.ig_plain.specs.Trail.{FollowTrail, Unfound, IsBehindTest, IsBehindBind}
+use Rattle.ig_plain.specs.Trail.{FollowTrail, IsNodeAt, Unfound, IsBehindTest, IsBehindBind}
 use Rattle.ig_plain.proofs.Lists.{at_from_contains, some_at}
 use Rattle.ig_plain.proofs.Following.{one_step, not_both}
 use Rattle.ig_plain.proofs.Terminals.{from_one, same_item}
@@ -210,6 +211,39 @@ module _ (core : List Nonterminal) (text : List ℕ) (known : Item → Type 0) w
       (x.dot ≡ 0) ⊎ ((prev : Item) × (what : Taken) × Gives core text known prev what x)
   given_by items x way (ways.begin e) = inl e
   given_by items x way (ways.comes w prev what says gives) = inr (prev, what, gives)
+
+  -- a way that takes a tree is by a node
+  takes_tree : (items : List Item) (position : ℕ) (way : Way) (prev : Item) (what : Taken) (key : NodeKey) →
+      Says core known items position way prev what → what ≡ tree key → (k : ℕ) × (d : ℕ) × (way ≡ Node k d)
+  takes_tree items p w y t key (ways.pass k prev at) is = cc is
+  takes_tree items p w y t key (ways.leaf k prev taken at e) is =
+      let z : leaf (record { begin = prev.position; end = p }) ≡ tree key = sym e ∙ is in cc z
+  takes_tree items p w y t key (ways.node k d prev other at f) is = (k, d, refl)
+
+  -- a way to an item behind a call is by a node
+  way_by_node : (items : List Item) (it : Item) (names : List (List ℕ)) (nonterminal : ℕ) (arguments : List Expression) (label : Option (List ℕ))
+      (excluded : List Pattern) → StandsBefore core it names (Call nonterminal arguments label excluded) → (x : Item) (way : Way) → IsAfter it x →
+      IsWay core text known items x way → (k : ℕ) × (d : ℕ) × (way ≡ Node k d)
+  way_by_node items it names nonterminal arguments label excluded before x w after (ways.begin e) =
+      let d = after.dot in absurd (omega (arith, d, e))
+  way_by_node items it names nonterminal arguments label excluded before x w after (ways.comes way prev what says gives) =
+      let stands = stands_too it prev x names (Call nonterminal arguments label excluded) after (gives_after prev what x gives) before in
+      let c = gives_calls prev what x names nonterminal arguments label excluded gives stands in
+      let b = gives_call prev what x c.0 c.1 c.2 gives c.3 in
+      takes_tree items x.position way prev what (record { instance = c.0; end = b.end }) says b.takes
+
+module _ (core : List Nonterminal) (text : List ℕ) (s : Found) (trail : Trail) (taken : List Item) (follows : FollowTrail core text s trail taken) where
+  -- an item behind a call was found by a node
+  pub found_by_node : (it : Item) (names : List (List ℕ)) (nonterminal : ℕ) (arguments : List Expression) (label : Option (List ℕ))
+      (excluded : List Pattern) → StandsBefore core it names (Call nonterminal arguments label excluded) → (x : Item) (bound : List Value) (end : ℕ) →
+      x ≡ past it bound end → (k : ℕ) → slice_get (found_in s) k ≡ Some x → IsNodeAt trail.ways.firsts k
+  found_by_node it names nonterminal arguments label excluded before x bound end is k at =
+      let lt = slice_get_within (found_in s) k x at in
+      let way = some_at trail.ways.firsts k (let e = follows.numbered in omega (arith, lt, e)) in
+      let node =
+      way_by_node core text (Contains taken) (found_in s) it names nonterminal arguments label excluded before x way.0
+      (after_past core text (Contains taken) it x bound end is) (follows.sound way.0 x (trails.here k at (ways.found way.1))) in
+      (node.0, node.1, way.1 ∙ ap Some node.2)
 
 module _ (core : List Nonterminal) (text : List ℕ) (s : Found) (trail : Trail) (taken : List Item) (follows : FollowTrail core text s trail taken)
     (it : Item)

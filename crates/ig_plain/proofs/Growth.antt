@@ -92,11 +92,25 @@ past_named e f keys it bound end x n p =
       env = slice_get_within f x.env (slice_index_or e it.env [] ++ option_to_list bound) p.env;
     }
 
+-- what the item after a call that binds nothing means
+pub bare_means : (e : List (List Value)) (keys : List InstanceKey) (it : stored.Item) (end dot : ℕ) → dot ≡ suc it.dot →
+    item_by e keys (record { instance = it.instance; alternative = it.alternative; dot = dot; env = it.env; position = end }) ≡
+    past (item_by e keys it) [] end
+bare_means e keys it end dot is =
+    let env = sym (append-nil (slice_index_or e it.env [])) in
+    λ i. record {
+      instance = instance_by e (slice_index_or keys it.instance no_key);
+      alternative = it.alternative;
+      dot = is i;
+      env = env i;
+      position = end;
+    }
+
 module _ (p : ℕ) where
   -- nothing was added
   pub grows_not : (may : Item → Type 0) (a b : Found) → Extends a.envs.keys b.envs.keys →
       (NoneTwice a.envs.keys → NoneTwice b.envs.keys) → b.keys ≡ a.keys → b.done.items ≡ a.done.items →
-      b.here ≡ a.here → b.later.items ≡ a.later.items → Grows p may a b
+      b.here.items ≡ a.here.items → b.later.items ≡ a.later.items → Grows p may a b
   grows_not may a b envs once keys done here later =
       record {
         envs = envs;
@@ -104,7 +118,7 @@ module _ (p : ℕ) where
         keys = keys;
         done = done;
         later = later;
-        here = record { more = []; is = here ∙ sym (append-nil a.here) };
+        here = record { more = []; is = here ∙ sym (append-nil a.here.items) };
         here_once = λ n. subst NoneTwice (sym here) n;
         named = λ x c. absurd (none_in x c);
         at = λ x c. absurd (none_in x c);
@@ -128,9 +142,9 @@ module _ (p : ℕ) where
 
   -- an item was added at the position, if it wasn't there
   pub grows_here : (a b : Found) (x : stored.Item) → Named a x → x.position ≡ p → b.envs.keys ≡ a.envs.keys → b.keys ≡ a.keys →
-      b.done.items ≡ a.done.items → b.later.items ≡ a.later.items → (here : Extends a.here b.here) →
+      b.done.items ≡ a.done.items → b.later.items ≡ a.later.items → (here : Extends a.here.items b.here.items) →
       ((y : stored.Item) → Contains here.more y → y ≡ x) →
-      (NoneTwice a.here → NoneTwice b.here) → Grows p (λ y. y ≡ means a x) a b
+      (NoneTwice a.here.items → NoneTwice b.here.items) → Grows p (λ y. y ≡ means a x) a b
   grows_here a b x named at envs keys done later here only once =
       let same : (y : stored.Item) → item_by b.envs.keys b.keys y ≡ item_by a.envs.keys a.keys y =
       λ y. ap (λ (z : List (List Value)). item_by z b.keys y) envs ∙ ap (λ (z : List InstanceKey). item_by a.envs.keys z y) keys in
@@ -175,7 +189,7 @@ module _ (p : ℕ) where
         keys = h.keys ∙ g.keys;
         done = h.done ∙ g.done;
         later = h.later ∙ g.later;
-        here = extends_then a.here b.here c.here g.here h.here;
+        here = extends_then a.here.items b.here.items c.here.items g.here h.here;
         here_once = λ n. h.here_once (g.here_once n);
         named = λ x i.
             ⊎_elim (λ (k : Contains g.here.more x). named_grown may b c x h (g.named x k)) (λ (k : Contains h.here.more x). h.named x k)
@@ -193,13 +207,13 @@ named_all p may a b n g =
       values = values_grown p may a b g n.values;
       done = λ x c. named_grown p may a b x g (n.done x (subst (λ (z : List stored.Item). Contains z x) g.done c));
       here = λ x c.
-          ⊎_elim (λ (h : Contains a.here x). named_grown p may a b x g (n.here x h)) (λ (h : Contains g.here.more x). g.named x h)
-          (extends_cases a.here b.here x g.here c);
+          ⊎_elim (λ (h : Contains a.here.items x). named_grown p may a b x g (n.here x h)) (λ (h : Contains g.here.more x). g.named x h)
+          (extends_cases a.here.items b.here.items x g.here c);
       later = λ x c. named_grown p may a b x g (n.later x (subst (λ (z : List stored.Item). Contains z x) g.later c));
     }
 
-pub found_named : (a : Found) → AreNamed a → (x : stored.Item) → Contains (a.done.items ++ a.here) x → Named a x
-found_named a n x c = ⊎_elim (n.done x) (n.here x) (contains_sides a.done.items a.here x c)
+pub found_named : (a : Found) → AreNamed a → (x : stored.Item) → Contains (a.done.items ++ a.here.items) x → Named a x
+found_named a n x c = ⊎_elim (n.done x) (n.here x) (contains_sides a.done.items a.here.items x c)
 
 pub means_list : (p : ℕ) (may : Item → Type 0) (a b : Found) → AreNamed a → Grows p may a b → (xs : List stored.Item) →
     ((x : stored.Item) → Contains xs x → Named a x) → map (means b) xs ≡ map (means a) xs
@@ -212,12 +226,12 @@ later_same p may a b n g = ap (map (means b)) g.later ∙ means_list p may a b n
 pub found_grown : (p : ℕ) (may : Item → Type 0) (a b : Found) → AreNamed a → (g : Grows p may a b) →
     found_in b ≡ found_in a ++ map (means b) g.here.more
 found_grown p may a b n g =
-    let lists : b.done.items ++ b.here ≡ (a.done.items ++ a.here) ++ g.here.more =
-    ap (λ (z : List stored.Item). z ++ b.here) g.done ∙ ap (λ (z : List stored.Item). a.done.items ++ z) g.here.is ∙
-    sym (append_assoc a.done.items a.here g.here.more) in
-    ap (map (means b)) lists ∙ map-append (means b) (a.done.items ++ a.here) g.here.more ∙
+    let lists : b.done.items ++ b.here.items ≡ (a.done.items ++ a.here.items) ++ g.here.more =
+    ap (λ (z : List stored.Item). z ++ b.here.items) g.done ∙ ap (λ (z : List stored.Item). a.done.items ++ z) g.here.is ∙
+    sym (append_assoc a.done.items a.here.items g.here.more) in
+    ap (map (means b)) lists ∙ map-append (means b) (a.done.items ++ a.here.items) g.here.more ∙
     ap (λ (z : List Item). z ++ map (means b) g.here.more)
-    (means_list p may a b n g (a.done.items ++ a.here) (found_named a n))
+    (means_list p may a b n g (a.done.items ++ a.here.items) (found_named a n))
 
 pub found_kept : (p : ℕ) (may : Item → Type 0) (a b : Found) → AreNamed a → Grows p may a b → (x : Item) → Contains (found_in a) x →
     Contains (found_in b) x

@@ -66,10 +66,10 @@ module _ (core : List Nonterminal) (text : List ℕ) (budget p k : ℕ) (s t : F
 
   pub inside : (x : Item) → Contains (taken_in s k) x → Contains (instances_in s) x.instance
   inside x c =
-      let u = unmapped_in (means s) (s.done.items ++ take k s.here) x c in
+      let u = unmapped_in (means s) (s.done.items ++ take k s.here.items) x c in
       let n : Named s u.0 =
-      ⊎_elim (named.done u.0) (λ (h : Contains (take k s.here) u.0). named.here u.0 (front_in s.here k u.0 h))
-      (contains_sides s.done.items (take k s.here) u.0 u.1) in
+      ⊎_elim (named.done u.0) (λ (h : Contains (take k s.here.items) u.0). named.here u.0 (front_in s.here.items k u.0 h))
+      (contains_sides s.done.items (take k s.here.items) u.0 u.1) in
       contains_from_at (instances_in s) u.0.instance x.instance (instance_at s u.0 n ∙ ap (λ (z : Item). Some z.instance) u.2)
 
 module _ (core : List Nonterminal) (text : List ℕ) (budget k : ℕ) (key : InstanceKey) (s : Found) (w : Waiting)
@@ -78,7 +78,7 @@ module _ (core : List Nonterminal) (text : List ℕ) (budget k : ℕ) (key : Ins
   named_s = r.taking.stored.named
 
   -- the tables are the same
-  pub moved_same : (t : Found) → t.envs.keys ≡ s.envs.keys → t.done.items ≡ s.done.items → t.here ≡ s.here →
+  pub moved_same : (t : Found) → t.envs.keys ≡ s.envs.keys → t.done.items ≡ s.done.items → t.here.items ≡ s.here.items →
       t.later.items ≡ s.later.items → t.keys ≡ s.keys → Moved s t
   moved_same t envs done here later keys =
       record {
@@ -95,7 +95,7 @@ module _ (core : List Nonterminal) (text : List ℕ) (budget k : ℕ) (key : Ins
       }
 
   -- the instance is there
-  pub entered_old : (t : Found) (i : ℕ) → t.envs.keys ≡ s.envs.keys → t.done.items ≡ s.done.items → t.here ≡ s.here →
+  pub entered_old : (t : Found) (i : ℕ) → t.envs.keys ≡ s.envs.keys → t.done.items ≡ s.done.items → t.here.items ≡ s.here.items →
       t.later.items ≡ s.later.items → t.keys ≡ s.keys → slice_get t.keys i ≡ Some key → IsEntered core text budget k key s t w i
   entered_old t i envs done here later keys there =
       let m : Moved s t = moved_same t envs done here later keys in
@@ -106,12 +106,12 @@ module _ (core : List Nonterminal) (text : List ℕ) (budget k : ℕ) (key : Ins
         same = moved_means s t named_s m;
         envs = m.envs;
         done = done;
-        here = extends_same s.here t.here here;
+        here = extends_same s.here.items t.here.items here;
         taken = moved_taken s t named_s m k;
       }
 
   -- the instance is new
-  module _ (s1 : Found) (i : ℕ) (envs : s1.envs.keys ≡ s.envs.keys) (done : s1.done.items ≡ s.done.items) (here : s1.here ≡ s.here)
+  module _ (s1 : Found) (i : ℕ) (envs : s1.envs.keys ≡ s.envs.keys) (done : s1.done.items ≡ s.done.items) (here : s1.here.items ≡ s.here.items)
       (later : s1.later.items ≡ s.later.items) (once : NoneTwice s1.keys) (new : IsNew s.keys s1.keys key i) where
     keys_more : Extends s.keys s1.keys
     keys_more = record { more = key ∷ []; is = new.added }
@@ -177,7 +177,7 @@ module _ (core : List Nonterminal) (text : List ℕ) (budget k : ℕ) (key : Ins
       entered_new t v called cells d =
           let may : Item → Type 0 = IsFirstOf core (instance_by s1.envs.keys key) in
           let taking1 = moved_taking s s1 named_s moved core text budget key.start k r.taking in
-          let few : k ≤ length s1.here = taking1.few in
+          let few : k ≤ length s1.here.items = taking1.few in
           let keeps = keeps_grown key.start may s1 t named_1 d.grows in
           let waits1 : IsWaiting core text key.start s1 (taken_in s k) v =
           waits_new core text key.start s s1 (taken_in s k) w v fresh (moved_named s s1 named_s moved) (moved_means s s1 named_s moved) all_instances apart
@@ -206,13 +206,13 @@ module _ (core : List Nonterminal) (text : List ℕ) (budget k : ℕ) (key : Ins
             same = λ x n. keeps.means_same x (moved_named s s1 named_s moved x n) ∙ moved_means s s1 named_s moved x n;
             envs = extends_then s.envs.keys s1.envs.keys t.envs.keys moved.envs d.grows.envs;
             done = d.grows.done ∙ done;
-            here = extends_then s.here s1.here t.here (extends_same s.here s1.here here) d.grows.here;
+            here = extends_then s.here.items s1.here.items t.here.items (extends_same s.here.items s1.here.items here) d.grows.here;
             taken = taken2 ∙ taken1;
           }
 
 -- names stay as an instance is added
 pub named_keys : (s t : Found) (key : InstanceKey) (i : ℕ) → AreNamed s → key.env < length s.envs.keys → IsNew s.keys t.keys key i →
-    t.envs.keys ≡ s.envs.keys → t.done.items ≡ s.done.items → t.here ≡ s.here → t.later.items ≡ s.later.items → AreNamed t
+    t.envs.keys ≡ s.envs.keys → t.done.items ≡ s.done.items → t.here.items ≡ s.here.items → t.later.items ≡ s.later.items → AreNamed t
 named_keys s t key i n env new envs done here later =
     record {
       values = λ x c.

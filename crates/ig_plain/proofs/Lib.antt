@@ -10,7 +10,9 @@ pub mod Numbered
 pub mod Terminals
 pub mod Trails
 pub mod Fresh
+pub mod Indexing
 pub mod Recording
+pub mod Nodes
 pub mod Running
 pub mod Firsts
 pub mod Waiters
@@ -34,6 +36,7 @@ pub mod Starting
 pub mod Fewer
 pub mod Ends
 pub mod Ending
+pub mod Forms
 pub mod DotNames
 pub mod Listing
 pub mod Triangle

@@ -1,6 +1,6 @@
 -- A chain of callers gets one more at its end, and the other chains stay.
 use Rattle.std.proofs.Common.{◌≡◌, ◌⊎◌, ⊎_elim, inl, inr, ℕ, zero, suc, ◌-◌, ◌<◌, ◌≤◌, List, [], ◌∷◌, ◌++◌, Some, length, set, Contains, refl, sym, ap, ◌∙◌, subst, arith, slice_get}
-use Rattle.std.specs.Prelude.{get_or}
+use Rattle.std.specs.Prelude.{Bool, get_or}
 use Rattle.std.proofs.lemmas.Option.{same_Some, slice_get_within, slice_get_read}
 use Rattle.ig_item.specs.declared.items.Item as stored
 use Rattle.ig_plain.specs.declared.waiting.Caller.{Caller}
@@ -48,26 +48,33 @@ pub linked_other : (cells : List Caller) (last next k : ℕ) (cell : Caller) →
 linked_other cells zero next k cell apart at = at
 linked_other cells (suc m) next k cell apart at = linked_apart cells m next k cell (λ e. apart (ap suc e)) at
 
--- each cell has the item and the number of one that was there
+-- each cell is one that was there, but for the next one that it names
 pub linked_from : (cells : List Caller) (last next : ℕ) (cell : Caller) → Contains (linked cells last next) cell →
-    (before : Caller) × Contains cells before × (cell.item ≡ before.item) × (cell.number ≡ before.number)
-linked_from cells zero next cell c = (cell, c, refl, refl)
+    (before : Caller) × Contains cells before × (cell.item ≡ before.item) × (cell.number ≡ before.number) ×
+    (cell.is_bare ≡ before.is_bare)
+linked_from cells zero next cell c = (cell, c, refl, refl, refl)
 linked_from cells (suc m) next cell c = from cells m c
   where
     from : (cells : List Caller) (m : ℕ) → Contains (linked_at cells m next) cell →
-        (before : Caller) × Contains cells before × (cell.item ≡ before.item) × (cell.number ≡ before.number)
-    from [] m c = (cell, c, refl, refl)
+        (before : Caller) × Contains cells before × (cell.item ≡ before.item) × (cell.number ≡ before.number) ×
+        (cell.is_bare ≡ before.is_bare)
+    from [] m c = (cell, c, refl, refl, refl)
     from (x ∷ cells) zero c =
         ⊎_elim
         (λ (h : Contains (record x { next = next } ∷ []) cell).
-        let e = one_in (record x { next = next }) cell h in
-        (x, left_contains (x ∷ []) cells x (it_is_in x), ap (λ (z : Caller). z.item) e, ap (λ (z : Caller). z.number) e))
-        (λ (h : Contains cells cell). (cell, right_contains (x ∷ []) cells cell h, refl, refl))
+        let e = one_in (record x { next = next }) cell h in (
+          x,
+          left_contains (x ∷ []) cells x (it_is_in x),
+          ap (λ (z : Caller). z.item) e,
+          ap (λ (z : Caller). z.number) e,
+          ap (λ (z : Caller). z.is_bare) e,
+        ))
+        (λ (h : Contains cells cell). (cell, right_contains (x ∷ []) cells cell h, refl, refl, refl))
         (contains_sides (record x { next = next } ∷ []) cells cell c)
     from (x ∷ cells) (suc m) c =
-        ⊎_elim (λ (h : Contains (x ∷ []) cell). (cell, left_contains (x ∷ []) cells cell h, refl, refl))
+        ⊎_elim (λ (h : Contains (x ∷ []) cell). (cell, left_contains (x ∷ []) cells cell h, refl, refl, refl))
         (λ (h : Contains (linked_at cells m next) cell).
-        let q = from cells m h in (q.0, right_contains (x ∷ []) cells q.0 q.1, q.2, q.3))
+        let q = from cells m h in (q.0, right_contains (x ∷ []) cells q.0 q.1, q.2, q.3, q.4))
         (contains_sides (x ∷ []) (linked_at cells m next) cell c)
 
 -- the first cell of a chain, read at its place
@@ -139,9 +146,9 @@ first_kept zero place less = absurd (omega (arith, less))
 first_kept (suc k) place less = refl
 
 -- one more caller at the end of a chain
-module _ (cells : List Caller) (item : stored.Item) (number : ℕ) where
+module _ (cells : List Caller) (item : stored.Item) (number : ℕ) (is_bare : Bool) where
   abbrev cell : Caller
-  cell = record { item = item; number = number; next = 0 }
+  cell = record { item = item; number = number; is_bare = is_bare; next = 0 }
 
   abbrev more : List Caller
   more = cells ++ cell ∷ []
@@ -153,17 +160,17 @@ module _ (cells : List Caller) (item : stored.Item) (number : ℕ) where
   new_there = right_at cells (cell ∷ []) (length cells) 0 cell (omega arith) refl
 
   -- the new cell is at the end
-  new_at : (last : ℕ) → last ≤ length cells → slice_get (lengthened cells last item number) (length cells) ≡ Some cell
+  new_at : (last : ℕ) → last ≤ length cells → slice_get (lengthened cells last item number is_bare) (length cells) ≡ Some cell
   new_at last within = linked_other more last (suc (length cells)) (length cells) cell (λ e. omega (arith, e, within)) new_there
 
   -- a cell that isn't the last one of the chain stays
   pub stays_at : (last k : ℕ) (c : Caller) → (suc k ≡ last → ⊥) → slice_get cells k ≡ Some c →
-      slice_get (lengthened cells last item number) k ≡ Some c
+      slice_get (lengthened cells last item number is_bare) k ≡ Some c
   stays_at last k c apart at = linked_other more last (suc (length cells)) k c apart (old_there k c at)
 
   -- the chain of the last cell has the new item at its end
   pub chain_longer : (head last : ℕ) → ChainEnds cells head last → (xs : List stored.Item) → Chains cells head xs →
-      Chains (lengthened cells last item number) (first_or head (suc (length cells))) (xs ++ item ∷ [])
+      Chains (lengthened cells last item number is_bare) (first_or head (suc (length cells))) (xs ++ item ∷ [])
   chain_longer head last run.nowhere xs c =
       subst (λ (z : List stored.Item). Chains more (suc (length cells)) (z ++ item ∷ [])) (sym (empties cells 0 xs c refl))
       (run.more (length cells) cell [] new_there (inl refl) run.none)
@@ -171,7 +178,7 @@ module _ (cells : List Caller) (item : stored.Item) (number : ℕ) where
       let h = heads cells (suc k) xs c k refl in
       let none : h.rest ≡ [] = empties cells one.next h.rest (rest_chained cells k xs one at h) ends in
       let within = slice_get_within cells k one at in
-      subst (λ (z : List stored.Item). Chains (lengthened cells (suc k) item number) (suc k) (z ++ item ∷ []))
+      subst (λ (z : List stored.Item). Chains (lengthened cells (suc k) item number is_bare) (suc k) (z ++ item ∷ []))
       (sym (whole_is cells k xs one at h ∙ ap (λ (z : List stored.Item). one.item ∷ z) none))
       (run.more k (record one { next = suc (length cells) }) (item ∷ []) (linked_here more k (suc (length cells)) one (old_there k one at))
       (inr (omega (arith, within)))
@@ -179,15 +186,15 @@ module _ (cells : List Caller) (item : stored.Item) (number : ℕ) where
   chain_longer head last (run.onward k l one at less e) xs c =
       let h = heads cells (suc k) xs c k refl in
       let b = end_behind cells one.next l e in
-      let on : Chains (lengthened cells l item number) one.next (h.rest ++ item ∷ []) =
-      subst (λ (n : ℕ). Chains (lengthened cells l item number) n (h.rest ++ item ∷ [])) (first_kept one.next (suc (length cells)) (omega (arith, less)))
+      let on : Chains (lengthened cells l item number is_bare) one.next (h.rest ++ item ∷ []) =
+      subst (λ (n : ℕ). Chains (lengthened cells l item number is_bare) n (h.rest ++ item ∷ [])) (first_kept one.next (suc (length cells)) (omega (arith, less)))
       (chain_longer one.next l e h.rest (rest_chained cells k xs one at h)) in
-      subst (λ (z : List stored.Item). Chains (lengthened cells l item number) (suc k) (z ++ item ∷ [])) (sym (whole_is cells k xs one at h))
+      subst (λ (z : List stored.Item). Chains (lengthened cells l item number is_bare) (suc k) (z ++ item ∷ [])) (sym (whole_is cells k xs one at h))
       (run.more k one (h.rest ++ item ∷ []) (stays_at l k one (λ q. omega (arith, q, b, less)) at) (inr less) on)
 
   -- and ends at the new cell
   pub end_longer : (head last : ℕ) → ChainEnds cells head last →
-      ChainEnds (lengthened cells last item number) (first_or head (suc (length cells))) (suc (length cells))
+      ChainEnds (lengthened cells last item number is_bare) (first_or head (suc (length cells))) (suc (length cells))
   end_longer head last run.nowhere = run.here (length cells) cell new_there refl
   end_longer head last (run.here k one at ends) =
       let within = slice_get_within cells k one at in
@@ -197,16 +204,18 @@ module _ (cells : List Caller) (item : stored.Item) (number : ℕ) where
   end_longer head last (run.onward k l one at less e) =
       let b = end_behind cells one.next l e in
       run.onward k (suc (length cells)) one (stays_at l k one (λ q. omega (arith, q, b, less)) at) less
-      (subst (λ (n : ℕ). ChainEnds (lengthened cells l item number) n (suc (length cells))) (first_kept one.next (suc (length cells)) (omega (arith, less)))
+      (subst (λ (n : ℕ). ChainEnds (lengthened cells l item number is_bare) n (suc (length cells))) (first_kept one.next (suc (length cells)) (omega (arith, less)))
       (end_longer one.next l e))
 
   -- each cell is that of a caller, an old one or the new one
-  pub longer_from : (last : ℕ) (one : Caller) → Contains (lengthened cells last item number) one →
-      (before : Caller) × (Contains cells before ⊎ (before ≡ cell)) × (one.item ≡ before.item) × (one.number ≡ before.number)
+  pub longer_from : (last : ℕ) (one : Caller) → Contains (lengthened cells last item number is_bare) one →
+      (before : Caller) × (Contains cells before ⊎ (before ≡ cell)) × (one.item ≡ before.item) × (one.number ≡ before.number) ×
+      (one.is_bare ≡ before.is_bare)
   longer_from last one c =
       let q = linked_from more last (suc (length cells)) one c in (
         q.0,
         ⊎_elim (λ (h : Contains cells q.0). inl h) (λ (h : Contains (cell ∷ []) q.0). inr (one_in cell q.0 h)) (contains_sides cells (cell ∷ []) q.0 q.1),
         q.2,
         q.3,
+        q.4,
       )

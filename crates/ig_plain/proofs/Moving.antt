@@ -28,7 +28,7 @@ pub record Moved (s t : Found) : Type 0 where
   pub envs : Extends s.envs.keys t.envs.keys
   pub keys : Extends s.keys t.keys
   pub done : t.done.items ≡ s.done.items
-  pub here : t.here ≡ s.here
+  pub here : t.here.items ≡ s.here.items
   pub later : t.later.items ≡ s.later.items
   pub tables : AreTables t
   pub values : HaveValues t.envs.keys t.keys
@@ -49,17 +49,17 @@ module _ (s t : Found) (n : AreNamed s) (m : Moved s t) where
 
   pub moved_found : found_in t ≡ found_in s
   moved_found =
-      moved_map (s.done.items ++ s.here) (t.done.items ++ t.here)
-      (ap (λ (z : List stored.Item). z ++ t.here) m.done ∙ ap (λ (z : List stored.Item). s.done.items ++ z) m.here) (found_named s n)
+      moved_map (s.done.items ++ s.here.items) (t.done.items ++ t.here.items)
+      (ap (λ (z : List stored.Item). z ++ t.here.items) m.done ∙ ap (λ (z : List stored.Item). s.done.items ++ z) m.here) (found_named s n)
 
   pub moved_later : later_in t ≡ later_in s
   moved_later = moved_map s.later.items t.later.items m.later n.later
 
   pub moved_taken : (k : ℕ) → taken_in t k ≡ taken_in s k
   moved_taken k =
-      moved_map (s.done.items ++ take k s.here) (t.done.items ++ take k t.here)
-      (ap (λ (z : List stored.Item). z ++ take k t.here) m.done ∙ ap (λ (z : List stored.Item). s.done.items ++ take k z) m.here)
-      (λ x c. ⊎_elim (n.done x) (λ (h : Contains (take k s.here) x). n.here x (front_in s.here k x h)) (contains_sides s.done.items (take k s.here) x c))
+      moved_map (s.done.items ++ take k s.here.items) (t.done.items ++ take k t.here.items)
+      (ap (λ (z : List stored.Item). z ++ take k t.here.items) m.done ∙ ap (λ (z : List stored.Item). s.done.items ++ take k z) m.here)
+      (λ x c. ⊎_elim (n.done x) (λ (h : Contains (take k s.here.items) x). n.here x (front_in s.here.items k x h)) (contains_sides s.done.items (take k s.here.items) x c))
 
   pub moved_all : (x : Item) → Contains (found_in t ++ later_in t) x → Contains (found_in s ++ later_in s) x
   moved_all x c =
@@ -125,7 +125,7 @@ taking_grown core text budget p k may s t r g sound within =
       came = λ x c.
           let h = r.came x (subst (λ (z : List Item). Contains z x) (later_same p may s t n g) c) in
           (h.0, subst (λ (z : List Item). Contains z h.0) (sym same) h.1, h.2);
-      few = let e = ap length g.here.is in let l = length-append s.here g.here.more in omega (arith, e, l, r.few);
+      few = let e = ap length g.here.is in let l = length-append s.here.items g.here.more in omega (arith, e, l, r.few);
       within = within;
     }
 

@@ -17,13 +17,15 @@ use Rattle.ig_plain.specs.declared.waiting.Waiting.{Waiting}
 use Rattle.ig_plain.specs.declared.waiting.Called.{Called}
 use Rattle.ig_plain.specs.declared.waiting.Caller.{Caller}
 use Rattle.ig_plain.specs.Tables.{Extends}
-use Rattle.ig_plain.specs.Found.{means, found_in, later_in, taken_in, instances_in, IsStored, Grows}
-use Rattle.ig_plain.specs.Trail.{FollowTrail, HasTrail, AreNumbered, IsNext}
-use Rattle.ig_plain.proofs.Lists.{left_at, right_at, sides, within_take, at_from_contains, unmapped_at, it_is_in, right_contains, left_contains}
+use Rattle.ig_plain.specs.Found.{means, found_in, later_in, taken_in, instances_in, Named, AreNamed, IsStored, Grows}
+use Rattle.ig_plain.specs.Rules.{StandsAtBareCall}
+use Rattle.ig_plain.specs.Trail.{FollowTrail, HasTrail, AreKnown, IsNext}
+use Rattle.ig_plain.proofs.Lists.{contains_from_at, left_at, right_at, sides, within_take, at_from_contains, unmapped_at, it_is_in, right_contains, left_contains}
 use Rattle.ig_plain.proofs.Sets.{extends_itself}
-use Rattle.ig_plain.proofs.Growth.{extends_at, found_grown}
+use Rattle.ig_plain.proofs.Growth.{extends_at, found_grown, found_named, means_grown}
 use Rattle.ig_plain.proofs.Distinct.{different}
 use Rattle.ig_plain.proofs.Running.{stored_grown, taken_grown, taken_step}
+use Rattle.ig_plain.proofs.Recording.{meant_at}
 use Rattle.ig_plain.proofs.Completes.{keeps_grown}
 use Rattle.ig_plain.proofs.Trails.{EndsGrow, RecordsMore, IsGivenBack, ends_taken, first_on, not_yet, ends_none, gives_splits, follow}
 
@@ -33,18 +35,31 @@ pub record Goes (s t : Found) (k : ℕ) (it : Item) : Type 0 where
   pub once : NoneTwice (found_in t)
   pub instances : instances_in t ≡ instances_in s
   pub taken : taken_in t (suc k) ≡ taken_in s k ++ it ∷ []
-  pub numbers : Extends (s.done.items ++ s.here) (t.done.items ++ t.here)
+  pub numbers : Extends (s.done.items ++ s.here.items) (t.done.items ++ t.here.items)
+  pub same : (x : stored.Item) → Named s x → means t x ≡ means s x
+
+-- callers stay known as more is found
+pub known_more : (core : List Nonterminal) (s t : Found) (cells : List Caller) → AreNamed s →
+    Extends (s.done.items ++ s.here.items) (t.done.items ++ t.here.items) → ((x : stored.Item) → Named s x → means t x ≡ means s x) →
+    AreKnown core s cells → AreKnown core t cells
+known_more core s t cells named numbers same known cell c =
+    let k = known cell c in
+    let found = contains_from_at (s.done.items ++ s.here.items) cell.number cell.item k.numbered in
+    record {
+      numbered = extends_at (s.done.items ++ s.here.items) (t.done.items ++ t.here.items) cell.number cell.item numbers k.numbered;
+      bare = λ b. subst (StandsAtBareCall core) (sym (same cell.item (found_named s named cell.item found))) (k.bare b);
+    }
 
 -- nothing is found twice
 pub items_once : (p : ℕ) (s : Found) → IsStored p s → NoneTwice (found_in s)
 items_once p s r i j x a b =
     different p s r i j x (left_at (found_in s) (later_in s) i x a) (left_at (found_in s) (later_in s) j x b)
 
-module _ (p k : ℕ) (s : Found) (item : stored.Item) (r : IsStored p s) (at : slice_get s.here k ≡ Some item) where
+module _ (p k : ℕ) (s : Found) (item : stored.Item) (r : IsStored p s) (at : slice_get s.here.items k ≡ Some item) where
   -- items were found at the position
   pub goes_here : (may : Item → Type 0) (t : Found) → Grows p may s t → Goes s t k (means s item)
   goes_here may t g =
-      let lt = slice_get_within s.here k item at in
+      let lt = slice_get_within s.here.items k item at in
       record {
         found = record { more = map (means t) g.here.more; is = found_grown p may s t r.named g };
         once = items_once p t (stored_grown p may s t r g);
@@ -52,9 +67,10 @@ module _ (p k : ℕ) (s : Found) (item : stored.Item) (r : IsStored p s) (at : s
         taken = taken_grown p may s t (suc k) r.named g (omega (arith, lt)) ∙ taken_step s k item at;
         numbers = record {
           more = g.here.more;
-          is = ap (λ (z : List stored.Item). z ++ t.here) g.done ∙ ap (λ (z : List stored.Item). s.done.items ++ z) g.here.is ∙
-              sym (append_assoc s.done.items s.here g.here.more);
+          is = ap (λ (z : List stored.Item). z ++ t.here.items) g.done ∙ ap (λ (z : List stored.Item). s.done.items ++ z) g.here.is ∙
+              sym (append_assoc s.done.items s.here.items g.here.more);
         };
+        same = λ x n. means_grown p may s t x g r.named.values n;
       }
 
   -- nothing was found
@@ -65,7 +81,8 @@ module _ (p k : ℕ) (s : Found) (item : stored.Item) (r : IsStored p s) (at : s
         once = items_once p s r;
         instances = refl;
         taken = taken_step s k item at;
-        numbers = extends_itself (s.done.items ++ s.here);
+        numbers = extends_itself (s.done.items ++ s.here.items);
+        same = λ x n. refl;
       }
 
 -- each instance that is known ended last where it did, with the same first item
@@ -82,28 +99,23 @@ module _ (s : Found) (k : ℕ) where
   pub taken_below : (y : Item) → Contains (taken_in s k) y → (d : ℕ) × (d < length s.done.items + k) × (slice_get (found_in s) d ≡ Some y)
   taken_below y c =
       let at = at_from_contains (taken_in s k) y c in
-      let u = unmapped_at (means s) (s.done.items ++ take k s.here) at.0 y at.1 in
-      let side : (at.0 < length s.done.items + k) × (slice_get (s.done.items ++ s.here) at.0 ≡ Some u.0) =
+      let u = unmapped_at (means s) (s.done.items ++ take k s.here.items) at.0 y at.1 in
+      let side : (at.0 < length s.done.items + k) × (slice_get (s.done.items ++ s.here.items) at.0 ≡ Some u.0) =
       ⊎_elim
       (λ (h : slice_get s.done.items at.0 ≡ Some u.0).
-      (let l = slice_get_within s.done.items at.0 u.0 h in omega (arith, l), left_at s.done.items s.here at.0 u.0 h))
-      (λ (h : (m : ℕ) × (at.0 ≡ length s.done.items + m) × (slice_get (take k s.here) m ≡ Some u.0)).
-      let w = within_take s.here k h.0 u.0 h.2 in (omega (arith, h.1, w.0), right_at s.done.items s.here at.0 h.0 u.0 h.1 w.1))
-      (sides s.done.items (take k s.here) at.0 u.0 u.1) in
-      (at.0, side.0, slice_get-map (means s) (s.done.items ++ s.here) at.0 ∙ ap (option_map (means s)) side.1 ∙ ap Some u.2)
+      (let l = slice_get_within s.done.items at.0 u.0 h in omega (arith, l), left_at s.done.items s.here.items at.0 u.0 h))
+      (λ (h : (m : ℕ) × (at.0 ≡ length s.done.items + m) × (slice_get (take k s.here.items) m ≡ Some u.0)).
+      let w = within_take s.here.items k h.0 u.0 h.2 in (omega (arith, h.1, w.0), right_at s.done.items s.here.items at.0 h.0 u.0 h.1 w.1))
+      (sides s.done.items (take k s.here.items) at.0 u.0 u.1) in
+      (at.0, side.0, slice_get-map (means s) (s.done.items ++ s.here.items) at.0 ∙ ap (option_map (means s)) side.1 ∙ ap Some u.2)
 
   -- the number of an item at the position
-  pub stored_at : (number : ℕ) (item : stored.Item) → number ≡ length s.done.items + k → slice_get s.here k ≡ Some item →
-      slice_get (s.done.items ++ s.here) number ≡ Some item
-  stored_at number item is at = right_at s.done.items s.here number k item is at
-
--- what has a number is found there
-pub meant_at : (s : Found) (number : ℕ) (item : stored.Item) → slice_get (s.done.items ++ s.here) number ≡ Some item →
-    slice_get (found_in s) number ≡ Some (means s item)
-meant_at s number item at = slice_get-map (means s) (s.done.items ++ s.here) number ∙ ap (option_map (means s)) at
+  pub stored_at : (number : ℕ) (item : stored.Item) → number ≡ length s.done.items + k → slice_get s.here.items k ≡ Some item →
+      slice_get (s.done.items ++ s.here.items) number ≡ Some item
+  stored_at number item is at = right_at s.done.items s.here.items number k item is at
 
 module _ (core : List Nonterminal) (text : List ℕ) (p k : ℕ) (s : Found) (w : Waiting) (trail : Trail) (item : stored.Item) (number : ℕ)
-    (r : IsStored p s) (at : slice_get s.here k ≡ Some item) (is : number ≡ length s.done.items + k) (h : HasTrail core text p k s w trail) where
+    (r : IsStored p s) (at : slice_get s.here.items k ≡ Some item) (is : number ≡ length s.done.items + k) (h : HasTrail core text p k s w trail) where
   abbrev it : Item
   it = means s item
 
@@ -136,9 +148,9 @@ module _ (core : List Nonterminal) (text : List ℕ) (p k : ℕ) (s : Found) (w 
     pub grow : EndsGrow core (Contains (taken_in s k)) (Contains now) (found_in s) (found_in t) number (λ key. Completes core it key)
     grow = ends_taken core (taken_in s k) (found_in s) (found_in t) number g.found g.once below it at_number
 
-    -- callers keep their numbers
-    pub numbered_on : (cells : List Caller) → AreNumbered s cells → AreNumbered t cells
-    numbered_on cells all cell c = extends_at (s.done.items ++ s.here) (t.done.items ++ t.here) cell.number cell.item g.numbers (all cell c)
+    -- callers stay known
+    pub known_on : (cells : List Caller) → AreKnown core s cells → AreKnown core t cells
+    known_on cells known = known_more core s t cells r.named g.numbers g.same known
 
     -- a first end stays the first
     pub first_now : (key : NodeKey) (d : ℕ) → IsFirstEnd core (Contains (taken_in s k)) (found_in s) key d →
@@ -154,7 +166,7 @@ module _ (core : List Nonterminal) (text : List ℕ) (p k : ℕ) (s : Found) (w 
         IsGivenBack core text (taken_in s k) it prev what x →
         Gives core text (Contains (taken_in s k)) prev what x ⊎
         ((way : Way) × may way x × Says core (Contains now) (found_in t) x.position way prev what)) →
-        AreNumbered t v.callers.items →
+        AreKnown core t v.callers.items →
         ((i : ℕ) (callee : Instance) (called : Called) → slice_get (instances_in s) i ≡ Some callee → slice_get v.called.items i ≡ Some called →
         called.last_end ≡ Some p → IsFirstEnd core (Contains now) (found_in t) (record { instance = callee; end = p }) called.last_done) →
         HasTrail core text p (suc k) t v u
@@ -171,6 +183,7 @@ module _ (core : List Nonterminal) (text : List ℕ) (p k : ℕ) (s : Found) (w 
               subst (λ (z : List Item). IsFirstEnd core (Contains z) (found_in t) (record { instance = callee; end = p }) called.last_done)
               (sym g.taken)
               (firsts i callee called (subst (λ (z : List Instance). slice_get z i ≡ Some callee) g.instances there) known last);
+          indexed = more.indexed h.indexed;
         }
 
     -- the ends that are known stay the first ones
@@ -187,7 +200,7 @@ module _ (core : List Nonterminal) (text : List ℕ) (p k : ℕ) (s : Found) (w 
         u.ways.ends ≡ trail.ways.ends → ((way : Way) (x : Item) → may way x → IsWay core text (Contains now) (found_in t) x way) →
         ((x : Item) (what : Taken) → Gives core text (Contains now) it what x → (way : Way) × may way x ×
         Says core (Contains now) (found_in t) x.position way it what) →
-        AreNumbered t v.callers.items → EndsAlike w v → HasTrail core text p (suc k) t v u
+        AreKnown core t v.callers.items → EndsAlike w v → HasTrail core text p (suc k) t v u
     goes_unfinished unfinished may v u more same sound complete callers alike =
         goes_on may v u more
         (ends_none core (Contains (taken_in s k)) (Contains now) (found_in s) (found_in t) number
@@ -205,7 +218,7 @@ module _ (core : List Nonterminal) (text : List ℕ) (p k : ℕ) (s : Found) (w 
 -- the trail and the number of the item that is taken next
 pub trail_at : (core : List Nonterminal) (text : List ℕ) (p : ℕ) (item : stored.Item) (number : ℕ) (s : Found) (w : Waiting) (trail : Trail) →
     IsStored p s →
-    IsNext core text item number s w trail → (k : ℕ) → slice_get s.here k ≡ Some item →
+    IsNext core text item number s w trail → (k : ℕ) → slice_get s.here.items k ≡ Some item →
     HasTrail core text item.position k s w trail × (number ≡ length s.done.items + k)
 trail_at core text p item number s w trail r next k at =
     let e : next.place ≡ k = r.here_once next.place k item next.at at in (

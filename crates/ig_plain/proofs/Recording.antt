@@ -7,20 +7,24 @@ use Rattle.ig_text.specs.Pattern.{Matches}
 use Rattle.ig_text.specs.declared.pattern.Pattern.{Pattern}
 use Rattle.ig_item.specs.Items.{Item, MatchesNone, past, span_of}
 use Rattle.ig_item.specs.Ways.{WayLists, WayTo, found, again}
+use Rattle.ig_expr.specs.declared.value.Value.{Value}
+use Rattle.ig_item.specs.declared.items.InstanceKey.{InstanceKey}
 use Rattle.ig_item.specs.declared.items.Item as stored
 use Rattle.ig_item.specs.declared.ways.Way.{Way}
 use Rattle.ig_item.specs.declared.ways.Way.TheVariants.{Leaf, Node}
 use Rattle.ig_item.specs.declared.ways.FurtherWay.{FurtherWay}
 use Rattle.ig_plain.specs.declared.found.Found.{Found}
 use Rattle.ig_plain.specs.declared.trail.Trail.{Trail}
-use Rattle.ig_plain.specs.Tables.{Extends}
+use Rattle.ig_plain.specs.Tables.{Extends, item_by}
 use Rattle.ig_plain.specs.Rules.{IsBehind}
 use Rattle.ig_plain.specs.Found.{means, found_in, later_in, Named, AreNamed}
-use Rattle.ig_plain.specs.Trail.{IsRecorded, here, later, By, Unfound, Records, RecordsLater, RecordsTerminal}
-use Rattle.ig_plain.proofs.Lists.{sides, right_at, right_contains, contains_sides, none_in, one_in, it_is_in, some_at, mapped_in, same_map}
+use Rattle.ig_plain.specs.Returned.{entry}
+use Rattle.ig_plain.specs.Trail.{IsRecorded, here, later, By, ComeByNodes, ComesOnce, IsIndexed, IsNodeAt, Pushes, Unfound, Records, RecordsLater, RecordsTerminal}
+use Rattle.ig_plain.proofs.Lists.{sides, right_at, right_contains, contains_sides, none_in, one_in, it_is_in, some_at, mapped_in, same_map, contains_from_at}
 use Rattle.ig_plain.proofs.Growth.{means_kept, found_named, longer, extends_at, extends_in, extends_then, extends_cases}
 use Rattle.ig_plain.proofs.Sets.{extends_itself, extends_by, extends_same}
 use Rattle.ig_plain.proofs.Terminals.{same_end, one_behind}
+use Rattle.ig_plain.proofs.Indexing.{indexed_same, indexed_once, indexed_node}
 
 -- what holds anyway holds where there is a value
 pub ok_of : {T E P : Type 0} (r : Result T E) → P → OnOk r P
@@ -28,29 +32,27 @@ ok_of (Ok x) p = p
 ok_of (Err e) p = tt
 
 -- one item more at the position
-pub found_one : (a : Found) (at : List stored.Item) (x : stored.Item) → at ≡ a.here ++ x ∷ [] →
+pub found_one : (a : Found) (at : List stored.Item) (x : stored.Item) → at ≡ a.here.items ++ x ∷ [] →
     map (means a) (a.done.items ++ at) ≡ found_in a ++ means a x ∷ []
 found_one a at x is =
     ap (map (means a))
-    (ap (λ (z : List stored.Item). a.done.items ++ z) is ∙ sym (append_assoc a.done.items a.here (x ∷ []))) ∙
-    map-append (means a) (a.done.items ++ a.here) (x ∷ [])
+    (ap (λ (z : List stored.Item). a.done.items ++ z) is ∙ sym (append_assoc a.done.items a.here.items (x ∷ []))) ∙
+    map-append (means a) (a.done.items ++ a.here.items) (x ∷ [])
 
--- the item of that number
-pub found_at : (a : Found) (number place : ℕ) (x : stored.Item) → slice_get a.here place ≡ Some x → number ≡ length a.done.items + place →
-    slice_get (found_in a) number ≡ Some (means a x)
-found_at a number place x at is =
-    slice_get-map (means a) (a.done.items ++ a.here) number ∙
-    ap (option_map (means a)) (right_at a.done.items a.here number place x is at)
+-- what has a number is found there
+pub meant_at : (s : Found) (number : ℕ) (item : stored.Item) → slice_get (s.done.items ++ s.here.items) number ≡ Some item →
+    slice_get (found_in s) number ≡ Some (means s item)
+meant_at s number item at = slice_get-map (means s) (s.done.items ++ s.here.items) number ∙ ap (option_map (means s)) at
 
 -- tables grew
 module _ (a b : Found) (named : AreNamed a) (envs : Extends a.envs.keys b.envs.keys) (keys : Extends a.keys b.keys) where
   pub means_same : (x : stored.Item) → Named a x → means b x ≡ means a x
   means_same x n = means_kept a.envs.keys b.envs.keys a.keys b.keys x envs keys named.values n
 
-  pub found_same : b.done.items ≡ a.done.items → b.here ≡ a.here → found_in b ≡ found_in a
+  pub found_same : b.done.items ≡ a.done.items → b.here.items ≡ a.here.items → found_in b ≡ found_in a
   found_same done at =
-      ap (map (means b)) (ap (λ (z : List stored.Item). z ++ b.here) done ∙ ap (λ (z : List stored.Item). a.done.items ++ z) at) ∙
-      same_map (means b) (means a) (a.done.items ++ a.here) (λ x c. means_same x (found_named a named x c))
+      ap (map (means b)) (ap (λ (z : List stored.Item). z ++ b.here.items) done ∙ ap (λ (z : List stored.Item). a.done.items ++ z) at) ∙
+      same_map (means b) (means a) (a.done.items ++ a.here.items) (λ x c. means_same x (found_named a named x c))
 
   later_map : map (means b) a.later.items ≡ later_in a
   later_map = same_map (means b) (means a) a.later.items (λ x c. means_same x (named.later x c))
@@ -64,10 +66,17 @@ module _ (a b : Found) (named : AreNamed a) (envs : Extends a.envs.keys b.envs.k
       ap (λ (z : Item). later_in a ++ z ∷ []) means_is
 
   -- an item that means none of those found isn't there
-  pub not_here : (x : stored.Item) (y : Item) → means b x ≡ y → Unfound a (λ z. z ≡ y) → Contains a.here x → ⊥
+  pub not_here : (x : stored.Item) (y : Item) → means b x ≡ y → Unfound a (λ z. z ≡ y) → Contains a.here.items x → ⊥
   not_here x y is new c =
       new (means a x) (sym (means_same x (named.here x c)) ∙ is)
-      (mapped_in (means a) (a.done.items ++ a.here) x (right_contains a.done.items a.here x c))
+      (mapped_in (means a) (a.done.items ++ a.here.items) x (right_contains a.done.items a.here.items x c))
+
+  -- an item that is among those at the position was found by a node, if all were that mean the same
+  pub by_node_here : (t : Trail) (x : stored.Item) (y : Item) → means b x ≡ y → ComeByNodes a t (λ z. z ≡ y) → (k : ℕ) →
+      slice_get a.here.items k ≡ Some x → IsNodeAt t.ways.firsts (length a.done.items + k)
+  by_node_here t x y is nodes k at =
+      nodes (means a x) (sym (means_same x (named.here x (contains_from_at a.here.items k x at))) ∙ is) (length a.done.items + k)
+      (meant_at a (length a.done.items + k) x (right_at a.done.items a.here.items (length a.done.items + k) k x refl at))
 
 -- a way stays one as the lists grow
 pub way_more : (v w : WayLists) (k : ℕ) (way : Way) → Extends v.firsts w.firsts → Extends v.further w.further → WayTo v k way →
@@ -97,6 +106,7 @@ records_nothing may a t never =
       there = λ more c. absurd (none_in more c);
       each = λ e k way x at to. inl to;
       has = λ e way x m. absurd (never way x m);
+      indexed = λ i. i;
     }
 
 -- the same ways are allowed
@@ -115,12 +125,13 @@ records_alike may other a b t u into back r =
       each = λ e k way x at to.
           ⊎_elim (λ (h : WayTo t.ways k way). inl h) (λ (h : may way x). inr (into way x h)) (r.each e k way x at to);
       has = λ e way x m. r.has e way x (back way x m);
+      indexed = r.indexed;
     }
 
 -- tables grew before
 pub records_after : (may : Way → Item → Type 0) (a b c : Found) (t u : Trail) → found_in b ≡ found_in a → later_in b ≡ later_in a →
-    Records may b c t u → Records may a c t u
-records_after may a b c t u same_found same_later r =
+    (IsIndexed a t → IsIndexed b t) → Records may b c t u → Records may a c t u
+records_after may a b c t u same_found same_later same_index r =
     record {
       found = subst (λ (z : List Item). Extends z (found_in c)) same_found r.found;
       behind = r.behind ∙ same_later;
@@ -132,6 +143,7 @@ records_after may a b c t u same_found same_later r =
       there = r.there;
       each = λ e. r.each (e ∙ ap length (sym same_found));
       has = λ e. r.has (e ∙ ap length (sym same_found));
+      indexed = λ i. r.indexed (same_index i);
     }
 
 -- one after the other
@@ -179,11 +191,13 @@ module _ (may first second : Way → Item → Type 0) (a b c : Found) (t u v : T
         has = λ n way x m.
             ⊎_elim (λ (h : first way x). recorded_more second b c u v way x e (d.has n way x h))
             (λ (h : second way x). e.has (d.numbered n) way x h) (split way x m);
+        indexed = λ i. e.indexed (d.indexed i);
       }
 
 -- one new item, with its way
 module _ (a b : Found) (t u : Trail) (x : Item) (way : Way) (more_found : found_in b ≡ found_in a ++ x ∷ []) (same_later : later_in b ≡ later_in a)
-    (ways : u.ways ≡ record t.ways { firsts = t.ways.firsts ++ way ∷ [] }) (same_prevs : u.later.items ≡ t.later.items) where
+    (ways : u.ways ≡ record t.ways { firsts = t.ways.firsts ++ way ∷ [] }) (same_prevs : u.later.items ≡ t.later.items)
+    (indexed : IsIndexed a t → IsIndexed b u) where
   firsts_are : u.ways.firsts ≡ t.ways.firsts ++ way ∷ []
   firsts_are = ap (λ (w : WayLists). w.firsts) ways
 
@@ -229,12 +243,44 @@ module _ (a b : Found) (t u : Trail) (x : Item) (way : Way) (more_found : found_
             right_at (found_in a) (x ∷ []) (length (found_in a)) 0 y (omega arith) (ap Some (sym m.1)))
             (found (ap (λ (z : List Way). slice_get z (length (found_in a))) firsts_are ∙
             right_at t.ways.firsts (way ∷ []) (length (found_in a)) 0 w (omega (arith, n)) (ap Some (sym m.0))));
+        indexed = indexed;
       }
+
+-- what was pushed is one new item, with its way
+pub pushed_records : (x : stored.Item) (way : Way) (a b : Found) (t m u : Trail) → Pushes x way a b m u → m.ways ≡ t.ways →
+    m.later.items ≡ t.later.items → (IsIndexed a t → IsIndexed b u) → Records (By way (λ z. z ≡ means a x)) a b t u
+pushed_records x way a b t m u p ways same_prevs indexed =
+    records_new a b t u (means a x) way
+    (ap (λ (z : List stored.Item). map (means b) (z ++ b.here.items)) p.done ∙
+    same_map (means b) (means a) (a.done.items ++ b.here.items) (λ y c. same y) ∙ found_one a b.here.items x p.here)
+    (ap (map (means b)) p.behind ∙ same_map (means b) (means a) a.later.items (λ y c. same y))
+    (p.ways ∙ ap (λ (w : WayLists). record w { firsts = w.firsts ++ way ∷ [] }) ways) (p.later ∙ same_prevs) indexed
+  where
+    same : (y : stored.Item) → means b y ≡ means a y
+    same y =
+        ap (λ (z : List (List Value)). item_by z b.keys y) p.envs ∙ ap (λ (z : List InstanceKey). item_by a.envs.keys z y) p.keys
+
+-- it came by no call, so that the index has all that it has to
+pub pushed_once : (x : stored.Item) (way : Way) (a b : Found) (t u : Trail) → Pushes x way a b t u → ComesOnce way → IsIndexed a t → IsIndexed b u
+pushed_once x way a b t u p once i =
+    indexed_same a.done.items b.done.items (a.here.items ++ x ∷ []) b.here.items (t.ways.firsts ++ way ∷ []) u.ways.firsts t.returned u.returned
+    p.done p.here (ap (λ (z : WayLists). z.firsts) p.ways) p.returned
+    (indexed_once a.done.items a.here.items t.ways.firsts t.returned x way once i)
+
+-- it came by a call, and was added to the index before
+pub pushed_node : (x : stored.Item) (way : Way) (number : ℕ) (a b : Found) (t m u : Trail) → Pushes x way a b m u →
+    number ≡ length a.done.items + length a.here.items →
+    m.ways.firsts ≡ t.ways.firsts → m.returned ≡ t.returned ++ entry x number ∷ [] → IsIndexed a t → IsIndexed b u
+pushed_node x way number a b t m u p is firsts returned i =
+    indexed_same a.done.items b.done.items (a.here.items ++ x ∷ []) b.here.items (t.ways.firsts ++ way ∷ []) u.ways.firsts
+    (t.returned ++ entry x number ∷ []) u.returned
+    p.done p.here (ap (λ (z : WayLists). z.firsts) p.ways ∙ ap (λ (z : List Way). z ++ way ∷ []) firsts) (p.returned ∙ returned)
+    (indexed_node a.done.items a.here.items t.ways.firsts t.returned x way number is i)
 
 -- a further way to the item of that number
 module _ (a : Found) (t u : Trail) (x : Item) (number prev done : ℕ) (at : slice_get (found_in a) number ≡ Some x)
     (ways : u.ways ≡ record t.ways { further = t.ways.further ++ record { item = number; prev = prev; done = done } ∷ [] })
-    (same_prevs : u.later.items ≡ t.later.items) where
+    (same_prevs : u.later.items ≡ t.later.items) (same_index : u.returned ≡ t.returned) where
   abbrev one_more : FurtherWay
   one_more = record { item = number; prev = prev; done = done }
 
@@ -274,6 +320,8 @@ module _ (a : Found) (t u : Trail) (x : Item) (number prev done : ℕ) (at : sli
             (again one_more
             (subst (λ (z : List FurtherWay). Contains z one_more) (sym with_one)
             (right_contains t.ways.further (one_more ∷ []) one_more (it_is_in one_more))) refl m.0);
+        indexed = indexed_same a.done.items a.done.items a.here.items a.here.items t.ways.firsts u.ways.firsts t.returned u.returned refl refl
+            same_firsts same_index;
       }
 
 -- of other items that are the same
@@ -284,11 +332,12 @@ records_same way may other a b t u into back r =
 
 -- the item was named in tables that grew before
 pub records_past : (a b c : Found) (t u : Trail) (way : Way) (x : stored.Item) (y : Item) → AreNamed a → Extends a.envs.keys b.envs.keys →
-    b.keys ≡ a.keys → b.done.items ≡ a.done.items → b.here ≡ a.here → b.later.items ≡ a.later.items → means b x ≡ y →
+    b.keys ≡ a.keys → b.done.items ≡ a.done.items → b.here.items ≡ a.here.items → b.later.items ≡ a.later.items → means b x ≡ y →
     Records (By way (λ z. z ≡ means b x)) b c t u → Records (By way (λ z. z ≡ y)) a c t u
 records_past a b c t u way x y named envs keys done at behind is r =
     let same = extends_same a.keys b.keys keys in
     records_after (By way (λ z. z ≡ y)) a b c t u (found_same a b named envs same done at) (behind_same a b named envs same behind)
+    (indexed_same a.done.items b.done.items a.here.items b.here.items t.ways.firsts t.ways.firsts t.returned t.returned done at refl refl)
     (records_same way (λ z. z ≡ means b x) (λ z. z ≡ y) b c t u (λ z e. e ∙ is) (λ z e. e ∙ sym is) r)
 
 -- where a condition holds, and where it doesn't
@@ -313,11 +362,18 @@ records_without {V} C way may a t never = records_nothing (By way (λ x. (w : V)
 
 -- an item was added at a later position
 pub records_later : (n : ℕ) (x : stored.Item) (y : Item) (a b : Found) (t u : Trail) → AreNamed a → Extends a.envs.keys b.envs.keys →
-    b.keys ≡ a.keys → b.done.items ≡ a.done.items → b.here ≡ a.here → b.later.items ≡ a.later.items ++ x ∷ [] → means b x ≡ y →
-    u.ways ≡ t.ways → u.later.items ≡ t.later.items ++ n ∷ [] → RecordsLater n y a b t u
-records_later n x y a b t u named envs keys done at behind is ways prevs =
+    b.keys ≡ a.keys → b.done.items ≡ a.done.items → b.here.items ≡ a.here.items → b.later.items ≡ a.later.items ++ x ∷ [] → means b x ≡ y →
+    u.ways ≡ t.ways → u.later.items ≡ t.later.items ++ n ∷ [] → u.returned ≡ t.returned → RecordsLater n y a b t u
+records_later n x y a b t u named envs keys done at behind is ways prevs returned =
     let same = extends_same a.keys b.keys keys in
-    record { found = found_same a b named envs same done at; behind = behind_one a b named envs same x y behind is; ways = ways; later = prevs }
+    record {
+      found = found_same a b named envs same done at;
+      behind = behind_one a b named envs same x y behind is;
+      ways = ways;
+      later = prevs;
+      indexed = indexed_same a.done.items b.done.items a.here.items b.here.items t.ways.firsts u.ways.firsts t.returned u.returned done at
+          (ap (λ (z : WayLists). z.firsts) ways) returned;
+    }
 
 -- behind a terminal
 module _ (text : List ℕ) (what : Pattern) (label : Option (List ℕ)) (excluded : List Pattern) (n : ℕ) (it : Item) (a : Found) (t : Trail) where

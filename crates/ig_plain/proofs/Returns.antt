@@ -1,8 +1,10 @@
 -- Items behind calls, of a chain of callers.
 use Rattle.std.proofs.Common.{◌≡◌, ◌⊎◌, ⊎_elim, inl, inr, ℕ, zero, suc, ◌-◌, ◌<◌, List, [], ◌∷◌, ◌++◌, Some, Option, length, Contains, refl, sym, ap, ◌∙◌, subst, arith, slice_get, append_assoc}
-use Rattle.std.specs.Prelude.{Result, Ok, Err, option_and_then, slice_index_or}
+use Rattle.std.specs.Prelude.{IsTrue, None, Result, Ok, Err, option_and_then, slice_index_or}
 use Rattle.std.proofs.lemmas.List.{append-nil}
+use Rattle.std.proofs.lemmas.List.Elements.{All-nil}
 use Rattle.std.proofs.lemmas.Option.{same_Some, slice_get_within, get_or_from_slice_get}
+use Rattle.ig_text.specs.Pattern.{Matches}
 use Rattle.ig_text.specs.declared.pattern.Pattern.{Pattern}
 use Rattle.ig_expr.specs.Expression.{Expression}
 use Rattle.ig_item.specs.Step.{Step, Call}
@@ -21,14 +23,15 @@ use Rattle.ig_plain.specs.declared.found.Found.{Found}
 use Rattle.ig_plain.specs.declared.trail.Trail.{Trail}
 use Rattle.ig_plain.specs.declared.waiting.Caller.{Caller}
 use Rattle.ig_plain.specs.Found.{means, Named, AreNamed, Adds}
-use Rattle.ig_plain.specs.Rules.{StandsAtCall, IsReturn, step_at}
+use Rattle.ig_plain.specs.Rules.{StandsAtBareCall, StandsAtCall, IsReturn, step_at}
 use Rattle.ig_plain.specs.Run as run
 use Rattle.ig_plain.specs.Run.{Chains, IsChainOf, IsReturnToOne}
-use Rattle.ig_plain.specs.Trail.{AreNumbered, By, IsReturnBy, Records}
+use Rattle.ig_plain.specs.Trail.{AreKnown, By, ComeByNodes, IsIndexed, IsReturnBy, Records}
 use Rattle.ig_plain.proofs.Lists.{contains_from_at, contains_sides, left_contains, right_contains, it_is_in, one_in, none_in}
 use Rattle.ig_plain.proofs.Growth.{means_grown, named_grown, named_all, grows_weaker}
 use Rattle.ig_plain.proofs.Additions.{adds_nothing, adds_alike, adds_then}
 use Rattle.ig_plain.proofs.Recording.{records_nothing, records_alike, records_same, records_then}
+use Rattle.ig_plain.proofs.Nodes.{ways_numbered, by_nodes_on}
 use Rattle.ig_plain.proofs.Following.{one_step}
 
 -- an alternative's steps, looked up
@@ -49,7 +52,7 @@ module _ (core : List Nonterminal) (text : List ℕ) (it : Item) (end callee : �
   Behind x = MatchesNone text excluded it.position end × (x ≡ past it (span_of label it.position end) end)
 
   -- these are the items after the call, whatever names it goes by
-  into_return : (x : Item) → Behind x → IsReturn core text it end x
+  pub into_return : (x : Item) → Behind x → IsReturn core text it end x
   into_return x m =
       record {
         call = record { names = names; callee = callee; arguments = arguments; label = label; excluded = excluded; before = before };
@@ -75,6 +78,24 @@ module _ (core : List Nonterminal) (text : List ℕ) (it : Item) (end callee : �
   pub records_return : (way : Way) (a b : Found) (t u : Trail) → Records (By way Behind) a b t u →
       Records (By way (IsReturn core text it end)) a b t u
   records_return way a b t u r = records_same way Behind (IsReturn core text it end) a b t u into_return from_return r
+
+-- the item after a call that has neither a label nor an excluded pattern
+module _ (core : List Nonterminal) (text : List ℕ) (it : Item) (end : ℕ) (bare : StandsAtBareCall core it) where
+  pub into_bare : (x : Item) → x ≡ past it [] end → IsReturn core text it end x
+  into_bare x e =
+      into_return core text it end bare.callee bare.arguments None [] bare.names bare.before x
+      (All-nil (λ (pattern : Pattern). Matches text pattern it.position end → ⊥), e)
+
+  from_bare : (x : Item) → IsReturn core text it end x → x ≡ past it [] end
+  from_bare x m = (from_return core text it end bare.callee bare.arguments None [] bare.names bare.before x m).1
+
+  pub bare_alike : (budget : ℕ) (a b : Found) (r : Result (Unit {0}) RunFault) → Adds end (λ x. x ≡ past it [] end) budget a b r →
+      Adds end (IsReturn core text it end) budget a b r
+  bare_alike budget a b r d = adds_alike end (λ x. x ≡ past it [] end) (IsReturn core text it end) budget a b r into_bare from_bare d
+
+  pub records_bare : (way : Way) (a b : Found) (t u : Trail) → Records (By way (λ x. x ≡ past it [] end)) a b t u →
+      Records (By way (IsReturn core text it end)) a b t u
+  records_bare way a b t u r = records_same way (λ x. x ≡ past it [] end) (IsReturn core text it end) a b t u into_bare from_bare r
 
 -- how many cells there are from a place + 1 on; none where that is 0
 abbrev pub remaining : ℕ → ℕ → ℕ
@@ -124,7 +145,7 @@ one_chain cells head xs (run.more k cell us at behind c) ys d =
 abbrev pub IsVisit : List Nonterminal → List ℕ → ℕ → ℕ → Found → List stored.Item → Way → Item → Type 0
 IsVisit core text done end a ys way x =
     (y : stored.Item) × Contains ys y × IsReturn core text (means a y) end x × (number : ℕ) ×
-    (slice_get (a.done.items ++ a.here) number ≡ Some y) × (way ≡ Node number done)
+    (slice_get (a.done.items ++ a.here.items) number ≡ Some y) × (way ≡ Node number done)
 
 -- how far a walk along a chain has come
 pub record Walks (core : List Nonterminal) (text : List ℕ) (cells : List Caller) (head done end budget : ℕ) (a b : Found) (t u : Trail) (at : ℕ) :
@@ -137,7 +158,7 @@ pub record Walks (core : List Nonterminal) (text : List ℕ) (cells : List Calle
   pub ways : Records (IsVisit core text done end a visited) a b t u
 
 module _ (core : List Nonterminal) (text : List ℕ) (cells : List Caller) (head done end budget : ℕ) (a : Found) (t : Trail) (named : AreNamed a)
-    (chain : IsChainOf core cells head a) (numbers : AreNumbered a cells) (once : NoneTwice (a.done.items ++ a.here)) where
+    (chain : IsChainOf core cells head a) (known : AreKnown core a cells) (once : NoneTwice (a.done.items ++ a.here.items)) where
   abbrev Visited : List stored.Item → Item → Type 0
   Visited ys x = (y : stored.Item) × Contains ys y × IsReturn core text (means a y) end x
 
@@ -171,8 +192,26 @@ module _ (core : List Nonterminal) (text : List ℕ) (cells : List Caller) (head
     pub caller_calls : StandsAtCall core (means b here.cell.item)
     caller_calls = subst (StandsAtCall core) (sym means_here) (chain.calls here.cell.item in_chain)
 
+    caller_bare : IsTrue here.cell.is_bare → StandsAtBareCall core (means b here.cell.item)
+    caller_bare e =
+        subst (StandsAtBareCall core) (sym means_here) ((known here.cell (contains_from_at cells k here.cell here.there)).bare e)
+
     pub all_named : AreNamed b
     all_named = named_all end (Visited w.visited) a b named w.adds.grows
+
+    -- what is behind it was found by nodes
+    pub by_nodes_here : IsIndexed a t → ComeByNodes a t (IsReturnToOne core text cells head end a) →
+        ComeByNodes b u (IsReturn core text (means b here.cell.item) end)
+    by_nodes_here i nodes x m =
+        by_nodes_on (IsVisit core text done end a w.visited) (IsReturnToOne core text cells head end a) a b t u (λ way y v. (v.3, done, v.5)) w.ways
+        (ways_numbered a t i) nodes x
+        (record {
+          chain = chain.chain;
+          chained = chain.chained;
+          caller = here.cell.item;
+          among = in_chain;
+          returns = subst (λ (z : Item). IsReturn core text z end x) means_here m;
+        })
 
     pub walks_on : (c : Found) (r : Result (Unit {0}) RunFault) → Adds end (IsReturn core text (means b here.cell.item) end) budget b c r →
         Adds end (Visited (w.visited ++ here.cell.item ∷ [])) budget a c r
@@ -191,9 +230,9 @@ module _ (core : List Nonterminal) (text : List ℕ) (cells : List Caller) (head
         (contains_sides w.visited (here.cell.item ∷ []) m.0 m.1)) w.adds d
 
     -- its number is the one place at which it stands
-    one_number : (m : ℕ) (y : stored.Item) → slice_get (a.done.items ++ a.here) m ≡ Some y → y ≡ here.cell.item → m ≡ here.cell.number
+    one_number : (m : ℕ) (y : stored.Item) → slice_get (a.done.items ++ a.here.items) m ≡ Some y → y ≡ here.cell.item → m ≡ here.cell.number
     one_number m y at_m e =
-        once m here.cell.number here.cell.item (at_m ∙ ap Some e) (numbers here.cell (contains_from_at cells k here.cell here.there))
+        once m here.cell.number here.cell.item (at_m ∙ ap Some e) (known here.cell (contains_from_at cells k here.cell here.there)).numbered
 
     records_on : (c : Found) (v : Trail) → Records (By (Node here.cell.number done) (IsReturn core text (means b here.cell.item) end)) b c u v →
         Records (IsVisit core text done end a (w.visited ++ here.cell.item ∷ [])) a c t v
@@ -206,7 +245,7 @@ module _ (core : List Nonterminal) (text : List ℕ) (cells : List Caller) (head
           right_contains w.visited (here.cell.item ∷ []) here.cell.item (it_is_in here.cell.item),
           subst (λ (z : Item). IsReturn core text z end x) means_here m.1,
           here.cell.number,
-          numbers here.cell (contains_from_at cells k here.cell here.there),
+          (known here.cell (contains_from_at cells k here.cell here.there)).numbered,
           m.0,
         ))
         (λ way x m.
@@ -269,6 +308,15 @@ module _ (core : List Nonterminal) (text : List ℕ) (cells : List Caller) (head
 
       pub read_calls : StandsAtCall core (means b read.item)
       read_calls = subst (λ (z : Caller). StandsAtCall core (means b z.item)) (sym read_is) caller_calls
+
+      pub read_bare : IsTrue read.is_bare → StandsAtBareCall core (means b read.item)
+      read_bare =
+          subst (λ (z : Caller). IsTrue z.is_bare → StandsAtBareCall core (means b z.item)) (sym read_is) caller_bare
+
+      pub read_by_nodes : IsIndexed a t → ComeByNodes a t (IsReturnToOne core text cells head end a) →
+          ComeByNodes b u (IsReturn core text (means b read.item) end)
+      read_by_nodes i nodes =
+          subst (λ (z : Caller). ComeByNodes b u (IsReturn core text (means b z.item) end)) (sym read_is) (by_nodes_here i nodes)
 
       pub read_less : remaining (length cells) read.next < remaining (length cells) at
       read_less =

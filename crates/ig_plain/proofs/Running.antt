@@ -29,7 +29,7 @@ stored_grown p may a b r g =
       tables = record { environments = g.envs_once r.tables.environments; instances = subst NoneTwice (sym g.keys) r.tables.instances };
       named = named_all p may a b r.named g;
       before = λ x c. r.before x (subst (λ (z : List stored.Item). Contains z x) g.done c);
-      at = λ x c. ⊎_elim (λ (h : Contains a.here x). r.at x h) (λ (h : Contains g.here.more x). g.at x h) (extends_cases a.here b.here x g.here c);
+      at = λ x c. ⊎_elim (λ (h : Contains a.here.items x). r.at x h) (λ (h : Contains g.here.more x). g.at x h) (extends_cases a.here.items b.here.items x g.here c);
       behind = λ x c. r.behind x (subst (λ (z : List stored.Item). Contains z x) g.later c);
       done_once = subst NoneTwice (sym g.done) r.done_once;
       here_once = g.here_once r.here_once;
@@ -37,40 +37,40 @@ stored_grown p may a b r g =
     }
 
 -- the taken items, of those found
-taken_named : (s : Found) (k : ℕ) → AreNamed s → (x : stored.Item) → Contains (s.done.items ++ take k s.here) x → Named s x
+taken_named : (s : Found) (k : ℕ) → AreNamed s → (x : stored.Item) → Contains (s.done.items ++ take k s.here.items) x → Named s x
 taken_named s k n x c =
-    ⊎_elim (n.done x) (λ (h : Contains (take k s.here) x). n.here x (front_in s.here k x h)) (contains_sides s.done.items (take k s.here) x c)
+    ⊎_elim (n.done x) (λ (h : Contains (take k s.here.items) x). n.here x (front_in s.here.items k x h)) (contains_sides s.done.items (take k s.here.items) x c)
 
 pub taken_found : (s : Found) (k : ℕ) (x : Item) → Contains (taken_in s k) x → Contains (found_in s) x
 taken_found s k x c =
-    let u = unmapped_in (means s) (s.done.items ++ take k s.here) x c in
+    let u = unmapped_in (means s) (s.done.items ++ take k s.here.items) x c in
     subst (Contains (found_in s)) u.2
-    (mapped_in (means s) (s.done.items ++ s.here) u.0
-    (⊎_elim (λ (h : Contains s.done.items u.0). left_contains s.done.items s.here u.0 h)
-    (λ (h : Contains (take k s.here) u.0). right_contains s.done.items s.here u.0 (front_in s.here k u.0 h))
-    (contains_sides s.done.items (take k s.here) u.0 u.1)))
+    (mapped_in (means s) (s.done.items ++ s.here.items) u.0
+    (⊎_elim (λ (h : Contains s.done.items u.0). left_contains s.done.items s.here.items u.0 h)
+    (λ (h : Contains (take k s.here.items) u.0). right_contains s.done.items s.here.items u.0 (front_in s.here.items k u.0 h))
+    (contains_sides s.done.items (take k s.here.items) u.0 u.1)))
 
-pub item_found : (s : Found) (k : ℕ) (item : stored.Item) → slice_get s.here k ≡ Some item → Contains (found_in s) (means s item)
+pub item_found : (s : Found) (k : ℕ) (item : stored.Item) → slice_get s.here.items k ≡ Some item → Contains (found_in s) (means s item)
 item_found s k item at =
-    mapped_in (means s) (s.done.items ++ s.here) item (right_contains s.done.items s.here item (contains_from_at s.here k item at))
+    mapped_in (means s) (s.done.items ++ s.here.items) item (right_contains s.done.items s.here.items item (contains_from_at s.here.items k item at))
 
 -- one more is taken
-pub taken_step : (s : Found) (k : ℕ) (item : stored.Item) → slice_get s.here k ≡ Some item →
+pub taken_step : (s : Found) (k : ℕ) (item : stored.Item) → slice_get s.here.items k ≡ Some item →
     taken_in s (suc k) ≡ taken_in s k ++ means s item ∷ []
 taken_step s k item at =
-    ap (map (means s)) (ap (λ (z : List stored.Item). s.done.items ++ z) (take_step s.here k item at) ∙ sym (append_assoc s.done.items (take k s.here) (item ∷ []))) ∙
-    map-append (means s) (s.done.items ++ take k s.here) (item ∷ [])
+    ap (map (means s)) (ap (λ (z : List stored.Item). s.done.items ++ z) (take_step s.here.items k item at) ∙ sym (append_assoc s.done.items (take k s.here.items) (item ∷ []))) ∙
+    map-append (means s) (s.done.items ++ take k s.here.items) (item ∷ [])
 
 -- more items at the position change nothing in those taken
-pub taken_grown : (p : ℕ) (may : Item → Type 0) (a b : Found) (k : ℕ) → AreNamed a → Grows p may a b → k ≤ length a.here →
+pub taken_grown : (p : ℕ) (may : Item → Type 0) (a b : Found) (k : ℕ) → AreNamed a → Grows p may a b → k ≤ length a.here.items →
     taken_in b k ≡ taken_in a k
 taken_grown p may a b k n g few =
-    let front : take k b.here ≡ take k a.here = ap (take k) g.here.is ∙ take-append-le k a.here g.here.more few in
-    ap (map (means b)) (ap (λ (z : List stored.Item). z ++ take k b.here) g.done ∙ ap (λ (z : List stored.Item). a.done.items ++ z) front) ∙
-    means_list p may a b n g (a.done.items ++ take k a.here) (taken_named a k n)
+    let front : take k b.here.items ≡ take k a.here.items = ap (take k) g.here.is ∙ take-append-le k a.here.items g.here.more few in
+    ap (map (means b)) (ap (λ (z : List stored.Item). z ++ take k b.here.items) g.done ∙ ap (λ (z : List stored.Item). a.done.items ++ z) front) ∙
+    means_list p may a b n g (a.done.items ++ take k a.here.items) (taken_named a k n)
 
 module _ (core : List Nonterminal) (text : List ℕ) (law : ReachableIsClosed) (budget p k : ℕ) (s : Found) (item : stored.Item)
-    (r : IsTaking core text budget p k s) (at : slice_get s.here k ≡ Some item) where
+    (r : IsTaking core text budget p k s) (at : slice_get s.here.items k ≡ Some item) where
   it_reachable : Reachable core text (means s item)
   it_reachable = r.reachable (means s item) (left_contains (found_in s) (later_in s) (means s item) (item_found s k item at))
 
@@ -80,8 +80,8 @@ module _ (core : List Nonterminal) (text : List ℕ) (law : ReachableIsClosed) (
   pub follows_reachable : (x : Item) → After core text (taken_in s k) (means s item) x → Reachable core text x
   follows_reachable x a = after_reachable core text law (taken_in s k) (means s item) x taken_reachable it_reachable a
 
-  lt : k < length s.here
-  lt = slice_get_within s.here k item at
+  lt : k < length s.here.items
+  lt = slice_get_within s.here.items k item at
 
   module _ (may : Item → Type 0) (t : Found) (g : Grows p may s t) (sound : (x : Item) → may x → After core text (taken_in s k) (means s item) x) where
     reachable_now : (x : Item) → Contains (found_in t ++ later_in t) x → Reachable core text x
@@ -116,7 +116,7 @@ module _ (core : List Nonterminal) (text : List ℕ) (law : ReachableIsClosed) (
           came = λ x c.
               let h = r.came x (subst (λ (z : List Item). Contains z x) (later_same p may s t r.stored.named g) c) in
               (h.0, subst (λ (z : List Item). Contains z h.0) (sym taken_now) (left_contains (taken_in s k) (means s item ∷ []) h.0 h.1), h.2);
-          few = let n = length-append s.here g.here.more in let e = ap length g.here.is in omega (arith, lt, n, e);
+          few = let n = length-append s.here.items g.here.more in let e = ap length g.here.is in omega (arith, lt, n, e);
           within = within;
         }
 
@@ -140,8 +140,8 @@ module _ (core : List Nonterminal) (text : List ℕ) (law : ReachableIsClosed) (
 
     pub found_still : found_in t ≡ found_in s
     found_still =
-        ap (map (means t)) (ap (λ (z : List stored.Item). z ++ t.here) g.done ∙ ap (λ (z : List stored.Item). s.done.items ++ z) g.here) ∙
-        same_map (means t) (means s) (s.done.items ++ s.here) (λ y c. means_still y (found_named s r.stored.named y c))
+        ap (map (means t)) (ap (λ (z : List stored.Item). z ++ t.here.items) g.done ∙ ap (λ (z : List stored.Item). s.done.items ++ z) g.here) ∙
+        same_map (means t) (means s) (s.done.items ++ s.here.items) (λ y c. means_still y (found_named s r.stored.named y c))
 
     later_now : later_in t ≡ later_in s ++ x ∷ []
     later_now =
@@ -152,8 +152,8 @@ module _ (core : List Nonterminal) (text : List ℕ) (law : ReachableIsClosed) (
     pub taken_later : taken_in t (suc k) ≡ taken_in s k ++ means s item ∷ []
     taken_later =
         ap (map (means t))
-        (ap (λ (z : List stored.Item). z ++ take (suc k) t.here) g.done ∙ ap (λ (z : List stored.Item). s.done.items ++ take (suc k) z) g.here) ∙
-        same_map (means t) (means s) (s.done.items ++ take (suc k) s.here) (λ y c. means_still y (taken_named s (suc k) r.stored.named y c)) ∙
+        (ap (λ (z : List stored.Item). z ++ take (suc k) t.here.items) g.done ∙ ap (λ (z : List stored.Item). s.done.items ++ take (suc k) z) g.here) ∙
+        same_map (means t) (means s) (s.done.items ++ take (suc k) s.here.items) (λ y c. means_still y (taken_named s (suc k) r.stored.named y c)) ∙
         taken_step s k item at
 
     -- it isn't among the later items: it would have come from an item that was taken before
@@ -161,19 +161,19 @@ module _ (core : List Nonterminal) (text : List ℕ) (law : ReachableIsClosed) (
     new_later c =
         let h = r.came x c in
         let e : h.0 ≡ means s item = from_one core text h.0 (means s item) x h.2 past in
-        let u = unmapped_in (means s) (s.done.items ++ take k s.here) h.0 h.1 in
+        let u = unmapped_in (means s) (s.done.items ++ take k s.here.items) h.0 h.1 in
         let same : u.0 ≡ item =
         one_item s.envs.keys s.keys r.stored.tables.environments r.stored.tables.instances r.stored.named.values u.0 item
-        (taken_named s k r.stored.named u.0 u.1) (r.stored.named.here item (contains_from_at s.here k item at)) (u.2 ∙ e) in
+        (taken_named s k r.stored.named u.0 u.1) (r.stored.named.here item (contains_from_at s.here.items k item at)) (u.2 ∙ e) in
         ⊎_elim
         (λ (i : Contains s.done.items u.0).
-        let q = r.stored.before u.0 i in let w = r.stored.at item (contains_from_at s.here k item at) in let z = ap (λ (y : stored.Item). y.position) same in
+        let q = r.stored.before u.0 i in let w = r.stored.at item (contains_from_at s.here.items k item at) in let z = ap (λ (y : stored.Item). y.position) same in
         omega (arith, q, w, z))
-        (λ (i : Contains (take k s.here) u.0).
-        let a = at_from_contains (take k s.here) u.0 i in
-        let b = within_take s.here k a.0 u.0 a.1 in
+        (λ (i : Contains (take k s.here.items) u.0).
+        let a = at_from_contains (take k s.here.items) u.0 i in
+        let b = within_take s.here.items k a.0 u.0 a.1 in
         let q = r.stored.here_once a.0 k item (b.1 ∙ ap Some same) at in omega (arith, q, b.0))
-        (contains_sides s.done.items (take k s.here) u.0 u.1)
+        (contains_sides s.done.items (take k s.here.items) u.0 u.1)
 
     stored_new : Contains s.later.items g.item → ⊥
     stored_new c =

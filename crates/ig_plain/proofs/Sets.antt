@@ -79,10 +79,5 @@ module _ {X : Type 0} {eq : X → X → Bool} (decides : (x y : X) → Decides (
           record { new = absent before x f; added = is; last = once_from_distinct after d k (length before) x there at }
 
 -- a value that stands in the list is entered without a change
-pub stands_there : {X : Type 0} (list lent : List X) (k : ℕ) (found x : X) → lent ≡ list → k < length list →
-    found ≡ get_or lent k found → found ≡ x → Enters list list x k
-stands_there list lent k found x whole there at same =
-    record {
-      extends = record { more = []; is = sym (append-nil list) };
-      there = slice_get-get_or list k found there ∙ ap Some (sym (at ∙ ap (λ z. get_or z k found) whole) ∙ same);
-    }
+pub stands_there : {X : Type 0} (list : List X) (k : ℕ) (d : X) → k < length list → Enters list list (get_or list k d) k
+stands_there list k d there = record { extends = extends_itself list; there = slice_get-get_or list k d there }

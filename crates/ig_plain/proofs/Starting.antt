@@ -24,6 +24,7 @@ use Rattle.ig_plain.specs.Trail as trail
 use Rattle.ig_plain.specs.Trail.{IsRecorded, FollowTrail, HasTrail, Records, By, IsUntrodden, Unfound}
 use Rattle.ig_plain.proofs.Lists.{contains_from_at, one_in, none_in}
 use Rattle.ig_plain.proofs.Growth.{extends_cases}
+use Rattle.ig_plain.proofs.Indexing.{indexed_same, indexed_none}
 
 -- from no items nothing is given
 none_given : (core : List Nonterminal) (text : List ℕ) (known : Item → Type 0) (prev x : Item) (taken : Taken) →
@@ -34,18 +35,21 @@ none_given core text known prev x taken none (given.terminal p names what label 
 none_given core text known prev x taken none (given.return p done label excluded key y k l calls completes free is) = none p k
 
 -- nothing is found
-pub nothing_found : (s : Found) → s.done.items ≡ [] → s.here ≡ [] → found_in s ≡ []
+pub nothing_found : (s : Found) → s.done.items ≡ [] → s.here.items ≡ [] → found_in s ≡ []
 nothing_found s done here =
-    ap (λ (z : List stored.Item). map (means s) (z ++ s.here)) done ∙ ap (λ (z : List stored.Item). map (means s) z) here
+    ap (λ (z : List stored.Item). map (means s) (z ++ s.here.items)) done ∙ ap (λ (z : List stored.Item). map (means s) z) here
 
 pub none_unfound : (s : Found) (may : Item → Type 0) → found_in s ≡ [] → Unfound s may
 none_unfound s may none x m c = none_in x (subst (λ (z : List Item). Contains z x) none c)
 
-module _ (core : List Nonterminal) (text : List ℕ) (root : Instance) (s t : Found) (v : Waiting) (tr u : Trail) (nothing : found_in s ≡ [])
-    (done : t.done.items ≡ []) (later : s.later.items ≡ []) (called : v.called.items ≡ not_called ∷ []) (untrodden : IsUntrodden v tr)
+module _ (core : List Nonterminal) (text : List ℕ) (root : Instance) (s t : Found) (v : Waiting) (tr u : Trail) (no_done : s.done.items ≡ [])
+    (no_here : s.here.items ≡ []) (done : t.done.items ≡ []) (later : s.later.items ≡ []) (called : v.called.items ≡ not_called ∷ []) (untrodden : IsUntrodden v tr)
     (r : Records (By Begin (IsFirstOf core root)) s t tr u) where
   abbrev known : List Item
   known = taken_in t 0
+
+  nothing : found_in s ≡ []
+  nothing = nothing_found s no_done no_here
 
   none_taken : (x : Item) → Contains known x → ⊥
   none_taken x c =
@@ -119,4 +123,7 @@ module _ (core : List Nonterminal) (text : List ℕ) (root : Instance) (s t : Fo
             let is : one ≡ not_called =
             one_in not_called one (subst (λ (z : List Called). Contains z one) called (contains_from_at v.called.items i one there)) in
             let z : None ≡ Some 0 = sym (ap (λ (q : Called). q.last_end) is) ∙ e in cc;
+        indexed = r.indexed
+            (indexed_same [] s.done.items [] s.here.items [] tr.ways.firsts [] tr.returned no_done no_here
+            (ap (λ (z : WayLists). z.firsts) untrodden.ways) untrodden.returned indexed_none);
       }

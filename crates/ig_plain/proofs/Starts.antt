@@ -43,7 +43,7 @@ alone keys after key i false none at new old =
 
 module _ (core : List Nonterminal) (text : List ℕ) (law : ReachableIsClosed) (kinded : IsWellKinded core) (budget : ℕ) (s : Found) (w : Waiting) (empty : IsNothing s w)
     (s1 : Found) (env : ℕ) (envs_once : NoneTwice s1.envs.keys) (there : slice_get s1.envs.keys env ≡ Some []) (done : s1.done.items ≡ s.done.items)
-    (here : s1.here ≡ s.here) (later : s1.later.items ≡ s.later.items)
+    (here : s1.here.items ≡ s.here.items) (later : s1.later.items ≡ s.later.items)
     (keys : s1.keys ≡ record { nonterminal = 0; env = env; start = 0 } ∷ []) where
   abbrev key : InstanceKey
   key = record { nonterminal = 0; env = env; start = 0 }
@@ -51,7 +51,7 @@ module _ (core : List Nonterminal) (text : List ℕ) (law : ReachableIsClosed) (
   no_done : s1.done.items ≡ []
   no_done = done ∙ empty.done
 
-  no_here : s1.here ≡ []
+  no_here : s1.here.items ≡ []
   no_here = here ∙ empty.here
 
   no_later : s1.later.items ≡ []
@@ -70,7 +70,7 @@ module _ (core : List Nonterminal) (text : List ℕ) (law : ReachableIsClosed) (
             let e = one_in key x (subst (λ (z : List InstanceKey). Contains z x) keys c) in
             let l = slice_get_within s1.envs.keys env [] there in let q = ap (λ (z : InstanceKey). z.env) e in omega (arith, l, q);
         done = λ x c. absurd (none_of s1.done.items no_done x c);
-        here = λ x c. absurd (none_of s1.here no_here x c);
+        here = λ x c. absurd (none_of s1.here.items no_here x c);
         later = λ x c. absurd (none_of s1.later.items no_later x c);
       }
 
@@ -89,10 +89,10 @@ module _ (core : List Nonterminal) (text : List ℕ) (law : ReachableIsClosed) (
         tables = record { environments = envs_once; instances = key_once };
         named = named_1;
         before = λ x c. absurd (none_of s1.done.items no_done x c);
-        at = λ x c. absurd (none_of s1.here no_here x c);
+        at = λ x c. absurd (none_of s1.here.items no_here x c);
         behind = λ x c. absurd (none_of s1.later.items no_later x c);
         done_once = once_none s1.done.items no_done;
-        here_once = once_none s1.here no_here;
+        here_once = once_none s1.here.items no_here;
         later_once = once_none s1.later.items no_later;
       }
 
@@ -126,8 +126,8 @@ module _ (core : List Nonterminal) (text : List ℕ) (law : ReachableIsClosed) (
         (λ (h : Contains (found_in t) x).
         ⊎_elim
         (λ (i : Contains (found_in s1) x).
-        let u = unmapped_in (means s1) (s1.done.items ++ s1.here) x i in
-        absurd (⊎_elim (none_of s1.done.items no_done u.0) (none_of s1.here no_here u.0) (contains_sides s1.done.items s1.here u.0 u.1)))
+        let u = unmapped_in (means s1) (s1.done.items ++ s1.here.items) x i in
+        absurd (⊎_elim (none_of s1.done.items no_done u.0) (none_of s1.here.items no_here u.0) (contains_sides s1.done.items s1.here.items u.0 u.1)))
         (λ (i : IsFirstOf core root x). reach x i) (found_from 0 (IsFirstOf core root) s1 t named_1 g x h))
         (λ (h : Contains (later_in t) x).
         let u = unmapped_in (means s1) s1.later.items x (subst (λ (z : List Item). Contains z x) (later_same 0 (IsFirstOf core root) s1 t named_1 g) h) in

@@ -1,6 +1,6 @@
 -- An item is taken: the ways to what follows from it are recorded.
 use Rattle.std.proofs.Common.{◌≡◌, ⊎_elim, inl, inr, ℕ, suc, ◌+◌, ◌<◌, List, [], ◌∷◌, ◌++◌, Some, Option, length, set, Contains, refl, sym, ap, ◌∙◌, subst, arith, slice_get, length-append}
-use Rattle.std.specs.Prelude.{Result, Ok, Err, OnOk}
+use Rattle.std.specs.Prelude.{Bool, IsTrue, Result, Ok, Err, OnOk}
 use Rattle.std.proofs.lemmas.List.{length-map}
 use Rattle.std.proofs.lemmas.Option.{same_Some}
 use Rattle.ig_text.specs.declared.pattern.Pattern.{Pattern}
@@ -26,26 +26,28 @@ use Rattle.ig_plain.specs.declared.waiting.Caller.{Caller}
 use Rattle.ig_plain.specs.Found as found
 use Rattle.ig_plain.specs.Found.{means, found_in, later_in, taken_in, instances_in, Adds, AddsTerminal, GrowsLater}
 use Rattle.ig_plain.specs.Rules as rules
-use Rattle.ig_plain.specs.Rules.{IsBehind, IsReturn, StandsAtCall}
+use Rattle.ig_plain.specs.Rules.{IsBehind, IsReturn, StandsAtBareCall, StandsAtCall}
 use Rattle.ig_plain.specs.Waiting.{called_at, lengthened, with_caller, with_end}
 use Rattle.ig_plain.specs.Run as run
 use Rattle.ig_plain.specs.Run.{Chains, IsRun, IsReturnToOne}
 use Rattle.ig_plain.specs.Trail as trails
-use Rattle.ig_plain.specs.Trail.{By, Records, RecordsTerminal, RecordsLater, HasTrail, AreNumbered, IsBehindTest, IsBehindBind, IsReturnBy}
+use Rattle.ig_plain.specs.Trail.{By, Records, RecordsTerminal, RecordsLater, HasTrail, AreKnown, IsKnown, IsBehindTest, IsBehindBind, IsReturnBy}
 use Rattle.ig_plain.proofs.Lists.{contains_from_at, contains_sides, one_in, none_in}
 use Rattle.ig_plain.proofs.Sets.{extends_same}
 use Rattle.ig_plain.proofs.Growth.{extends_at}
 use Rattle.ig_plain.proofs.Following.{one_step, not_both}
-use Rattle.ig_plain.proofs.Running.{taken_later}
+use Rattle.ig_plain.proofs.Running.{means_still, taken_later}
+use Rattle.ig_plain.proofs.Recording.{meant_at}
 use Rattle.ig_plain.proofs.Returns.{one_chain}
 use Rattle.ig_plain.proofs.Waiters.{set_cases}
 use Rattle.ig_plain.proofs.Completes.{item_named, instance_at, known_called, waits}
 use Rattle.ig_plain.proofs.Calls.{ends_here, there_known}
 use Rattle.ig_plain.proofs.Alone.{keeps_later}
 use Rattle.ig_plain.proofs.Trails.{IsGivenBack, ends_none, ends_one, first_new, more_here, more_later, more_none}
+use Rattle.ig_plain.proofs.Indexing.{indexed_same}
 use Rattle.ig_plain.proofs.Links.{longer_from}
 use Rattle.ig_plain.proofs.Fresh.{gives_test, gives_bind, gives_terminal, gives_call, gives_calls, gives_nothing}
-use Rattle.ig_plain.proofs.Onward.{Goes, EndsAlike, ends_alike_itself, goes_here, goes_still, items_once, meant_at, stored_at, at_now, grow, known_now, known_still, numbered_on, first_now, firsts_now, goes_on, goes_unfinished}
+use Rattle.ig_plain.proofs.Onward.{Goes, EndsAlike, ends_alike_itself, goes_here, goes_still, items_once, stored_at, at_now, grow, known_now, known_still, known_on, first_now, firsts_now, goes_on, goes_unfinished}
 
 -- each item of a chain is that of a cell
 pub chain_cell : (cells : List Caller) (head : ℕ) (xs : List stored.Item) (y : stored.Item) → Chains cells head xs → Contains xs y →
@@ -57,7 +59,7 @@ chain_cell cells head xs y (run.more k cell ys at behind rest) c =
 
 module _ (core : List Nonterminal) (text : List ℕ) (law : ReachableIsClosed) (budget p k : ℕ) (s : Found) (w : Waiting) (trail : Trail)
     (item : stored.Item)
-    (number : ℕ) (here : item.position ≡ p) (r : IsRun core text budget p k s w) (at : slice_get s.here k ≡ Some item)
+    (number : ℕ) (here : item.position ≡ p) (r : IsRun core text budget p k s w) (at : slice_get s.here.items k ≡ Some item)
     (is : number ≡ length s.done.items + k) (h : HasTrail core text p k s w trail) where
   abbrev it : Item
   it = means s item
@@ -78,14 +80,14 @@ module _ (core : List Nonterminal) (text : List ℕ) (law : ReachableIsClosed) (
       (Goes s t k it → (x : Item) → may x → IsWay core text (Contains now) (found_in t) x way) →
       (Goes s t k it → (x : Item) (what : Taken) → Gives core text (Contains now) it what x → may x ×
       Says core (Contains now) (found_in t) x.position way it what) →
-      AreNumbered s v.callers.items → EndsAlike w v → OnOk result (HasTrail core text p (suc k) t v u)
+      AreKnown core s v.callers.items → EndsAlike w v → OnOk result (HasTrail core text p (suc k) t v u)
   step_on may way t v u (Ok o) d rec unfinished sound complete callers alike =
       let g = goes_here p k s item r.taking.stored at may t d.grows in
       goes_unfinished core text p k s w trail item number r.taking.stored at is h t g unfinished (By way may) v u
       (more_here core text s t trail u (taken_in s k) h.ways (By way may) rec) rec.ends
       (λ z x m. subst (IsWay core text (Contains now) (found_in t) x) (sym m.0) (sound g x m.1))
       (λ x what q. let c = complete g x what q in (way, (refl, c.0), c.1))
-      (numbered_on core text p k s w trail item number r.taking.stored at is h t g v.callers.items callers) alike
+      (known_on core text p k s w trail item number r.taking.stored at is h t g v.callers.items callers) alike
   step_on may way t v u (Err f) d rec unfinished sound complete callers alike = tt
 
   module _ (names : List (List ℕ)) where
@@ -139,12 +141,17 @@ module _ (core : List Nonterminal) (text : List ℕ) (law : ReachableIsClosed) (
             once = subst (λ (z : List Item). (i j : ℕ) (y : Item) → slice_get z i ≡ Some y → slice_get z j ≡ Some y → i ≡ j) (sym same)
                 (items_once p s r.taking.stored);
             instances = (keeps_later core text law budget p k s w item here r at names what label excluded before x t m g).instances;
-            taken = taken_later core text law budget p k s item r.taking at x t g
-                (record { names = names; what = what; label = label; excluded = excluded; end = m.0; before = before; matches = m.1; is = m.3 })
+            taken = taken_later core text law budget p k s item r.taking at x t g past_terminal
                 (rules.terminal names what label excluded m.0 before m.1 m.2 m.3);
-            numbers = extends_same (s.done.items ++ s.here) (t.done.items ++ t.here)
-                (ap (λ (z : List stored.Item). z ++ t.here) g.done ∙ ap (λ (z : List stored.Item). s.done.items ++ z) g.here);
+            numbers = extends_same (s.done.items ++ s.here.items) (t.done.items ++ t.here.items)
+                (ap (λ (z : List stored.Item). z ++ t.here.items) g.done ∙ ap (λ (z : List stored.Item). s.done.items ++ z) g.here);
+            same = means_still core text law budget p k s item r.taking at x t g past_terminal
+                (rules.terminal names what label excluded m.0 before m.1 m.2 m.3);
           }
+        where
+          past_terminal : rules.IsPastTerminal core text it x
+          past_terminal =
+              record { names = names; what = what; label = label; excluded = excluded; end = m.0; before = before; matches = m.1; is = m.3 }
 
       -- an item before a terminal
       pub terminal_on : (t : Found) (u : Trail) (result : Result (Unit {0}) RunFault) → AddsTerminal text what label excluded budget p it s t result →
@@ -168,7 +175,7 @@ module _ (core : List Nonterminal) (text : List ℕ) (law : ReachableIsClosed) (
           subst (IsWay core text (Contains now) (found_in t) x2) (sym q.0)
           (way_behind t g x2 (subst (IsBehind text what label excluded it) (sym q.1) n)))
           (λ x2 taken q. let b = says_behind t g x2 taken q in (Leaf number, (refl, one x2 b.0), b.1))
-          (numbered_on core text p k s w trail item number r.taking.stored at is h t g w.callers.items h.callers) (ends_alike_itself w)
+          (known_on core text p k s w trail item number r.taking.stored at is h t g w.callers.items h.callers) (ends_alike_itself w)
 
   -- a complete item
   module _ (complete : IsComplete core it) where
@@ -193,15 +200,17 @@ module _ (core : List Nonterminal) (text : List ℕ) (law : ReachableIsClosed) (
     -- an item that was complete here before is the first one
     pub again_on : (d : ℕ) (u : Trail) → (called_at w item.instance).last_end ≡ Some p → d ≡ (called_at w item.instance).last_done →
         u.ways ≡ record trail.ways { ends = trail.ways.ends ++ record { first = d; item = number } ∷ [] } → u.later.items ≡ trail.later.items →
-        HasTrail core text p (suc k) s w u
-    again_on d u last d_is added later =
+        u.returned ≡ trail.returned → HasTrail core text p (suc k) s w u
+    again_on d u last d_is added later returned =
         let g = goes_still p k s item r.taking.stored at in
         let f : IsFirstEnd core (Contains (taken_in s k)) (found_in s) key d =
         subst (IsFirstEnd core (Contains (taken_in s k)) (found_in s) key) (sym d_is)
         (h.ends item.instance it.instance (called_at w item.instance) named_at known_now_called last) in
         goes_on core text p k s w trail item number r.taking.stored at is h s g (λ way x. ⊥) w u
         (more_none core text s s trail u (taken_in s k) h.ways refl refl (ap (λ (z : WayLists). z.firsts) added)
-        (ap (λ (z : WayLists). z.further) added) later)
+        (ap (λ (z : WayLists). z.further) added) later
+        (indexed_same s.done.items s.done.items s.here.items s.here.items trail.ways.firsts u.ways.firsts trail.returned u.returned refl refl
+        (ap (λ (z : WayLists). z.firsts) added) returned))
         (ends_one core (Contains (taken_in s k)) (Contains now) (found_in s) (found_in s) number (λ z. Completes core it z)
         (grow core text p k s w trail item number r.taking.stored at is h s g) trail.ways u.ways key d completes one_key f
         (ap (λ (z : WayLists). z.ends) added) h.ways.ends)
@@ -213,7 +222,7 @@ module _ (core : List Nonterminal) (text : List ℕ) (law : ReachableIsClosed) (
         subst (λ (z : Taken). Gives core text (Contains (taken_in s k)) prev z x) (sym b.takes)
         (given.return prev f.end.item b.label b.excluded b.key x b.caller f.end.is_known b.calls
         (subst (Completes core f.end.item) (sym (one_key b.key b.completes)) f.end.completes) b.free b.is)) i))
-        (numbered_on core text p k s w trail item number r.taking.stored at is h s g w.callers.items h.callers)
+        (known_on core text p k s w trail item number r.taking.stored at is h s g w.callers.items h.callers)
         (firsts_now core text p k s w trail item number r.taking.stored at is h s g w (ends_alike_itself w))
 
     abbrev head : ℕ
@@ -274,7 +283,7 @@ module _ (core : List Nonterminal) (text : List ℕ) (law : ReachableIsClosed) (
             subst (λ (z : NodeKey). Calls core text prev z.instance b.label b.excluded) e b.calls in
             let a = waiting.all prev b.caller (record { label = b.label; excluded = b.excluded; calls = calls }) in
             let cell = chain_cell w.callers.items head waiting.chain a.0 waiting.chained a.1 in
-            let numbered : slice_get (s.done.items ++ s.here) cell.0.number ≡ Some a.0 = h.callers cell.0 cell.1 ∙ ap Some cell.2 in
+            let numbered : slice_get (s.done.items ++ s.here.items) cell.0.number ≡ Some a.0 = (h.callers cell.0 cell.1).numbered ∙ ap Some cell.2 in
             let call : StandsAtCall core prev =
             record {
               names = calls.names;
@@ -325,7 +334,7 @@ module _ (core : List Nonterminal) (text : List ℕ) (law : ReachableIsClosed) (
           inr (⊎_elim
           (λ (e : prev ≡ it). absurd (gives_nothing core text (Contains now) prev what x q (subst (IsComplete core) (sym e) complete)))
           (λ (b : IsGivenBack core text (taken_in s k) it prev what x). back_from t g x prev what b) i))
-          (subst (AreNumbered t) (sym cells) (numbered_on core text p k s w trail item number r.taking.stored at is h t g w.callers.items h.callers))
+          (subst (AreKnown core t) (sym cells) (known_on core text p k s w trail item number r.taking.stored at is h t g w.callers.items h.callers))
           (λ i callee after at_i known last.
           ⊎_elim
           (λ (q : (i ≡ item.instance) × (after ≡ with_end (called_at w item.instance) p number) × (item.instance < length w.called.items)).
@@ -341,7 +350,8 @@ module _ (core : List Nonterminal) (text : List ℕ) (law : ReachableIsClosed) (
   -- an item before a call
   module _ (inside : ItemsAreInText) (i : ℕ) (callee : Instance) (label : Option (List ℕ)) (excluded : List Pattern)
       (named : slice_get (instances_in s) i ≡ Some callee) (calls : Calls core text it callee label excluded) (v : Waiting)
-      (cells : v.callers.items ≡ lengthened w.callers.items (called_at w i).last item number)
+      (is_bare : Bool) (bare : IsTrue is_bare → StandsAtBareCall core it)
+      (cells : v.callers.items ≡ lengthened w.callers.items (called_at w i).last item number is_bare)
       (called : v.called.items ≡ set w.called.items i (with_caller (called_at w i) (suc (length w.callers.items)))) where
     abbrev node : NodeKey
     node = record { instance = callee; end = p }
@@ -355,14 +365,19 @@ module _ (core : List Nonterminal) (text : List ℕ) (law : ReachableIsClosed) (
     unfinished : IsComplete core it → ⊥
     unfinished c = not_both core text it calls.names _ calls.before c
 
-    callers_now : AreNumbered s v.callers.items
+    new_known : IsKnown core s (record { item = item; number = number; is_bare = is_bare; next = 0 })
+    new_known = record { numbered = stored_at s k number item is at; bare = bare }
+
+    callers_now : AreKnown core s v.callers.items
     callers_now one c =
-        let q = longer_from w.callers.items item number (called_at w i).last one (subst (λ (z : List Caller). Contains z one) cells c) in
-        let there : slice_get (s.done.items ++ s.here) q.0.number ≡ Some q.0.item =
+        let q = longer_from w.callers.items item number is_bare (called_at w i).last one (subst (λ (z : List Caller). Contains z one) cells c) in
+        let known : IsKnown core s q.0 =
         ⊎_elim (λ (old : Contains w.callers.items q.0). h.callers q.0 old)
-        (λ (new : q.0 ≡ record { item = item; number = number; next = 0 }).
-        subst (λ (z : Caller). slice_get (s.done.items ++ s.here) z.number ≡ Some z.item) (sym new) (stored_at s k number item is at)) q.1 in
-        ap (slice_get (s.done.items ++ s.here)) q.3 ∙ there ∙ ap Some (sym q.2)
+        (λ (new : q.0 ≡ record { item = item; number = number; is_bare = is_bare; next = 0 }). subst (IsKnown core s) (sym new) new_known) q.1 in
+        record {
+          numbered = ap (slice_get (s.done.items ++ s.here.items)) q.3 ∙ known.numbered ∙ ap Some (sym q.2);
+          bare = λ b. subst (λ (z : stored.Item). StandsAtBareCall core (means s z)) (sym q.2) (known.bare (sym q.4 ∙ b));
+        }
 
     alike : EndsAlike w v
     alike =
@@ -396,7 +411,7 @@ module _ (core : List Nonterminal) (text : List ℕ) (law : ReachableIsClosed) (
     waits_on apart =
         let g = goes_still p k s item r.taking.stored at in
         goes_unfinished core text p k s w trail item number r.taking.stored at is h s g unfinished (λ way x. ⊥) v trail
-        (more_none core text s s trail trail (taken_in s k) h.ways refl refl refl refl refl) refl (λ way x m. absurd m)
+        (more_none core text s s trail trail (taken_in s k) h.ways refl refl refl refl refl (λ i. i)) refl (λ way x m. absurd m)
         (λ x what q.
         let b = gives_call core text (Contains now) it what x callee label excluded q calls in
         absurd (apart ((r.waiting.ends i callee (called_at w i) named known_i).1
@@ -447,7 +462,7 @@ module _ (core : List Nonterminal) (text : List ℕ) (law : ReachableIsClosed) (
       let g = goes_still p k s item r.taking.stored at in
       goes_unfinished core text p k s w trail item number r.taking.stored at is h s g (λ c. not_both core text it names _ before c)
       (λ way x. ⊥) w trail
-      (more_none core text s s trail trail (taken_in s k) h.ways refl refl refl refl refl) refl (λ way x m. absurd m)
+      (more_none core text s s trail trail (taken_in s k) h.ways refl refl refl refl refl (λ i. i)) refl (λ way x m. absurd m)
       (λ x what q.
       let b = gives_calls core text (Contains now) it what x names nonterminal arguments label excluded q before in absurd (apart b.0 b.1 b.2 b.3))
-      (numbered_on core text p k s w trail item number r.taking.stored at is h s g w.callers.items h.callers) (ends_alike_itself w)
+      (known_on core text p k s w trail item number r.taking.stored at is h s g w.callers.items h.callers) (ends_alike_itself w)

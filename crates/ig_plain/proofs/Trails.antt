@@ -18,7 +18,7 @@ use Rattle.ig_plain.specs.declared.trail.Trail.{Trail}
 use Rattle.ig_plain.specs.Tables.{Extends}
 use Rattle.ig_plain.specs.Found.{found_in, later_in}
 use Rattle.ig_plain.specs.Trail as trails
-use Rattle.ig_plain.specs.Trail.{IsRecorded, Records, RecordsLater, FollowTrail, Pairs, By}
+use Rattle.ig_plain.specs.Trail.{IsRecorded, IsIndexed, Records, RecordsLater, FollowTrail, Pairs, By}
 use Rattle.ig_plain.proofs.Lists.{left_contains, right_contains, contains_sides, contains_from_at, it_is_in, one_in, right_at}
 use Rattle.ig_plain.proofs.Sets.{extends_same}
 use Rattle.ig_plain.proofs.Growth.{extends_at, extends_cases, longer}
@@ -284,6 +284,7 @@ pub record RecordsMore (may : Way → Item → Type 0) (s t : Found) (trail u : 
   pub keeps : (way : Way) (x : Item) → IsRecorded s trail way x → IsRecorded t u way x
   pub splits : (way : Way) (x : Item) → IsRecorded t u way x → IsRecorded s trail way x ⊎ may way x
   pub has : (way : Way) (x : Item) → may way x → IsRecorded t u way x
+  pub indexed : IsIndexed s trail → IsIndexed t u
 
 -- more is taken: what follows is recorded, if what was added is sound and complete
 pub follow : (core : List Nonterminal) (text : List ℕ) (may : Way → Item → Type 0) (s t : Found) (trail u : Trail) (taken now : List Item) (n : ℕ)
@@ -355,6 +356,7 @@ module _ (core : List Nonterminal) (text : List ℕ) (s t : Found) (trail u : Tr
             (extends_same trail.later.items u.later.items r.later) q;
         splits = splits;
         has = r.has old.numbered;
+        indexed = r.indexed;
       }
     where
       splits : (way : Way) (x : Item) → IsRecorded t u way x → IsRecorded s trail way x ⊎ may way x
@@ -392,6 +394,7 @@ module _ (core : List Nonterminal) (text : List ℕ) (s t : Found) (trail u : Tr
               subst (λ (z : List ℕ). slice_get z (length (later_in s)) ≡ Some n) (sym r.later)
                   (right_at trail.later.items (n ∷ []) (length (later_in s)) 0 n (let e = old.later_numbered in omega (arith, e)) refl),
             ) m.0;
+        indexed = r.indexed;
       }
     where
       splits : (way : Way) (x : Item) → IsRecorded t u way x → IsRecorded s trail way x ⊎ By (Leaf n) (λ z. z ≡ y) way x
@@ -407,8 +410,8 @@ module _ (core : List Nonterminal) (text : List ℕ) (s t : Found) (trail u : Tr
 
   -- nothing but an end, in tables that may have grown
   pub more_none : found_in t ≡ found_in s → later_in t ≡ later_in s → u.ways.firsts ≡ trail.ways.firsts → u.ways.further ≡ trail.ways.further →
-      u.later.items ≡ trail.later.items → RecordsMore (λ way x. ⊥) s t trail u
-  more_none found behind firsts further later =
+      u.later.items ≡ trail.later.items → (IsIndexed s trail → IsIndexed t u) → RecordsMore (λ way x. ⊥) s t trail u
+  more_none found behind firsts further later indexed =
       record {
         numbered = ap length firsts ∙ old.numbered ∙ ap length (sym found);
         later_numbered = ap length later ∙ old.later_numbered ∙ ap length (sym behind);
@@ -424,4 +427,5 @@ module _ (core : List Nonterminal) (text : List ℕ) (s t : Found) (trail u : Tr
             (extends_same u.ways.firsts trail.ways.firsts (sym firsts)) (extends_same u.ways.further trail.ways.further (sym further))
             (extends_same u.later.items trail.later.items (sym later)) q);
         has = λ way x q. absurd q;
+        indexed = indexed;
       }

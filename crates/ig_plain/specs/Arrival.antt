@@ -19,18 +19,18 @@ pub record IsParted (position : ℕ) (later here after rest : List stored.Item) 
 pub record ArrivesWith (position : ℕ) (a b : Found) : Type 0 where
   pub envs : b.envs.keys ≡ a.envs.keys
   pub keys : b.keys ≡ a.keys
-  pub done : b.done.items ≡ a.done.items ++ a.here
-  pub here : (x : stored.Item) → Contains b.here x → Contains a.later.items x × (x.position ≡ position)
-  pub moved : (x : stored.Item) → Contains a.later.items x → Contains b.here x ⊎ Contains b.later.items x
+  pub done : b.done.items ≡ a.done.items ++ a.here.items
+  pub here : (x : stored.Item) → Contains b.here.items x → Contains a.later.items x × (x.position ≡ position)
+  pub moved : (x : stored.Item) → Contains a.later.items x → Contains b.here.items x ⊎ Contains b.later.items x
   pub later : (x : stored.Item) → Contains b.later.items x → Contains a.later.items x × (x.position ≡ position → ⊥)
-  pub here_once : NoneTwice a.later.items → NoneTwice b.here
+  pub here_once : NoneTwice a.later.items → NoneTwice b.here.items
   pub later_once : NoneTwice a.later.items → NoneTwice b.later.items
-  pub count : length b.here + length b.later.items ≤ length a.later.items
+  pub count : length b.here.items + length b.later.items ≤ length a.later.items
 
 -- nothing is found and nothing waits
 pub record IsNothing (s : Found) (w : Waiting) : Type 0 where
   pub done : s.done.items ≡ []
-  pub here : s.here ≡ []
+  pub here : s.here.items ≡ []
   pub later : s.later.items ≡ []
   pub envs : s.envs.keys ≡ []
   pub keys : s.keys ≡ []

@@ -22,18 +22,18 @@ instances_in s = map (instance_by s.envs.keys) s.keys
 
 -- the items up to the position, and those at later ones
 abbrev pub found_in : Found → List Item
-found_in s = map (means s) (s.done.items ++ s.here)
+found_in s = map (means s) (s.done.items ++ s.here.items)
 
 abbrev pub later_in : Found → List Item
 later_in s = map (means s) s.later.items
 
 -- the items that are taken: those before the position, and k of those at it
 abbrev pub taken_in : Found → ℕ → List Item
-taken_in s k = map (means s) (s.done.items ++ take k s.here)
+taken_in s k = map (means s) (s.done.items ++ take k s.here.items)
 
 -- the number of items
 abbrev pub count : Found → ℕ
-count s = length s.done.items + length s.here + length s.later.items
+count s = length s.done.items + length s.here.items + length s.later.items
 
 abbrev pub Named : Found → stored.Item → Type 0
 Named s x = IsNamed s.envs.keys s.keys x
@@ -50,7 +50,7 @@ pub record AreTables (s : Found) : Type 0 where
 pub record AreNamed (s : Found) : Type 0 where
   pub values : HaveValues s.envs.keys s.keys
   pub done : AllNamed s s.done.items
-  pub here : AllNamed s s.here
+  pub here : AllNamed s s.here.items
   pub later : AllNamed s s.later.items
 
 -- no item stands twice, and each stands where its position says
@@ -58,10 +58,10 @@ pub record IsStored (p : ℕ) (s : Found) : Type 0 where
   pub tables : AreTables s
   pub named : AreNamed s
   pub before : (x : stored.Item) → Contains s.done.items x → x.position < p
-  pub at : (x : stored.Item) → Contains s.here x → x.position ≡ p
+  pub at : (x : stored.Item) → Contains s.here.items x → x.position ≡ p
   pub behind : (x : stored.Item) → Contains s.later.items x → p < x.position
   pub done_once : NoneTwice s.done.items
-  pub here_once : NoneTwice s.here
+  pub here_once : NoneTwice s.here.items
   pub later_once : NoneTwice s.later.items
 
 -- b is a with more items at the position, of those that `may` allows; environments were added
@@ -71,8 +71,8 @@ pub record Grows (p : ℕ) (may : Item → Type 0) (a b : Found) : Type 0 where
   pub keys : b.keys ≡ a.keys
   pub done : b.done.items ≡ a.done.items
   pub later : b.later.items ≡ a.later.items
-  pub here : Extends a.here b.here
-  pub here_once : NoneTwice a.here → NoneTwice b.here
+  pub here : Extends a.here.items b.here.items
+  pub here_once : NoneTwice a.here.items → NoneTwice b.here.items
   pub named : (x : stored.Item) → Contains here.more x → Named b x
   pub at : (x : stored.Item) → Contains here.more x → x.position ≡ p
   pub each : (x : stored.Item) → Contains here.more x → may (means b x)
@@ -83,7 +83,7 @@ pub record GrowsLater (p : ℕ) (x : Item) (a b : Found) : Type 0 where
   pub envs_once : NoneTwice a.envs.keys → NoneTwice b.envs.keys
   pub keys : b.keys ≡ a.keys
   pub done : b.done.items ≡ a.done.items
-  pub here : b.here ≡ a.here
+  pub here : b.here.items ≡ a.here.items
   pub item : stored.Item
   pub later : b.later.items ≡ a.later.items ++ item ∷ []
   pub named : Named b item

@@ -1,5 +1,5 @@
 pub mod Tables
-pub mod ItemSet
+pub mod Returned
 pub mod InstanceSet
 pub mod Rules
 pub mod Found
@@ -7,6 +7,7 @@ pub mod Waiting
 pub mod Run
 pub mod Trail
 pub mod Arrival
+pub mod Compiled
 pub mod Names
 pub mod Laws
 pub mod Examples

@@ -1,5 +1,5 @@
 -- What follows from an item and the items that were taken before it.
-use Rattle.std.specs.Prelude.{◌≡◌, ℕ, ◌≤◌, List, [], ◌∷◌, Option, Contains, true, option_and_then, slice_get}
+use Rattle.std.specs.Prelude.{◌≡◌, ℕ, ◌≤◌, List, [], ◌∷◌, Option, None, Contains, true, option_and_then, slice_get}
 use Rattle.ig_text.specs.Pattern.{Matches}
 use Rattle.ig_text.specs.declared.pattern.Pattern.{Pattern}
 use Rattle.ig_expr.specs.Expression.{Expression}
@@ -83,6 +83,13 @@ pub record StandsAtCall (core : List Nonterminal) (it : Item) : Type 0 where
   pub label : Option (List ℕ)
   pub excluded : List Pattern
   pub before : StandsBefore core it names (Call callee arguments label excluded)
+
+-- the item stands before a call that has neither a label nor an excluded pattern
+pub record StandsAtBareCall (core : List Nonterminal) (it : Item) : Type 0 where
+  pub names : List (List ℕ)
+  pub callee : ℕ
+  pub arguments : List Expression
+  pub before : StandsBefore core it names (Call callee arguments None [])
 
 -- x is the item after the call before which `it` stands, where the callee ended at `end`
 pub record IsReturn (core : List Nonterminal) (text : List ℕ) (it : Item) (end : ℕ) (x : Item) : Type 0 where

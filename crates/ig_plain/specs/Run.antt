@@ -83,7 +83,7 @@ pub record IsTaking (core : List Nonterminal) (text : List ℕ) (budget p k : �
   -- each of the later items came from a taken one, over a terminal
   pub came : (x : Item) → Contains (later_in s) x →
       (it : Item) × Contains (taken_in s k) it × IsPastTerminal core text it x
-  pub few : k ≤ length s.here
+  pub few : k ≤ length s.here.items
   pub within : count s ≤ budget
 
 -- the same, with the first items of each instance, and what waits for it
@@ -103,7 +103,7 @@ Refuses core text budget fault.Memory = Unit {0}
 pub record Taking (core : List Nonterminal) (text : List ℕ) (budget : ℕ) (item : stored.Item) (s : Found) (w : Waiting) : Type 0 where
   pub number : ℕ
   pub run : IsRun core text budget item.position number s w
-  pub at : slice_get s.here number ≡ Some item
+  pub at : slice_get s.here.items number ≡ Some item
 
 -- k items were taken, and then one more; or it was refused
 abbrev pub IsTaken : List Nonterminal → List ℕ → ℕ → ℕ → ℕ → Found → Waiting → Result (Unit {0}) RunFault → Type 0
@@ -113,7 +113,7 @@ IsTaken core text budget p k t w result =
 -- the item, which is one of those at the position, was taken or refused
 abbrev pub Takes : List Nonterminal → List ℕ → ℕ → stored.Item → Found → Found → Waiting → Result (Unit {0}) RunFault → Type 0
 Takes core text budget item s t w result =
-    (k : ℕ) → slice_get s.here k ≡ Some item → IsTaken core text budget item.position k t w result
+    (k : ℕ) → slice_get s.here.items k ≡ Some item → IsTaken core text budget item.position k t w result
 
 -- the instance of that key has number i now, with its first items; k items are taken as before
 pub record IsEntered (core : List Nonterminal) (text : List ℕ) (budget k : ℕ) (key : InstanceKey) (s t : Found) (v : Waiting) (i : ℕ) :
@@ -124,7 +124,7 @@ pub record IsEntered (core : List Nonterminal) (text : List ℕ) (budget k : ℕ
   pub same : (x : stored.Item) → Named s x → means t x ≡ means s x
   pub envs : Extends s.envs.keys t.envs.keys
   pub done : t.done.items ≡ s.done.items
-  pub here : Extends s.here t.here
+  pub here : Extends s.here.items t.here.items
   pub taken : taken_in t k ≡ taken_in s k
 
 abbrev pub EntersInstance : List Nonterminal → ℕ → InstanceKey → Found → Found → Waiting → Waiting → Result ℕ RunFault → Type 0

@@ -1,5 +1,5 @@
 -- How the items that a run has found came about.
-use Rattle.std.specs.Prelude.{◌≡◌, ◌⊎◌, ℕ, suc, ◌+◌, ◌<◌, List, [], ◌∷◌, ◌++◌, map, length, Contains, Option, Some, slice_get, true, Result, OnOk}
+use Rattle.std.specs.Prelude.{◌≡◌, ◌⊎◌, ℕ, suc, ◌+◌, ◌<◌, List, [], ◌∷◌, ◌++◌, map, length, Contains, Option, Some, slice_get, true, IsTrue, Result, OnOk}
 use Rattle.ig_text.specs.declared.pattern.Pattern.{Pattern}
 use Rattle.ig_expr.specs.Expression.{Expression}
 use Rattle.ig_expr.specs.declared.value.Value.{Value}
@@ -12,12 +12,13 @@ use Rattle.ig_item.specs.declared.items.Instance.{Instance}
 use Rattle.ig_item.specs.declared.items.InstanceKey.{InstanceKey}
 use Rattle.ig_item.specs.declared.items.Item as stored
 use Rattle.ig_item.specs.declared.ways.Way.{Way}
-use Rattle.ig_item.specs.declared.ways.Way.TheVariants.{Leaf, Node}
+use Rattle.ig_item.specs.declared.ways.Way.TheVariants.{Begin, Pass, Leaf, Node}
 use Rattle.ig_item.specs.declared.ways.FurtherWay.{FurtherWay}
 use Rattle.ig_item.specs.declared.run_fault.RunFault.{RunFault}
 use Rattle.ig_plain.specs.Tables.{Extends}
-use Rattle.ig_plain.specs.Rules.{IsBehind}
-use Rattle.ig_plain.specs.Found.{found_in, later_in, taken_in, instances_in}
+use Rattle.ig_plain.specs.Returned.{Entry, entry}
+use Rattle.ig_plain.specs.Rules.{IsBehind, StandsAtBareCall}
+use Rattle.ig_plain.specs.Found.{means, found_in, later_in, taken_in, instances_in}
 use Rattle.ig_plain.specs.declared.found.Found.{Found}
 use Rattle.ig_plain.specs.declared.trail.Trail.{Trail}
 use Rattle.ig_plain.specs.declared.waiting.Waiting.{Waiting}
@@ -50,6 +51,42 @@ IsBehindTest text names e it x = HasValue text it names e (Bool true) × (x ≡ 
 abbrev pub IsBehindBind : List ℕ → List (List ℕ) → Expression → Item → Item → Type 0
 IsBehindBind text names e it x = (v : Value) × HasValue text it names e v × (x ≡ past it (v ∷ []) it.position)
 
+-- an item that came about in that way can't come about once more: no call is before it
+abbrev pub ComesOnce : Way → Type 0
+ComesOnce Begin = Unit {0}
+ComesOnce (Pass prev) = Unit {0}
+ComesOnce (Leaf prev) = Unit {0}
+ComesOnce (Node prev done) = ⊥
+
+-- the item of that number was found behind a call
+abbrev pub IsNodeAt : List Way → ℕ → Type 0
+IsNodeAt firsts k = (prev : ℕ) × (done : ℕ) × (slice_get firsts k ≡ Some (Node prev done))
+
+-- those items that `may` allows and that are found were found behind calls
+abbrev pub ComeByNodes : Found → Trail → (Item → Type 0) → Type 0
+ComeByNodes s t may = (x : Item) → may x → (k : ℕ) → slice_get (found_in s) k ≡ Some x → IsNodeAt t.ways.firsts k
+
+-- `returned` has the items at the position, `here`, that were found behind calls, with their numbers
+pub record Indexes (done here : List stored.Item) (firsts : List Way) (returned : List Entry) : Type 0 where
+  pub numbered : length firsts ≡ length (done ++ here)
+  pub sound : (e : Entry) → Contains returned e → slice_get (done ++ here) e.number ≡ Some e.item
+  pub complete : (k : ℕ) (x : stored.Item) → slice_get here k ≡ Some x → IsNodeAt firsts (length done + k) →
+      Contains returned (entry x (length done + k))
+
+abbrev pub IsIndexed : Found → Trail → Type 0
+IsIndexed s t = Indexes s.done.items s.here.items t.ways.firsts t.returned
+
+-- b is a with one item more at the position, which came about in that way
+pub record Pushes (x : stored.Item) (way : Way) (a b : Found) (t u : Trail) : Type 0 where
+  pub envs : b.envs.keys ≡ a.envs.keys
+  pub keys : b.keys ≡ a.keys
+  pub done : b.done.items ≡ a.done.items
+  pub here : b.here.items ≡ a.here.items ++ x ∷ []
+  pub behind : b.later.items ≡ a.later.items
+  pub ways : u.ways ≡ record t.ways { firsts = t.ways.firsts ++ way ∷ [] }
+  pub later : u.later.items ≡ t.later.items
+  pub returned : u.returned ≡ t.returned
+
 -- more items were found at the position: of all of them each way is recorded that `may` allows, and no other
 pub record Records (may : Way → Item → Type 0) (a b : Found) (t u : Trail) : Type 0 where
   pub found : Extends (found_in a) (found_in b)
@@ -63,6 +100,7 @@ pub record Records (may : Way → Item → Type 0) (a b : Found) (t u : Trail) :
   pub each : length t.ways.firsts ≡ length (found_in a) → (k : ℕ) (way : Way) (x : Item) →
       slice_get (found_in b) k ≡ Some x → WayTo u.ways k way → WayTo t.ways k way ⊎ may way x
   pub has : length t.ways.firsts ≡ length (found_in a) → (way : Way) (x : Item) → may way x → IsRecorded b u way x
+  pub indexed : IsIndexed a t → IsIndexed b u
 
 -- x was found at a later position, and came from the item of number n
 pub record RecordsLater (n : ℕ) (x : Item) (a b : Found) (t u : Trail) : Type 0 where
@@ -70,6 +108,7 @@ pub record RecordsLater (n : ℕ) (x : Item) (a b : Found) (t u : Trail) : Type 
   pub behind : later_in b ≡ later_in a ++ x ∷ []
   pub ways : u.ways ≡ t.ways
   pub later : u.later.items ≡ t.later.items ++ n ∷ []
+  pub indexed : IsIndexed a t → IsIndexed b u
 
 -- the way to the item behind a terminal was recorded, if there is one
 pub data RecordsTerminal (text : List ℕ) (what : Pattern) (label : Option (List ℕ)) (excluded : List Pattern) (n : ℕ) (it : Item)
@@ -79,16 +118,20 @@ pub data RecordsTerminal (text : List ℕ) (what : Pattern) (label : Option (Lis
   later : (x : Item) → IsBehind text what label excluded it x → ((y : Item) → IsBehind text what label excluded it y → y ≡ x) →
       RecordsLater n x a b t u → RecordsTerminal text what label excluded n it a b t u
 
--- each caller has the number of its item
-abbrev pub AreNumbered : Found → List Caller → Type 0
-AreNumbered s cells = (cell : Caller) → Contains cells cell → slice_get (s.done.items ++ s.here) cell.number ≡ Some cell.item
+-- the caller has the number of its item, and is called bare only where its call has neither a label nor an excluded pattern
+pub record IsKnown (core : List Nonterminal) (s : Found) (cell : Caller) : Type 0 where
+  pub numbered : slice_get (s.done.items ++ s.here.items) cell.number ≡ Some cell.item
+  pub bare : IsTrue cell.is_bare → StandsAtBareCall core (means s cell.item)
+
+abbrev pub AreKnown : List Nonterminal → Found → List Caller → Type 0
+AreKnown core s cells = (cell : Caller) → Contains cells cell → IsKnown core s cell
 
 -- x is the item after the call before which an item of the chain stands, and came about by that
 pub record IsReturnBy (core : List Nonterminal) (text : List ℕ) (cells : List Caller) (head done end : ℕ) (s : Found)
     (way : Way) (x : Item) : Type 0 where
   pub returns : IsReturnToOne core text cells head end s x
   pub number : ℕ
-  pub numbered : slice_get (s.done.items ++ s.here) number ≡ Some returns.caller
+  pub numbered : slice_get (s.done.items ++ s.here.items) number ≡ Some returns.caller
   pub is : way ≡ Node number done
 
 -- it is recorded that x came about by that step from taken items
@@ -106,26 +149,28 @@ pub record FollowTrail (core : List Nonterminal) (text : List ℕ) (s : Found) (
   pub complete : (x prev : Item) (what : Taken) → Gives core text (Contains taken) prev what x → IsCame core s t taken x prev what
   pub ends : AreEnds core (Contains taken) (found_in s) t.ways
 
--- k of the items at p are taken, and the ways to all that were found are recorded; callers and ends have their numbers
+-- k of the items at p are taken, and the ways to all that were found are recorded; callers and ends have their numbers, and
+-- those behind calls are known
 pub record HasTrail (core : List Nonterminal) (text : List ℕ) (p k : ℕ) (s : Found) (w : Waiting) (t : Trail) : Type 0 where
   pub ways : FollowTrail core text s t (taken_in s k)
-  pub callers : AreNumbered s w.callers.items
+  pub callers : AreKnown core s w.callers.items
   pub ends : (i : ℕ) (callee : Instance) (called : Called) → slice_get (instances_in s) i ≡ Some callee →
       slice_get w.called.items i ≡ Some called → called.last_end ≡ Some p →
       IsFirstEnd core (Contains (taken_in s k)) (found_in s) (record { instance = callee; end = p }) called.last_done
+  pub indexed : IsIndexed s t
 
 -- the item, which has that number, is the next one that is taken
 pub record IsNext (core : List Nonterminal) (text : List ℕ) (item : stored.Item) (number : ℕ) (s : Found) (w : Waiting) (t : Trail) :
     Type 0 where
   pub place : ℕ
-  pub at : slice_get s.here place ≡ Some item
+  pub at : slice_get s.here.items place ≡ Some item
   pub numbered : number ≡ length s.done.items + place
   pub trail : HasTrail core text item.position place s w t
 
 -- the item, which is one of those at the position, was taken
 abbrev pub TakesOn : List Nonterminal → List ℕ → stored.Item → Found → Found → Waiting → Trail → Result (Unit {0}) RunFault → Type 0
 TakesOn core text item s t w u result =
-    (k : ℕ) → slice_get s.here k ≡ Some item → OnOk result (HasTrail core text item.position (suc k) t w u)
+    (k : ℕ) → slice_get s.here.items k ≡ Some item → OnOk result (HasTrail core text item.position (suc k) t w u)
 
 -- the instance of that key was entered, and the ways to its first items are recorded; k items are taken as before
 abbrev pub EntersOn : List Nonterminal → ℕ → InstanceKey → Found → Found → Waiting → Waiting → Trail → Trail → Result ℕ RunFault → Type 0
@@ -151,10 +196,11 @@ pub record PartsTrail (later : List stored.Item) (prevs : List ℕ) (here after 
 
 -- the later items at the position follow those that are taken, each with its way
 abbrev pub ArrivesOn : Found → Found → Trail → Trail → Type 0
-ArrivesOn a b t u = PartsTrail a.later.items t.later.items [] b.here t.ways u.ways b.later.items u.later.items
+ArrivesOn a b t u = PartsTrail a.later.items t.later.items [] b.here.items t.ways u.ways b.later.items u.later.items
 
 -- nothing is recorded and nobody waits
 pub record IsUntrodden (w : Waiting) (t : Trail) : Type 0 where
   pub ways : t.ways ≡ record { firsts = []; further = []; ends = [] }
   pub later : t.later.items ≡ []
+  pub returned : t.returned ≡ []
   pub callers : w.callers.items ≡ []

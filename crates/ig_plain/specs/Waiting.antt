@@ -1,5 +1,5 @@
 -- What is known of the instances that were called.
-use Rattle.std.specs.Prelude.{ℕ, zero, suc, List, [], ◌∷◌, ◌++◌, length, None, Some, slice_index_or}
+use Rattle.std.specs.Prelude.{Bool, ℕ, zero, suc, List, [], ◌∷◌, ◌++◌, length, None, Some, slice_index_or}
 use Rattle.ig_item.specs.declared.items.Item.{Item}
 use Rattle.ig_plain.specs.declared.waiting.Waiting.{Waiting}
 use Rattle.ig_plain.specs.declared.waiting.Called.{Called}
@@ -24,9 +24,9 @@ linked cells zero next = cells
 linked cells (suc k) next = linked_at cells k next
 
 -- the cells with one more at the end, behind that at the place + 1
-abbrev pub lengthened : List Caller → ℕ → Item → ℕ → List Caller
-lengthened cells last item number =
-    linked (cells ++ record { item = item; number = number; next = 0 } ∷ []) last (suc (length cells))
+abbrev pub lengthened : List Caller → ℕ → Item → ℕ → Bool → List Caller
+lengthened cells last item number is_bare =
+    linked (cells ++ record { item = item; number = number; is_bare = is_bare; next = 0 } ∷ []) last (suc (length cells))
 
 -- the first place, and the other one where it is 0
 abbrev pub first_or : ℕ → ℕ → ℕ

@@ -1,6 +1,6 @@
 //! The items that a run has found.
 ghost use Rattle.std.specs.Prelude.{◌≡◌, [], ◌∷◌, ◌++◌, ◌+◌, ◌<◌, ◌≤◌, IfErr, IfOk, OnOk, Some};
-ghost use Rattle.std.specs.Prelude.{Contains, length};
+ghost use Rattle.std.specs.Prelude.{ℕ, Contains, length};
 ghost use Rattle.std.specs.Prelude.{slice_get, slice_index_or};
 ghost use Rattle.std.specs.Option.{option_to_list};
 ghost use Rattle.ig_item.specs.Items.{past};
@@ -9,11 +9,11 @@ ghost use Rattle.ig_item.specs.declared.run_fault.RunFault.TheVariants.{Budget};
 ghost use Rattle.ig_item.specs.declared.ways.Way.TheVariants.{Node};
 ghost use Rattle.ig_plain.specs.Found.{Adds, AddsLater, AreNamed, Named, count, means};
 ghost use Rattle.ig_plain.specs.Tables.{Extends, IsPast};
-ghost use Rattle.ig_plain.specs.Trail.{By, Records, RecordsLater, Unfound};
+ghost use Rattle.ig_plain.specs.Trail.{By, ComeByNodes, ComesOnce, IsIndexed, IsNodeAt, Pushes};
+ghost use Rattle.ig_plain.specs.Trail.{Records, RecordsLater, Unfound};
 
 use crate::instance_set::InstanceSet;
 use crate::interning::{enter_values, number};
-use crate::item_set::ItemSet;
 use crate::trail::Trail;
 use ig_expr::{Value, Values};
 use ig_item::{FurtherWay, Item, RunFault, Way};
@@ -27,7 +27,7 @@ pub(crate) struct Found {
     /// Those before the position, which are taken.
     pub(crate) done: Vec<Item>,
     /// Those at the position, in the order in which they are taken.
-    pub(crate) here: ItemSet,
+    pub(crate) here: Vec<Item>,
     /// Those at later positions. Each stands behind a terminal, and so comes from one item alone.
     pub(crate) later: Vec<Item>,
     pub(crate) envs: IndexSet<Values>,
@@ -41,7 +41,7 @@ pub(crate) fn keep_within(found: &Found, budget: u32) -> Result<(), RunFault>
 {
     let done = found.done.as_slice().len();
     let later = found.later.as_slice().len();
-    let here = found.here.len();
+    let here = found.here.as_slice().len();
     if done.saturating_add(here).saturating_add(later) > budget as usize {
         return Err(RunFault::Budget);
     }
@@ -49,6 +49,28 @@ pub(crate) fn keep_within(found: &Found, budget: u32) -> Result<(), RunFault>
 }
 
 /// Adds an item at the position, which isn't there, and the way in which it came about.
+fn push(
+    found: &mut Found,
+    trail: &mut Trail,
+    item: Item,
+    way: Way,
+    budget: u32,
+) -> Result<(), RunFault>
+    requires named { Named found.old item }
+    requires new { Contains found.old.here.items item → ⊥ }
+    ensures adds { Adds item.position (λ x. x ≡ means found.old item) budget found.old found.new
+        result }
+    ensures pushes { OnOk result (Pushes item way found.old found.new trail.old trail.new) }
+{
+    let Ok(()) = found.here.push(item) else {
+        return Err(RunFault::Memory);
+    };
+    trail.ways.push(way)?;
+    keep_within(found, budget)
+}
+
+/// Adds an item at the position, which isn't there, and the way in which it came about: by no call,
+/// so that it can't come about once more.
 pub(crate) fn add_new(
     found: &mut Found,
     trail: &mut Trail,
@@ -57,19 +79,19 @@ pub(crate) fn add_new(
     budget: u32,
 ) -> Result<(), RunFault>
     requires named { Named found.old item }
-    requires new { Contains found.old.here item → ⊥ }
+    requires new { Contains found.old.here.items item → ⊥ }
+    requires once { ComesOnce way }
     ensures adds { Adds item.position (λ x. x ≡ means found.old item) budget found.old found.new
         result }
     ensures ways { OnOk result (Records (By way (λ x. x ≡ means found.old item)) found.old found.new
         trail.old trail.new) }
 {
-    found.here.add(item)?;
-    trail.ways.push(way)?;
-    keep_within(found, budget)
+    push(found, trail, item, way, budget)
 }
 
 /// Adds an item behind a call, if it isn't there, and that it came about from the item of number
 /// `prev`, where `done` is the callee's first complete item here.
+#[inline(always)]
 fn add_returned(
     found: &mut Found,
     trail: &mut Trail,
@@ -79,17 +101,42 @@ fn add_returned(
     budget: u32,
 ) -> Result<(), RunFault>
     requires named { Named found.old item }
+    requires indexed { IsIndexed found.old trail.old }
+    requires by_node { (k : ℕ) → slice_get found.old.here.items k ≡ Some item →
+        IsNodeAt trail.old.ways.firsts (length found.old.done.items + k) }
     ensures adds { Adds item.position (λ x. x ≡ means found.old item) budget found.old found.new
         result }
     ensures ways { OnOk result (Records (By (Node prev done) (λ x. x ≡ means found.old item))
         found.old found.new trail.old trail.new) }
 {
-    let Some(place) = found.here.number_of(item) else {
-        return add_new(found, trail, item, Way::Node { prev, done }, budget);
+    let Some(item) = trail.returned.number_of(item) else {
+        return add_behind_call(found, trail, item, prev, done, budget);
     };
-    let item = number_of(found, place)?;
     trail.ways.push_further(FurtherWay { item, prev, done })?;
     Ok(())
+}
+
+/// Adds an item behind a call, which isn't there, and that it came about from the item of number
+/// `prev`, where `done` is the callee's first complete item here.
+#[inline(never)]
+fn add_behind_call(
+    found: &mut Found,
+    trail: &mut Trail,
+    item: Item,
+    prev: u32,
+    done: u32,
+    budget: u32,
+) -> Result<(), RunFault>
+    requires named { Named found.old item }
+    requires new { Contains found.old.here.items item → ⊥ }
+    ensures adds { Adds item.position (λ x. x ≡ means found.old item) budget found.old found.new
+        result }
+    ensures ways { OnOk result (Records (By (Node prev done) (λ x. x ≡ means found.old item))
+        found.old found.new trail.old trail.new) }
+{
+    let number = number_of(found, found.here.len())?;
+    trail.returned.add(item, number)?;
+    push(found, trail, item, Way::Node { prev, done }, budget)
 }
 
 /// The number of the item at that place among those at the position.
@@ -99,8 +146,8 @@ pub(crate) fn number_of(found: &Found, place: usize) -> Result<u32, AllocError>
     number(found.done.len().saturating_add(place))
 }
 
-/// Adds the item after its next step, which bound this value and came to `end`, the position, in
-/// that way. It isn't there.
+/// Adds the item after its next step, which is no call, bound this value and came to `end`, the
+/// position, in that way. It isn't there.
 pub(crate) fn go_on(
     alloc: Global,
     found: &mut Found,
@@ -115,6 +162,7 @@ pub(crate) fn go_on(
     requires all_named { AreNamed found.old }
     requires new { Unfound found.old
         (λ x. x ≡ past (means found.old item) (option_to_list bound) end) }
+    requires once { ComesOnce way }
     ensures adds { Adds end (λ x. x ≡ past (means found.old item) (option_to_list bound) end) budget
         found.old found.new result }
     ensures ways { OnOk result (Records
@@ -140,6 +188,9 @@ pub(crate) fn go_behind_call(
 ) -> Result<(), RunFault>
     requires named { Named found.old item }
     requires all_named { AreNamed found.old }
+    requires indexed { IsIndexed found.old trail.old }
+    requires by_nodes { ComeByNodes found.old trail.old
+        (λ x. x ≡ past (means found.old item) (option_to_list bound) end) }
     ensures adds { Adds end (λ x. x ≡ past (means found.old item) (option_to_list bound) end) budget
         found.old found.new result }
     ensures ways { OnOk result (Records (By (Node prev done)
@@ -147,6 +198,42 @@ pub(crate) fn go_behind_call(
         found.old found.new trail.old trail.new) }
 {
     let behind = past(alloc, &mut found.envs, item, bound, end)?;
+    add_returned(found, trail, behind, prev, done, budget)
+}
+
+/// Adds the item after a call that binds nothing and came to `end`, the position. It came about
+/// from the item of number `prev`, and `done` is the callee's first complete item here. Most
+/// returns are such ones, so the item stays in registers.
+#[inline(always)]
+pub(crate) fn go_behind_bare_call(
+    found: &mut Found,
+    trail: &mut Trail,
+    item: Item,
+    end: u32,
+    prev: u32,
+    done: u32,
+    budget: u32,
+) -> Result<(), RunFault>
+    requires named { Named found.old item }
+    requires indexed { IsIndexed found.old trail.old }
+    requires by_nodes { ComeByNodes found.old trail.old
+        (λ x. x ≡ past (means found.old item) [] end) }
+    ensures adds { Adds end (λ x. x ≡ past (means found.old item) [] end) budget
+        found.old found.new result }
+    ensures ways { OnOk result (Records (By (Node prev done)
+        (λ x. x ≡ past (means found.old item) [] end))
+        found.old found.new trail.old trail.new) }
+{
+    let Some(dot) = item.dot.checked_add(1) else {
+        return Err(RunFault::Memory);
+    };
+    let behind = Item {
+        instance: item.instance,
+        alternative: item.alternative,
+        dot,
+        env: item.env,
+        position: end,
+    };
     add_returned(found, trail, behind, prev, done, budget)
 }
 

@@ -6,13 +6,15 @@
 //! run out before. [`saturate`] gives the items alone.
 #![tactic(auto)]
 
+mod compiled;
 mod found;
 mod instance_set;
 mod interning;
-mod item_set;
 mod laws;
 mod moves;
 mod names;
+mod returned;
+mod rows;
 mod run;
 mod saturation;
 mod steps;

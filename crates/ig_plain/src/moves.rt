@@ -3,15 +3,17 @@ ghost use Rattle.std.specs.Prelude.{◌≡◌, [], ◌<◌, OnOk, length, slice_
 ghost use Rattle.ig_expr.specs.View.{expression_of};
 ghost use Rattle.ig_item.specs.Items.{MatchesNone, past, span_of};
 ghost use Rattle.ig_item.specs.declared.ways.Way.TheVariants.{Node, Pass};
+ghost use Rattle.ig_plain.specs.Compiled.{form_of};
 ghost use Rattle.ig_plain.specs.Rules.{IsBehind};
 ghost use Rattle.ig_plain.specs.Found.{Adds, AddsTerminal, AreNamed, Named, means};
-ghost use Rattle.ig_plain.specs.Trail.{By, IsBehindBind, IsBehindTest, Records, RecordsTerminal};
-ghost use Rattle.ig_plain.specs.Trail.{Unfound};
+ghost use Rattle.ig_plain.specs.Trail.{By, ComeByNodes, IsBehindBind, IsBehindTest, IsIndexed};
+ghost use Rattle.ig_plain.specs.Trail.{Records, RecordsTerminal, Unfound};
 
+use crate::compiled::{Form, value};
 use crate::found::{Found, go_behind_call, go_later, go_on};
 use crate::steps::{is_true, matches_none, span_bound};
 use crate::trail::Trail;
-use ig_expr::{Expr, Value, Values, evaluate};
+use ig_expr::{Expr, Value, Values};
 use ig_item::{Item, RunFault, Way};
 use ig_text::{Pattern, Text, Word};
 use indexmap::IndexSet;
@@ -25,12 +27,14 @@ pub(crate) fn values_at(envs: &IndexSet<Values>, env: u32) -> &[Value]
     envs.as_slice()[env as usize].as_slice()
 }
 
-/// Adds the item behind a test, where its condition is true. It comes from the item of that number.
+/// Adds the item behind a test, where its condition, which has that form, is true. It comes from
+/// the item of that number.
 pub(crate) fn take_test(
     alloc: Global,
     text: &Text,
     names: &[Word],
     condition: &Expr,
+    form: &Form,
     found: &mut Found,
     trail: &mut Trail,
     item: Item,
@@ -39,6 +43,7 @@ pub(crate) fn take_test(
 ) -> Result<(), RunFault>
     requires named { Named found.old item }
     requires all_named { AreNamed found.old }
+    requires compiled { form.now ≡ form_of names.now (expression_of condition.now) }
     requires new { Unfound found.old (IsBehindTest text.now names.now (expression_of condition.now)
         (means found.old item)) }
     ensures adds { Adds item.position (IsBehindTest text.now names.now (expression_of condition.now)
@@ -48,20 +53,21 @@ pub(crate) fn take_test(
         found.old found.new trail.old trail.new) }
 {
     let values = values_at(&found.envs, item.env);
-    if !is_true(condition, names, values, item.position, text) {
+    if !is_true(condition, form, names, values, item.position, text) {
         return Ok(());
     }
     let way = Way::Pass { prev: number };
     go_on(alloc, found, trail, item, None, item.position, way, budget)
 }
 
-/// Adds the item behind a binding, where its expression has a value. It comes from the item of that
-/// number.
+/// Adds the item behind a binding, where its expression, which has that form, has a value. It comes
+/// from the item of that number.
 pub(crate) fn take_bind(
     alloc: Global,
     text: &Text,
     names: &[Word],
     expression: &Expr,
+    form: &Form,
     found: &mut Found,
     trail: &mut Trail,
     item: Item,
@@ -70,6 +76,7 @@ pub(crate) fn take_bind(
 ) -> Result<(), RunFault>
     requires named { Named found.old item }
     requires all_named { AreNamed found.old }
+    requires compiled { form.now ≡ form_of names.now (expression_of expression.now) }
     requires new { Unfound found.old (IsBehindBind text.now names.now (expression_of expression.now)
         (means found.old item)) }
     ensures adds { Adds item.position (IsBehindBind text.now names.now
@@ -79,7 +86,7 @@ pub(crate) fn take_bind(
         found.old found.new trail.old trail.new) }
 {
     let values = values_at(&found.envs, item.env);
-    let Some(value) = evaluate(expression, names, values, item.position, text) else {
+    let Some(value) = value(form, expression, names, values, item.position, text) else {
         return Ok(());
     };
     let way = Way::Pass { prev: number };
@@ -98,6 +105,7 @@ pub(crate) fn take_bind(
 /// Adds the item behind a call whose callee ended at the position, unless the text that it covers
 /// is a match of an excluded pattern. It comes from the item of that number, and `done` is the
 /// callee's first complete item here.
+#[inline(never)]
 pub(crate) fn go_behind(
     alloc: Global,
     text: &Text,
@@ -113,6 +121,10 @@ pub(crate) fn go_behind(
 ) -> Result<(), RunFault>
     requires named { Named found.old item }
     requires all_named { AreNamed found.old }
+    requires indexed { IsIndexed found.old trail.old }
+    requires by_nodes { ComeByNodes found.old trail.old (λ x. MatchesNone text.now not.now
+        item.position end × (x ≡ past (means found.old item) (span_of label.now item.position end)
+        end)) }
     ensures adds { Adds end (λ x. MatchesNone text.now not.now item.position end × (x ≡ past
         (means found.old item) (span_of label.now item.position end) end)) budget found.old
         found.new result }

@@ -1,6 +1,6 @@
 //! An item is taken: all that follows from it and those before it is added.
-ghost use Rattle.std.specs.Prelude.{◌≡◌, ◌<◌, ◌+◌, ◌++◌, Contains, MatchResult, OnOk};
-ghost use Rattle.std.specs.Prelude.{Some, length, map, option_map, slice_get};
+ghost use Rattle.std.specs.Prelude.{◌≡◌, ◌↔◌, ◌<◌, ◌+◌, ◌++◌, [], Contains, IsTrue, MatchResult};
+ghost use Rattle.std.specs.Prelude.{None, OnOk, Some, length, map, option_map, slice_get};
 ghost use Rattle.ig_item.specs.Items.{IsComplete};
 ghost use Rattle.ig_item.specs.WellKinded.{NoneTwice};
 ghost use Rattle.ig_item.specs.Tables.{instance_by};
@@ -11,24 +11,27 @@ ghost use Rattle.ig_item.specs.Step.{Call};
 ghost use Rattle.ig_item.specs.View.{step_of};
 ghost use Rattle.ig_item.specs.declared.ways.Way.TheVariants.{Begin, Node};
 ghost use Rattle.ig_plain.specs.Found.{Adds, AreNamed, Named, means};
-ghost use Rattle.ig_plain.specs.Rules.{IsFirstOf, IsReturn, Stands, StandsAtCall, step_at};
-ghost use Rattle.ig_plain.specs.Names.{all_names};
+ghost use Rattle.ig_plain.specs.Rules.{IsFirstOf, IsReturn, Stands, StandsAtBareCall};
+ghost use Rattle.ig_plain.specs.Rules.{StandsAtCall, step_at};
+ghost use Rattle.ig_plain.specs.Compiled.{form_of};
+ghost use Rattle.ig_plain.specs.Names.{all_dots};
 ghost use Rattle.ig_plain.specs.Run.{EntersInstance, IsChainOf, IsReturnToOne, IsRun, Refuses};
 ghost use Rattle.ig_plain.specs.Run.{Taking, Takes};
-ghost use Rattle.ig_plain.specs.Trail.{AreNumbered, By, EntersOn, HasTrail, IsNext, IsReturnBy};
-ghost use Rattle.ig_plain.specs.Trail.{Records, TakesOn, Unfound};
+ghost use Rattle.ig_plain.specs.Trail.{AreKnown, By, ComeByNodes, EntersOn, HasTrail, IsIndexed};
+ghost use Rattle.ig_plain.specs.Trail.{IsNext, IsReturnBy, Records, TakesOn, Unfound};
 
-use crate::found::{Found, add_new, number_of};
+use crate::compiled::{Form, only};
+use crate::found::{Found, add_new, go_behind_bare_call, number_of};
 use crate::interning::enter_arguments;
 use crate::moves::{go_behind, take_bind, take_terminal, take_test, values_at};
-use crate::names::names_at;
+use crate::names::{Dots, known_at};
 use crate::steps::argument_values;
 use crate::trail::Trail;
 use crate::waiting::{Caller, Waiting, add_called, add_caller, add_end, end_at, first_caller};
 use ig_expr::Expr;
 use ig_item::{
-    Core, FurtherEnd, InstanceKey, Item, RunFault, Step, VisibleNames, Way, environments_fit,
-    items_are_in_text, reachable_is_closed,
+    Core, FurtherEnd, InstanceKey, Item, RunFault, Step, Way, environments_fit, items_are_in_text,
+    reachable_is_closed,
 };
 use ig_text::{Pattern, Sequence, Text, Word};
 use std::alloc::Global;
@@ -85,37 +88,45 @@ fn nonterminal_of(found: &Found, item: Item) -> u32
     found.keys.as_slice()[item.instance as usize].nonterminal
 }
 
-/// Adds the item behind the call before which the caller, the item of that number, stands, for a
-/// callee that ended at `end` and whose first complete item there is `done`.
+/// Adds the item behind the call before which the caller stands, for a callee that ended at `end`
+/// and whose first complete item there is `done`.
 fn return_to(
     alloc: Global,
     core: &Core,
     text: &Text,
     found: &mut Found,
     trail: &mut Trail,
-    caller: Item,
-    number: u32,
+    caller: Caller,
     done: u32,
     end: u32,
     budget: u32,
 ) -> Result<(), RunFault>
-    requires named { Named found.old caller }
+    requires named { Named found.old caller.item }
     requires all_named { AreNamed found.old }
-    requires calls { StandsAtCall core.now (means found.old caller) }
-    ensures adds { Adds end (IsReturn core.now text.now (means found.old caller) end) budget
+    requires calls { StandsAtCall core.now (means found.old caller.item) }
+    requires bare { IsTrue caller.is_bare →
+        StandsAtBareCall core.now (means found.old caller.item) }
+    requires indexed { IsIndexed found.old trail.old }
+    requires by_nodes { ComeByNodes found.old trail.old (IsReturn core.now text.now (means found.old
+        caller.item) end) }
+    ensures adds { Adds end (IsReturn core.now text.now (means found.old caller.item) end) budget
         found.old found.new result }
-    ensures ways { OnOk result (Records (By (Node number done) (IsReturn core.now text.now
-        (means found.old caller) end)) found.old found.new trail.old trail.new) }
+    ensures ways { OnOk result (Records (By (Node caller.number done) (IsReturn core.now text.now
+        (means found.old caller.item) end)) found.old found.new trail.old trail.new) }
 {
-    let nonterminal = nonterminal_of(found, caller);
-    let Some(step) = step_behind(core, nonterminal, caller) else {
+    let Caller { item, number, .. } = caller;
+    if caller.is_bare {
+        return go_behind_bare_call(found, trail, item, end, number, done, budget);
+    }
+    let nonterminal = nonterminal_of(found, item);
+    let Some(step) = step_behind(core, nonterminal, item) else {
         return Ok(());
     };
     match step {
         Step::Call { label, not, .. } => {
             let not = not.as_slice();
             go_behind(
-                alloc, text, label, not, found, trail, caller, number, done, end, budget,
+                alloc, text, label, not, found, trail, item, number, done, end, budget,
             )
         }
         _ => Ok(()),
@@ -137,8 +148,11 @@ fn return_to_all(
 ) -> Result<(), RunFault>
     requires all_named { AreNamed found.old }
     requires chain { IsChainOf core.now callers.now head found.old }
-    requires numbers { AreNumbered found.old callers.now }
-    requires once { NoneTwice (found.old.done.items ++ found.old.here) }
+    requires known { AreKnown core.now found.old callers.now }
+    requires once { NoneTwice (found.old.done.items ++ found.old.here.items) }
+    requires indexed { IsIndexed found.old trail.old }
+    requires by_nodes { ComeByNodes found.old trail.old (IsReturnToOne core.now text.now callers.now
+        head end found.old) }
     ensures adds { Adds end (IsReturnToOne core.now text.now callers.now head end found.old) budget
         found.old found.new result }
     ensures ways { OnOk result (Records (IsReturnBy core.now text.now callers.now head done end
@@ -147,18 +161,7 @@ fn return_to_all(
     let mut at = head;
     while at > 0 {
         let caller = callers[at as usize - 1];
-        return_to(
-            alloc,
-            core,
-            text,
-            found,
-            trail,
-            caller.item,
-            caller.number,
-            done,
-            end,
-            budget,
-        )?;
+        return_to(alloc, core, text, found, trail, caller, done, end, budget)?;
         at = caller.next;
     }
     Ok(())
@@ -166,10 +169,10 @@ fn return_to_all(
 
 /// The item of that number at the position.
 fn item_at(found: &Found, number: usize) -> Item
-    requires { number < length found.now.here }
-    ensures { slice_get found.now.here number ≡ Some result }
+    requires { number < length found.now.here.items }
+    ensures { slice_get found.now.here.items number ≡ Some result }
 {
-    found.here.at(number)
+    found.here[number]
 }
 
 /// Takes a complete item: each caller of its instance returns, unless another item that is complete
@@ -217,6 +220,13 @@ fn take_complete(
     )
 }
 
+/// Whether a call has neither a label nor an excluded pattern.
+fn is_bare(label: &Option<Word>, not: &[Pattern]) -> bool
+    ensures { IsTrue result ↔ ((label.now ≡ None) × (not.now ≡ [])) }
+{
+    label.is_none() && not.is_empty()
+}
+
 /// Takes an item before a call: it waits for the callee, whose first items are added unless another
 /// caller came before, and it returns where the callee ended here already.
 fn take_call(
@@ -226,6 +236,7 @@ fn take_call(
     names: &[Word],
     nonterminal: u32,
     args: &[Expr],
+    forms: &[Form],
     label: &Option<Word>,
     not: &[Pattern],
     found: &mut Found,
@@ -239,6 +250,7 @@ fn take_call(
     requires next { IsNext core.now text.now item number found.old waiting.old trail.old }
     requires before { StandsBefore core.now (means found.old item) names.now (Call nonterminal
         (map expression_of args.now) label.now not.now) }
+    requires compiled { forms.now ≡ map (form_of names.now) (map expression_of args.now) }
     ensures takes { Takes core.now text.now budget item found.old found.new waiting.new result }
     ensures trail { TakesOn core.now text.now item found.old found.new waiting.new trail.new
         result }
@@ -246,7 +258,8 @@ fn take_call(
     reachable_is_closed();
     items_are_in_text();
     let values = values_at(&found.envs, item.env);
-    let Some(values) = argument_values(alloc, args, names, values, item.position, text)? else {
+    let Some(values) = argument_values(alloc, args, forms, names, values, item.position, text)?
+    else {
         return Ok(());
     };
     let env = enter_arguments(&mut found.envs, values, item.env)?;
@@ -257,7 +270,7 @@ fn take_call(
         start,
     };
     let callee = call_instance(core, found, waiting, trail, key, budget)?;
-    add_caller(waiting, callee, item, number)?;
+    add_caller(waiting, callee, item, number, is_bare(label, not))?;
     let Some(done) = end_at(waiting, callee, start) else {
         return Ok(());
     };
@@ -297,7 +310,7 @@ fn take_step(
     alloc: Global,
     core: &Core,
     text: &Text,
-    names: &[Sequence<VisibleNames>],
+    dots: &[Sequence<Dots>],
     nonterminal: u32,
     step: &Step,
     found: &mut Found,
@@ -309,7 +322,7 @@ fn take_step(
 ) -> Result<(), RunFault>
     requires taking { Taking core.now text.now budget item found.old waiting.old }
     requires next { IsNext core.now text.now item number found.old waiting.old trail.old }
-    requires names { names.now ≡ all_names core.now }
+    requires dots { dots.now ≡ all_dots core.now }
     requires nonterminal { nonterminal ≡ (means found.old item).instance.nonterminal }
     requires stands { Stands core.now (means found.old item) (step_of step.now) }
     ensures takes { Takes core.now text.now budget item found.old found.new waiting.new result }
@@ -325,19 +338,23 @@ fn take_step(
             )
         }
         Step::Test(condition) => {
-            let Some(names) = names_at(names, nonterminal, item) else {
+            let Some(known) = known_at(dots, nonterminal, item) else {
                 return Err(RunFault::Memory);
             };
+            let names = known.names;
+            let form = only(known.forms);
             take_test(
-                alloc, text, names, condition, found, trail, item, number, budget,
+                alloc, text, names, condition, form, found, trail, item, number, budget,
             )
         }
         Step::Bind(_, expression) => {
-            let Some(names) = names_at(names, nonterminal, item) else {
+            let Some(known) = known_at(dots, nonterminal, item) else {
                 return Err(RunFault::Memory);
             };
+            let names = known.names;
+            let form = only(known.forms);
             take_bind(
-                alloc, text, names, expression, found, trail, item, number, budget,
+                alloc, text, names, expression, form, found, trail, item, number, budget,
             )
         }
         Step::Call {
@@ -346,14 +363,16 @@ fn take_step(
             label,
             not,
         } => {
-            let Some(names) = names_at(names, nonterminal, item) else {
+            let Some(known) = known_at(dots, nonterminal, item) else {
                 return Err(RunFault::Memory);
             };
+            let names = known.names;
+            let forms = known.forms;
             let args = args.as_slice();
             let not = not.as_slice();
             take_call(
-                alloc, core, text, names, *callee, args, label, not, found, waiting, trail, item,
-                number, budget,
+                alloc, core, text, names, *callee, args, forms, label, not, found, waiting, trail,
+                item, number, budget,
             )
         }
     }
@@ -371,7 +390,7 @@ pub(crate) fn take(
     alloc: Global,
     core: &Core,
     text: &Text,
-    names: &[Sequence<VisibleNames>],
+    dots: &[Sequence<Dots>],
     found: &mut Found,
     waiting: &mut Waiting,
     trail: &mut Trail,
@@ -381,8 +400,8 @@ pub(crate) fn take(
 ) -> Result<(), RunFault>
     requires run { IsRun core.now text.now budget position place found.old waiting.old }
     requires trail { HasTrail core.now text.now position place found.old waiting.old trail.old }
-    requires there { place < length found.old.here }
-    requires names { names.now ≡ all_names core.now }
+    requires there { place < length found.old.here.items }
+    requires dots { dots.now ≡ all_dots core.now }
     ensures run { MatchResult result (λ _. IsRun core.now text.now budget position (place + 1)
         found.new waiting.new) (Refuses core.now text.now budget) }
     ensures trail { OnOk result (HasTrail core.now text.now position (place + 1) found.new
@@ -398,7 +417,7 @@ pub(crate) fn take(
             alloc,
             core,
             text,
-            names,
+            dots,
             nonterminal,
             step,
             found,

@@ -1,5 +1,5 @@
 //! Saturation in rising positions.
-ghost use Rattle.std.specs.Prelude.{◌≡◌, ◌≤◌, ◌+◌, ◌<◌, ◌++◌, ℕ, List, IfErr, IfOk};
+ghost use Rattle.std.specs.Prelude.{◌≡◌, ◌≤◌, ◌+◌, ◌<◌, ◌++◌, ℕ, [], List, IfErr, IfOk};
 ghost use Rattle.std.specs.Prelude.{MatchResult, OnOk, length};
 ghost use Rattle.ig_item.specs.Items.{MoreThan};
 ghost use Rattle.ig_item.specs.Recorded.{AreReachable, IsRecorded};
@@ -7,21 +7,20 @@ ghost use Rattle.ig_item.specs.Tables.{HaveValues, items_of, tables_by};
 ghost use Rattle.ig_plain.specs.Found.{AllNamed};
 ghost use Rattle.ig_item.specs.WellKinded.{NoneTwice};
 ghost use Rattle.ig_plain.specs.Run.{IsRun, Refuses};
-ghost use Rattle.ig_plain.specs.Names.{all_names};
+ghost use Rattle.ig_plain.specs.Names.{all_dots};
 ghost use Rattle.ig_plain.specs.Arrival.{ArrivesWith, IsNothing, IsParted};
 ghost use Rattle.ig_plain.specs.Trail.{ArrivesOn, HasTrail, IsUntrodden, PartsTrail};
 
 use crate::found::Found;
 use crate::instance_set::InstanceSet;
 use crate::interning::enter_values;
-use crate::item_set::ItemSet;
-use crate::names::names_of_core;
+use crate::names::{Dots, dots_of_core};
 use crate::run::{add_firsts, keep_well_kinded, take};
 use crate::trail::Trail;
 use crate::waiting::{Waiting, add_called};
 use ig_expr::Values;
 use ig_item::{
-    Core, EnvironmentTable, InstanceKey, Item, Items, Recorded, RunFault, VisibleNames, Way, Ways,
+    Core, EnvironmentTable, InstanceKey, Item, Items, Recorded, RunFault, Way, Ways,
     items_are_in_text, reachable_is_closed,
 };
 use ig_text::{Sequence, Text};
@@ -33,7 +32,7 @@ fn take_all(
     alloc: Global,
     core: &Core,
     text: &Text,
-    names: &[Sequence<VisibleNames>],
+    dots: &[Sequence<Dots>],
     found: &mut Found,
     waiting: &mut Waiting,
     trail: &mut Trail,
@@ -42,16 +41,16 @@ fn take_all(
 ) -> Result<(), RunFault>
     requires run { IsRun core.now text.now budget position 0 found.old waiting.old }
     requires trail { HasTrail core.now text.now position 0 found.old waiting.old trail.old }
-    requires names { names.now ≡ all_names core.now }
+    requires dots { dots.now ≡ all_dots core.now }
     ensures run { MatchResult result (λ _. IsRun core.now text.now budget position (length
-        found.new.here) found.new waiting.new) (Refuses core.now text.now budget) }
-    ensures trail { OnOk result (HasTrail core.now text.now position (length found.new.here)
+        found.new.here.items) found.new waiting.new) (Refuses core.now text.now budget) }
+    ensures trail { OnOk result (HasTrail core.now text.now position (length found.new.here.items)
         found.new waiting.new trail.new) }
 {
     let mut place = 0;
     while place < found.here.len() {
         take(
-            alloc, core, text, names, found, waiting, trail, place, position, budget,
+            alloc, core, text, dots, found, waiting, trail, place, position, budget,
         )?;
         place += 1;
     }
@@ -61,24 +60,24 @@ fn take_all(
 /// Parts the later items: those at the position are added to `here`, with their ways, and the
 /// others stay, in order. Each came from the item of its number in `prevs`.
 fn part(
-    here: &mut ItemSet,
+    here: &mut Vec<Item>,
     ways: &mut Ways,
     later: &mut Vec<Item>,
     prevs: &mut Vec<u32>,
     position: u32,
 ) -> Result<(), AllocError>
     requires numbered { length prevs.old.items ≡ length later.old.items }
-    ensures parted { OnOk result (IsParted position later.old.items here.old here.new
+    ensures parted { OnOk result (IsParted position later.old.items here.old.items here.new.items
         later.new.items) }
-    ensures ways { OnOk result (PartsTrail later.old.items prevs.old.items here.old here.new
-        ways.old ways.new later.new.items prevs.new.items) }
+    ensures ways { OnOk result (PartsTrail later.old.items prevs.old.items here.old.items
+        here.new.items ways.old ways.new later.new.items prevs.new.items) }
 {
     let mut kept = 0;
     for place in 0..later.len() {
         let item = later[place];
         let prev = prevs[place];
         if item.position == position {
-            here.add(item)?;
+            here.push(item)?;
             ways.push(Way::Leaf { prev })?;
         } else {
             later[kept] = item;
@@ -96,9 +95,11 @@ fn arrive(found: &mut Found, trail: &mut Trail, position: u32) -> Result<(), All
     requires numbered { length trail.old.later.items ≡ length found.old.later.items }
     ensures arrives { OnOk result (ArrivesWith position found.old found.new) }
     ensures ways { OnOk result (ArrivesOn found.old found.new trail.old trail.new) }
+    ensures returned { OnOk result (trail.new.returned ≡ []) }
 {
-    found.here.add_to(&mut found.done)?;
-    found.here.clear()?;
+    found.done.extend_from_slice(found.here.as_slice())?;
+    found.here.clear();
+    trail.returned.clear()?;
     part(
         &mut found.here,
         &mut trail.ways,
@@ -142,7 +143,7 @@ fn run_to_end(
     alloc: Global,
     core: &Core,
     text: &Text,
-    names: &[Sequence<VisibleNames>],
+    dots: &[Sequence<Dots>],
     found: &mut Found,
     waiting: &mut Waiting,
     trail: &mut Trail,
@@ -150,19 +151,19 @@ fn run_to_end(
 ) -> Result<(), RunFault>
     requires nothing { IsNothing found.old waiting.old }
     requires untrodden { IsUntrodden waiting.old trail.old }
-    requires names { names.now ≡ all_names core.now }
+    requires dots { dots.now ≡ all_dots core.now }
     ensures run { MatchResult result (λ _. IsRun core.now text.now budget (length text.now) (length
-        found.new.here) found.new waiting.new) (Refuses core.now text.now budget) }
+        found.new.here.items) found.new waiting.new) (Refuses core.now text.now budget) }
     ensures trail { OnOk result (HasTrail core.now text.now (length text.now) (length
-        found.new.here) found.new waiting.new trail.new) }
+        found.new.here.items) found.new waiting.new trail.new) }
 {
     start(alloc, core, found, waiting, trail, budget)?;
-    take_all(alloc, core, text, names, found, waiting, trail, 0, budget)?;
+    take_all(alloc, core, text, dots, found, waiting, trail, 0, budget)?;
     for before in 0..text.len() {
         let position = before + 1;
         arrive(found, trail, position)?;
         take_all(
-            alloc, core, text, names, found, waiting, trail, position, budget,
+            alloc, core, text, dots, found, waiting, trail, position, budget,
         )?;
     }
     Ok(())
@@ -183,10 +184,10 @@ fn table_of(alloc: Global, envs: &[Values]) -> Result<EnvironmentTable, AllocErr
 /// memory holds.
 fn finish(alloc: Global, found: Found) -> Result<Items, AllocError>
     requires values { HaveValues found.envs.keys found.keys }
-    requires named { AllNamed found (found.done.items ++ found.here) }
-    requires few { length (found.done.items ++ found.here) < 4294967296 }
+    requires named { AllNamed found (found.done.items ++ found.here.items) }
+    requires few { length (found.done.items ++ found.here.items) < 4294967296 }
     ensures { IfOk result (λ t. t ≡ tables_by found.keys found.envs.keys (found.done.items ++
-        found.here)) }
+        found.here.items)) }
 {
     let Found {
         mut done,
@@ -195,7 +196,7 @@ fn finish(alloc: Global, found: Found) -> Result<Items, AllocError>
         envs,
         keys,
     } = found;
-    here.add_to(&mut done)?;
+    done.extend_from_slice(here.as_slice())?;
     let envs = envs.as_slice();
     let keys = keys.into_vec();
     keep_few(envs.len())?;
@@ -230,10 +231,9 @@ pub fn saturate_with_ways<'a>(
     ensures fault { IfErr result (Refuses core.now text.now budget) }
 {
     items_are_in_text();
-    let here = ItemSet::new(alloc)?;
     let mut found = Found {
         done: Vec::new(alloc),
-        here,
+        here: Vec::new(alloc),
         later: Vec::new(alloc),
         envs: IndexSet::new(alloc),
         keys: InstanceSet::new(alloc),
@@ -242,13 +242,13 @@ pub fn saturate_with_ways<'a>(
         called: Vec::new(alloc),
         callers: Vec::new(alloc),
     };
-    let mut trail = Trail::new(alloc);
-    let names = names_of_core(alloc, core)?;
+    let mut trail = Trail::new(alloc)?;
+    let dots = dots_of_core(alloc, core)?;
     run_to_end(
         alloc,
         core,
         text,
-        names.as_slice(),
+        dots.as_slice(),
         &mut found,
         &mut waiting,
         &mut trail,

@@ -7,8 +7,12 @@ ghost use Rattle.ig_expr.specs.View.{expression_of};
 ghost use Rattle.ig_expr.specs.declared.value.Value.{Value};
 ghost use Rattle.ig_expr.specs.declared.value.Value.TheVariants.{Bool as truth};
 ghost use Rattle.ig_item.specs.Items.{MatchesNone, span_of};
+ghost use Rattle.ig_plain.specs.Compiled.{form_of, values_in};
+ghost use Rattle.ig_plain.specs.declared.interning.Arguments.{Arguments};
 
-use ig_expr::{Expr, Value, Values, evaluate};
+use crate::compiled::{Form, are_own, value};
+use crate::interning::Arguments;
+use ig_expr::{Expr, Value, Values};
 use ig_text::{Pattern, Span, Text, Word};
 use std::alloc::{AllocError, Global};
 
@@ -44,40 +48,72 @@ pub(crate) fn span_bound(label: &Option<Word>, i: u32, j: u32) -> Option<Value>
     }
 }
 
-/// Whether the condition is true.
+/// Whether the condition, which has that form, is true.
 pub(crate) fn is_true(
     condition: &Expr,
+    form: &Form,
     names: &[Word],
     values: &[Value],
     here: u32,
     text: &Text,
 ) -> bool
+    requires { form.now ≡ form_of names.now (expression_of condition.now) }
     ensures { IsTrue result ↔ (value_of text.now names.now values.now here (expression_of
         condition.now) ≡ Some (truth true)) }
 {
-    match evaluate(condition, names, values, here, text) {
+    match value(form, condition, names, values, here, text) {
         Some(Value::Bool(b)) => b,
         _ => false,
     }
 }
 
-/// The values of the arguments; `None` exactly where one of them has no value.
+/// The values of the arguments, which have these forms; `None` exactly where one of them has no
+/// value. They mostly are the values of the environment; then no list is made.
 pub(crate) fn argument_values(
     alloc: Global,
     arguments: &[Expr],
+    forms: &[Form],
+    names: &[Word],
+    values: &[Value],
+    here: u32,
+    text: &Text,
+) -> Result<Option<Arguments>, AllocError>
+    requires { forms.now ≡ map (form_of names.now) (map expression_of arguments.now) }
+    ensures none { IfOk result (λ r. r ≡ None → (vs : List Value) → map (value_of text.now
+        names.now values.now here) (map expression_of arguments.now) ≡ map Some vs → ⊥) }
+    ensures some { IfOk result (λ r. (a : Arguments) → r ≡ Some a → map (value_of text.now
+        names.now values.now here) (map expression_of arguments.now)
+        ≡ map Some (values_in values.now a)) }
+{
+    if are_own(forms, values, here) {
+        return Ok(Some(Arguments::Own));
+    }
+    match listed_values(alloc, arguments, forms, names, values, here, text)? {
+        Some(list) => Ok(Some(Arguments::Listed(list))),
+        None => Ok(None),
+    }
+}
+
+/// The values of the arguments, which have these forms, in a list; `None` exactly where one of them
+/// has no value.
+fn listed_values(
+    alloc: Global,
+    arguments: &[Expr],
+    forms: &[Form],
     names: &[Word],
     values: &[Value],
     here: u32,
     text: &Text,
 ) -> Result<Option<Values>, AllocError>
+    requires { forms.now ≡ map (form_of names.now) (map expression_of arguments.now) }
     ensures none { IfOk result (λ r. r ≡ None → (vs : List Value) → map (value_of text.now
         names.now values.now here) (map expression_of arguments.now) ≡ map Some vs → ⊥) }
     ensures some { IfOk result (λ r. (vs : List Value) → r ≡ Some vs → map (value_of text.now
         names.now values.now here) (map expression_of arguments.now) ≡ map Some vs) }
 {
     let mut list = Values::new(alloc);
-    for argument in arguments {
-        match evaluate(argument, names, values, here, text) {
+    for (place, argument) in arguments.iter().enumerate() {
+        match value(&forms[place], argument, names, values, here, text) {
             Some(value) => list.push(value).map_err(|refused| refused.1)?,
             None => return Ok(None),
         }

@@ -1,8 +1,9 @@
 //! How the items that a run has found came about.
-ghost use Rattle.std.specs.Prelude.{◌≡◌, []};
+ghost use Rattle.std.specs.Prelude.{◌≡◌, [], IfOk};
 
+use crate::returned::Returned;
 use ig_item::Ways;
-use std::alloc::Global;
+use std::alloc::{AllocError, Global};
 
 /// How the items of a run came about.
 #[derive(Drop)]
@@ -12,17 +13,22 @@ pub(crate) struct Trail {
     /// Of each item at a later position, in order, the number of the item from which it came. It
     /// stands behind a terminal, so its way is a `Leaf`.
     pub(crate) later: Vec<u32>,
+    /// The items at the position that came about by calls, with their numbers. No other one can
+    /// come about once more.
+    pub(crate) returned: Returned,
 }
 
 impl Trail {
-    /// Of no items. Takes no memory.
-    pub(crate) fn new(alloc: Global) -> Trail
-        ensures ways { result.ways ≡ record { firsts = []; further = []; ends = [] } }
-        ensures later { result.later.items ≡ [] }
+    /// Of no items.
+    pub(crate) fn new(alloc: Global) -> Result<Trail, AllocError>
+        ensures ways { IfOk result (λ t. t.ways ≡ record { firsts = []; further = []; ends = [] }) }
+        ensures later { IfOk result (λ t. t.later.items ≡ []) }
+        ensures returned { IfOk result (λ t. t.returned ≡ []) }
     {
-        Trail {
+        Ok(Trail {
             ways: Ways::new(alloc),
             later: Vec::new(alloc),
-        }
+            returned: Returned::new(alloc)?,
+        })
     }
 }

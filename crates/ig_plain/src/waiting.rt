@@ -26,6 +26,8 @@ pub(crate) struct Called {
 pub(crate) struct Caller {
     pub(crate) item: Item,
     pub(crate) number: u32,
+    /// Whether its call has neither a label nor an excluded pattern.
+    pub(crate) is_bare: bool,
     /// The place + 1 of the caller of the same instance behind this one, and 0 where there is none.
     pub(crate) next: u32,
 }
@@ -76,11 +78,12 @@ pub(crate) fn add_caller(
     callee: u32,
     item: Item,
     number: u32,
+    is_bare: bool,
 ) -> Result<(), AllocError>
     requires there { callee < length waiting.old.called.items }
     requires last { (called_at waiting.old callee).last ≤ length waiting.old.callers.items }
     ensures callers { OnOk result (waiting.new.callers.items ≡ lengthened waiting.old.callers.items
-        (called_at waiting.old callee).last item number) }
+        (called_at waiting.old callee).last item number is_bare) }
     ensures called { OnOk result (waiting.new.called.items ≡ set waiting.old.called.items callee
         (with_caller (called_at waiting.old callee) (suc (length waiting.old.callers.items)))) }
 {
@@ -91,6 +94,7 @@ pub(crate) fn add_caller(
     waiting.callers.push(Caller {
         item,
         number,
+        is_bare,
         next: 0,
     })?;
     link(&mut waiting.callers, called.last, place);
@@ -107,7 +111,8 @@ pub(crate) fn add_caller(
 /// where that wasn't at the position.
 pub(crate) fn end_at(waiting: &Waiting, callee: u32, position: u32) -> Option<u32>
     requires there { callee < length waiting.now.called.items }
-    ensures some { IfSome result (λ done. ((called_at waiting.now callee).last_end ≡ Some position) ×
+    ensures some { IfSome result (λ done.
+        ((called_at waiting.now callee).last_end ≡ Some position) ×
         (done ≡ (called_at waiting.now callee).last_done)) }
     ensures none { IfNone result ((called_at waiting.now callee).last_end ≡ Some position → ⊥) }
 {

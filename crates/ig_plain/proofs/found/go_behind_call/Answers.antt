@@ -5,7 +5,8 @@ use Rattle.ig_plain.specs.declared.found.Found.{Found}
 use Rattle.ig_plain.specs.Found.{Adds, means}
 use Rattle.ig_plain.proofs.Growth.{grows_not, past_named, past_means}
 use Rattle.ig_plain.proofs.Additions.{adds_exit, adds_after, adds_alike}
-use Rattle.ig_plain.proofs.Recording.{records_past}
+use Rattle.ig_plain.proofs.Sets.{extends_itself}
+use Rattle.ig_plain.proofs.Recording.{by_node_here, records_past}
 use Rattle.ig_plain.proofs.found.go_behind_call.Goals as goal
 
 pub returns-in_err-behind-clause-adds : goal.returns-in_err-behind-clause-adds
@@ -13,9 +14,20 @@ returns-in_err-behind-clause-adds c =
     adds_exit c.args.end _ c.args.budget c.args.found.now _ c.from_residual.result c.from_residual.ensures.1
     (grows_not c.args.end _ c.args.found.now _ c.in_err-behind.ensures.extends c.in_err-behind.ensures.once refl refl refl refl)
 
-pub add_returned-requires : goal.add_returned-requires
-add_returned-requires c =
-    record { named = past_named c.args.found.now.envs.keys c.past.new.envs.keys c.args.found.now.keys c.args.item c.args.bound c.args.end c.in_ok-behind.behind c.requires.named c.in_ok-behind.ensures.past }
+pub add_returned-requires-clause-named : goal.add_returned-requires-clause-named
+add_returned-requires-clause-named c =
+    past_named c.args.found.now.envs.keys c.past.new.envs.keys c.args.found.now.keys c.args.item c.args.bound c.args.end c.in_ok-behind.behind c.requires.named c.in_ok-behind.ensures.past
+
+pub add_returned-requires-clause-indexed : goal.add_returned-requires-clause-indexed
+add_returned-requires-clause-indexed c = c.requires.indexed
+
+pub add_returned-requires-clause-by_node : goal.add_returned-requires-clause-by_node
+add_returned-requires-clause-by_node c =
+    let mid : Found = record { done = c.args.found.now.done; here = c.args.found.now.here; later = c.args.found.now.later; envs = c.past.new.envs; keys = c.args.found.now.keys } in
+    by_node_here c.args.found.now mid c.requires.all_named c.in_ok-behind.ensures.extends (extends_itself c.args.found.now.keys) c.args.trail.now
+    c.in_ok-behind.behind _
+    (past_means c.args.found.now.envs.keys c.past.new.envs.keys c.args.found.now.keys c.args.item c.args.bound c.args.end c.in_ok-behind.behind
+    c.in_ok-behind.ensures.extends c.requires.all_named.values c.requires.named c.in_ok-behind.ensures.past) c.requires.by_nodes
 
 pub returns-clause-adds : goal.returns-clause-adds
 returns-clause-adds c =

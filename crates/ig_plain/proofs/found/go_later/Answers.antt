@@ -28,4 +28,4 @@ returns-clause-ways c =
     refl refl refl c.in-Ok.ensures.items
     (past_means c.args.found.now.envs.keys c.past.new.envs.keys c.args.found.now.keys c.args.item c.args.bound c.args.end c.in_ok-behind.behind
     c.in_ok-behind.ensures.extends c.requires.all_named.values c.requires.named c.in_ok-behind.ensures.past)
-    refl c.in-Ok-push.ensures.items)
+    refl c.in-Ok-push.ensures.items refl)

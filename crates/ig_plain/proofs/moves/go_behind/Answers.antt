@@ -1,4 +1,4 @@
-use Rattle.std.proofs.Common.{◌≡◌, subst}
+use Rattle.std.proofs.Common.{◌≡◌, subst, ◌∙◌, ap}
 use Rattle.std.proofs.lemmas.Result.{on_ok_weaker}
 use Rattle.ig_item.specs.Items.{past}
 use Rattle.ig_item.specs.declared.ways.Way.TheVariants.{Node}
@@ -16,6 +16,13 @@ pub returns-then-not-matches_none-clause-ways : goal.returns-then-not-matches_no
 returns-then-not-matches_none-clause-ways c =
     records_nowhere _ (Node c.args.number c.args.done) _ c.args.found.now c.args.trail.now
     (false_at c.matches_none.result _ c.matches_none.ensures c.if-not-matches_none.true)
+
+pub go_behind_call-requires-clause-by_nodes : goal.go_behind_call-requires-clause-by_nodes
+go_behind_call-requires-clause-by_nodes c x e =
+    c.requires.by_nodes x (
+      true_at c.matches_none.result _ c.matches_none.ensures c.if-not-matches_none.false,
+      e ∙ ap (λ z. past (means c.args.found.now c.args.item) z c.args.end) c.span_bound-bound.ensures,
+    )
 
 pub returns-clause-adds : goal.returns-clause-adds
 returns-clause-adds c =

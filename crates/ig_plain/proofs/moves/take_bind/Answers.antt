@@ -9,29 +9,29 @@ pub go_on-requires-clause-new : goal.go_on-requires-clause-new
 go_on-requires-clause-new c x e =
     c.requires.new x (
       c.in-Some.value,
-      value_at c.args.text.now c.args.names.now c.args.item.position _ _ (expression_of c.args.expression.now) _ _ c.values_at-values.ensures c.evaluate.ensures c.in-Some.is,
+      value_at c.args.text.now c.args.names.now c.args.item.position _ _ (expression_of c.args.expression.now) _ _ c.values_at-values.ensures c.value.ensures c.in-Some.is,
       e,
     )
 
 pub returns-clause-adds : goal.returns-clause-adds
 returns-clause-adds c =
     adds_with c.args.item.position _ _ c.in-Some.value c.args.budget c.args.found.now c.go_on.new.found c.go_on.result
-    (value_at c.args.text.now c.args.names.now c.args.item.position _ _ (expression_of c.args.expression.now) _ _ c.values_at-values.ensures c.evaluate.ensures c.in-Some.is)
-    (λ w h. value_only _ c.in-Some.value w (value_at c.args.text.now c.args.names.now c.args.item.position _ _ (expression_of c.args.expression.now) _ _ c.values_at-values.ensures c.evaluate.ensures c.in-Some.is) h)
+    (value_at c.args.text.now c.args.names.now c.args.item.position _ _ (expression_of c.args.expression.now) _ _ c.values_at-values.ensures c.value.ensures c.in-Some.is)
+    (λ w h. value_only _ c.in-Some.value w (value_at c.args.text.now c.args.names.now c.args.item.position _ _ (expression_of c.args.expression.now) _ _ c.values_at-values.ensures c.value.ensures c.in-Some.is) h)
     c.go_on.ensures.adds
 
 pub returns-clause-ways : goal.returns-clause-ways
 returns-clause-ways c =
     on_ok_weaker c.go_on.result
     (records_with _ (Pass c.args.number) _ c.in-Some.value c.args.found.now c.go_on.new.found c.args.trail.now c.go_on.new.trail
-    (value_at c.args.text.now c.args.names.now c.args.item.position _ _ (expression_of c.args.expression.now) _ _ c.values_at-values.ensures c.evaluate.ensures c.in-Some.is)
-    (λ w h. value_only _ c.in-Some.value w (value_at c.args.text.now c.args.names.now c.args.item.position _ _ (expression_of c.args.expression.now) _ _ c.values_at-values.ensures c.evaluate.ensures c.in-Some.is) h))
+    (value_at c.args.text.now c.args.names.now c.args.item.position _ _ (expression_of c.args.expression.now) _ _ c.values_at-values.ensures c.value.ensures c.in-Some.is)
+    (λ w h. value_only _ c.in-Some.value w (value_at c.args.text.now c.args.names.now c.args.item.position _ _ (expression_of c.args.expression.now) _ _ c.values_at-values.ensures c.value.ensures c.in-Some.is) h))
     c.go_on.ensures.ways
 
 pub returns-in_default-clause-adds : goal.returns-in_default-clause-adds
 returns-in_default-clause-adds c =
-    adds_without c.args.item.position _ _ c.args.budget c.args.found.now (λ w h. value_none _ w (value_at c.args.text.now c.args.names.now c.args.item.position _ _ (expression_of c.args.expression.now) _ _ c.values_at-values.ensures c.evaluate.ensures c.in_default.is) h)
+    adds_without c.args.item.position _ _ c.args.budget c.args.found.now (λ w h. value_none _ w (value_at c.args.text.now c.args.names.now c.args.item.position _ _ (expression_of c.args.expression.now) _ _ c.values_at-values.ensures c.value.ensures c.in_default.is) h)
 
 pub returns-in_default-clause-ways : goal.returns-in_default-clause-ways
 returns-in_default-clause-ways c =
-    records_without _ (Pass c.args.number) _ c.args.found.now c.args.trail.now (λ w h. value_none _ w (value_at c.args.text.now c.args.names.now c.args.item.position _ _ (expression_of c.args.expression.now) _ _ c.values_at-values.ensures c.evaluate.ensures c.in_default.is) h)
+    records_without _ (Pass c.args.number) _ c.args.found.now c.args.trail.now (λ w h. value_none _ w (value_at c.args.text.now c.args.names.now c.args.item.position _ _ (expression_of c.args.expression.now) _ _ c.values_at-values.ensures c.value.ensures c.in_default.is) h)

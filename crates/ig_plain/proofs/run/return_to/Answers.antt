@@ -6,12 +6,24 @@ use Rattle.ig_item.specs.Items.{MatchesNone, past, span_of, StandsBefore}
 use Rattle.ig_item.specs.declared.ways.Way.TheVariants.{Node}
 use Rattle.ig_plain.specs.Found.{Adds, means}
 use Rattle.ig_plain.specs.Trail.{By, Records}
-use Rattle.ig_plain.proofs.Returns.{return_alike, records_return, step_is}
+use Rattle.ig_plain.proofs.Returns.{into_return, return_alike, records_return, into_bare, bare_alike, records_bare, step_is}
 use Rattle.ig_plain.proofs.run.return_to.Goals as goal
+
+pub go_behind-requires-clause-by_nodes : goal.go_behind-requires-clause-by_nodes
+go_behind-requires-clause-by_nodes c x m =
+    let it = means c.args.found.now c.args.caller.item in
+    let tree =
+    step_is c.in-Some.step.now c.args.core.now it c.requires.calls.names (Call c.requires.calls.callee c.requires.calls.arguments c.requires.calls.label c.requires.calls.excluded) _
+    c.requires.calls.before c.in-Some.ensures c.nonterminal_of-nonterminal.ensures in
+    let call = tree ∙ ap step_of c.in-Call.is in
+    c.requires.by_nodes x
+    (into_return c.args.core.now c.args.text.now it c.args.end c.in-Call.nonterminal c.in-Call.args c.in-Call.label c.in-Call.not c.requires.calls.names
+    (subst (StandsBefore c.args.core.now it c.requires.calls.names) call c.requires.calls.before) x
+    (subst (λ z. MatchesNone c.args.text.now z c.args.caller.item.position c.args.end) c.as_slice-not.ensures m.0, m.1))
 
 pub returns-in-Call-clause-adds : goal.returns-in-Call-clause-adds
 returns-in-Call-clause-adds c =
-    let it = means c.args.found.now c.args.caller in
+    let it = means c.args.found.now c.args.caller.item in
     let tree =
     step_is c.in-Some.step.now c.args.core.now it c.requires.calls.names (Call c.requires.calls.callee c.requires.calls.arguments c.requires.calls.label c.requires.calls.excluded) _
     c.requires.calls.before c.in-Some.ensures c.nonterminal_of-nonterminal.ensures in
@@ -19,13 +31,13 @@ returns-in-Call-clause-adds c =
     return_alike c.args.core.now c.args.text.now it c.args.end c.in-Call.nonterminal c.in-Call.args c.in-Call.label c.in-Call.not c.requires.calls.names
     (subst (StandsBefore c.args.core.now it c.requires.calls.names) call c.requires.calls.before)
     c.args.budget c.args.found.now c.go_behind.new.found c.go_behind.result
-    (subst (λ z. Adds c.args.end (λ x. MatchesNone c.args.text.now z c.args.caller.position c.args.end × (x ≡ past it (span_of c.in-Call.label c.args.caller.position c.args.end) c.args.end)) c.args.budget c.args.found.now c.go_behind.new.found c.go_behind.result)
+    (subst (λ z. Adds c.args.end (λ x. MatchesNone c.args.text.now z c.args.caller.item.position c.args.end × (x ≡ past it (span_of c.in-Call.label c.args.caller.item.position c.args.end) c.args.end)) c.args.budget c.args.found.now c.go_behind.new.found c.go_behind.result)
     c.as_slice-not.ensures c.go_behind.ensures.adds)
 
 pub returns-in-Call-clause-ways : goal.returns-in-Call-clause-ways
 returns-in-Call-clause-ways c =
-    let it = means c.args.found.now c.args.caller in
-    let way = Node c.args.number c.args.done in
+    let it = means c.args.found.now c.args.caller.item in
+    let way = Node c.args.caller.number c.args.done in
     let tree =
     step_is c.in-Some.step.now c.args.core.now it c.requires.calls.names (Call c.requires.calls.callee c.requires.calls.arguments c.requires.calls.label c.requires.calls.excluded) _
     c.requires.calls.before c.in-Some.ensures c.nonterminal_of-nonterminal.ensures in
@@ -34,5 +46,22 @@ returns-in-Call-clause-ways c =
     (λ r. records_return c.args.core.now c.args.text.now it c.args.end c.in-Call.nonterminal c.in-Call.args c.in-Call.label c.in-Call.not c.requires.calls.names
     (subst (StandsBefore c.args.core.now it c.requires.calls.names) call c.requires.calls.before)
     way c.args.found.now c.go_behind.new.found c.args.trail.now c.go_behind.new.trail
-    (subst (λ z. Records (By way (λ x. MatchesNone c.args.text.now z c.args.caller.position c.args.end × (x ≡ past it (span_of c.in-Call.label c.args.caller.position c.args.end) c.args.end)))
+    (subst (λ z. Records (By way (λ x. MatchesNone c.args.text.now z c.args.caller.item.position c.args.end × (x ≡ past it (span_of c.in-Call.label c.args.caller.item.position c.args.end) c.args.end)))
     c.args.found.now c.go_behind.new.found c.args.trail.now c.go_behind.new.trail) c.as_slice-not.ensures r)) c.go_behind.ensures.ways
+
+pub go_behind_bare_call-requires-clause-by_nodes : goal.go_behind_bare_call-requires-clause-by_nodes
+go_behind_bare_call-requires-clause-by_nodes c x e =
+    c.requires.by_nodes x
+    (into_bare c.args.core.now c.args.text.now (means c.args.found.now c.args.caller.item) c.args.end (c.requires.bare c.if-caller.true) x e)
+
+pub returns-then-caller-clause-adds : goal.returns-then-caller-clause-adds
+returns-then-caller-clause-adds c =
+    bare_alike c.args.core.now c.args.text.now (means c.args.found.now c.args.caller.item) c.args.end (c.requires.bare c.if-caller.true)
+    c.args.budget c.args.found.now c.go_behind_bare_call.new.found c.go_behind_bare_call.result c.go_behind_bare_call.ensures.adds
+
+pub returns-then-caller-clause-ways : goal.returns-then-caller-clause-ways
+returns-then-caller-clause-ways c =
+    on_ok_weaker c.go_behind_bare_call.result
+    (records_bare c.args.core.now c.args.text.now (means c.args.found.now c.args.caller.item) c.args.end (c.requires.bare c.if-caller.true)
+    (Node c.args.caller.number c.args.done) c.args.found.now c.go_behind_bare_call.new.found c.args.trail.now c.go_behind_bare_call.new.trail)
+    c.go_behind_bare_call.ensures.ways

@@ -9,7 +9,7 @@ use Rattle.ig_plain.proofs.run.take.Goals as goal
 pub nonterminal_of-nonterminal-requires : goal.nonterminal_of-nonterminal-requires
 nonterminal_of-nonterminal-requires c =
     c.requires.run.taking.stored.named.here c.item_at-item.result
-    (contains_from_at c.args.found.now.here c.args.place c.item_at-item.result c.item_at-item.ensures)
+    (contains_from_at c.args.found.now.here.items c.args.place c.item_at-item.result c.item_at-item.ensures)
 
 pub take_step-requires-clause-taking : goal.take_step-requires-clause-taking
 take_step-requires-clause-taking c =
@@ -17,7 +17,7 @@ take_step-requires-clause-taking c =
       number = c.args.place;
       run = subst (λ z. IsRun c.args.core.now c.args.text.now c.args.budget z c.args.place c.args.found.now c.args.waiting.now)
           (sym (c.requires.run.taking.stored.at c.item_at-item.result
-          (contains_from_at c.args.found.now.here c.args.place c.item_at-item.result c.item_at-item.ensures))) c.requires.run;
+          (contains_from_at c.args.found.now.here.items c.args.place c.item_at-item.result c.item_at-item.ensures))) c.requires.run;
       at = c.item_at-item.ensures;
     }
 
@@ -29,7 +29,7 @@ take_step-requires-clause-next c =
       numbered = c.in_ok-number.ensures;
       trail = subst (λ z. HasTrail c.args.core.now c.args.text.now z c.args.place c.args.found.now c.args.waiting.now c.args.trail.now)
           (sym (c.requires.run.taking.stored.at c.item_at-item.result
-          (contains_from_at c.args.found.now.here c.args.place c.item_at-item.result c.item_at-item.ensures))) c.requires.trail;
+          (contains_from_at c.args.found.now.here.items c.args.place c.item_at-item.result c.item_at-item.ensures))) c.requires.trail;
     }
 
 pub take_step-requires-clause-stands : goal.take_step-requires-clause-stands
@@ -45,7 +45,7 @@ take_complete-requires-clause-taking c =
       number = c.args.place;
       run = subst (λ z. IsRun c.args.core.now c.args.text.now c.args.budget z c.args.place c.args.found.now c.args.waiting.now)
           (sym (c.requires.run.taking.stored.at c.item_at-item.result
-          (contains_from_at c.args.found.now.here c.args.place c.item_at-item.result c.item_at-item.ensures))) c.requires.run;
+          (contains_from_at c.args.found.now.here.items c.args.place c.item_at-item.result c.item_at-item.ensures))) c.requires.run;
       at = c.item_at-item.ensures;
     }
 
@@ -57,7 +57,7 @@ take_complete-requires-clause-next c =
       numbered = c.in_ok-number.ensures;
       trail = subst (λ z. HasTrail c.args.core.now c.args.text.now z c.args.place c.args.found.now c.args.waiting.now c.args.trail.now)
           (sym (c.requires.run.taking.stored.at c.item_at-item.result
-          (contains_from_at c.args.found.now.here c.args.place c.item_at-item.result c.item_at-item.ensures))) c.requires.trail;
+          (contains_from_at c.args.found.now.here.items c.args.place c.item_at-item.result c.item_at-item.ensures))) c.requires.trail;
     }
 
 pub take_complete-requires-clause-complete : goal.take_complete-requires-clause-complete
@@ -70,23 +70,23 @@ take_complete-requires-clause-complete c =
 pub returns-in-Some-clause-run : goal.returns-in-Some-clause-run
 returns-in-Some-clause-run c =
     taken_next c.args.core.now c.args.text.now c.args.budget c.args.position c.item_at-item.result.position c.args.place _ _ c.take_step.result
-    (c.requires.run.taking.stored.at c.item_at-item.result (contains_from_at c.args.found.now.here c.args.place c.item_at-item.result
+    (c.requires.run.taking.stored.at c.item_at-item.result (contains_from_at c.args.found.now.here.items c.args.place c.item_at-item.result
     c.item_at-item.ensures)) (c.take_step.ensures.takes c.args.place c.item_at-item.ensures)
 
 pub returns-in-Some-clause-trail : goal.returns-in-Some-clause-trail
 returns-in-Some-clause-trail c =
     trail_next c.args.core.now c.args.text.now c.args.position c.item_at-item.result.position c.args.place _ _ _ c.take_step.result
-    (c.requires.run.taking.stored.at c.item_at-item.result (contains_from_at c.args.found.now.here c.args.place c.item_at-item.result
+    (c.requires.run.taking.stored.at c.item_at-item.result (contains_from_at c.args.found.now.here.items c.args.place c.item_at-item.result
     c.item_at-item.ensures)) (c.take_step.ensures.trail c.args.place c.item_at-item.ensures)
 
 pub returns-in-None-clause-run : goal.returns-in-None-clause-run
 returns-in-None-clause-run c =
     taken_next c.args.core.now c.args.text.now c.args.budget c.args.position c.item_at-item.result.position c.args.place _ _ c.take_complete.result
-    (c.requires.run.taking.stored.at c.item_at-item.result (contains_from_at c.args.found.now.here c.args.place c.item_at-item.result
+    (c.requires.run.taking.stored.at c.item_at-item.result (contains_from_at c.args.found.now.here.items c.args.place c.item_at-item.result
     c.item_at-item.ensures)) (c.take_complete.ensures.takes c.args.place c.item_at-item.ensures)
 
 pub returns-in-None-clause-trail : goal.returns-in-None-clause-trail
 returns-in-None-clause-trail c =
     trail_next c.args.core.now c.args.text.now c.args.position c.item_at-item.result.position c.args.place _ _ _ c.take_complete.result
-    (c.requires.run.taking.stored.at c.item_at-item.result (contains_from_at c.args.found.now.here c.args.place c.item_at-item.result
+    (c.requires.run.taking.stored.at c.item_at-item.result (contains_from_at c.args.found.now.here.items c.args.place c.item_at-item.result
     c.item_at-item.ensures)) (c.take_complete.ensures.trail c.args.place c.item_at-item.ensures)

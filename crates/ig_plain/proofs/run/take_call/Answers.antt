@@ -1,21 +1,23 @@
 use Rattle.std.proofs.Common.{refl}
 use Rattle.std.proofs.lemmas.Option.{slice_get_within}
+use Rattle.ig_plain.specs.Compiled.{values_in}
 use Rattle.ig_plain.proofs.Lists.{contains_from_at}
+use Rattle.ig_plain.proofs.Forms.{there_with}
 use Rattle.ig_plain.proofs.Instances.{at_exit}
 use Rattle.ig_plain.proofs.Completes.{run_at}
 use Rattle.ig_plain.proofs.Calling.{no_call, named_1, stops, callee_there, last_2, still_there, named_2, run_2, only_waits, goes_past}
 use Rattle.ig_plain.proofs.Onward.{trail_at}
-use Rattle.ig_plain.proofs.CallingOn.{no_call_on, only_waits_on, goes_past_on}
+use Rattle.ig_plain.proofs.CallingOn.{no_call_on, trail_2, by_nodes_2, only_waits_on, goes_past_on}
 use Rattle.ig_plain.proofs.run.take_call.Goals as goal
 
 pub values_at-values-requires : goal.values_at-values-requires
 values_at-values-requires c = (c.requires.taking.run.taking.stored.named.here c.args.item
-    (contains_from_at c.args.found.now.here c.requires.taking.number c.args.item c.requires.taking.at)).env
+    (contains_from_at c.args.found.now.here.items c.requires.taking.number c.args.item c.requires.taking.at)).env
 
 pub enter_arguments-requires : goal.enter_arguments-requires
 enter_arguments-requires c = record {
   there = (c.requires.taking.run.taking.stored.named.here c.args.item
-      (contains_from_at c.args.found.now.here c.requires.taking.number c.args.item c.requires.taking.at)).env;
+      (contains_from_at c.args.found.now.here.items c.requires.taking.number c.args.item c.requires.taking.at)).env;
 }
 
 pub returns-in_default-clause-takes : goal.returns-in_default-clause-takes
@@ -44,12 +46,14 @@ call_instance-requires-clause-all_named c =
     named_1 c.args.core.now c.args.text.now c.reachable_is_closed.ensures c.items_are_in_text.ensures c.args.budget c.args.item.position
     c.requires.taking.number c.args.found.now c.args.waiting.now c.args.item refl
     c.requires.taking.run c.requires.taking.at c.args.names.now c.args.nonterminal _ c.args.label.now c.args.not.now c.requires.before
-    _ c.in_ok-env.env c.values_at-values.result.now c.in-Some.values c.values_at-values.ensures
-    c.in_ok-env.ensures.extends (c.in_ok-env.ensures.once c.requires.taking.run.taking.stored.tables.environments) c.in_ok-env.ensures.enters.there
+    _ c.in_ok-env.env c.values_at-values.result.now (values_in c.values_at-values.result.now c.in-Some.values) c.values_at-values.ensures
+    c.in_ok-env.ensures.extends (c.in_ok-env.ensures.once c.requires.taking.run.taking.stored.tables.environments)
+    (there_with c.enter_arguments.new.envs.keys c.in_ok-env.env _ c.values_at-values.result.now c.in-Some.values c.values_at-values.ensures
+    c.in_ok-env.ensures.enters.there)
     refl refl refl refl (c.in_ok-values.ensures.some c.in-Some.values c.in-Some.is)
 
 pub call_instance-requires-clause-env : goal.call_instance-requires-clause-env
-call_instance-requires-clause-env c = slice_get_within c.enter_arguments.new.envs.keys c.in_ok-env.env c.in-Some.values
+call_instance-requires-clause-env c = slice_get_within c.enter_arguments.new.envs.keys c.in_ok-env.env _
     c.in_ok-env.ensures.enters.there
 
 pub returns-in_err-callee-clause-takes : goal.returns-in_err-callee-clause-takes
@@ -60,8 +64,10 @@ returns-in_err-callee-clause-takes c =
     c.args.found.now c.args.waiting.now c.args.item refl
     (run_at c.args.core.now c.args.text.now c.args.budget c.args.item c.args.found.now c.args.waiting.now c.requires.taking k e) e
     c.args.names.now c.args.nonterminal _ c.args.label.now c.args.not.now c.requires.before
-    _ c.in_ok-env.env c.values_at-values.result.now c.in-Some.values c.values_at-values.ensures
-    c.in_ok-env.ensures.extends (c.in_ok-env.ensures.once c.requires.taking.run.taking.stored.tables.environments) c.in_ok-env.ensures.enters.there
+    _ c.in_ok-env.env c.values_at-values.result.now (values_in c.values_at-values.result.now c.in-Some.values) c.values_at-values.ensures
+    c.in_ok-env.ensures.extends (c.in_ok-env.ensures.once c.requires.taking.run.taking.stored.tables.environments)
+    (there_with c.enter_arguments.new.envs.keys c.in_ok-env.env _ c.values_at-values.result.now c.in-Some.values c.values_at-values.ensures
+    c.in_ok-env.ensures.enters.there)
     refl refl refl refl (c.in_ok-values.ensures.some c.in-Some.values c.in-Some.is)
     c.call_instance.new.found c.call_instance.new.waiting c.in_err-callee.field-0.0 refl c.in_err-callee.ensures.enters)
 
@@ -71,14 +77,19 @@ add_caller-requires c =
       there = callee_there c.args.core.now c.args.text.now c.reachable_is_closed.ensures c.items_are_in_text.ensures c.args.budget
           c.args.item.position c.requires.taking.number c.args.found.now c.args.waiting.now c.args.item refl
           c.requires.taking.run c.requires.taking.at c.args.names.now c.args.nonterminal _ c.args.label.now c.args.not.now c.requires.before
-          _ c.in_ok-env.env c.values_at-values.result.now c.in-Some.values c.values_at-values.ensures
-          c.in_ok-env.ensures.extends (c.in_ok-env.ensures.once c.requires.taking.run.taking.stored.tables.environments) c.in_ok-env.ensures.enters.there
+          _ c.in_ok-env.env c.values_at-values.result.now (values_in c.values_at-values.result.now c.in-Some.values) c.values_at-values.ensures
+          c.in_ok-env.ensures.extends (c.in_ok-env.ensures.once c.requires.taking.run.taking.stored.tables.environments)
+          (there_with c.enter_arguments.new.envs.keys c.in_ok-env.env _ c.values_at-values.result.now c.in-Some.values c.values_at-values.ensures
+          c.in_ok-env.ensures.enters.there)
           refl refl refl refl (c.in_ok-values.ensures.some c.in-Some.values c.in-Some.is)
           c.call_instance.new.found c.call_instance.new.waiting c.in_ok-callee.callee refl c.in_ok-callee.ensures.enters;
-      last = last_2 c.args.core.now c.args.text.now c.reachable_is_closed.ensures c.items_are_in_text.ensures c.args.budget c.args.item.position c.requires.taking.number c.args.found.now c.args.waiting.now c.args.item refl
+      last = last_2 c.args.core.now c.args.text.now c.reachable_is_closed.ensures c.items_are_in_text.ensures c.args.budget c.args.item.position
+          c.requires.taking.number c.args.found.now c.args.waiting.now c.args.item refl
           c.requires.taking.run c.requires.taking.at c.args.names.now c.args.nonterminal _ c.args.label.now c.args.not.now c.requires.before
-          _ c.in_ok-env.env c.values_at-values.result.now c.in-Some.values c.values_at-values.ensures
-          c.in_ok-env.ensures.extends (c.in_ok-env.ensures.once c.requires.taking.run.taking.stored.tables.environments) c.in_ok-env.ensures.enters.there
+          _ c.in_ok-env.env c.values_at-values.result.now (values_in c.values_at-values.result.now c.in-Some.values) c.values_at-values.ensures
+          c.in_ok-env.ensures.extends (c.in_ok-env.ensures.once c.requires.taking.run.taking.stored.tables.environments)
+          (there_with c.enter_arguments.new.envs.keys c.in_ok-env.env _ c.values_at-values.result.now c.in-Some.values c.values_at-values.ensures
+          c.in_ok-env.ensures.enters.there)
           refl refl refl refl (c.in_ok-values.ensures.some c.in-Some.values c.in-Some.is)
           c.call_instance.new.found c.call_instance.new.waiting c.in_ok-callee.callee refl c.in_ok-callee.ensures.enters;
     }
@@ -89,11 +100,13 @@ end_at-requires c =
       there = still_there c.args.core.now c.args.text.now c.reachable_is_closed.ensures c.items_are_in_text.ensures c.args.budget
           c.args.item.position c.requires.taking.number c.args.found.now c.args.waiting.now c.args.item refl
           c.requires.taking.run c.requires.taking.at c.args.names.now c.args.nonterminal _ c.args.label.now c.args.not.now c.requires.before
-          _ c.in_ok-env.env c.values_at-values.result.now c.in-Some.values c.values_at-values.ensures
-          c.in_ok-env.ensures.extends (c.in_ok-env.ensures.once c.requires.taking.run.taking.stored.tables.environments) c.in_ok-env.ensures.enters.there
+          _ c.in_ok-env.env c.values_at-values.result.now (values_in c.values_at-values.result.now c.in-Some.values) c.values_at-values.ensures
+          c.in_ok-env.ensures.extends (c.in_ok-env.ensures.once c.requires.taking.run.taking.stored.tables.environments)
+          (there_with c.enter_arguments.new.envs.keys c.in_ok-env.env _ c.values_at-values.result.now c.in-Some.values c.values_at-values.ensures
+          c.in_ok-env.ensures.enters.there)
           refl refl refl refl (c.in_ok-values.ensures.some c.in-Some.values c.in-Some.is)
           c.call_instance.new.found c.call_instance.new.waiting c.in_ok-callee.callee refl c.in_ok-callee.ensures.enters
-          c.add_caller.new.waiting c.args.number c.in_ok-add_caller.ensures.callers c.in_ok-add_caller.ensures.called;
+          c.add_caller.new.waiting c.args.number c.is_bare.result c.in_ok-add_caller.ensures.callers c.in_ok-add_caller.ensures.called;
     }
 
 pub returns-in_default-end_at-clause-takes : goal.returns-in_default-end_at-clause-takes
@@ -103,11 +116,13 @@ returns-in_default-end_at-clause-takes c =
     c.args.found.now c.args.waiting.now c.args.item refl
     (run_at c.args.core.now c.args.text.now c.args.budget c.args.item c.args.found.now c.args.waiting.now c.requires.taking k e) e
     c.args.names.now c.args.nonterminal _ c.args.label.now c.args.not.now c.requires.before
-    _ c.in_ok-env.env c.values_at-values.result.now c.in-Some.values c.values_at-values.ensures
-    c.in_ok-env.ensures.extends (c.in_ok-env.ensures.once c.requires.taking.run.taking.stored.tables.environments) c.in_ok-env.ensures.enters.there
+    _ c.in_ok-env.env c.values_at-values.result.now (values_in c.values_at-values.result.now c.in-Some.values) c.values_at-values.ensures
+    c.in_ok-env.ensures.extends (c.in_ok-env.ensures.once c.requires.taking.run.taking.stored.tables.environments)
+    (there_with c.enter_arguments.new.envs.keys c.in_ok-env.env _ c.values_at-values.result.now c.in-Some.values c.values_at-values.ensures
+    c.in_ok-env.ensures.enters.there)
     refl refl refl refl (c.in_ok-values.ensures.some c.in-Some.values c.in-Some.is)
     c.call_instance.new.found c.call_instance.new.waiting c.in_ok-callee.callee refl c.in_ok-callee.ensures.enters
-    c.add_caller.new.waiting c.args.number c.in_ok-add_caller.ensures.callers c.in_ok-add_caller.ensures.called c.in_default-end_at.ensures.none
+    c.add_caller.new.waiting c.args.number c.is_bare.result c.in_ok-add_caller.ensures.callers c.in_ok-add_caller.ensures.called c.in_default-end_at.ensures.none
 
 pub returns-in_default-end_at-clause-trail : goal.returns-in_default-end_at-clause-trail
 returns-in_default-end_at-clause-trail c =
@@ -119,20 +134,24 @@ returns-in_default-end_at-clause-trail c =
     c.args.waiting.now c.args.item
     (run_at c.args.core.now c.args.text.now c.args.budget c.args.item c.args.found.now c.args.waiting.now c.requires.taking k e) e
     c.args.names.now c.args.nonterminal _ c.args.label.now c.args.not.now c.requires.before c.args.trail.now c.args.number h.1 h.0
-    _ c.in_ok-env.env c.values_at-values.result.now c.in-Some.values c.values_at-values.ensures
-    c.in_ok-env.ensures.extends (c.in_ok-env.ensures.once c.requires.taking.run.taking.stored.tables.environments) c.in_ok-env.ensures.enters.there
+    _ c.in_ok-env.env c.values_at-values.result.now (values_in c.values_at-values.result.now c.in-Some.values) c.values_at-values.ensures
+    c.in_ok-env.ensures.extends (c.in_ok-env.ensures.once c.requires.taking.run.taking.stored.tables.environments)
+    (there_with c.enter_arguments.new.envs.keys c.in_ok-env.env _ c.values_at-values.result.now c.in-Some.values c.values_at-values.ensures
+    c.in_ok-env.ensures.enters.there)
     refl refl refl refl (c.in_ok-values.ensures.some c.in-Some.values c.in-Some.is)
     c.call_instance.new.found c.call_instance.new.waiting c.in_ok-callee.callee c.in_ok-callee.ensures.enters
     c.call_instance.new.trail c.in_ok-callee.ensures.trail
-    c.add_caller.new.waiting c.in_ok-add_caller.ensures.callers c.in_ok-add_caller.ensures.called c.in_default-end_at.ensures.none
+    c.add_caller.new.waiting c.is_bare.result c.is_bare.ensures.0 c.in_ok-add_caller.ensures.callers c.in_ok-add_caller.ensures.called c.in_default-end_at.ensures.none
 
 pub go_behind-requires-clause-named : goal.go_behind-requires-clause-named
 go_behind-requires-clause-named c =
     named_2 c.args.core.now c.args.text.now c.reachable_is_closed.ensures c.items_are_in_text.ensures c.args.budget c.args.item.position
     c.requires.taking.number c.args.found.now c.args.waiting.now c.args.item refl
     c.requires.taking.run c.requires.taking.at c.args.names.now c.args.nonterminal _ c.args.label.now c.args.not.now c.requires.before
-    _ c.in_ok-env.env c.values_at-values.result.now c.in-Some.values c.values_at-values.ensures
-    c.in_ok-env.ensures.extends (c.in_ok-env.ensures.once c.requires.taking.run.taking.stored.tables.environments) c.in_ok-env.ensures.enters.there
+    _ c.in_ok-env.env c.values_at-values.result.now (values_in c.values_at-values.result.now c.in-Some.values) c.values_at-values.ensures
+    c.in_ok-env.ensures.extends (c.in_ok-env.ensures.once c.requires.taking.run.taking.stored.tables.environments)
+    (there_with c.enter_arguments.new.envs.keys c.in_ok-env.env _ c.values_at-values.result.now c.in-Some.values c.values_at-values.ensures
+    c.in_ok-env.ensures.enters.there)
     refl refl refl refl (c.in_ok-values.ensures.some c.in-Some.values c.in-Some.is)
     c.call_instance.new.found c.call_instance.new.waiting c.in_ok-callee.callee refl c.in_ok-callee.ensures.enters
 
@@ -141,10 +160,46 @@ go_behind-requires-clause-all_named c =
     (run_2 c.args.core.now c.args.text.now c.reachable_is_closed.ensures c.items_are_in_text.ensures c.args.budget c.args.item.position
     c.requires.taking.number c.args.found.now c.args.waiting.now c.args.item refl
     c.requires.taking.run c.requires.taking.at c.args.names.now c.args.nonterminal _ c.args.label.now c.args.not.now c.requires.before
-    _ c.in_ok-env.env c.values_at-values.result.now c.in-Some.values c.values_at-values.ensures
-    c.in_ok-env.ensures.extends (c.in_ok-env.ensures.once c.requires.taking.run.taking.stored.tables.environments) c.in_ok-env.ensures.enters.there
+    _ c.in_ok-env.env c.values_at-values.result.now (values_in c.values_at-values.result.now c.in-Some.values) c.values_at-values.ensures
+    c.in_ok-env.ensures.extends (c.in_ok-env.ensures.once c.requires.taking.run.taking.stored.tables.environments)
+    (there_with c.enter_arguments.new.envs.keys c.in_ok-env.env _ c.values_at-values.result.now c.in-Some.values c.values_at-values.ensures
+    c.in_ok-env.ensures.enters.there)
     refl refl refl refl (c.in_ok-values.ensures.some c.in-Some.values c.in-Some.is)
     c.call_instance.new.found c.call_instance.new.waiting c.in_ok-callee.callee refl c.in_ok-callee.ensures.enters).taking.stored.named
+
+pub go_behind-requires-clause-indexed : goal.go_behind-requires-clause-indexed
+go_behind-requires-clause-indexed c =
+    let h = trail_at c.args.core.now c.args.text.now c.args.item.position c.args.item c.args.number c.args.found.now c.args.waiting.now
+    c.args.trail.now
+    c.requires.taking.run.taking.stored c.requires.next c.requires.taking.number c.requires.taking.at in
+    (trail_2
+    c.args.core.now c.args.text.now c.reachable_is_closed.ensures c.items_are_in_text.ensures c.args.budget c.requires.taking.number c.args.found.now
+    c.args.waiting.now c.args.item c.requires.taking.run c.requires.taking.at
+    c.args.names.now c.args.nonterminal _ c.args.label.now c.args.not.now c.requires.before c.args.trail.now c.args.number h.1 h.0
+    _ c.in_ok-env.env c.values_at-values.result.now (values_in c.values_at-values.result.now c.in-Some.values) c.values_at-values.ensures
+    c.in_ok-env.ensures.extends (c.in_ok-env.ensures.once c.requires.taking.run.taking.stored.tables.environments)
+    (there_with c.enter_arguments.new.envs.keys c.in_ok-env.env _ c.values_at-values.result.now c.in-Some.values c.values_at-values.ensures
+    c.in_ok-env.ensures.enters.there)
+    refl refl refl refl (c.in_ok-values.ensures.some c.in-Some.values c.in-Some.is)
+    c.call_instance.new.found c.call_instance.new.waiting c.in_ok-callee.callee c.in_ok-callee.ensures.enters
+    c.call_instance.new.trail c.in_ok-callee.ensures.trail).indexed
+
+pub go_behind-requires-clause-by_nodes : goal.go_behind-requires-clause-by_nodes
+go_behind-requires-clause-by_nodes c =
+    let h = trail_at c.args.core.now c.args.text.now c.args.item.position c.args.item c.args.number c.args.found.now c.args.waiting.now
+    c.args.trail.now
+    c.requires.taking.run.taking.stored c.requires.next c.requires.taking.number c.requires.taking.at in
+    by_nodes_2
+    c.args.core.now c.args.text.now c.reachable_is_closed.ensures c.items_are_in_text.ensures c.args.budget c.requires.taking.number c.args.found.now
+    c.args.waiting.now c.args.item c.requires.taking.run c.requires.taking.at
+    c.args.names.now c.args.nonterminal _ c.args.label.now c.args.not.now c.requires.before c.args.trail.now c.args.number h.1 h.0
+    _ c.in_ok-env.env c.values_at-values.result.now (values_in c.values_at-values.result.now c.in-Some.values) c.values_at-values.ensures
+    c.in_ok-env.ensures.extends (c.in_ok-env.ensures.once c.requires.taking.run.taking.stored.tables.environments)
+    (there_with c.enter_arguments.new.envs.keys c.in_ok-env.env _ c.values_at-values.result.now c.in-Some.values c.values_at-values.ensures
+    c.in_ok-env.ensures.enters.there)
+    refl refl refl refl (c.in_ok-values.ensures.some c.in-Some.values c.in-Some.is)
+    c.call_instance.new.found c.call_instance.new.waiting c.in_ok-callee.callee c.in_ok-callee.ensures.enters
+    c.call_instance.new.trail c.in_ok-callee.ensures.trail
 
 pub returns-clause-takes : goal.returns-clause-takes
 returns-clause-takes c =
@@ -153,11 +208,13 @@ returns-clause-takes c =
     c.args.found.now c.args.waiting.now c.args.item refl
     (run_at c.args.core.now c.args.text.now c.args.budget c.args.item c.args.found.now c.args.waiting.now c.requires.taking k e) e
     c.args.names.now c.args.nonterminal _ c.args.label.now c.args.not.now c.requires.before
-    _ c.in_ok-env.env c.values_at-values.result.now c.in-Some.values c.values_at-values.ensures
-    c.in_ok-env.ensures.extends (c.in_ok-env.ensures.once c.requires.taking.run.taking.stored.tables.environments) c.in_ok-env.ensures.enters.there
+    _ c.in_ok-env.env c.values_at-values.result.now (values_in c.values_at-values.result.now c.in-Some.values) c.values_at-values.ensures
+    c.in_ok-env.ensures.extends (c.in_ok-env.ensures.once c.requires.taking.run.taking.stored.tables.environments)
+    (there_with c.enter_arguments.new.envs.keys c.in_ok-env.env _ c.values_at-values.result.now c.in-Some.values c.values_at-values.ensures
+    c.in_ok-env.ensures.enters.there)
     refl refl refl refl (c.in_ok-values.ensures.some c.in-Some.values c.in-Some.is)
     c.call_instance.new.found c.call_instance.new.waiting c.in_ok-callee.callee refl c.in_ok-callee.ensures.enters
-    c.add_caller.new.waiting c.args.number c.in_ok-add_caller.ensures.callers c.in_ok-add_caller.ensures.called c.in-Some-end_at.ensures.some.0
+    c.add_caller.new.waiting c.args.number c.is_bare.result c.in_ok-add_caller.ensures.callers c.in_ok-add_caller.ensures.called c.in-Some-end_at.ensures.some.0
     c.go_behind.new.found c.go_behind.result c.go_behind.ensures.adds
 
 pub returns-clause-trail : goal.returns-clause-trail
@@ -170,11 +227,13 @@ returns-clause-trail c =
     c.args.waiting.now c.args.item
     (run_at c.args.core.now c.args.text.now c.args.budget c.args.item c.args.found.now c.args.waiting.now c.requires.taking k e) e
     c.args.names.now c.args.nonterminal _ c.args.label.now c.args.not.now c.requires.before c.args.trail.now c.args.number h.1 h.0
-    _ c.in_ok-env.env c.values_at-values.result.now c.in-Some.values c.values_at-values.ensures
-    c.in_ok-env.ensures.extends (c.in_ok-env.ensures.once c.requires.taking.run.taking.stored.tables.environments) c.in_ok-env.ensures.enters.there
+    _ c.in_ok-env.env c.values_at-values.result.now (values_in c.values_at-values.result.now c.in-Some.values) c.values_at-values.ensures
+    c.in_ok-env.ensures.extends (c.in_ok-env.ensures.once c.requires.taking.run.taking.stored.tables.environments)
+    (there_with c.enter_arguments.new.envs.keys c.in_ok-env.env _ c.values_at-values.result.now c.in-Some.values c.values_at-values.ensures
+    c.in_ok-env.ensures.enters.there)
     refl refl refl refl (c.in_ok-values.ensures.some c.in-Some.values c.in-Some.is)
     c.call_instance.new.found c.call_instance.new.waiting c.in_ok-callee.callee c.in_ok-callee.ensures.enters
     c.call_instance.new.trail c.in_ok-callee.ensures.trail
-    c.add_caller.new.waiting c.in_ok-add_caller.ensures.callers c.in_ok-add_caller.ensures.called c.in-Some-end_at.done
+    c.add_caller.new.waiting c.is_bare.result c.is_bare.ensures.0 c.in_ok-add_caller.ensures.callers c.in_ok-add_caller.ensures.called c.in-Some-end_at.done
     c.in-Some-end_at.ensures.some.0 c.in-Some-end_at.ensures.some.1 c.go_behind.new.found c.go_behind.new.trail c.go_behind.result
     c.go_behind.ensures.adds c.go_behind.ensures.ways

@@ -2,11 +2,12 @@ use Rattle.std.proofs.Common.{refl, sym, ap, ◌∙◌, subst, length, arith}
 use Rattle.std.specs.Prelude.{OnOk}
 use Rattle.ig_plain.specs.Waiting.{called_at}
 use Rattle.ig_plain.specs.Run.{IsChainOf, IsReturnToOne}
-use Rattle.ig_plain.specs.Found.{Adds}
-use Rattle.ig_plain.specs.Trail.{Records, AreNumbered, IsReturnBy}
+use Rattle.ig_plain.specs.Found.{Adds, means}
+use Rattle.ig_plain.specs.Trail.{Records, AreKnown, IsReturnBy}
 use Rattle.ig_plain.proofs.Distinct.{found_once}
 use Rattle.ig_plain.proofs.Waiters.{ended_set, set_length}
 use Rattle.ig_plain.proofs.Completes.{called_there, nothing_new, chain_of, completes, run_at, head_now}
+use Rattle.ig_plain.proofs.Fresh.{found_by_node}
 use Rattle.ig_plain.proofs.Onward.{trail_at}
 use Rattle.ig_plain.proofs.TakenOn.{again_on, completes_on}
 use Rattle.ig_plain.proofs.run.take_complete.Goals as goal
@@ -31,7 +32,7 @@ returns-in-Some-clause-trail c =
     c.requires.taking.run.taking.stored c.requires.next k e in
     again_on c.args.core.now c.args.text.now c.reachable_is_closed.ensures c.args.budget c.args.item.position k c.args.found.now c.args.waiting.now c.args.trail.now
     c.args.item c.args.number refl (run_at c.args.core.now c.args.text.now c.args.budget c.args.item c.args.found.now c.args.waiting.now c.requires.taking k e) e
-    h.1 h.0 c.requires.complete c.in-Some.first _ c.in-Some.ensures.some.0 c.in-Some.ensures.some.1 c.in_ok-push_end.ensures.ok refl
+    h.1 h.0 c.requires.complete c.in-Some.first _ c.in-Some.ensures.some.0 c.in-Some.ensures.some.1 c.in_ok-push_end.ensures.ok refl refl
 
 pub add_end-requires : goal.add_end-requires
 add_end-requires c =
@@ -57,12 +58,21 @@ return_to_all-requires-clause-chain c =
     (chain_of c.args.core.now c.args.text.now c.reachable_is_closed.ensures c.args.budget c.args.item.position c.requires.taking.number c.args.found.now c.args.waiting.now c.args.item
     refl c.requires.taking.run c.requires.taking.at c.requires.complete))
 
-pub return_to_all-requires-clause-numbers : goal.return_to_all-requires-clause-numbers
-return_to_all-requires-clause-numbers c =
-    subst (AreNumbered c.args.found.now) (sym (c.as_slice-callers.ensures.value ∙ c.add_end.ensures.callers)) c.requires.next.trail.callers
+pub return_to_all-requires-clause-known : goal.return_to_all-requires-clause-known
+return_to_all-requires-clause-known c =
+    subst (AreKnown c.args.core.now c.args.found.now) (sym (c.as_slice-callers.ensures.value ∙ c.add_end.ensures.callers)) c.requires.next.trail.callers
 
 pub return_to_all-requires-clause-once : goal.return_to_all-requires-clause-once
 return_to_all-requires-clause-once c = found_once c.args.item.position c.args.found.now c.requires.taking.run.taking.stored
+
+pub return_to_all-requires-clause-indexed : goal.return_to_all-requires-clause-indexed
+return_to_all-requires-clause-indexed c = c.requires.next.trail.indexed
+
+pub return_to_all-requires-clause-by_nodes : goal.return_to_all-requires-clause-by_nodes
+return_to_all-requires-clause-by_nodes c x m =
+    let call = m.returns.call in
+    found_by_node c.args.core.now c.args.text.now c.args.found.now c.args.trail.now _ c.requires.next.trail.ways (means c.args.found.now m.caller) call.names call.callee
+    call.arguments call.label call.excluded call.before x _ c.args.item.position m.returns.is
 
 pub returns-clause-takes : goal.returns-clause-takes
 returns-clause-takes c =

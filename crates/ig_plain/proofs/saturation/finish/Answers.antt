@@ -10,9 +10,9 @@ of-requires-clause-values c =
 
 pub of-requires-clause-tables : goal.of-requires-clause-tables
 of-requires-clause-tables c =
-    are_tables c.args.found.envs.keys c.in_ok-table.table c.args.found.keys c.into_vec-keys.result.items c.add_to.new.list.items
-    (c.args.found.done.items ++ c.args.found.here) (c.in_ok-table.ensures ∙ c.as_slice-envs.ensures.keys)
+    are_tables c.args.found.envs.keys c.in_ok-table.table c.args.found.keys c.into_vec-keys.result.items c.extend_from_slice.new.self.items
+    (c.args.found.done.items ++ c.args.found.here.items) (c.in_ok-table.ensures ∙ c.as_slice-envs.ensures.keys)
     c.into_vec-keys.ensures
-    c.in_ok-add_to.ensures c.requires.named
+    (c.in_ok-extend_from_slice.ensures.items ∙ ap (λ z. c.args.found.done.items ++ z) c.as_slice.ensures.value) c.requires.named
     (subst (λ z. length z < 4294967296) c.as_slice-envs.ensures.keys c.in_ok-keep_few.ensures)
     (let l = ap length c.into_vec-keys.ensures in omega (arith, l, c.len.ensures, c.in_ok-keep_few-2.ensures)) c.requires.few

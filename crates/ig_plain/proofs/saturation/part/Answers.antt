@@ -2,11 +2,11 @@ use Rattle.std.proofs.Common.{◌≡◌, ◌<◌, ◌≤◌, Some, length, slice
 use Rattle.std.proofs.lemmas.Option.{slice_get-get_or}
 use Rattle.ig_plain.proofs.Arriving.{parted_none, parted_all, parted_here, parted_kept}
 use Rattle.ig_plain.proofs.saturation.part.Goals as goal
-use Rattle.ig_plain.proofs.saturation.part.Goals.{then-item-position+in_ok-add+in_ok-push, else-item-position}
+use Rattle.ig_plain.proofs.saturation.part.Goals.{then-item-position+in_ok-push+in_ok-push-2, else-item-position}
 
 pub loop-place-init : goal.loop-place-init
 loop-place-init c =
-    record { parted = parted_none c.args.position c.args.later.now.items c.args.prevs.now.items c.args.here.now c.args.ways.now }
+    record { parted = parted_none c.args.position c.args.later.now.items c.args.prevs.now.items c.args.here.now.items c.args.ways.now }
 
 pub index_mut-requires : goal.index_mut-requires
 index_mut-requires c =
@@ -33,9 +33,9 @@ loop-place-preserved c =
     let prev_at : slice_get c.loop-place.prevs.items c.loop-place.place ≡ Some c.index-prev.result.now =
     slice_get-get_or c.loop-place.prevs.items c.loop-place.place _ k ∙ ap Some (sym c.index-prev.ensures) in
     elim c.if-item-position.branch [
-      | then-item-position+in_ok-add+in_ok-push w ↦ rw (w.here-is, w.ways-is, w.later-is, w.prevs-is, w.kept-is) (record {
-        parted = parted_here _ _ _ _ _ _ _ _ _ _ _ _ _ c.requires.numbered at prev_at p _ _ w.if-item-position.true w.in_ok-add.ensures.ok
-            w.in_ok-push.ensures.ok;
+      | then-item-position+in_ok-push+in_ok-push-2 w ↦ rw (w.here-is, w.ways-is, w.later-is, w.prevs-is, w.kept-is) (record {
+        parted = parted_here _ _ _ _ _ _ _ _ _ _ _ _ _ c.requires.numbered at prev_at p _ _ w.if-item-position.true w.in_ok-push.ensures.items
+            w.in_ok-push-2.ensures.ok;
       })
       | else-item-position w ↦ rw (w.here-is, w.ways-is, w.later-is, w.prevs-is, w.kept-is) (record {
         parted = parted_kept _ _ _ _ _ _ _ _ _ _ _ _ _ c.requires.numbered at prev_at p w.if-item-position.false;

@@ -3,6 +3,6 @@ use Rattle.ig_plain.proofs.saturation.part.Given as goal
 
 abbrev pub invariant-loop-place : goal.invariant-loop-place
 invariant-loop-place l = record {
-  parted : IsPartedTo l.position l.initial.later.items l.later.items l.initial.prevs.items l.prevs.items l.initial.here l.here l.initial.ways l.ways
+  parted : IsPartedTo l.position l.initial.later.items l.later.items l.initial.prevs.items l.prevs.items l.initial.here.items l.here.items l.initial.ways l.ways
       l.kept l.place;
 }

@@ -25,13 +25,13 @@ pub take_all-requires-in-loop-before-clause-trail : goal.take_all-requires-in-lo
 take_all-requires-in-loop-before-clause-trail c =
     arrives_on c.args.core.now c.args.text.now c.args.budget c.loop-before.before c.loop-before.found c.arrive.new.found c.loop-before.waiting
     c.loop-before.trail c.arrive.new.trail c.loop-before.invariant.run c.in_ok-arrive.ensures.arrives c.in_ok-arrive.ensures.ways
-    c.loop-before.invariant.trail
+    c.loop-before.invariant.trail c.in_ok-arrive.ensures.returned
 
 pub returns-clause-run : goal.returns-clause-run
 returns-clause-run c =
     let e : c.loop-before.before ≡ length c.args.text.now =
     omega (arith, c.loop-before-test.false, c.loop-before.auto.before-end, c.len-before-end.ensures.length) in
-    subst (λ z. IsRun c.args.core.now c.args.text.now c.args.budget z (length c.loop-before.found.here) c.loop-before.found c.loop-before.waiting) e
+    subst (λ z. IsRun c.args.core.now c.args.text.now c.args.budget z (length c.loop-before.found.here.items) c.loop-before.found c.loop-before.waiting) e
     c.loop-before.invariant.run
 
 pub returns-clause-trail : goal.returns-clause-trail
@@ -39,5 +39,5 @@ returns-clause-trail c =
     let e : c.loop-before.before ≡ length c.args.text.now =
     omega (arith, c.loop-before-test.false, c.loop-before.auto.before-end, c.len-before-end.ensures.length) in
     subst
-    (λ z. HasTrail c.args.core.now c.args.text.now z (length c.loop-before.found.here) c.loop-before.found c.loop-before.waiting c.loop-before.trail)
+    (λ z. HasTrail c.args.core.now c.args.text.now z (length c.loop-before.found.here.items) c.loop-before.found c.loop-before.waiting c.loop-before.trail)
     e c.loop-before.invariant.trail

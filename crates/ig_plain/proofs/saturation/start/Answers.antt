@@ -50,10 +50,11 @@ returns-clause-trail c =
     (instance_by c.enter_values.new.envs.keys (record { nonterminal = 0; env = c.in_ok-env.env; start = 0 }))
     s
     c.add_firsts.new.found c.add_called.new.waiting c.args.trail.now c.add_firsts.new.trail
-    (nothing_found s c.requires.empty.done c.requires.empty.here) (c.add_firsts.ensures.adds.grows.done ∙ c.requires.empty.done) c.requires.empty.later
+    c.requires.empty.done c.requires.empty.here (c.add_firsts.ensures.adds.grows.done ∙ c.requires.empty.done) c.requires.empty.later
     (c.in_ok-add_called.ensures.called ∙ ap (λ z. z ++ not_called ∷ []) c.requires.empty.called)
     (record {
       ways = c.requires.untrodden.ways;
       later = c.requires.untrodden.later;
+      returned = c.requires.untrodden.returned;
       callers = c.in_ok-add_called.ensures.callers ∙ c.requires.untrodden.callers;
     }) d) c.add_firsts.ensures.ways

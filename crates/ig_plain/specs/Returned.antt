@@ -1,7 +1,7 @@
--- Items by hash, chained: each cell names the cell before it in its bucket.
+-- Items with their numbers by hash, chained: each cell names the cell before it in its bucket.
 use Rattle.std.specs.Prelude.{◌≡◌, ℕ, zero, suc, ◌+◌, ◌-◌, ◌*◌, ◌<◌, ◌≤◌, List, map, length, slice_index_or, if◌then◌else◌, bit_and, nat_eq}
 use Rattle.ig_item.specs.declared.items.Item.{Item}
-use Rattle.ig_plain.specs.declared.item_set.Cell.{Cell}
+use Rattle.ig_plain.specs.declared.returned.Cell.{Cell}
 
 unfoldable pub hash_of : Item → ℕ
 hash_of x = ((x.instance * 31 + x.alternative) * 31 + x.dot) * 31 + x.env
@@ -9,11 +9,19 @@ hash_of x = ((x.instance * 31 + x.alternative) * 31 + x.dot) * 31 + x.env
 abbrev pub bucket_of : ℕ → Item → ℕ
 bucket_of mask x = bit_and (hash_of x) mask
 
-abbrev pub items_of : List Cell → List Item
-items_of = map (λ c. c.item)
+-- an item and its number
+pub record Entry : Type 0 where
+  pub item : Item
+  pub number : ℕ
+
+abbrev pub entry : Item → ℕ → Entry
+entry item number = record { item = item; number = number }
+
+abbrev pub entries_of : List Cell → List Entry
+entries_of = map (λ c. entry c.item c.number)
 
 abbrev pub nothing : Cell
-nothing = record { item = record { instance = 0; alternative = 0; dot = 0; env = 0; position = 0 }; next = 0 }
+nothing = record { item = record { instance = 0; alternative = 0; dot = 0; env = 0; position = 0 }; number = 0; next = 0 }
 
 -- the place + 1 of the last of the first n cells that is in that bucket; 0 where there is none
 abbrev pub last : ℕ → List Cell → ℕ → ℕ → ℕ

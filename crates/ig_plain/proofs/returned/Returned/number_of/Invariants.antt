@@ -1,5 +1,5 @@
-use Rattle.ig_plain.specs.ItemSet.{Walks}
-use Rattle.ig_plain.proofs.item_set.ItemSet.number_of.Given as goal
+use Rattle.ig_plain.specs.Returned.{Walks}
+use Rattle.ig_plain.proofs.returned.Returned.number_of.Given as goal
 
 abbrev pub invariant-loop-at : goal.invariant-loop-at
 invariant-loop-at l = Walks l.self-inside.mask l.self-inside.base l.self-inside.cells.items l.item l.at

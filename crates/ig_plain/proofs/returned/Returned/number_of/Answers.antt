@@ -1,7 +1,8 @@
-use Rattle.std.proofs.Common.{◌≡◌, ◌-◌, sym, ◌∙◌, subst, arith, Contains, Some, slice_get, true, false, slice_index_or}
+use Rattle.std.proofs.Common.{◌≡◌, ◌-◌, sym, ◌∙◌, subst, arith, Contains, true, false, slice_index_or}
+use Rattle.ig_plain.specs.Returned.{entry}
 use Rattle.ig_plain.proofs.Equality.{item_eq-decides}
 use Rattle.ig_plain.proofs.Chains.{walk_starts, walk_smaller, walk_goes, walk_finds, walk_ends}
-use Rattle.ig_plain.proofs.item_set.ItemSet.number_of.Goals as goal
+use Rattle.ig_plain.proofs.returned.Returned.number_of.Goals as goal
 
 pub loop-at-init : goal.loop-at-init
 loop-at-init c =
@@ -22,11 +23,11 @@ loop-at-preserved c =
 pub returns-then-eq-clause-some : goal.returns-then-eq-clause-some
 returns-then-eq-clause-some c =
     let at = c.loop-at.at - c.self.inside.base - 1 in
-    subst (λ z. slice_get z at ≡ Some c.args.item) c.self.view_is
+    subst (λ z. Contains z (entry c.args.item c.index.result.now.number)) c.self.view_is
     (walk_finds c.self.inside.cells.items c.args.item at c.index.result.now (omega (arith, c.loop-at.invariant.within, c.loop-at-test.true)) c.index.ensures
     ((item_eq-decides _ _).0 (sym c.eq.ensures ∙ c.if-eq.true)))
 
 pub returns-clause-none : goal.returns-clause-none
-returns-clause-none c h =
-    absurd (walk_ends _ _ c.self.inside.cells.items c.args.item c.loop-at.at c.loop-at.invariant c.loop-at-test.false
-    (subst (λ z. Contains z c.args.item) (sym c.self.view_is) h))
+returns-clause-none c number h =
+    absurd (walk_ends _ _ c.self.inside.cells.items c.args.item c.loop-at.at c.loop-at.invariant c.loop-at-test.false number
+    (subst (λ z. Contains z (entry c.args.item number)) (sym c.self.view_is) h))

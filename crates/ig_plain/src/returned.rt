@@ -1,8 +1,8 @@
-//! The items at the position of a run, by a table of hashes that is emptied without a cost.
+//! The items at the position of a run that stand behind calls, by a table of hashes that is emptied
+//! without a cost. Only these can be found once more.
 ghost use Rattle.std.specs.Prelude.{◌≡◌, ◌<◌, ◌+◌, [], ◌∷◌, ◌++◌};
-ghost use Rattle.std.specs.Prelude.{IfNone, IfOk, IfSome, OnErr, OnOk, Contains, Some, length};
-ghost use Rattle.std.specs.Prelude.{slice_get};
-ghost use Rattle.ig_plain.specs.ItemSet.{bucket_of};
+ghost use Rattle.std.specs.Prelude.{ℕ, IfNone, IfOk, IfSome, OnErr, OnOk, Contains};
+ghost use Rattle.ig_plain.specs.Returned.{bucket_of, entry};
 
 use ig_item::Item;
 use std::alloc::{AllocError, Global};
@@ -11,18 +11,19 @@ use std::marker::Model;
 /// One less than the number of buckets at the beginning.
 const FIRST_MASK: u32 = 63;
 
-/// An item, and where the one before it in its bucket stands: its place + 1, counted on from the
-/// base. There is none where this is at most the base.
+/// An item with its number, and where the one before it in its bucket stands: its place + 1,
+/// counted on from the base. There is none where this is at most the base.
 #[derive(Clone, Copy)]
 pub(crate) struct Cell {
     pub(crate) item: Item,
+    pub(crate) number: u32,
     pub(crate) next: u32,
 }
 
-/// Items, in the order in which they were added. The places of those that were there before the
-/// set was cleared are at most `base`, so that clearing doesn't touch the buckets.
+/// Items with their numbers, in the order in which they were added. The places of those that were
+/// there before the set was cleared are at most `base`, so that clearing doesn't touch the buckets.
 #[derive(Drop)]
-pub(crate) struct ItemSet {
+pub(crate) struct Returned {
     /// Where the last item of each bucket stands.
     heads: Vec<u32>,
     cells: Vec<Cell>,
@@ -30,63 +31,36 @@ pub(crate) struct ItemSet {
     mask: u32,
 }
 
-impl Model for ItemSet {
+impl Model for Returned {
     ghost use Rattle.std.specs.Prelude.{List, map};
-    ghost use Rattle.ig_item.specs.declared.items.Item as stored;
-    ghost use Rattle.ig_plain.specs.ItemSet.{AreChained, items_of};
+    ghost use Rattle.ig_plain.specs.Returned.{AreChained, Entry, entries_of};
 
-    ghost Value = { List stored.Item };
+    ghost Value = { List Entry };
 
-    ghost view = { λ s. items_of s.cells.items };
+    ghost view = { λ s. entries_of s.cells.items };
 
     ghost invariant = { λ s. AreChained s.mask s.base s.heads.items s.cells.items };
 }
 
-impl ItemSet {
+impl Returned {
     /// No items.
-    pub(crate) fn new(alloc: Global) -> Result<ItemSet, AllocError>
+    pub(crate) fn new(alloc: Global) -> Result<Returned, AllocError>
         ensures { IfOk result (λ s. s ≡ []) }
     {
-        ItemSet::with_mask(alloc, FIRST_MASK)
+        Returned::with_mask(alloc, FIRST_MASK)
     }
 
     /// No items, with so many buckets and one more.
-    fn with_mask(alloc: Global, mask: u32) -> Result<ItemSet, AllocError>
+    fn with_mask(alloc: Global, mask: u32) -> Result<Returned, AllocError>
         ensures { IfOk result (λ s. s ≡ []) }
     {
         let heads = vec![in alloc; 0; mask as usize + 1]?;
-        Ok(ItemSet {
+        Ok(Returned {
             heads,
             cells: Vec::new(alloc),
             base: 0,
             mask,
         })
-    }
-
-    /// The number of items.
-    pub(crate) fn len(&self) -> usize
-        ensures { result ≡ length self.now }
-    {
-        self.cells.len()
-    }
-
-    /// The item of that number.
-    pub(crate) fn at(&self, number: usize) -> Item
-        requires { number < length self.now }
-        ensures { slice_get self.now number ≡ Some result }
-    {
-        self.cells[number].item
-    }
-
-    /// Adds the items to the list, in order.
-    pub(crate) fn add_to(&self, list: &mut Vec<Item>) -> Result<(), AllocError>
-        ensures { OnOk result (list.new.items ≡ list.old.items ++ self.now) }
-    {
-        let cells = self.cells.as_slice();
-        for cell in cells {
-            list.push(cell.item)?;
-        }
-        Ok(())
     }
 
     /// Removes all items. Refused where 32 bits can't count on.
@@ -105,56 +79,57 @@ impl ItemSet {
     }
 
     /// The number of the item; `None` exactly where it isn't there.
-    pub(crate) fn number_of(&self, item: Item) -> Option<usize>
-        ensures some { IfSome result (λ k. slice_get self.now k ≡ Some item) }
-        ensures none { IfNone result (Contains self.now item → ⊥) }
+    #[inline(always)]
+    pub(crate) fn number_of(&self, item: Item) -> Option<u32>
+        ensures some { IfSome result (λ n. Contains self.now (entry item n)) }
+        ensures none { IfNone result ((n : ℕ) → Contains self.now (entry item n) → ⊥) }
     {
         let mut at = self.heads[bucket_of(item, self.mask)];
         while at > self.base {
-            let place = (at - self.base - 1) as usize;
-            let cell = self.cells[place];
+            let cell = self.cells[(at - self.base - 1) as usize];
             if cell.item == item {
-                return Some(place);
+                return Some(cell.number);
             }
             at = cell.next;
         }
         None
     }
 
-    /// Adds an item at the end. Refused, it leaves the items as they were.
-    pub(crate) fn add(&mut self, item: Item) -> Result<(), AllocError>
-        ensures ok { OnOk result (self.new ≡ self.old ++ item ∷ []) }
+    /// Adds an item with its number. Refused, it leaves the items as they were.
+    pub(crate) fn add(&mut self, item: Item, number: u32) -> Result<(), AllocError>
+        ensures ok { OnOk result (self.new ≡ self.old ++ entry item number ∷ []) }
         ensures err { OnErr result (self.new ≡ self.old) }
     {
         self.make_room()?;
-        self.push(item)
+        self.push(item, number)
     }
 
-    /// Adds an item at the end, where there are buckets for it. Refused, it leaves the items as they
-    /// were.
-    fn push(&mut self, item: Item) -> Result<(), AllocError>
-        ensures ok { OnOk result (self.new ≡ self.old ++ item ∷ []) }
+    /// Adds an item with its number, where there are buckets for it. Refused, it leaves the items
+    /// as they were.
+    fn push(&mut self, item: Item, number: u32) -> Result<(), AllocError>
+        ensures ok { OnOk result (self.new ≡ self.old ++ entry item number ∷ []) }
         ensures err { OnErr result (self.new ≡ self.old) }
     {
         let at = bucket_of(item, self.mask);
         let next = self.heads[at];
         let place = place_behind(self.base, self.cells.len())?;
-        self.cells.push(Cell { item, next })?;
+        self.cells.push(Cell { item, number, next })?;
         self.heads[at] = place;
         Ok(())
     }
 
-    /// Makes more buckets where there are no more of them than items.
+    /// Makes more buckets where less than half of them would be free.
     fn make_room(&mut self) -> Result<(), AllocError>
         ensures { self.new ≡ self.old }
     {
-        if self.cells.len() <= self.mask as usize {
+        if self.cells.len() <= self.mask as usize / 2 {
             return Ok(());
         }
         self.grow()
     }
 
     /// Makes twice as many buckets.
+    #[cold]
     fn grow(&mut self) -> Result<(), AllocError>
         ensures { self.new ≡ self.old }
     {
@@ -167,20 +142,20 @@ impl ItemSet {
     }
 
     /// The same items, with so many buckets and one more.
-    fn with_buckets(&self, mask: u32) -> Result<ItemSet, AllocError>
+    fn with_buckets(&self, mask: u32) -> Result<Returned, AllocError>
         ensures { IfOk result (λ s. s ≡ self.now) }
     {
-        let mut larger = ItemSet::with_mask(*self.cells.allocator(), mask)?;
+        let mut larger = Returned::with_mask(*self.cells.allocator(), mask)?;
         let cells = self.cells.as_slice();
         for cell in cells {
-            larger.push(cell.item)?;
+            larger.push(cell.item, cell.number)?;
         }
         Ok(larger)
     }
 }
 
 /// The bucket of an item. Items of one position are told apart by the other numbers.
-#[tactic(auto, unfolding(crate::specs::ItemSet::hash_of))]
+#[tactic(auto, unfolding(crate::specs::Returned::hash_of))]
 fn bucket_of(item: Item, mask: u32) -> usize
     ensures { result ≡ bucket_of mask item }
 {

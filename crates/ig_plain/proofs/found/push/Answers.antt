@@ -1,0 +1,32 @@
+use Rattle.std.proofs.Common.{refl}
+use Rattle.ig_plain.proofs.Growth.{grows_not, grows_here}
+use Rattle.ig_plain.proofs.Sets.{extends_itself}
+use Rattle.ig_plain.proofs.Chains.{added_only, added_once, added_there}
+use Rattle.ig_plain.proofs.Additions.{adds_exit, adds_here}
+use Rattle.ig_plain.proofs.found.push.Goals as goal
+
+pub returns-in_default-clause-adds : goal.returns-in_default-clause-adds
+returns-in_default-clause-adds c =
+    record {
+      grows = grows_not c.args.item.position _ c.args.found.now _ (extends_itself c.args.found.now.envs.keys) (λ h. h) refl refl
+          c.in_default.ensures.items refl;
+      has = tt;
+      within = tt;
+      fault = λ e. cc e;
+    }
+
+pub returns-in_err-push-clause-adds : goal.returns-in_err-push-clause-adds
+returns-in_err-push-clause-adds c =
+    let one = added_only c.args.found.now.here.items c.push.new.self.items c.args.item c.in-Ok.ensures.items in
+    adds_exit c.args.item.position _ c.args.budget c.args.found.now _ c.from_residual.result c.from_residual.ensures.1
+    (grows_here c.args.item.position c.args.found.now _ c.args.item c.requires.named refl refl refl refl refl one.extends one.only
+    (added_once c.args.found.now.here.items c.push.new.self.items c.args.item c.in-Ok.ensures.items c.requires.new))
+
+pub returns-clause-adds : goal.returns-clause-adds
+returns-clause-adds c =
+    let one = added_only c.args.found.now.here.items c.push.new.self.items c.args.item c.in-Ok.ensures.items in
+    adds_here c.args.item.position c.args.budget c.args.found.now _ c.args.item c.keep_within.result
+    (grows_here c.args.item.position c.args.found.now _ c.args.item c.requires.named refl refl refl refl refl one.extends one.only
+    (added_once c.args.found.now.here.items c.push.new.self.items c.args.item c.in-Ok.ensures.items c.requires.new))
+    refl refl (added_there c.args.found.now.here.items c.push.new.self.items c.args.item c.in-Ok.ensures.items) c.keep_within.ensures.within
+    c.keep_within.ensures.fault
