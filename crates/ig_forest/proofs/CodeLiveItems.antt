@@ -16,7 +16,7 @@ use Rattle.ig_item.specs.declared.core_grammar.Nonterminal.{Nonterminal}
 use Rattle.ig_item.specs.declared.items.Item as stored
 use Rattle.ig_forest.specs.Live as live
 use Rattle.ig_forest.specs.Live.{IsLive}
-use Rattle.ig_forest.specs.Orders.{node_cmp}
+use Rattle.ig_forest.specs.Orders.{choice_cmp, node_cmp}
 use Rattle.ig_forest.specs.Reduced as reduced
 use Rattle.ig_forest.specs.Reduced.{Each, IsEntry, IsItemNode, IsReduced, root_key}
 use Rattle.ig_forest.specs.Unfold.{IsTrim}
@@ -233,12 +233,12 @@ module _ (l : LiveItems) (are : AreLiveItems l) where
 
   module _ (numbers nodes : Bor (List ℕ)) (ns ms : List ℕ) (numbers_is : numbers.now ≡ ns) (nodes_is : nodes.now ≡ ms)
       (long : length ns ≡ length l.marks.now)
-      (places_are : AreNumbers l.order.now ns) (table : List StoredNode) (with_places : AreNodesWith core live_rows table ms) where
+      (places_are : AreNumbers l.order.now ns) (table : List StoredNode) (with_places : AreNodesWith choice_cmp core live_rows table ms) where
     numbers_are : AreNumbers l.order.now numbers.now
     numbers_are = subst (AreNumbers l.order.now) (sym numbers_is) places_are
 
-    with_nodes : AreNodesWith core live_rows table nodes.now
-    with_nodes = subst (AreNodesWith core live_rows table) (sym nodes_is) with_places
+    with_nodes : AreNodesWith choice_cmp core live_rows table nodes.now
+    with_nodes = subst (AreNodesWith choice_cmp core live_rows table) (sym nodes_is) with_places
 
     abbrev S : Sources
     S = record { found = l.found; links = l.links; order = l.order; numbers = numbers; nodes = nodes }

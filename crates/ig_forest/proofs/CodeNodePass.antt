@@ -18,9 +18,8 @@ use Rattle.ig_item.specs.declared.core_grammar.CoreAlt.{CoreAlt}
 use Rattle.ig_item.specs.declared.core_grammar.Nonterminal.{Nonterminal}
 use Rattle.ig_item.specs.declared.items.Item.{Item}
 use Rattle.ig_item.specs.declared.items.InstanceKey.{InstanceKey}
-use Rattle.ig_forest.specs.Orders.{choice_cmp}
 use Rattle.ig_forest.specs.CodeTables.{node_of, node_row_cmp, row_cmp}
-use Rattle.ig_forest.specs.CodeDone.{AreNodesOf, IsDoneRow, StandsLast, HasChoices, IsChoiceRow, IsTagged}
+use Rattle.ig_forest.specs.CodeDone.{AreNodesOf, IsDoneRow, StandsLast, HasChoices, IsChoiceRow, IsTagged, choice_item_cmp}
 use Rattle.ig_forest.specs.CodeLiveOrder.{AreLiveInOrder, is_live, number_cmp, row_of}
 use Rattle.ig_forest.specs.CodeNodeRows.{rows_in, with_choice, StoredNode}
 use Rattle.ig_forest.specs.CodeNodes as opens
@@ -152,7 +151,7 @@ module _ (core : List Nonterminal) (rows : List ItemRow) (row : ItemRow) where
         | inr new ↦ inr (new.0, ap node_of new.1 ∙ h.node_is, subst (λ (z : ItemRow). IsTagged core z c.tag) (sym new.1) h.tag)
       ]
 
-  choices_stay : (n : NodeRow) (cs : List Choice) → (node_of row ≡ n → StandsLast core row → ⊥) → HasChoices core rows n cs → HasChoices core More n cs
+  choices_stay : (n : NodeRow) (cs : List Choice) → (node_of row ≡ n → StandsLast core row → ⊥) → HasChoices choice_item_cmp core rows n cs → HasChoices choice_item_cmp core More n cs
   choices_stay n cs never has = record {
     members = λ c. (
       λ h. choice_left n c ((has.members c).0 h),
@@ -161,8 +160,8 @@ module _ (core : List Nonterminal) (rows : List ItemRow) (row : ItemRow) where
     order = has.order;
   }
 
-  choices_grow : (n : NodeRow) (cs : List Choice) (tag : Tag) → node_of row ≡ n → IsTagged core row tag → HasChoices core rows n cs →
-      HasChoices core More n (cs ++ record { tag = tag; item = length rows } ∷ [])
+  choices_grow : (n : NodeRow) (cs : List Choice) (tag : Tag) → node_of row ≡ n → IsTagged core row tag → HasChoices choice_item_cmp core rows n cs →
+      HasChoices choice_item_cmp core More n (cs ++ record { tag = tag; item = length rows } ∷ [])
   choices_grow n cs tag is tagged has =
       let new_choice : Choice = record { tag = tag; item = length rows } in
       record {
@@ -180,7 +179,7 @@ module _ (core : List Nonterminal) (rows : List ItemRow) (row : ItemRow) where
           ],
         );
         order =
-            strict_push choice_cmp cs new_choice has.order
+            strict_push choice_item_cmp cs new_choice has.order
             (λ x h. let g = (has.members x).0 h in less_number x.item (length rows) (slice_get_within rows x.item g.row g.numbered));
       }
 
@@ -247,10 +246,10 @@ module _ (core : List Nonterminal) (rows : List ItemRow) (row : ItemRow) where
 
   -- it isn't complete
   pub step_skips : (table : List StoredNode) (numbers more : List ℕ) (v : ℕ) → (StandsLast core row → ⊥) → more ≡ numbers ++ v ∷ [] →
-      AreNodesWith core rows table numbers → AreNodesWith core More table more
+      AreNodesWith choice_item_cmp core rows table numbers → AreNodesWith choice_item_cmp core More table more
   step_skips table numbers more v never is are =
       let longer = one_longer rows row in
-      subst (AreNodesWith core More table) (sym is)
+      subst (AreNodesWith choice_item_cmp core More table) (sym is)
       (record {
         nodes = nodes_stay (rows_in table) never are.nodes;
         choices = λ n c. choices_stay n.row n.alternatives (λ e last. never last) (are.choices n c);
@@ -261,27 +260,27 @@ module _ (core : List Nonterminal) (rows : List ItemRow) (row : ItemRow) where
 
   -- it is complete, and its node is the last one now
   module _ (table : List StoredNode) (numbers : List ℕ) (tag : Tag) (tagged : IsTagged core row tag)
-      (are : AreNodesWith core rows table numbers) where
+      (are : AreNodesWith choice_item_cmp core rows table numbers) where
     Grown : List StoredNode → List Choice → List StoredNode
     Grown init cs = init ++ record { row = node_of row; alternatives = cs ++ record { tag = tag; item = length rows } ∷ [] } ∷ []
 
     grown_choices : (init : List StoredNode) (cs : List Choice) → ((n : StoredNode) → Contains init n → n.row ≡ node_of row → ⊥) →
-        ((n : StoredNode) → Contains init n → HasChoices core rows n.row n.alternatives) → HasChoices core rows (node_of row) cs →
-        (n : StoredNode) → Contains (Grown init cs) n → HasChoices core More n.row n.alternatives
+        ((n : StoredNode) → Contains init n → HasChoices choice_item_cmp core rows n.row n.alternatives) → HasChoices choice_item_cmp core rows (node_of row) cs →
+        (n : StoredNode) → Contains (Grown init cs) n → HasChoices choice_item_cmp core More n.row n.alternatives
     unfolding Grown
     grown_choices init cs other has here n c =
         elim (Contains-push_cases init (record { row = node_of row; alternatives = cs ++ record { tag = tag; item = length rows } ∷ [] }) n c) [
           | inl old ↦ choices_stay n.row n.alternatives (λ e last. other n old (sym e)) (has n old)
           | inr same ↦
-              subst (λ (z : StoredNode). HasChoices core More z.row z.alternatives) same (choices_grow (node_of row) cs tag refl tagged here)
+              subst (λ (z : StoredNode). HasChoices choice_item_cmp core More z.row z.alternatives) same (choices_grow (node_of row) cs tag refl tagged here)
         ]
 
     grown : (init : List StoredNode) (cs : List Choice) (after : List StoredNode) (more : List ℕ) (v : ℕ) → after ≡ Grown init cs →
         more ≡ numbers ++ v ∷ [] → v ≡ length after - 1 → length init ≤ length rows → AreNodesOf core More (rows_in init ++ node_of row ∷ []) →
         ((k : ℕ) (n : NodeRow) → slice_get (rows_in table) k ≡ Some n → slice_get (rows_in init ++ node_of row ∷ []) k ≡ Some n) →
         ((n : StoredNode) → Contains init n → n.row ≡ node_of row → ⊥) →
-        ((n : StoredNode) → Contains init n → HasChoices core rows n.row n.alternatives) → HasChoices core rows (node_of row) cs →
-        AreNodesWith core More after more
+        ((n : StoredNode) → Contains init n → HasChoices choice_item_cmp core rows n.row n.alternatives) → HasChoices choice_item_cmp core rows (node_of row) cs →
+        AreNodesWith choice_item_cmp core More after more
     unfolding Grown
     grown init cs after more v is more_is v_is few nodes onward other has here =
         let added : StoredNode = record { row = node_of row; alternatives = cs ++ record { tag = tag; item = length rows } ∷ [] } in
@@ -289,7 +288,7 @@ module _ (core : List Nonterminal) (rows : List ItemRow) (row : ItemRow) where
         let longer = one_longer rows row in
         let long : length after ≡ length init + 1 = ap length is ∙ one_longer init added in
         let place : v ≡ length (rows_in init) = let l = length-map init (λ (n : StoredNode). n.row) in omega (arith, v_is, long, l) in
-        subst (AreNodesWith core More after) (sym more_is)
+        subst (AreNodesWith choice_item_cmp core More after) (sym more_is)
         (record {
           nodes = subst (AreNodesOf core More) (sym rows_are) nodes;
           choices = λ n c. grown_choices init cs other has here n (subst (λ (z : List StoredNode). Contains z n) is c);
@@ -307,7 +306,7 @@ module _ (core : List Nonterminal) (rows : List ItemRow) (row : ItemRow) where
     -- its node was the last one
     grown_same : (after : List StoredNode) (more : List ℕ) (v : ℕ) → EndsWith table (node_of row) →
         after ≡ with_choice table (record { tag = tag; item = length rows }) → more ≡ numbers ++ v ∷ [] → v ≡ length after - 1 →
-        AreNodesWith core More after more
+        AreNodesWith choice_item_cmp core More after more
     unfolding Grown
     grown_same after more v ends is more_is v_is =
         let (init, cs, split) = last_split table (node_of row) ends in
@@ -340,7 +339,7 @@ module _ (core : List Nonterminal) (rows : List ItemRow) (row : ItemRow) where
     grown_new : (after : List StoredNode) (more : List ℕ) (v : ℕ) → ((x : ItemRow) → Contains rows x → row_cmp x row ≡ Less) →
         (EndsWith table (node_of row) → ⊥) →
         after ≡ with_choice (table ++ record { row = node_of row; alternatives = [] } ∷ []) (record { tag = tag; item = length rows }) →
-        more ≡ numbers ++ v ∷ [] → v ≡ length after - 1 → AreNodesWith core More after more
+        more ≡ numbers ++ v ∷ [] → v ≡ length after - 1 → AreNodesWith choice_item_cmp core More after more
     unfolding Grown
     grown_new after more v below never is more_is v_is =
         let c : Choice = record { tag = tag; item = length rows } in
@@ -371,12 +370,12 @@ module _ (core : List Nonterminal) (rows : List ItemRow) (row : ItemRow) where
                 absurd (absent ((are.nodes.members (node_of row)).1
                 (h.row, contains_from_at rows d.item h.row h.numbered, record { last = h.tag.last; node_is = h.node_is }))),
           );
-          order = strict_none choice_cmp;
+          order = strict_none choice_item_cmp;
         })
 
     pub step_adds : (opened after : List StoredNode) (more : List ℕ) (place v : ℕ) → ((x : ItemRow) → Contains rows x → row_cmp x row ≡ Less) →
         place ≡ length rows → Opens (node_of row) table opened → after ≡ with_choice opened (record { tag = tag; item = place }) →
-        more ≡ numbers ++ v ∷ [] → v ≡ length after - 1 → AreNodesWith core More after more
+        more ≡ numbers ++ v ∷ [] → v ≡ length after - 1 → AreNodesWith choice_item_cmp core More after more
     step_adds opened after more place v below place_is (opens.same ends same) is more_is v_is =
         grown_same after more v ends
         (is ∙ ap (λ (z : List StoredNode). with_choice z (record { tag = tag; item = place })) same ∙
@@ -388,10 +387,10 @@ module _ (core : List Nonterminal) (rows : List ItemRow) (row : ItemRow) where
         ap (λ (k : ℕ). with_choice (table ++ last ∷ []) (record { tag = tag; item = k })) place_is) more_is v_is
 
 -- no rows
-pub nodes_none : (core : List Nonterminal) (table : List StoredNode) (numbers : List ℕ) → table ≡ [] → numbers ≡ [] → AreNodesWith core [] table numbers
+pub nodes_none : (core : List Nonterminal) (table : List StoredNode) (numbers : List ℕ) → table ≡ [] → numbers ≡ [] → AreNodesWith choice_item_cmp core [] table numbers
 nodes_none core table numbers no_nodes no_numbers =
-    subst (λ (z : List StoredNode). AreNodesWith core [] z numbers) (sym no_nodes)
-    (subst (λ (z : List ℕ). AreNodesWith core [] [] z) (sym no_numbers)
+    subst (λ (z : List StoredNode). AreNodesWith choice_item_cmp core [] z numbers) (sym no_nodes)
+    (subst (λ (z : List ℕ). AreNodesWith choice_item_cmp core [] [] z) (sym no_numbers)
     (record {
       nodes = record {
         members = λ n. (λ c. absurd (omega (arith, c.1)), λ h. absurd (let lt = h.1.1 in omega (arith, lt)));
@@ -472,7 +471,7 @@ module _ (items : List Item) (keys : List InstanceKey) (places : List ℕ) (mark
         more ≡ numbers ++ 0 ∷ [] → NodesUpTo core items keys places order place table numbers →
         NodesUpTo core items keys places order (place + 1) table more
     item_skips m table numbers more never is before =
-        subst (λ (z : List ItemRow). AreNodesWith core z table more) (sym (map_more (row_of items keys places) order place d within))
+        subst (λ (z : List ItemRow). AreNodesWith choice_item_cmp core z table more) (sym (map_more (row_of items keys places) order place d within))
         (step_skips core (rows_of items keys places (take place order)) (row_of items keys places (get_or order place d)) table numbers more 0
         (λ last.
         never (same_Some (get_or marks (get_or order place d) m) Complete
@@ -483,7 +482,7 @@ module _ (items : List Item) (keys : List InstanceKey) (places : List ℕ) (mark
         after ≡ with_choice opened (record { tag = tag; item = place }) → more ≡ numbers ++ v ∷ [] → v ≡ length after - 1 →
         NodesUpTo core items keys places order place table numbers → NodesUpTo core items keys places order (place + 1) after more
     item_added row table opened after numbers more tag v row_is tagged opens is more_is v_is before =
-        subst (λ (z : List ItemRow). AreNodesWith core z after more) (sym (map_more (row_of items keys places) order place d within))
+        subst (λ (z : List ItemRow). AreNodesWith choice_item_cmp core z after more) (sym (map_more (row_of items keys places) order place d within))
         (step_adds core (rows_of items keys places (take place order)) (row_of items keys places (get_or order place d)) table numbers tag
         (subst (λ (z : ItemRow). IsTagged core z tag) row_is tagged) before opened after more place v (rows_below place d within)
         (sym (rows_long place (omega (arith, within)))) (subst (λ (z : ItemRow). Opens (node_of z) table opened) row_is opens) is more_is v_is)

@@ -7,6 +7,7 @@ use Rattle.ig_expr.specs.declared.value.Value.{Value}
 use Rattle.ig_item.specs.Items.{Item}
 use Rattle.ig_item.specs.Gives.{NodeKey, Completes}
 use Rattle.ig_item.specs.declared.core_grammar.Nonterminal.{Nonterminal}
+use Rattle.ig_forest.specs.Orders.{choice_cmp}
 use Rattle.ig_forest.specs.Reduced as reduced
 use Rattle.ig_forest.specs.Reduced.{AreNodes, Each, IsChoice, IsNamed, IsNode}
 use Rattle.ig_forest.specs.CodeTables.{RowFits, item_by, key_by, list_cmp, node_of}
@@ -50,7 +51,7 @@ name_within core names n nonterminal is at =
 
 module _ (core : List Nonterminal) (lists : List (List Value)) (sorted : IsStrictlySortedBy list_cmp lists) (rows : List ItemRow)
     (fit : (row : ItemRow) → Contains rows row → RowFits lists row) (table : List StoredNode) (numbers : List ℕ)
-    (are : AreNodesWith core rows table numbers) where
+    (are : AreNodesWith choice_cmp core rows table numbers) where
   abbrev TheItems : List Item
   TheItems = map (item_by lists) rows
 

@@ -37,3 +37,5 @@ pub mod CodeWalk
 pub mod CodeWayMarks
 pub mod CodeFirstRoot
 pub mod CodeCopies
+pub mod CodeNodeParts
+pub mod CodeNodesInOrder

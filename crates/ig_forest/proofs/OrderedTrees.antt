@@ -40,7 +40,7 @@ use Rattle.ig_forest.specs.declared.entry.Entry.{Entry}
 use Rattle.ig_forest.specs.declared.entry.Entry.TheVariants.{Pass, Take}
 use Rattle.ig_forest.specs.declared.entry.Child.TheVariants as child
 use Rattle.ig_forest.proofs.Annotating.{Valued, Last, OfComplete, leaf_tied, equally_many, by_nothing, by_leaf, by_tree, of_complete}
-use Rattle.ig_forest.proofs.CursorOrders.{decides, then_assoc, passed, lower, higher, tied, places_cmp, Compared, chosen_cmp, joined_cmp, same_cmp, values_append, less_cmp, cmp_less, same_beginning, alike_cmp, beside_cmp}
+use Rattle.ig_forest.proofs.CursorOrders.{decides, then_assoc, passed, tied, places_cmp, Compared, chosen_cmp, joined_cmp, same_cmp, values_append, less_cmp, cmp_less, same_beginning, alike_cmp, beside_cmp}
 use Rattle.ig_forest.proofs.Cursors.{Entered, same_item, pass_entry, leaf_entry, node_entry, as_begin, as_pass, as_leaf, as_node}
 use Rattle.ig_forest.proofs.Given.{GivenValues}
 use Rattle.ig_forest.proofs.Liveness.{live_is_reachable}
@@ -126,10 +126,10 @@ module _ (values : GivenValues) (core : List Nonterminal) (text : List ℕ) (f :
       let callee = one_callee core text values.given key other g h in
       let end : key.end ≡ other.end = sym (comes_to g) ∙ comes_to h in λ i. record { instance = callee i; end = end i }
 
-  -- tags compare as the numbers of their alternatives do
-  tags_cmp : (x y : Item) (first : IsComplete core x) (second : IsComplete core y) → x.instance ≡ y.instance →
-      nat_cmp (number_of first.alternative.tag) (number_of second.alternative.tag) ≡ nat_cmp x.alternative y.alternative
-  tags_cmp x y first second instance =
+  -- alternatives of one nonterminal with one tag number are one
+  one_alternative : (x y : Item) (first : IsComplete core x) (second : IsComplete core y) → x.instance ≡ y.instance →
+      number_of first.alternative.tag ≡ number_of second.alternative.tag → x.alternative ≡ y.alternative
+  one_alternative x y first second instance same =
       let at : IsAlternative core x.instance.nonterminal y.alternative second.nonterminal second.alternative =
       subst (λ (i : Instance). IsAlternative core i.nonterminal y.alternative second.nonterminal second.alternative)
       (sym instance) second.has in
@@ -139,21 +139,13 @@ module _ (values : GivenValues) (core : List Nonterminal) (text : List ℕ) (f :
       subst (λ (m : Nonterminal). IsAlternative core x.instance.nonterminal y.alternative m second.alternative) one at in
       let n = x.instance.nonterminal in
       elim (cases_order x.alternative y.alternative) [
-        | inl e ↦
-            let same =
-            values.given.alternatives_one core n y.alternative first.nonterminal first.nonterminal first.alternative
-            second.alternative (subst (λ (a : ℕ). IsAlternative core n a first.nonterminal first.alternative) e first.has)
-            among in
-            tied (number_of first.alternative.tag) (number_of second.alternative.tag)
-            (ap (λ (a : CoreAlt). number_of a.tag) same.alternatives) ∙ sym (tied x.alternative y.alternative e)
+        | inl e ↦ e
         | inr (inl less) ↦
-            lower (number_of first.alternative.tag) (number_of second.alternative.tag)
-            (rise n x.alternative first.nonterminal first.alternative first.has y.alternative second.alternative among less) ∙
-            sym (lower x.alternative y.alternative less)
+            let below = rise n x.alternative first.nonterminal first.alternative first.has y.alternative second.alternative among less in
+            absurd (omega (arith, below, same))
         | inr (inr greater) ↦
-            higher (number_of first.alternative.tag) (number_of second.alternative.tag)
-            (rise n y.alternative first.nonterminal second.alternative among x.alternative first.alternative first.has greater) ∙
-            sym (higher x.alternative y.alternative greater)
+            let below = rise n y.alternative first.nonterminal second.alternative among x.alternative first.alternative first.has greater in
+            absurd (omega (arith, below, same))
       ]
 
   -- an environment without the values of its instance
@@ -164,35 +156,30 @@ module _ (values : GivenValues) (core : List Nonterminal) (text : List ℕ) (f :
       ap (drop (length x.instance.values)) grown.1 ∙ drop-append_seam x.instance.values grown.0 in
       grown.1 ∙ ap (λ (vs : List Value). x.instance.values ++ vs) (sym bound)
 
-  -- complete items of one node compare as the tags of their alternatives, and then as what these bound
+  -- complete items of one node with one tag number compare as what their alternative bound
   complete_cmp : (x y : Item) (first : IsComplete core x) (second : IsComplete core y) → Reachable core text x →
       Reachable core text y → x.instance ≡ y.instance → x.position ≡ y.position →
-      item_cmp x y ≡
-      ordering_then (nat_cmp (number_of first.alternative.tag) (number_of second.alternative.tag))
-      (values_cmp (drop (length x.instance.values) x.env) (drop (length y.instance.values) y.env))
-  complete_cmp x y first second reached found instance position =
+      number_of first.alternative.tag ≡ number_of second.alternative.tag →
+      item_cmp x y ≡ values_cmp (drop (length x.instance.values) x.env) (drop (length y.instance.values) y.env)
+  complete_cmp x y first second reached found instance position tags =
       let n = x.instance.nonterminal in
+      let alternative = one_alternative x y first second instance tags in
       let at : IsAlternative core n y.alternative second.nonterminal second.alternative =
       subst (λ (i : Instance). IsAlternative core i.nonterminal y.alternative second.nonterminal second.alternative)
       (sym instance) second.has in
+      let same =
+      values.given.alternatives_one core n y.alternative first.nonterminal second.nonterminal first.alternative
+      second.alternative (subst (λ (a : ℕ). IsAlternative core n a first.nonterminal first.alternative) alternative first.has) at in
+      let dots : x.dot ≡ y.dot = first.last ∙ ap (λ (a : CoreAlt). length a.steps) same.alternatives ∙ sym second.last in
       let own : Item → List Value = λ z. drop (length z.instance.values) z.env in
       let bound : values_cmp x.env y.env ≡ values_cmp (own x) (own y) =
       (λ i. values_cmp (bound_behind x reached i) (bound_behind y found i)) ∙
       ap (λ (j : Instance). values_cmp (x.instance.values ++ own x) (j.values ++ own y)) (sym instance) ∙
       values_append x.instance.values (own x) (own y) in
       beside_cmp x y instance position ∙
-      decides (nat_cmp x.alternative y.alternative) (ordering_then (nat_cmp x.dot y.dot) (values_cmp x.env y.env))
-      (values_cmp (own x) (own y))
-      (λ e.
-      let same =
-      values.given.alternatives_one core n y.alternative first.nonterminal second.nonterminal first.alternative
-      second.alternative
-      (subst (λ (a : ℕ). IsAlternative core n a first.nonterminal first.alternative)
-      (exact_unsigned x.alternative y.alternative e) first.has) at in
-      let dots : x.dot ≡ y.dot =
-      first.last ∙ ap (λ (a : CoreAlt). length a.steps) same.alternatives ∙ sym second.last in
-      passed (nat_cmp x.dot y.dot) (values_cmp x.env y.env) (tied x.dot y.dot dots) ∙ bound) ∙
-      ap (λ (o : Ordering). ordering_then o (values_cmp (own x) (own y))) (sym (tags_cmp x y first second instance))
+      passed (nat_cmp x.alternative y.alternative) (ordering_then (nat_cmp x.dot y.dot) (values_cmp x.env y.env))
+      (tied x.alternative y.alternative alternative) ∙
+      passed (nat_cmp x.dot y.dot) (values_cmp x.env y.env) (tied x.dot y.dot dots) ∙ bound
 
   -- the cursors of children of one item are to each other as the starts of the last ones, the others, and the last ones
   last_cmp : (p q : Item) (ts us : plain.Trees) (t u : plain.Tree) (xs ys : Trees) (cs ds : List ℕ)
@@ -252,10 +239,13 @@ module _ (values : GivenValues) (core : List Nonterminal) (text : List ℕ) (f :
         let children = children_cmp left.children right.children in
         let places : nat_cmp i j ≡ ordering_then tags bound =
         places_cmp choice_cmp choice_total n.alternatives i j choice second nd.order among there ∙
+        (λ k. ordering_then (nat_cmp (number_of (p.tagged k)) (number_of (q.tagged k))) (nat_cmp choice.item second.item)) ∙
+        decides tags (nat_cmp choice.item second.item) bound
+        (λ e.
         places_cmp item_cmp item_total r.items choice.item second.item x y r.are_items.order p.numbered q.numbered ∙
         complete_cmp x y p.completes.complete q.completes.complete (reachable_at choice.item x p.numbered)
         (reachable_at second.item y q.numbered) (p.completes.instance ∙ sym q.completes.instance)
-        (p.completes.end ∙ sym q.completes.end) in
+        (p.completes.end ∙ sym q.completes.end) (exact_unsigned _ _ e)) in
         let compared : tree_cmp a b ≡ ordering_then (ordering_then tags bound) children =
         (λ k. tree_cmp (left.is k) (right.is k)) ∙ sym (then_assoc tags bound children) in
         subst (Compared cs ds) (sym compared)

@@ -1,45 +1,60 @@
 -- The numbers of cursors are smaller than the number of item nodes.
-use Rattle.std.proofs.Common.{◌≡◌, ℕ, zero, suc, ◌<◌, ◌≤◌, List, [], ◌∷◌, ◌++◌, Less, length, map, All, Contains, Some, slice_get, refl, sym, subst, arith}
-use Rattle.std.specs.List.{AllByRecursion}
+use Rattle.std.proofs.Common.{◌≡◌, ◌≢◌, ℕ, zero, suc, ◌<◌, ◌≤◌, List, [], ◌++◌, Less, Equal, length, map, get_or, All, Contains, Some, slice_get, refl, sym, ap, ◌∙◌, subst, arith}
+use Rattle.std.specs.Cmp.{IsTotalOrder}
 use Rattle.std.specs.List.Sorted.{IsStrictlySortedBy}
-use Rattle.std.specs.Ordering.{nat_cmp}
+use Rattle.std.specs.declared.cmp.Ordering.{Ordering}
+use Rattle.std.proofs.lemmas.Bool.Decides.{Decides-eqb}
+use Rattle.std.proofs.lemmas.Cmp.{tied_itself}
 use Rattle.std.proofs.lemmas.List.{length-map}
-use Rattle.std.proofs.lemmas.List.Elements.{All-nil, All-cons, All-append, All-map, All-contains_itself}
-use Rattle.std.proofs.lemmas.Map.Views.{length-le_from_below}
-use Rattle.std.proofs.lemmas.Option.{slice_get_within}
+use Rattle.std.proofs.lemmas.List.Elements.{All-nil, All-cons, All-append}
+use Rattle.std.proofs.lemmas.Map.Made.{IsDistinct-from_AllPairs, is_member-Decides}
+use Rattle.std.proofs.lemmas.Map.Steps.{length-le_from_distinct_below}
+use Rattle.std.proofs.lemmas.Option.{get_or_from_slice_get, same_Some, slice_get_within}
 use Rattle.ig_text.specs.Tree.{Tree, Trees}
+use Rattle.ig_item.specs.Core.{IsAlternative}
+use Rattle.ig_item.specs.Gives.{NodeKey}
 use Rattle.ig_item.specs.Items.{Item}
+use Rattle.ig_item.specs.declared.core_grammar.CoreAlt.{CoreAlt}
 use Rattle.ig_item.specs.declared.core_grammar.Nonterminal.{Nonterminal}
 use Rattle.ig_forest.specs.Forest as forest
 use Rattle.ig_forest.specs.Forest.{Forest, ItemNode}
-use Rattle.ig_forest.specs.Orders.{previous}
+use Rattle.ig_forest.specs.Orders.{choice_cmp, previous}
 use Rattle.ig_forest.specs.Reduced as reduced
-use Rattle.ig_forest.specs.Reduced.{IsReduced, IsEntry}
+use Rattle.ig_forest.specs.Reduced.{IsReduced, IsChoice, IsEntry}
 use Rattle.ig_forest.specs.TreeLaws.{CursorsAreShort}
 use Rattle.ig_forest.specs.Unfold as ways
 use Rattle.ig_forest.specs.Unfold.{OfNode, OfItem, noted}
 use Rattle.ig_forest.specs.declared.entry.Choice.{Choice}
 use Rattle.ig_forest.specs.declared.entry.Entry.{Entry}
-use Rattle.ig_forest.proofs.Lists.{key_at, same_length}
+use Rattle.ig_forest.proofs.Lists.{at_within, contains_from_at, key_at, rises, same_length}
+use Rattle.ig_forest.proofs.CodeGives.{same_alternative}
+use Rattle.ig_forest.proofs.CodeSorted.{map_at, member_of_map}
+use Rattle.ig_forest.proofs.CursorOrders.{tied}
+use Rattle.ig_forest.proofs.TotalOrders.{choice_total, entry_total}
 
--- a list with a strictly rising number for each member has no more members than there are numbers
-module _ {X : Type 0} (key : X → ℕ) where
-  above : (x : X) (xs : List X) → AllByRecursion (λ y. nat_cmp (key x) (key y) ≡ Less) xs →
-      AllByRecursion (λ n. nat_cmp (key x) n ≡ Less) (map key xs)
-  above x [] all = all
-  above x (y ∷ xs) all = (all.0, above x xs all.1)
-
-  rising : (xs : List X) → IsStrictlySortedBy (λ x y. nat_cmp (key x) (key y)) xs → IsStrictlySortedBy nat_cmp (map key xs)
-  unfolding IsStrictlySortedBy
-  rising [] sorted = sorted
-  rising (x ∷ xs) sorted = (above x xs sorted.0, rising xs sorted.1)
-
-  few : (n : ℕ) (xs : List X) → IsStrictlySortedBy (λ x y. nat_cmp (key x) (key y)) xs →
-      ((x : X) → Contains xs x → key x < n) → length xs ≤ n
-  few n xs sorted below =
-      let all : All (λ x. key x < n) xs = λ k d within. below _ (All-contains_itself xs k d within) in
-      let less = length-le_from_below n (map key xs) (rising xs sorted) (All-map (λ m. m < n) key xs all) in
-      subst (λ m. m ≤ n) (length-map xs key) less
+-- a sorted list whose members have different numbers has no more members than there are numbers
+few : {X : Type 0} {R : X → X → Ordering} → IsTotalOrder R → (key : X → ℕ) (n : ℕ) (xs : List X) → IsStrictlySortedBy R xs →
+    ((x y : X) → Contains xs x → Contains xs y → key x ≡ key y → R x y ≡ Equal) → ((x : X) → Contains xs x → key x < n) →
+    length xs ≤ n
+few {R = R} total key n xs sorted apart below =
+    let numbers = map key xs in
+    let long = length-map xs key in
+    let differ : (i j d : ℕ) → i < j → j < length numbers → get_or numbers i d ≢ get_or numbers j d =
+    λ i j d lt within same.
+    let (x, at_x) = at_within xs i (omega (arith, lt, within, long)) in
+    let (y, at_y) = at_within xs j (omega (arith, within, long)) in
+    let first : get_or numbers i d ≡ key x = get_or_from_slice_get numbers i (key x) d (map_at key xs i x at_x) in
+    let second : get_or numbers j d ≡ key y = get_or_from_slice_get numbers j (key y) d (map_at key xs j y at_y) in
+    let less : R x y ≡ Less = rises R total xs i j x y sorted at_x at_y lt in
+    let equal : R x y ≡ Equal =
+    apart x y (contains_from_at xs i x at_x) (contains_from_at xs j y at_y) (sym first ∙ same ∙ second) in
+    cc in
+    let all =
+    length-le_from_distinct_below numbers n (IsDistinct-from_AllPairs Decides-eqb numbers differ)
+    (λ q e.
+    let (x, among, is) = member_of_map key xs q ((is_member-Decides Decides-eqb numbers q).0 e) in
+    subst (λ (m : ℕ). m < n) is (below x among)) in
+    omega (arith, all, long)
 
 noted_below : (many i n : ℕ) → i < many → many ≤ n → All (λ m. m < n) (noted many i)
 noted_below zero i n within most = All-nil (λ m. m < n)
@@ -51,10 +66,27 @@ module _ (core : List Nonterminal) (text : List ℕ) (f : Forest) (is : IsReduce
   size : length is.items ≡ length f.items
   size = same_length is.item_nodes
 
+  -- choices of one item are one
+  one_choice : (key : NodeKey) (a b : Choice) → IsChoice core is.items key a → IsChoice core is.items key b → a.item ≡ b.item → a ≡ b
+  one_choice key a b p q same =
+      let items : p.item ≡ q.item = same_Some p.item q.item (sym p.numbered ∙ ap (slice_get is.items) same ∙ q.numbered) in
+      let first = p.completes.complete in
+      let second = q.completes.complete in
+      let has : IsAlternative core q.item.instance.nonterminal q.item.alternative first.nonterminal first.alternative =
+      subst (λ (z : Item). IsAlternative core z.instance.nonterminal z.alternative first.nonterminal first.alternative) items first.has in
+      let one =
+      same_alternative core q.item.instance.nonterminal q.item.alternative first.nonterminal second.nonterminal first.alternative
+      second.alternative has second.has in
+      let tag : a.tag ≡ b.tag = p.tagged ∙ ap (λ (z : CoreAlt). z.tag) one.1 ∙ sym q.tagged in
+      λ i. record { tag = tag i; item = same i }
+
   choices_few : (v : ℕ) (node : forest.Node) → slice_get f.nodes v ≡ Some node → length node.alternatives ≤ length f.items
   choices_few v node there =
       let k = key_at is.nodes v node there in
-      few (λ (c : Choice). c.item) (length f.items) node.alternatives k.2.order
+      few choice_total (λ (c : Choice). c.item) (length f.items) node.alternatives k.2.order
+      (λ a b in_a in_b same.
+      let one = one_choice k.0 a b ((k.2.choices a).0 in_a) ((k.2.choices b).0 in_b) same in
+      ap (choice_cmp a) (sym one) ∙ tied_itself choice_total a)
       (λ c among. let h = (k.2.choices c).0 among in
       let w = slice_get_within is.items c.item h.item h.numbered in omega (arith, w, size))
 
@@ -75,7 +107,7 @@ module _ (core : List Nonterminal) (text : List ℕ) (f : Forest) (is : IsReduce
   entries_few : (k : ℕ) (it : ItemNode) → slice_get f.items k ≡ Some it → length it.entries ≤ length f.items
   entries_few k it there =
       let h = key_at is.item_nodes k it there in
-      few previous (length f.items) it.entries h.2.order
+      few entry_total previous (length f.items) it.entries h.2.order (λ a b in_a in_b same. tied (previous a) (previous b) same)
       (λ e among. entry_below k h.0 e (slice_get_within f.items k it there) ((h.2.entries e).0 among))
 
   abbrev IsBelow : List ℕ → Type 0

@@ -7,6 +7,7 @@ use Rattle.std.specs.declared.cmp.Ordering.{Ordering}
 use Rattle.std.specs.declared.cmp.Ordering.TheVariants.{Less, Equal, Greater}
 use Rattle.std.specs.Cmp.{bool_cmp_total}
 use Rattle.std.proofs.lemmas.Cmp.{nat_cmp_total, int_cmp_total, lists_total, on_total, then_total}
+use Rattle.ig_text.specs.TagNumber.{number_of}
 use Rattle.ig_expr.specs.declared.value.Value.{Value}
 use Rattle.ig_expr.specs.declared.value.Value.TheVariants.{Int, Bool as Truth, Span}
 use Rattle.ig_item.specs.Items.{Item}
@@ -92,7 +93,7 @@ node_total =
     (on_total (λ (x : NodeKey). x.instance.values) (lists_total value_total))))
 
 pub choice_total : IsTotalOrder choice_cmp
-choice_total = on_total (λ (x : Choice). x.item) nat_cmp_total
+choice_total = then_total (on_total (λ (x : Choice). number_of x.tag) nat_cmp_total) (on_total (λ (x : Choice). x.item) nat_cmp_total)
 
 pub entry_total : IsTotalOrder entry_cmp
 entry_total = on_total previous nat_cmp_total

@@ -1,11 +1,12 @@
 -- Complete items as rows, and the nodes to which they belong with their alternatives.
 use Rattle.std.specs.Prelude.{◌≡◌, ◌↔◌, List, length, Contains, Some, slice_get}
+use Rattle.std.specs.Ordering.{nat_cmp}
+use Rattle.std.specs.declared.cmp.Ordering.{Ordering}
 use Rattle.std.specs.List.Sorted.{IsStrictlySortedBy}
 use Rattle.ig_text.specs.declared.tag.Tag.{Tag}
 use Rattle.ig_item.specs.Core.{IsAlternative}
 use Rattle.ig_item.specs.declared.core_grammar.Nonterminal.{Nonterminal}
 use Rattle.ig_item.specs.declared.core_grammar.CoreAlt.{CoreAlt}
-use Rattle.ig_forest.specs.Orders.{choice_cmp}
 use Rattle.ig_forest.specs.CodeTables.{node_of, node_row_cmp}
 use Rattle.ig_forest.specs.declared.entry.Choice.{Choice}
 use Rattle.ig_forest.specs.declared.rows.ItemRow.{ItemRow}
@@ -40,6 +41,12 @@ pub record IsChoiceRow (core : List Nonterminal) (rows : List ItemRow) (node : N
   pub node_is : node_of row ≡ node
   pub tag : IsTagged core row choice.tag
 
-pub record HasChoices (core : List Nonterminal) (rows : List ItemRow) (node : NodeRow) (choices : List Choice) : Type 0 where
+-- the alternatives of a node in the order of their items, in which the code finds them
+abbrev pub choice_item_cmp : Choice → Choice → Ordering
+choice_item_cmp x y = nat_cmp x.item y.item
+
+-- the choices are those of the node, each once, in the order R
+pub record HasChoices (R : Choice → Choice → Ordering) (core : List Nonterminal) (rows : List ItemRow) (node : NodeRow)
+    (choices : List Choice) : Type 0 where
   pub members : (choice : Choice) → Contains choices choice ↔ IsChoiceRow core rows node choice
-  pub order : IsStrictlySortedBy choice_cmp choices
+  pub order : IsStrictlySortedBy R choices

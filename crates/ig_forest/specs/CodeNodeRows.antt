@@ -1,5 +1,7 @@
 -- Nodes whose alternatives stand side by side in one list, each up to those of the next one.
-use Rattle.std.specs.Prelude.{◌≤◌, ℕ, zero, suc, List, map, [], ◌∷◌, ◌++◌, length, slice_range}
+use Rattle.std.specs.Prelude.{◌≡◌, ◌≤◌, ℕ, zero, suc, List, map, [], ◌∷◌, ◌++◌, length, slice_range}
+use Rattle.std.specs.List.Sorted.{IsPermutation, IsSorted}
+use Rattle.ig_forest.specs.Orders.{choice_cmp}
 use Rattle.ig_forest.specs.declared.entry.Choice.{Choice}
 use Rattle.ig_forest.specs.declared.node_rows.Begun.{Begun}
 use Rattle.ig_forest.specs.declared.node_rows.Stored.{Stored}
@@ -46,3 +48,9 @@ stored_upto choices node end = record { row = node.row; alternatives = slice_ran
 
 abbrev pub rows_in : List StoredNode → List NodeRow
 rows_in nodes = map (λ node. node.row) nodes
+
+-- the node with its alternatives in order
+pub record IsPutInOrder (before after : StoredNode) : Type 0 where
+  pub row : after.row ≡ before.row
+  pub moved : IsPermutation before.alternatives after.alternatives
+  pub order : IsSorted choice_cmp after.alternatives

@@ -1,12 +1,14 @@
 -- The nodes that are read off the complete items in order.
 use Rattle.std.specs.Prelude.{◌≡◌, ◌↔◌, ℕ, ◌-◌, ◌≤◌, List, [], ◌∷◌, ◌++◌, map, take, length, Contains, true, Some, slice_get}
+use Rattle.std.specs.declared.cmp.Ordering.{Ordering}
 use Rattle.ig_item.specs.declared.core_grammar.Nonterminal.{Nonterminal}
 use Rattle.ig_item.specs.declared.items.Item.{Item}
 use Rattle.ig_item.specs.declared.items.InstanceKey.{InstanceKey}
 use Rattle.ig_forest.specs.CodeTables.{node_of}
-use Rattle.ig_forest.specs.CodeDone.{AreNodesOf, StandsLast, HasChoices}
+use Rattle.ig_forest.specs.CodeDone.{AreNodesOf, StandsLast, HasChoices, choice_item_cmp}
 use Rattle.ig_forest.specs.CodeLiveOrder.{is_live, row_of}
 use Rattle.ig_forest.specs.CodeNodeRows.{rows_in, StoredNode}
+use Rattle.ig_forest.specs.declared.entry.Choice.{Choice}
 use Rattle.ig_forest.specs.declared.mark.Mark.{Mark}
 use Rattle.ig_forest.specs.declared.mark.Mark.TheVariants.{Complete}
 use Rattle.ig_forest.specs.declared.rows.ItemRow.{ItemRow}
@@ -37,15 +39,17 @@ pub record IsNumbered (nodes : List StoredNode) (numbers : List ℕ) (k : ℕ) (
   pub there : slice_get numbers k ≡ Some number
   pub node : slice_get (rows_in nodes) number ≡ Some (node_of row)
 
--- the nodes are those of the complete items among these, in order, with their alternatives; and each place of a complete item
--- has the number of its node
-pub record AreNodesWith (core : List Nonterminal) (rows : List ItemRow) (table : List StoredNode) (numbers : List ℕ) : Type 0 where
+-- the nodes are those of the complete items among these, in order, with their alternatives in the order R; and each place of
+-- a complete item has the number of its node
+pub record AreNodesWith (R : Choice → Choice → Ordering) (core : List Nonterminal) (rows : List ItemRow)
+    (table : List StoredNode) (numbers : List ℕ) : Type 0 where
   pub nodes : AreNodesOf core rows (rows_in table)
-  pub choices : (n : StoredNode) → Contains table n → HasChoices core rows n.row n.alternatives
+  pub choices : (n : StoredNode) → Contains table n → HasChoices R core rows n.row n.alternatives
   pub few : length table ≤ length rows
   pub long : length numbers ≡ length rows
   pub numbered : (k : ℕ) (row : ItemRow) → slice_get rows k ≡ Some row → StandsLast core row → IsNumbered table numbers k row
 
--- the nodes of the first items in that order
+-- the nodes of the first items in that order, with their alternatives as they were found
 abbrev pub NodesUpTo : List Nonterminal → List Item → List InstanceKey → List ℕ → List ℕ → ℕ → List StoredNode → List ℕ → Type 0
-NodesUpTo core items keys places order count = AreNodesWith core (rows_of items keys places (take count order))
+NodesUpTo core items keys places order count =
+    AreNodesWith choice_item_cmp core (rows_of items keys places (take count order))

@@ -2,6 +2,7 @@
 use Rattle.std.specs.Prelude.{ℕ}
 use Rattle.std.specs.Ordering.{nat_cmp, ordering_then}
 use Rattle.std.specs.declared.cmp.Ordering.{Ordering}
+use Rattle.ig_text.specs.TagNumber.{number_of}
 use Rattle.ig_expr.specs.ValueOrder.{values_cmp}
 use Rattle.ig_item.specs.Items.{Item}
 use Rattle.ig_item.specs.Gives.{NodeKey}
@@ -27,9 +28,10 @@ node_cmp x y =
     (ordering_then (nat_cmp x.instance.nonterminal y.instance.nonterminal)
     (values_cmp x.instance.values y.instance.values)))
 
--- the alternatives of a node in the order of their items, which is that of alternative and environment
+-- the alternatives of a node in the order of the numbers of their tags, and then of their items, which is that of alternative
+-- and environment
 abbrev pub choice_cmp : Choice → Choice → Ordering
-choice_cmp x y = nat_cmp x.item y.item
+choice_cmp x y = ordering_then (nat_cmp (number_of x.tag) (number_of y.tag)) (nat_cmp x.item y.item)
 
 abbrev pub previous : Entry → ℕ
 previous Begin = 0

@@ -14,12 +14,13 @@
 //! and evaluates nothing. Live items are marked from the root backward, by a work list. A counting
 //! sort by starts and a sort of each small group put them into order, as rows of numbers: the lists
 //! of values are numbered in order, too. One pass over them gives the nodes with their
-//! alternatives, and another one the entries of all items, which stand side by side.
-//! [`Forest::build`] makes it of items alone, whose ways it records first. The readers hand out
-//! borrowing views.
+//! alternatives, which are then put in order where they aren't, and another one the entries of all
+//! items, which stand side by side. [`Forest::build`] makes it of items alone, whose ways it
+//! records first. The readers hand out borrowing views.
 #![tactic(auto)]
 
 mod builder;
+mod choice_order;
 mod entry;
 mod environments;
 mod forest;

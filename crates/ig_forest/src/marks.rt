@@ -82,6 +82,7 @@ impl Walk {
     }
 
     /// Marks the previous item of a way, and the complete items of the node that was taken.
+    #[inline(always)]
     fn follow(&mut self, links: &Links, way: Way) -> Result<(), AllocError>
         requires found { AreFound self.old (length links.now.ways.firsts) }
         requires whole { AreWhole links.now.ways self.old.marks.items }
@@ -102,6 +103,7 @@ impl Walk {
 
     /// Marks all complete items of a node, of which `done` is the first. Where that one is marked,
     /// all are.
+    #[inline(always)]
     fn mark_node(&mut self, links: &Links, done: u32) -> Result<(), AllocError>
         requires found { AreFound self.old (length links.now.ways.firsts) }
         requires whole { AreWhole links.now.ways self.old.marks.items }

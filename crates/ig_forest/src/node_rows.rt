@@ -1,9 +1,12 @@
 //! Nodes that are read off the complete items in order: the last one grows by an alternative at a
-//! time.
+//! time. At the end the alternatives of each node are put in order.
 ghost use Rattle.std.specs.Prelude.{◌≡◌, ◌≤◌, ◌-◌, [], ◌∷◌, ◌++◌, IfOk, OnOk, length};
 ghost use Rattle.std.specs.Prelude.{option_map, slice_get, slice_range};
-ghost use Rattle.ig_forest.specs.CodeNodeRows.{begin_at, rows_in, with_choice, stored_view};
+ghost use Rattle.ig_forest.specs.CodeNodeRows.{begin_at, nodes_from, rows_in, with_choice};
+ghost use Rattle.ig_forest.specs.CodeNodeRows.{IsPutInOrder, RiseIn, stored_view};
+ghost use Rattle.ig_forest.specs.Reduced.{Each};
 
+use crate::choice_order::put_in_order;
 use crate::entry::Choice;
 use crate::rows::NodeRow;
 use std::alloc::{AllocError, Global};
@@ -104,6 +107,27 @@ impl NodeRows {
     {
         self.choices.push(choice)?;
         Ok(())
+    }
+
+    /// Puts the alternatives of each node into order. Mostly they are in it, and nothing moves.
+    pub(crate) fn put_in_order(&mut self)
+        ensures { Each IsPutInOrder self.old self.new }
+    {
+        put_all_in_order(self.begun.as_slice(), self.choices.as_mut_slice());
+    }
+}
+
+/// Puts the alternatives of each of these nodes into order.
+fn put_all_in_order(begun: &[Begun], choices: &mut [Choice])
+    requires { RiseIn choices.old begun.now }
+    ensures rise { RiseIn choices.new begun.now }
+    ensures nodes { Each IsPutInOrder (nodes_from choices.old begun.now)
+        (nodes_from choices.new begun.now) }
+{
+    for k in 0..begun.len() {
+        let begin = begun[k].begin as usize;
+        let end = begin_of(begun, k + 1, choices.len());
+        put_in_order(&mut choices[begin..end]);
     }
 }
 

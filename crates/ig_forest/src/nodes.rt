@@ -7,6 +7,7 @@ ghost use Rattle.ig_forest.specs.CodeNodeRows.{with_choice};
 ghost use Rattle.ig_forest.specs.CodeNodes.{AreNodesWith, EndsWith, MarkComplete, NodesUpTo, Opens};
 ghost use Rattle.ig_forest.specs.CodeNodes.{rows_of};
 ghost use Rattle.ig_forest.specs.CodeTables.{node_of};
+ghost use Rattle.ig_forest.specs.Orders.{choice_cmp};
 
 use crate::entry::Choice;
 use crate::found::Found;
@@ -24,7 +25,8 @@ pub(crate) struct Nodes {
     pub numbers: Vec<u32>,
 }
 
-/// The nodes of the complete ones among the live items, which are in order.
+/// The nodes of the complete ones among the live items, which are in order. The alternatives of a
+/// node are found in the order of their items, and put in their own.
 pub(crate) fn nodes_of(
     alloc: Global,
     core: &Core,
@@ -39,7 +41,7 @@ pub(crate) fn nodes_of(
         found.now.items.now found.now.keys.now found.now.places.now marks.now }
     requires order { AreLiveInOrder marks.now
         (number_cmp found.now.items.now found.now.keys.now found.now.places.now) order.now }
-    ensures { IfOk result (λ nodes. AreNodesWith core.now
+    ensures { IfOk result (λ nodes. AreNodesWith choice_cmp core.now
         (rows_of found.now.items.now found.now.keys.now found.now.places.now order.now)
         nodes.table nodes.numbers.items) }
 {
@@ -51,6 +53,7 @@ pub(crate) fn nodes_of(
     for place in 0..order.len() {
         add_item(core, found, marks, order, &mut nodes, place)?;
     }
+    nodes.table.put_in_order();
     Ok(nodes)
 }
 
