@@ -19,10 +19,18 @@ use ig_forest::{Child, Choice, Entry, Forest, ItemNode, Node};
 use ig_text::{Span, Tag, Word};
 use std::alloc::{AllocError, Global};
 
-/// The bytes that mostly suffice for a node with one alternative, and for an item with one entry.
+/// The bytes that mostly suffice for a node with one alternative.
 const BYTES_OF_NODE: usize = 48;
 
-const BYTES_OF_ITEM: usize = 72;
+/// The bytes that mostly suffice for the line of an item.
+const BYTES_OF_ITEM: usize = 48;
+
+/// The bytes that mostly suffice for the line of an entry.
+const BYTES_OF_ENTRY: usize = 24;
+
+/// Of so many items, one is looked at to tell how many entries there are. The number is odd, since
+/// items with few entries often alternate with those that have many.
+const ITEMS_OF_SAMPLE: usize = 17;
 
 /// Adds what stands before the values of a node or an item: what it is, its number, and its
 /// nonterminal's name.
@@ -317,7 +325,19 @@ fn push_items(out: &mut Vec<u8>, forest: &Forest) -> Result<(), AllocError>
 fn room_for(forest: &Forest) -> usize {
     let nodes = (forest.nodes() as usize).saturating_mul(BYTES_OF_NODE);
     let items = (forest.items() as usize).saturating_mul(BYTES_OF_ITEM);
-    nodes.saturating_add(items)
+    let entries = sampled_entries(forest).saturating_mul(BYTES_OF_ENTRY);
+    nodes.saturating_add(items).saturating_add(entries)
+}
+
+/// About how many entries the items of a forest have.
+fn sampled_entries(forest: &Forest) -> usize {
+    let mut entries: usize = 0;
+    for number in (0..forest.items()).step_by(ITEMS_OF_SAMPLE) {
+        if let Some(item) = forest.item(number) {
+            entries = entries.saturating_add(item.entries.len());
+        }
+    }
+    entries.saturating_mul(ITEMS_OF_SAMPLE)
 }
 
 /// The text of a forest, as UTF-8: the numbers of its nodes and items, then a line for each node

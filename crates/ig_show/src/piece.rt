@@ -56,6 +56,7 @@ impl Piece {
     }
 
     /// Puts two positions before the others, as those where a span begins and ends.
+    #[inline(always)]
     pub(crate) fn put_places(&mut self, begin: u32, end: u32)
         requires room { 22 + length self.old ≤ 96 }
         ensures text { self.new ≡ places_text begin end ++ self.old }
@@ -67,6 +68,7 @@ impl Piece {
     }
 
     /// Adds the piece to the output.
+    #[inline(always)]
     pub(crate) fn push_to(&self, out: &mut Vec<u8>) -> Result<(), AllocError>
         ensures { OnOk result (out.new.items ≡ out.old.items ++ self.now) }
     {
