@@ -22,7 +22,8 @@ use Rattle.ig_ebnf.specs.Lists.{ListsOf, HasFewLists}
 use Rattle.ig_ebnf.specs.Laws.{ListsKeep, KeptByLists}
 use Rattle.ig_core.specs.CoreOf.{core_of}
 use Rattle.ig_core.specs.Lowered.{IsBuildable, BeforeLists, Lowered, CoreOf, IsNumbered}
-use Rattle.ig_core.specs.Laws.{IsLeft, PassesKeep, CoreTreesArePermitted, CoresAreNamed, TagsRiseInCores, ValuesAreThoseOfCore}
+use Rattle.ig_core.specs.Laws.{ArePassed, IsLeft, PassesInTurn, PassesKeep, CoreTreesArePermitted, CoresAreNamed, TagsRiseInCores}
+use Rattle.ig_core.specs.Laws.{ValuesAreThoseOfCore}
 use Rattle.ig_core.proofs.Law.{core_trees_permitted, core_values}
 use Rattle.ig_core.proofs.CoreNames.{core_names_differ}
 use Rattle.ig_core.proofs.WellKinded.{tags_rise}
@@ -37,16 +38,6 @@ pub record Before : Type 0 where
   pub filters : FiltersKeep
   pub forms : RegularityByForm
   pub root : RootedIsTheSame
-
--- what stands between the passes
-pub record Stages (c : CheckedGrammar) : Type 0 where
-  pub levels : KeptByLevels c
-  pub margin : IsUnbound (LevelsOf c).grammar margin_name
-  pub first : IsUnbound (LevelsOf c).grammar first_name
-  pub column : IsUnbound (LevelsOf c).grammar column_name
-  pub blocks : KeptByBlocks (LevelsOf c)
-  pub layout : KeptByLayout (BlocksOf (LevelsOf c))
-  pub filters : KeptByFilters (LayoutOf (BlocksOf (LevelsOf c)))
 
 -- names that begin with a dot differ where the characters behind it do
 abbrev behind_dot : List ℕ → ℕ
@@ -68,27 +59,53 @@ column_is_new : (column_name ≢ left_name) × (column_name ≢ right_name)
 column_is_new =
     (differ_behind_dot column_name left_name (λ e. omega (arith, e)), differ_behind_dot column_name right_name (λ e. omega (arith, e)))
 
-pub stages : Before → (c : CheckedGrammar) → IsBuildable c → Stages c
-stages law c can =
-    let levels = law.levels c can.sound can.left can.right in
-    let margin = levels.unbound margin_name margin_is_new.0 margin_is_new.1 can.margin in
-    let first = levels.unbound first_name first_is_new.0 first_is_new.1 can.first in
-    let column = levels.unbound column_name column_is_new.0 column_is_new.1 can.column in
-    let blocks = law.blocks (LevelsOf c) levels.sound levels.free margin first column (levels_plain law.forms law.root c can.sound can.plain) in
-    let layout = law.layout (BlocksOf (LevelsOf c)) blocks.sound blocks.free blocks.unmarked in
-    let filters = law.filters (LayoutOf (BlocksOf (LevelsOf c))) layout.sound layout.free layout.unmarked layout.no_layout in
+-- what each pass keeps of what those before it leave
+module _ (law : Before) (c : CheckedGrammar) (can : IsBuildable c) where
+  levels : KeptByLevels c
+  levels = law.levels c can.sound can.left can.right
+
+  margin : IsUnbound (LevelsOf c).grammar margin_name
+  margin = levels.unbound margin_name margin_is_new.0 margin_is_new.1 can.margin
+
+  first : IsUnbound (LevelsOf c).grammar first_name
+  first = levels.unbound first_name first_is_new.0 first_is_new.1 can.first
+
+  column : IsUnbound (LevelsOf c).grammar column_name
+  column = levels.unbound column_name column_is_new.0 column_is_new.1 can.column
+
+  plain : PlainIsUnmarked (LevelsOf c).grammar
+  plain = levels_plain law.forms law.root c can.sound can.plain
+
+  blocks : KeptByBlocks (LevelsOf c)
+  blocks = law.blocks (LevelsOf c) levels.sound levels.free margin first column plain
+
+  layout : KeptByLayout (BlocksOf (LevelsOf c))
+  layout = law.layout (BlocksOf (LevelsOf c)) blocks.sound blocks.free blocks.unmarked
+
+  filters : KeptByFilters (LayoutOf (BlocksOf (LevelsOf c)))
+  filters = law.filters (LayoutOf (BlocksOf (LevelsOf c))) layout.sound layout.free layout.unmarked layout.no_layout
+
+  lists : ListsKeep → IsNumbered c → KeptByLists (BeforeLists c)
+  unfolding BeforeLists
+  lists keep numbered =
+      keep (BeforeLists c) filters.sound filters.free filters.unmarked filters.no_layout filters.excluding
+      numbered.few_lists
+
+pub passes_in_turn : Before → ListsKeep → PassesInTurn
+passes_in_turn law keep c can =
     record {
-      levels = levels;
-      margin = margin;
-      first = first;
-      column = column;
-      blocks = blocks;
-      layout = layout;
-      filters = filters;
+      levels = levels law c can;
+      margin = margin law c can;
+      first = first law c can;
+      column = column law c can;
+      blocks = blocks law c can;
+      layout = layout law c can;
+      filters = filters law c can;
+      lists = lists law c can keep;
     }
 
 -- before the pass for lists the trees are the same
-same_before : SameTreesIsAnEquivalence → (c : CheckedGrammar) → Stages c → PermitSame c (BeforeLists c)
+same_before : SameTreesIsAnEquivalence → (c : CheckedGrammar) → ArePassed c → PermitSame c (BeforeLists c)
 unfolding BeforeLists
 same_before law c at =
     law.chained c (LevelsOf c) (BeforeLists c) at.levels.same
@@ -96,34 +113,29 @@ same_before law c at =
     (law.chained (BlocksOf (LevelsOf c)) (LayoutOf (BlocksOf (LevelsOf c))) (BeforeLists c) at.layout.same at.filters.same))
 
 -- and so are their values
-values_before : SameTreesIsAnEquivalence → (c : CheckedGrammar) → Stages c → KeepsValues c (BeforeLists c)
+values_before : SameTreesIsAnEquivalence → (c : CheckedGrammar) → ArePassed c → KeepsValues c (BeforeLists c)
 unfolding BeforeLists
 values_before law c at =
     law.values_chained c (LevelsOf c) (BeforeLists c) at.levels.same at.levels.values
     (law.values_chained (LevelsOf c) (BlocksOf (LevelsOf c)) (BeforeLists c) at.blocks.same at.blocks.values
     (law.values_chained (BlocksOf (LevelsOf c)) (LayoutOf (BlocksOf (LevelsOf c))) (BeforeLists c) at.layout.same at.layout.values at.filters.values))
 
-lists_kept : ListsKeep → (c : CheckedGrammar) → Stages c → IsNumbered c → KeptByLists (BeforeLists c)
-unfolding BeforeLists
-lists_kept law c at numbered =
-    law (BeforeLists c) at.filters.sound at.filters.free at.filters.unmarked at.filters.no_layout at.filters.excluding
-    numbered.few_lists
-
 left_by : SameTreesIsAnEquivalence → (c : CheckedGrammar) → PermitSame c (BeforeLists c) → KeepsValues c (BeforeLists c) → KeptByLists (BeforeLists c) →
     IsLeft c
 unfolding Lowered
-left_by law c same values lists =
+left_by law c same values last =
     record {
-      same = law.chained c (BeforeLists c) (ListsOf (BeforeLists c)) same lists.same;
-      values = law.values_chained c (BeforeLists c) (ListsOf (BeforeLists c)) same values lists.values;
-      ready = record { scoped = lists.scoped; fit = lists.fit; remaining = lists.remaining };
-      root_named = lists.root_named;
-      rooted = lists.rooted;
+      same = law.chained c (BeforeLists c) (ListsOf (BeforeLists c)) same last.same;
+      values = law.values_chained c (BeforeLists c) (ListsOf (BeforeLists c)) same values last.values;
+      ready = record { scoped = last.scoped; fit = last.fit; remaining = last.remaining };
+      well = last.well;
+      root_named = last.root_named;
+      rooted = last.rooted;
     }
 
-pub passes_keep : Before → ListsKeep → SameTreesIsAnEquivalence → PassesKeep
-passes_keep law lists equal c can numbered =
-    let at = stages law c can in left_by equal c (same_before equal c at) (values_before equal c at) (lists_kept lists c at numbered)
+pub passes_keep : PassesInTurn → SameTreesIsAnEquivalence → PassesKeep
+passes_keep turn equal c can numbered =
+    let at = turn c can in left_by equal c (same_before equal c at) (values_before equal c at) (at.lists numbered)
 
 pub trees_permitted : TreesWithoutOperatorsAreClean → PassesKeep → CoreTreesArePermitted
 unfolding CoreOf
@@ -183,38 +195,45 @@ pub record AtFilters (c x : CheckedGrammar) : Type 0 where
 module _ (law : Before) (c : CheckedGrammar) (can : IsBuildable c) where
   pub at_levels : (x : CheckedGrammar) → x ≡ LevelsOf c → AtLevels x
   at_levels x is =
-      let at = stages law c can in
+      let kept = levels law c can in
       subst AtLevels (sym is)
-      (record { sound = at.levels.sound; free = at.levels.free; margin = at.margin; first = at.first; column = at.column; plain = levels_plain law.forms law.root c can.sound can.plain })
+      (record {
+        sound = kept.sound;
+        free = kept.free;
+        margin = margin law c can;
+        first = first law c can;
+        column = column law c can;
+        plain = plain law c can;
+      })
 
   pub at_blocks : (x y : CheckedGrammar) → x ≡ LevelsOf c → y ≡ BlocksOf x → AtBlocks y
   at_blocks x y is made =
-      let at = stages law c can in
+      let kept = blocks law c can in
       subst AtBlocks (sym (made ∙ ap BlocksOf is))
-      (record { sound = at.blocks.sound; free = at.blocks.free; unmarked = at.blocks.unmarked })
+      (record { sound = kept.sound; free = kept.free; unmarked = kept.unmarked })
 
   pub at_layout : (x y z : CheckedGrammar) → x ≡ LevelsOf c → y ≡ BlocksOf x → z ≡ LayoutOf y → AtLayout z
   at_layout x y z is made laid =
-      let at = stages law c can in
+      let kept = layout law c can in
       subst AtLayout (sym (laid ∙ ap LayoutOf (made ∙ ap BlocksOf is)))
       (record {
-        sound = at.layout.sound;
-        free = at.layout.free;
-        unmarked = at.layout.unmarked;
-        no_layout = at.layout.no_layout;
+        sound = kept.sound;
+        free = kept.free;
+        unmarked = kept.unmarked;
+        no_layout = kept.no_layout;
       })
 
   at_last : AtFilters c (BeforeLists c)
   unfolding BeforeLists
   at_last =
-      let at = stages law c can in
+      let kept = filters law c can in
       record {
         is = refl;
-        sound = at.filters.sound;
-        free = at.filters.free;
-        unmarked = at.filters.unmarked;
-        no_layout = at.filters.no_layout;
-        excluding = at.filters.excluding;
+        sound = kept.sound;
+        free = kept.free;
+        unmarked = kept.unmarked;
+        no_layout = kept.no_layout;
+        excluding = kept.excluding;
       }
 
   last_is : FiltersOf (LayoutOf (BlocksOf (LevelsOf c))) ≡ BeforeLists c

@@ -5,6 +5,7 @@ use Rattle.ig_expr.specs.ValuedTree as valued
 use Rattle.ig_text.specs.declared.tag.Tag.TheVariants.{Rule}
 use Rattle.ig_grammar.specs.Checked.{CheckedGrammar}
 use Rattle.ig_grammar.specs.Numbering.{IsDeclaration}
+use Rattle.ig_grammar.specs.Regular.{AlternativesStandWell, OfEachLevel}
 use Rattle.ig_grammar.specs.declared.declaration.Decl.{Decl}
 use Rattle.ig_grammar.specs.declared.grammar.Grammar.{Grammar}
 use Rattle.ig_grammar.specs.declared.place.Shape.{Shape}
@@ -18,16 +19,41 @@ use Rattle.ig_item.specs.TagOrder.{TagsRise}
 use Rattle.ig_item.specs.WellKinded.{IsWellKinded, NoneTwice}
 use Rattle.ig_item.specs.declared.core_grammar.CoreAlt.{CoreAlt}
 use Rattle.ig_item.specs.declared.core_grammar.Nonterminal.{Nonterminal}
-use Rattle.ig_rewrite.specs.Added.{root_name}
+use Rattle.ig_rewrite.specs.Added.{column_name, first_name, margin_name, root_name}
 use Rattle.ig_rewrite.specs.Rooted.{has_root}
 use Rattle.ig_rewrite.specs.SameTrees.{PermitSame}
 use Rattle.ig_rewrite.specs.SameValues.{KeepsValues}
 use Rattle.ig_rewrite.specs.Sound.{RootIsNamed}
+use Rattle.ig_rewrite.specs.Unbound.{IsUnbound}
+use Rattle.ig_levels.specs.Levels.{LevelsOf}
+use Rattle.ig_levels.specs.Laws.{KeptByLevels}
+use Rattle.ig_blocks.specs.Blocks.{BlocksOf}
+use Rattle.ig_blocks.specs.Laws.{KeptByBlocks}
+use Rattle.ig_lexical.specs.Layout.{LayoutOf}
+use Rattle.ig_lexical.specs.Laws.{KeptByFilters, KeptByLayout}
+use Rattle.ig_ebnf.specs.Laws.{KeptByLists}
 use Rattle.ig_core.specs.CoreOf.{core_of}
 use Rattle.ig_core.specs.Limits.{most_declarations}
-use Rattle.ig_core.specs.Lowered.{IsBuildable, Lowered, CoreOf, IsNumbered}
+use Rattle.ig_core.specs.Lowered.{BeforeLists, IsBuildable, Lowered, CoreOf, IsNumbered}
 use Rattle.ig_core.specs.Notation.{IsOfNotation, unchanged}
 use Rattle.ig_core.specs.Ready.{IsReady}
+
+-- what each pass keeps of the grammar that those before it leave
+pub record ArePassed (c : CheckedGrammar) : Type 0 where
+  pub levels : KeptByLevels c
+  -- the names that the pass for blocks adds are not in use
+  pub margin : IsUnbound (LevelsOf c).grammar margin_name
+  pub first : IsUnbound (LevelsOf c).grammar first_name
+  pub column : IsUnbound (LevelsOf c).grammar column_name
+  pub blocks : KeptByBlocks (LevelsOf c)
+  pub layout : KeptByLayout (BlocksOf (LevelsOf c))
+  pub filters : KeptByFilters (LayoutOf (BlocksOf (LevelsOf c)))
+  -- where numbers tell the names apart that the pass for lists adds
+  pub lists : IsNumbered c → KeptByLists (BeforeLists c)
+
+-- each of the five results in turn is well scoped, regular in its form, and has no name that a later pass adds
+abbrev pub PassesInTurn : Type 0
+PassesInTurn = (c : CheckedGrammar) → IsBuildable c → ArePassed c
 
 -- what all passes leave permits the same trees and keeps their values, and the last step takes it; a declaration stands
 -- for the root, and is named `$root`
@@ -35,6 +61,8 @@ pub record IsLeft (c : CheckedGrammar) : Type 0 where
   pub same : PermitSame c (Lowered c)
   pub values : KeepsValues c (Lowered c)
   pub ready : IsReady (Lowered c).grammar (Lowered c).shapes
+  -- each symbol stands where it may, and each literal has a character
+  pub well : OfEachLevel AlternativesStandWell (Lowered c).grammar
   pub root_named : RootIsNamed (Lowered c)
   pub rooted : has_root (Lowered c).shapes ≡ true
 

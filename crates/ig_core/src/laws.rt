@@ -2,8 +2,8 @@
 //! their contracts are the laws, each proved for all grammars, shapes, texts and trees that it
 //! speaks of.
 ghost use Rattle.ig_core.specs.Laws.{CoresAreNamed, CoresAreWellKinded, CoreTreesArePermitted};
-ghost use Rattle.ig_core.specs.Laws.{DeclarationsKeepNumbers, NotationIsBuildable, PassesKeep};
-ghost use Rattle.ig_core.specs.Laws.{TagsRiseInCores, ValuesAreThoseOfCore};
+ghost use Rattle.ig_core.specs.Laws.{DeclarationsKeepNumbers, NotationIsBuildable, PassesInTurn};
+ghost use Rattle.ig_core.specs.Laws.{PassesKeep, TagsRiseInCores, ValuesAreThoseOfCore};
 
 use ig_blocks::blocks_keep;
 use ig_ebnf::lists_keep;
@@ -14,11 +14,10 @@ use ig_lexical::{filters_keep, layout_keeps};
 use ig_meaning::trees_without_operators_are_clean;
 use ig_rewrite::{added_names_are_new, rooted_is_the_same, same_trees_is_an_equivalence};
 
-/// What the passes leave of a grammar permits the same trees, binds the same values in them, has
-/// only the forms that the last step takes, and in it a declaration stands for the root. This law
-/// computes nothing.
-pub fn passes_keep()
-    ensures { PassesKeep }
+/// Each of the five passes leaves a grammar that is well scoped and regular in its form, and that
+/// has no name that a later pass adds. This law computes nothing.
+pub fn passes_in_turn()
+    ensures { PassesInTurn }
 {
     levels_keep();
     blocks_keep();
@@ -27,6 +26,15 @@ pub fn passes_keep()
     lists_keep();
     regularity_by_form();
     rooted_is_the_same();
+}
+
+/// What the passes leave of a grammar permits the same trees, binds the same values in them, has
+/// only the forms that the last step takes, and in it a declaration stands for the root. This law
+/// computes nothing.
+pub fn passes_keep()
+    ensures { PassesKeep }
+{
+    passes_in_turn();
     same_trees_is_an_equivalence();
 }
 

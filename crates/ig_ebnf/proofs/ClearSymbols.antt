@@ -51,7 +51,8 @@ abbrev mutual
   AlternativesClear no_alternatives = Unit {0}
   AlternativesClear (next_alternative xs others) = SymbolsClear xs × AlternativesClear others
 
-all_split : (P : Symbol → Type 0) (xs ys : List Symbol) → All P (xs ++ ys) → All P xs × All P ys
+-- what holds of all elements of two lists holds of those of each
+pub all_split : {X : Type 0} (P : X → Type 0) (xs ys : List X) → All P (xs ++ ys) → All P xs × All P ys
 all_split P [] ys h = (All-nil P, h)
 all_split P (x ∷ xs) ys h =
     let below = all_split P xs ys (All-tail P x (xs ++ ys) h) in

@@ -28,6 +28,7 @@ use Rattle.ig_ebnf.proofs.LoweredGrammar.{takes_of, new_free}
 use Rattle.ig_ebnf.proofs.SameTrees.{lowering_is_the_same, lowering_keeps_values}
 use Rattle.ig_ebnf.proofs.Premises.{Given, may_be_lowered}
 use Rattle.ig_ebnf.proofs.Remaining.{AllRemain}
+use Rattle.ig_ebnf.proofs.StandsWell.{lowered_stands_well, rooted_stands_well}
 use Rattle.ig_ebnf.proofs.LoweredScoped.{lowered_is_well_scoped, added_at, added_plainly}
 use Rattle.ig_ebnf.proofs.LoweredShaped.{SourceAt, FormAt, either_decl, either_shape, form_plainly, all_remain}
 use Rattle.ig_ebnf.proofs.LoweredShaped.{lowered_fits, root_is_fresh}
@@ -100,6 +101,7 @@ module _ (clean : TreesWithoutOperatorsAreClean) (c : CheckedGrammar) (given : G
         values = trees.values_chained c (lowered c) (rooted Syntax (lowered c)) lowering_kept.same lowering_kept.values to.values;
         scoped = to.scoped;
         fit = to.fit;
+        well = rooted_stands_well (lowered c) (lowered_stands_well c.grammar given.sound.well);
         remaining = kept.remaining lowered_remains;
         root_named = kept.named lowered_named;
         rooted = kept.has;

@@ -26,6 +26,7 @@ pub mod AddedCalm
 pub mod OldNames
 pub mod OfAdded
 pub mod Remaining
+pub mod StandsWell
 pub mod Binders
 pub mod Heads
 pub mod LoweredScoped

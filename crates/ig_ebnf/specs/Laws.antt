@@ -2,6 +2,7 @@
 use Rattle.std.specs.Prelude.{◌≡◌, None, true, false}
 use Rattle.ig_grammar.specs.Numbering.{layout_among}
 use Rattle.ig_grammar.specs.Checked.{CheckedGrammar, FitShapes}
+use Rattle.ig_grammar.specs.Regular.{AlternativesStandWell, OfEachLevel}
 use Rattle.ig_grammar.specs.WellScoped.{IsWellScoped}
 use Rattle.ig_rewrite.specs.SameTrees.{PermitSame}
 use Rattle.ig_rewrite.specs.SameValues.{KeepsValues}
@@ -17,6 +18,8 @@ pub record KeptByLists (c : CheckedGrammar) : Type 0 where
   pub values : KeepsValues c (ListsOf c)
   pub scoped : IsWellScoped (ListsOf c).grammar
   pub fit : FitShapes (ListsOf c).grammar (ListsOf c).shapes
+  -- each symbol stands where it may, and each literal has a character
+  pub well : OfEachLevel AlternativesStandWell (ListsOf c).grammar
   pub remaining : IsRemaining (ListsOf c).grammar
   pub root_named : RootIsNamed (ListsOf c)
   pub rooted : has_root (ListsOf c).shapes ≡ true
