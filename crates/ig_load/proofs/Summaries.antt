@@ -1,43 +1,30 @@
 -- What the forest of the permitted trees says of them.
-use Rattle.std.proofs.Common.{◌≡◌, ◌↔◌, ℕ, List, IsTrue, length, sym, ◌∙◌, subst, Ok, arith}
+use Rattle.std.proofs.Common.{◌≡◌, ◌↔◌, ℕ, List, IsTrue, length, sym, ◌∙◌, subst, Ok}
 use Rattle.std.proofs.lemmas.List.{length-map}
-use Rattle.ig_text.specs.Tree.{height}
 use Rattle.ig_grammar.specs.Checked.{CheckedGrammar}
 use Rattle.ig_item.specs.Tables.{Tables, item_of, items_of}
 use Rattle.ig_item.specs.WellKinded.{NoneTwice}
 use Rattle.ig_forest.specs.Forest.{Forest}
 use Rattle.ig_forest.specs.Unfold.{IsTrim}
-use Rattle.ig_heights.specs.Heights.{Heights, AreHeights, IsCyclic}
+use Rattle.ig_heights.specs.Heights.{Heights, AreHeights}
 use Rattle.ig_query.specs.Ambiguity.{IsAmbiguous}
-use Rattle.ig_parse.specs.Laws.{AmbiguityIsTwoPermitted}
+use Rattle.ig_parse.specs.Laws.{AmbiguityIsTwoPermitted, CyclicIsWithoutHighest}
 use Rattle.ig_parse.specs.Parses.{AreReachable, IsForestOf}
 use Rattle.ig_core.specs.Notation.{unchanged}
 use Rattle.ig_parse.specs.Parses.{IsOver, IsParsed}
 use Rattle.ig_load.specs.Grammar.{LoadGrammar}
 use Rattle.ig_load.specs.Input.{LoadInput}
-use Rattle.ig_load.specs.Summary.{PermitsHigher, IsSummaryOf, Loads}
+use Rattle.ig_load.specs.Summary.{IsSummaryOf, Loads}
 use Rattle.ig_load.specs.declared.summary.Summary.{Summary}
 
 module _ (c : CheckedGrammar) (text : List ℕ) (f : Forest) (is : IsForestOf c text f) where
-  -- above each height the root has a tree exactly where one is permitted
-  higher : IsCyclic f ↔ PermitsHigher c text
-  higher = (
-    λ cyclic h.
-        let tree = cyclic h in
-        let permitted = (is.unfolds tree.0 tree.2).0 (tree.1, tree.3) in
-        (tree.2, permitted.0, tree.4),
-    λ permitted h.
-        let tree = permitted h in
-        let unfolded = (is.unfolds (height tree.0) tree.0).1 (tree.1, omega arith) in
-        (height tree.0, unfolded.0, tree.0, unfolded.1, tree.2),
-  )
-
   pub summary_is : (tables : Tables) (heights : Heights) (summary : Summary) → AreReachable c text tables → NoneTwice (items_of tables) →
-      IsTrim f → AmbiguityIsTwoPermitted → AreHeights f heights → summary.items ≡ length tables.items →
+      IsTrim f → AmbiguityIsTwoPermitted → CyclicIsWithoutHighest → AreHeights f heights → summary.items ≡ length tables.items →
       summary.nodes ≡ length f.nodes → (IsTrue summary.ambiguous ↔ IsAmbiguous f) → summary.cyclic ≡ heights.cyclic →
       IsSummaryOf c text summary
-  summary_is tables heights summary reachable once trim law are items nodes ambiguous cyclic =
+  summary_is tables heights summary reachable once trim law unbounded are items nodes ambiguous cyclic =
       let two = law c text f trim is in
+      let higher = unbounded c text f is in
       record {
         items = record {
           items = items_of tables;

@@ -1,9 +1,7 @@
 -- What a load says: how many items and nodes there are, and whether the forest is ambiguous or cyclic.
-use Rattle.std.specs.Prelude.{◌≡◌, ◌↔◌, ℕ, ◌<◌, List, ◌++◌, length, Contains, Bool, true, false, IsTrue, Result, Ok, Err, codes}
+use Rattle.std.specs.Prelude.{◌≡◌, ◌↔◌, ℕ, List, ◌++◌, length, Contains, Bool, true, false, IsTrue, Result, Ok, Err, codes}
 use Rattle.std.specs.Fmt.{decimal}
-use Rattle.ig_text.specs.Tree.{Tree, height}
 use Rattle.ig_grammar.specs.Checked.{CheckedGrammar}
-use Rattle.ig_meaning.specs.Permitted.{Permitted}
 use Rattle.ig_item.specs.Items.{Item, Reachable}
 use Rattle.ig_item.specs.WellKinded.{NoneTwice}
 use Rattle.ig_item.specs.declared.run_fault.RunFault.{RunFault}
@@ -11,7 +9,7 @@ use Rattle.ig_item.specs.declared.run_fault.RunFault.TheVariants as run_fault
 use Rattle.ig_core.specs.Lowered.{CoreOf}
 use Rattle.ig_core.specs.Notation.{unchanged}
 use Rattle.ig_forest.specs.Forest.{Forest}
-use Rattle.ig_parse.specs.Laws.{PermitsTwo}
+use Rattle.ig_parse.specs.Laws.{HasNoHighest, PermitsTwo}
 use Rattle.ig_parse.specs.Parses.{IsForestOf, IsOver}
 use Rattle.ig_show.specs.Listed.{line_end}
 use Rattle.ig_load.specs.Grammar.{LoadGrammar}
@@ -33,10 +31,6 @@ summary_text summary =
     (codes " cyclic " ++ (answer_text summary.cyclic ++ line_end)))))))
 
 module _ (c : CheckedGrammar) (text : List ℕ) where
-  -- for each number a higher tree is permitted
-  abbrev pub PermitsHigher : Type 0
-  PermitsHigher = (h : ℕ) → (t : Tree) × Permitted c.grammar c.shapes text t × (h < height t)
-
   -- so many items are reachable
   pub record HasItems (count : ℕ) : Type 0 where
     pub items : List Item
@@ -55,7 +49,7 @@ module _ (c : CheckedGrammar) (text : List ℕ) where
     pub items : HasItems summary.items
     pub nodes : HasNodes summary.nodes
     pub ambiguous : IsTrue summary.ambiguous ↔ PermitsTwo c text
-    pub cyclic : IsTrue summary.cyclic ↔ PermitsHigher
+    pub cyclic : IsTrue summary.cyclic ↔ HasNoHighest c text
 
 -- the fault of a load for that of a run
 abbrev pub fault_of : RunFault → LoadFault

@@ -19,7 +19,7 @@ use ig_grammar::Checked;
 use ig_heights::Heights;
 use ig_item::Recorded;
 use ig_notation::read_grammars_are_regular;
-use ig_parse::{Parser, ambiguity_is_two_permitted};
+use ig_parse::{Parser, ambiguity_is_two_permitted, cyclic_is_without_highest};
 use ig_query::is_ambiguous;
 use std::alloc::{AllocError, Global};
 
@@ -54,8 +54,8 @@ fn parser_of(alloc: Global, grammar: &Checked) -> Result<Parser<'_>, AllocError>
     }
 }
 
-/// What the forest of the parser's grammar and the input has, of which this was recorded. A tree has
-/// to be permitted.
+/// What the forest of the parser's grammar and the input has, of which this was recorded. A tree
+/// has to be permitted.
 fn summarize(
     alloc: Global,
     parser: &Parser<'_>,
@@ -68,6 +68,7 @@ fn summarize(
     ensures { IfOk result (IsSummaryOf parser.now recorded.now.text) }
 {
     ambiguity_is_two_permitted();
+    cyclic_is_without_highest();
     let Some(forest) = parser.forest(alloc, recorded)? else {
         unreachable!()
     };

@@ -1,3 +1,4 @@
 pub mod Parsing
 pub mod Queries
+pub mod Alternatives
 pub mod Declared

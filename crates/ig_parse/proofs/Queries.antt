@@ -2,7 +2,7 @@
 use Rattle.std.proofs.Common.{◌≡◌, ◌↔◌, ◌⊎◌, ⊎_elim, inl, inr, ℕ, zero, suc, ◌+◌, List, [], ◌∷◌, Some, slice_get, true, false, if◌then◌else◌, refl, sym, ap, ◌∙◌, subst, arith}
 use Rattle.std.specs.Prelude.{◌==◌}
 use Rattle.std.proofs.lemmas.Option.{same_Some}
-use Rattle.ig_text.specs.Tree.{Tree, height}
+use Rattle.ig_text.specs.Tree.{height}
 use Rattle.ig_text.specs.declared.tag.Tag.{Tag}
 use Rattle.ig_text.specs.declared.tag.Tag.TheVariants as tag
 use Rattle.ig_grammar.specs.Checked.{CheckedGrammar}
@@ -10,7 +10,7 @@ use Rattle.ig_grammar.specs.Numbering.{alternatives, tag_among, tag_of}
 use Rattle.ig_grammar.specs.declared.place.Shape.{Shape}
 use Rattle.ig_grammar.specs.declared.place.Shape.TheVariants as shape
 use Rattle.ig_grammar.specs.declared.symbol.Alt.{Alt}
-use Rattle.ig_item.specs.Core.{IsAlternative, numbered}
+use Rattle.ig_item.specs.Core.{numbered}
 use Rattle.ig_item.specs.declared.core_grammar.CoreAlt.{CoreAlt}
 use Rattle.ig_item.specs.declared.core_grammar.Nonterminal.{Nonterminal}
 use Rattle.ig_core.specs.CoreOf.{Shaped, alternatives_of, nonterminals_of, number_of, numbered as shaped_numbered}
@@ -19,7 +19,7 @@ use Rattle.ig_forest.specs.Forest.{Forest}
 use Rattle.ig_query.specs.InTrees.{HasTwoTrees}
 use Rattle.ig_query.specs.Laws.{AmbiguityIsTwoTrees, AreUniform, SpansAreThoseOfTrees}
 use Rattle.ig_query.specs.Spans.{IsRule}
-use Rattle.ig_parse.specs.Laws.{AmbiguityIsTwoPermitted, PermitsTwo, SpansArePermitted}
+use Rattle.ig_parse.specs.Laws.{AmbiguityIsTwoPermitted, CyclicIsWithoutHighest, PermitsTwo, SpansArePermitted}
 use Rattle.ig_parse.specs.Parses.{IsForestOf}
 
 two_permitted : (c : CheckedGrammar) (text : List ℕ) (f : Forest) → IsForestOf c text f → HasTwoTrees f ↔ PermitsTwo c text
@@ -49,6 +49,17 @@ ambiguity_is_two_permitted law c text f trim is =
     let trees = law f trim is.one_cursor in
     let permitted = two_permitted c text f is in
     (λ a. permitted.0 (trees.0 a), λ p. trees.1 (permitted.1 p))
+
+-- the trees of the root are the permitted ones
+pub cyclic_is_without_highest : CyclicIsWithoutHighest
+cyclic_is_without_highest c text f is = (
+  λ cyclic h.
+      let x = cyclic h in (x.2, ((is.unfolds x.0 x.2).0 (x.1, x.3)).0, x.4),
+  λ none h.
+      let x = none h in
+      let u = (is.unfolds (height x.0) x.0).1 (x.1, omega arith) in
+      (height x.0, u.0, x.0, u.1, x.2),
+)
 
 -- the tags of the alternatives of a nonterminal are those of one shape
 record HasShape (shaped : Shape) (x : CoreAlt) : Type 0 where

@@ -1,19 +1,24 @@
 -- What queries of a forest say of the permitted trees.
-use Rattle.std.specs.Prelude.{◌≡◌, ◌↔◌, ℕ, List}
-use Rattle.ig_text.specs.Tree.{Tree}
+use Rattle.std.specs.Prelude.{◌≡◌, ◌↔◌, ◌⊎◌, ℕ, ◌<◌, List, Some, slice_get}
+use Rattle.std.specs.declared.cmp.Ordering.TheVariants.{Less}
+use Rattle.ig_text.specs.TagNumber.{number_of}
+use Rattle.ig_text.specs.Tree.{Tree, height}
 use Rattle.ig_text.specs.declared.tag.Tag.TheVariants.{Rule}
 use Rattle.ig_text.specs.declared.text.Span.{Span}
+use Rattle.ig_expr.specs.ValueOrder.{values_cmp}
 use Rattle.ig_grammar.specs.Checked.{CheckedGrammar}
 use Rattle.ig_grammar.specs.Numbering.{IsDeclaration, as_written}
 use Rattle.ig_grammar.specs.declared.declaration.Decl.{Decl}
 use Rattle.ig_grammar.specs.declared.grammar.Grammar.{Grammar}
 use Rattle.ig_meaning.specs.Permitted.{Permitted}
 use Rattle.ig_item.specs.WellKinded.{IsWellKinded}
-use Rattle.ig_core.specs.Lowered.{CoreOf}
+use Rattle.ig_core.specs.Lowered.{CoreOf, IsBuildable, IsNumbered}
 use Rattle.ig_core.specs.Notation.{unchanged}
-use Rattle.ig_forest.specs.Forest.{Forest}
+use Rattle.ig_forest.specs.Forest.{Forest, ItemNode, Node}
 use Rattle.ig_forest.specs.Reduced.{IsNamed}
 use Rattle.ig_forest.specs.Unfold.{IsTrim}
+use Rattle.ig_forest.specs.declared.entry.Choice.{Choice}
+use Rattle.ig_heights.specs.Heights.{IsCyclic}
 use Rattle.ig_query.specs.Ambiguity.{IsAmbiguous}
 use Rattle.ig_query.specs.InTrees.{HasNode}
 use Rattle.ig_query.specs.Spans.{HasSpan}
@@ -31,6 +36,32 @@ pub record PermitsTwo (c : CheckedGrammar) (text : List ℕ) : Type 0 where
 abbrev pub AmbiguityIsTwoPermitted : Type 0
 AmbiguityIsTwoPermitted =
     (c : CheckedGrammar) (text : List ℕ) (f : Forest) → IsTrim f → IsForestOf c text f → IsAmbiguous f ↔ PermitsTwo c text
+
+-- for each number a higher tree is permitted
+abbrev pub HasNoHighest : CheckedGrammar → List ℕ → Type 0
+HasNoHighest c text = (h : ℕ) → (t : Tree) × Permitted c.grammar c.shapes text t × (h < height t)
+
+-- a forest is cyclic exactly where for each number a higher tree is permitted
+abbrev pub CyclicIsWithoutHighest : Type 0
+CyclicIsWithoutHighest =
+    (c : CheckedGrammar) (text : List ℕ) (f : Forest) → IsForestOf c text f → IsCyclic f ↔ HasNoHighest c text
+
+-- both alternatives have one tag number, and the item of the first one has the lesser environment
+pub record HasLessEnvironment (f : Forest) (first second : Choice) : Type 0 where
+  pub one_number : number_of first.tag ≡ number_of second.tag
+  pub item : ItemNode
+  pub other : ItemNode
+  pub there : slice_get f.items first.item ≡ Some item
+  pub other_there : slice_get f.items second.item ≡ Some other
+  pub less : values_cmp item.env other.env ≡ Less
+
+-- of two alternatives of a node the former one has the lesser tag number, or under one number the lesser environment
+abbrev pub AlternativesRiseByTags : Type 0
+AlternativesRiseByTags =
+    (c : CheckedGrammar) (text : List ℕ) (f : Forest) → IsBuildable c → IsNumbered c → IsForestOf c text f →
+    (v i j : ℕ) (node : Node) (first second : Choice) → slice_get f.nodes v ≡ Some node →
+    slice_get node.alternatives i ≡ Some first → slice_get node.alternatives j ≡ Some second → i < j →
+    (number_of first.tag < number_of second.tag) ⊎ HasLessEnvironment f first second
 
 -- a permitted tree has a node of a declaration of that name with that span
 pub record PermitsSpan (c : CheckedGrammar) (text name : List ℕ) (span : Span) : Type 0 where

@@ -1,9 +1,10 @@
 //! What queries of a forest say of the permitted trees. The functions do nothing: their contracts
 //! are the laws.
-ghost use Rattle.ig_parse.specs.Laws.{AmbiguityIsTwoPermitted, SpansAreOfDeclarations};
+ghost use Rattle.ig_parse.specs.Laws.{AlternativesRiseByTags, AmbiguityIsTwoPermitted};
+ghost use Rattle.ig_parse.specs.Laws.{CyclicIsWithoutHighest, SpansAreOfDeclarations};
 ghost use Rattle.ig_parse.specs.Laws.{SpansArePermitted};
 
-use ig_core::declarations_keep_numbers;
+use ig_core::{declarations_keep_numbers, tags_rise_in_cores};
 use ig_forest::reduced_forest_is_trim;
 use ig_query::{ambiguity_is_two_trees, nodes_are_those_of_trees, spans_are_those_of_trees};
 
@@ -13,6 +14,20 @@ pub fn ambiguity_is_two_permitted()
     ensures { AmbiguityIsTwoPermitted }
 {
     ambiguity_is_two_trees();
+}
+
+/// The forest of a grammar and a text is cyclic exactly where for each number a higher tree is
+/// permitted. This law computes nothing.
+pub fn cyclic_is_without_highest()
+    ensures { CyclicIsWithoutHighest }
+{}
+
+/// In the forest of a grammar and a text, the alternatives of each node rise by tag number, and
+/// those of one number by the environments of their items. This law computes nothing.
+pub fn alternatives_rise_by_tags()
+    ensures { AlternativesRiseByTags }
+{
+    tags_rise_in_cores();
 }
 
 /// The spans of a declaration's nodes in the forest of a grammar and a text are exactly those in

@@ -12,5 +12,8 @@ mod laws;
 mod parser;
 
 pub use fault::ParseFault;
-pub use laws::{ambiguity_is_two_permitted, spans_are_of_declarations, spans_are_permitted};
+pub use laws::{
+    alternatives_rise_by_tags, ambiguity_is_two_permitted, cyclic_is_without_highest,
+    spans_are_of_declarations, spans_are_permitted,
+};
 pub use parser::{Parser, parse};

@@ -9,7 +9,7 @@ use Rattle.ig_forest.specs.Forest.{Forest}
 use Rattle.ig_forest.specs.Unfold.{IsTrim}
 use Rattle.ig_heights.specs.Laws.{DepthsAreHeights}
 use Rattle.ig_query.specs.Ambiguity.{AreAmbiguous, IsAmbiguous}
-use Rattle.ig_parse.specs.Laws.{AmbiguityIsTwoPermitted, PermitsTwo, SpansAreOfDeclarations}
+use Rattle.ig_parse.specs.Laws.{AmbiguityIsTwoPermitted, CyclicIsWithoutHighest, HasNoHighest, PermitsTwo, SpansAreOfDeclarations}
 use Rattle.ig_parse.specs.Parses.{IsForestOf}
 use Rattle.ig_tool.specs.declared.stop.Stop.{Stop}
 use Rattle.ig_tool.specs.declared.stop.Stop.TheVariants as halt
@@ -17,17 +17,16 @@ use Rattle.ig_tool.specs.declared.status.Status.TheVariants as status
 use Rattle.ig_tool.specs.Commands as asked
 use Rattle.ig_tool.specs.Commands.{Question}
 use Rattle.ig_tool.specs.Jobs.{ask}
-use Rattle.ig_tool.specs.Listing.{HasNoHighest}
-use Rattle.ig_tool.specs.Questions.{TellsAmbiguous, TellsCyclic, TellsSpans, TellsReport, Tells}
+use Rattle.ig_tool.specs.Questions.{TellsAmbiguous, TellsCyclic, TellsSpans, Tells}
 use Rattle.ig_tool.specs.Outcome.{Finishes, told_ambiguous, told_cyclic, told_spans, told_report}
 use Rattle.ig_tool.specs.Pages.{GivesAnswer}
 use Rattle.ig_tool.specs.Stops.{FinishesJob}
-use Rattle.ig_tool.proofs.Listings.{cyclic_has_no_highest, no_highest_is_cyclic}
 
 -- the laws of queries
 pub record Laws : Type 0 where
   pub heights : DepthsAreHeights
   pub two : AmbiguityIsTwoPermitted
+  pub unbounded : CyclicIsWithoutHighest
   pub spans : SpansAreOfDeclarations
 
 -- the first of the ambiguous nodes
@@ -53,11 +52,9 @@ module _ (laws : Laws) (c : CheckedGrammar) (text : List ℕ) (f : Forest) (is :
 
   cyclic : (out : List ℕ) → TellsCyclic f out → Finishes c text f (ask asked.cyclic) status.Done out []
   cyclic out told =
-      let low = laws.heights f in
-      let exact : IsTrue told.answer ↔ HasNoHighest c text = (
-        λ yes. cyclic_has_no_highest c text f is low (told.exact.0 yes),
-        λ none. told.exact.1 (no_highest_is_cyclic c text f is low none),
-      ) in
+      let both = laws.unbounded c text f is in
+      let exact : IsTrue told.answer ↔ HasNoHighest c text =
+      (λ yes. both.0 (told.exact.0 yes), λ none. told.exact.1 (both.1 none)) in
       subst (λ (z : List ℕ). Finishes c text f (ask asked.cyclic) status.Done z []) (sym told.text_is)
       (told_cyclic told.answer exact)
 

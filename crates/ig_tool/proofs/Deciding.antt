@@ -10,7 +10,6 @@ use Rattle.ig_grammar.specs.Checked.{CheckedGrammar}
 use Rattle.ig_grammar.specs.declared.grammar.Grammar.{Grammar}
 use Rattle.ig_core.specs.Lowered.{CoreOf, IsBuildable}
 use Rattle.ig_core.specs.Notation.{unchanged}
-use Rattle.ig_core.specs.Laws.{NotationIsBuildable}
 use Rattle.ig_show.specs.CoreText.{core_text}
 use Rattle.ig_tool.specs.Change.{Change, change, raised, Fetched, Stood, Untouched}
 use Rattle.ig_tool.specs.declared.stop.Stop.{Stop}
@@ -22,7 +21,7 @@ use Rattle.ig_tool.specs.Jobs.{Job, print, list, ask, request_for, task_request}
 use Rattle.ig_tool.specs.declared.job.Task.{Task}
 use Rattle.ig_tool.specs.declared.job.Task.TheVariants as task
 use Rattle.ig_tool.specs.Accepted.{IsAccepted}
-use Rattle.ig_tool.proofs.OfNotation.{ReadingLaws, of_notation}
+use Rattle.ig_tool.specs.Laws.{ReadGrammarsAreBuildable}
 use Rattle.ig_tool.specs.Refusals.{too_many_dots, dots_text}
 use Rattle.ig_tool.specs.Outcome as decided
 use Rattle.ig_tool.specs.Outcome.{MayGive, HasFiles, Decided, usage, load_over_budget, load_summed, grammar_missing, grammar_unread, grammar_refused, checked, shown, core_shown, input_missing, input_unread, input_refused, over_budget, no_parse, parsed, usage_note, Answers, noted, unwritten, unnoted, no_memory}
@@ -99,11 +98,11 @@ decides_at_grammar words shelf request file halt.Memory command named count h =
     (1, for_names request 1 command (one_file request file named), count, h)
 
 -- the grammar that was loaded is buildable
-pub loaded_is_buildable : ReadingLaws → NotationIsBuildable → (shelf : Change ShelfState) (name : List ℕ) (c : CheckedGrammar) →
+pub loaded_is_buildable : ReadGrammarsAreBuildable → (shelf : Change ShelfState) (name : List ℕ) (c : CheckedGrammar) →
     LoadsGrammar shelf name (Ok c) → IsBuildable c
-loaded_is_buildable laws law shelf name c lg =
+loaded_is_buildable law shelf name c lg =
     let w = lg.1.2 in
-    subst IsBuildable (sym w.as_it_is) (law c.grammar (of_notation laws lg.1.0 c.grammar w.text))
+    subst IsBuildable (sym w.as_it_is) (law lg.1.0 c.grammar w.text)
 
 -- the parser of a grammar as it is written is that of its own grammar as it is written
 pub still_unchanged : (g : Grammar) (parser : CheckedGrammar) → parser ≡ unchanged g → parser ≡ unchanged parser.grammar

@@ -9,6 +9,7 @@ use Rattle.ig_forest.specs.Forest.{Forest}
 use Rattle.ig_forest.specs.Unfold.{Unfold}
 use Rattle.ig_heights.specs.Heights.{IsCyclic}
 use Rattle.ig_heights.specs.Laws.{HasLowTrees}
+use Rattle.ig_parse.specs.Laws.{HasNoHighest}
 use Rattle.ig_parse.specs.Parses.{IsForestOf}
 use Rattle.ig_tool.specs.declared.stop.Stop.{Stop}
 use Rattle.ig_tool.specs.declared.stop.Stop.TheVariants as halt
@@ -17,7 +18,7 @@ use Rattle.ig_tool.specs.declared.status.Status.TheVariants as status
 use Rattle.ig_tool.specs.Commands.{Listing}
 use Rattle.ig_tool.specs.Jobs.{list}
 use Rattle.ig_tool.specs.Listing as listing
-use Rattle.ig_tool.specs.Listing.{HasNoHighest, IsBounded, IsEligible, IsNoCursor, Begins, IsTreeListing, IsListedOrBehind, StandsBefore, StandsBehind}
+use Rattle.ig_tool.specs.Listing.{IsBounded, IsEligible, IsNoCursor, Begins, IsTreeListing, IsListedOrBehind, StandsBefore, StandsBehind}
 use Rattle.ig_walker.specs.Listing.{IsBehind}
 use Rattle.ig_walker.specs.Listed.{Listed, IsListedOrLater, IsListing}
 use Rattle.ig_tool.specs.Outcome.{Finishes, depth_needed, bad_cursor, listed}
@@ -25,23 +26,14 @@ use Rattle.ig_tool.specs.Pages as pages
 use Rattle.ig_tool.specs.Pages.{IsDepthFor, StandsAt, IsLost, IsListed, StopsListing, Lists}
 use Rattle.ig_tool.specs.Stops.{FinishesJob}
 
-module _ (c : CheckedGrammar) (text : List ℕ) (f : Forest) (is : IsForestOf c text f) (low : HasLowTrees f) where
-  pub cyclic_has_no_highest : IsCyclic f → HasNoHighest c text
-  cyclic_has_no_highest cyclic h =
-      let x = cyclic h in (x.2, ((is.unfolds x.0 x.2).0 (x.1, x.3)).0, x.4)
-
-  pub no_highest_is_cyclic : HasNoHighest c text → IsCyclic f
-  no_highest_is_cyclic none h =
-      let x = none h in
-      let u = (is.unfolds (height x.0) x.0).1 (x.1, omega arith) in
-      (height x.0, u.0, x.0, u.1, x.2)
-
+module _ (c : CheckedGrammar) (text : List ℕ) (f : Forest) (is : IsForestOf c text f) (low : HasLowTrees f)
+    (unbounded : IsCyclic f ↔ HasNoHighest c text) where
   module _ (depth : Option ℕ) (d : ℕ) where
     bounded : IsDepthFor f depth d → IsBounded c text depth
     bounded = for depth
       where
         for : (o : Option ℕ) → IsDepthFor f o d → IsBounded c text o
-        for None h = λ none. h.0 (no_highest_is_cyclic none)
+        for None h = λ none. h.0 (unbounded.1 none)
         for (Some e) h = tt
 
     unfolds : IsDepthFor f depth d → (x : Listed) → IsEligible c text f depth x → Unfold f d x.cursor x.tree
@@ -115,7 +107,7 @@ module _ (c : CheckedGrammar) (text : List ℕ) (f : Forest) (is : IsForestOf c 
   stopped : (l : Listing) (s : Status) (note : List ℕ) → StopsListing f l s note →
       Finishes c text f (list l) s [] note × (s ≢ status.Done)
   stopped l s note (pages.needs_depth t line needs p q) =
-      (rw (p, q) (depth_needed l needs.0 (cyclic_has_no_highest needs.1)), λ e. cc)
+      (rw (p, q) (depth_needed l needs.0 (unbounded.0 needs.1)), λ e. cc)
   stopped l s note (pages.lost t line d h x p q) =
       (rw (p, q) (bad_cursor l x.word (bounded l.depth d h) x.given (no_cursor l.depth d h l.after x)), λ e. cc)
 

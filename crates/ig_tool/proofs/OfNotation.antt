@@ -9,8 +9,10 @@ use Rattle.ig_rules.specs.Names as read
 use Rattle.ig_rules.specs.Names.{own_names}
 use Rattle.ig_notation.specs.Outcome.{IsOfText, ReadGrammarsAreRegular, ReadGrammarsAreWritten, ReadNamesAreNames}
 use Rattle.ig_rewrite.specs.Unbound.{own_variables}
+use Rattle.ig_core.specs.Laws.{NotationIsBuildable}
 use Rattle.ig_core.specs.Notation.{IsSaid, IsOfNotation}
 use Rattle.ig_tool.specs.Accepted.{IsTextOf}
+use Rattle.ig_tool.specs.Laws.{ReadGrammarsAreBuildable}
 
 -- what the reader's laws say of names and forms
 pub record ReadingLaws : Type 0 where
@@ -35,7 +37,7 @@ all_said (x ∷ xs) named formed =
     (said x (All-head AreNames x xs named) (All-head IsOfText x xs formed))
     (all_said xs (All-tail AreNames x xs named) (All-tail IsOfText x xs formed))
 
-pub of_notation : ReadingLaws → (xs : List ℕ) (g : Grammar) → IsTextOf xs g → IsOfNotation g
+of_notation : ReadingLaws → (xs : List ℕ) (g : Grammar) → IsTextOf xs g → IsOfNotation g
 of_notation laws xs g text =
     let named = laws.named xs g text.reading in
     let formed = laws.written xs g text.reading in
@@ -50,3 +52,7 @@ of_notation laws xs g text =
       well = regular.well;
       kinds = formed.kinds;
     }
+
+-- so it can be built
+pub read_grammars_are_buildable : ReadingLaws → NotationIsBuildable → ReadGrammarsAreBuildable
+read_grammars_are_buildable laws law xs g text = law g (of_notation laws xs g text)

@@ -38,7 +38,7 @@ module _ (laws : Laws) (c : CheckedGrammar) (input : List ℕ) (f : Forest) (is 
   pub finishes_job : (job : Job) (r : Result (Vec ℕ Global) Stop) → ComesOf c input f job r →
       FinishesJob c input f job r
   finishes_job print r h = prints r h
-  finishes_job (list listing) r h = finishes_listing c input f is (laws.heights f) listing r h
+  finishes_job (list listing) r h = finishes_listing c input f is (laws.heights f) (laws.unbounded c input f is) listing r h
   finishes_job (ask question) r h = finishes_question laws c input f is trim well as_it_is question r h
 
 -- the trees of the forest and their cursors can be printed

@@ -11,3 +11,4 @@ pub mod Outcome
 pub mod Stops
 pub mod Pages
 pub mod Headline
+pub mod Laws

@@ -1,5 +1,5 @@
 -- The listing of the trees that a grammar permits for a text, in their order, with the cursors that they have in a forest.
-use Rattle.std.specs.Prelude.{◌≡◌, ◌⊎◌, ℕ, ◌<◌, ◌≤◌, List, ◌++◌, Contains, Option, Some, None, codes, flat_map, length}
+use Rattle.std.specs.Prelude.{◌≡◌, ◌⊎◌, ℕ, ◌≤◌, List, ◌++◌, Contains, Option, Some, None, codes, flat_map, length}
 use Rattle.std.specs.List.{AllPairs}
 use Rattle.ig_text.specs.Tree.{Tree, height}
 use Rattle.ig_grammar.specs.Checked.{CheckedGrammar}
@@ -8,6 +8,7 @@ use Rattle.ig_meaning.specs.Order.{Precedes}
 use Rattle.ig_meaning.specs.Permitted.{Permitted}
 use Rattle.ig_forest.specs.Forest.{Forest}
 use Rattle.ig_forest.specs.Unfold.{Unfold}
+use Rattle.ig_parse.specs.Laws.{HasNoHighest}
 use Rattle.ig_show.specs.Listed.{line_end}
 use Rattle.ig_show.specs.TreeText.{tree_text, cursor_text}
 use Rattle.ig_walker.specs.Listed.{Listed}
@@ -18,13 +19,9 @@ IsWithin None t = Unit {0}
 IsWithin (Some depth) t = height t ≤ depth
 
 module _ (c : CheckedGrammar) (text : List ℕ) where
-  -- for each number a higher tree is permitted
-  abbrev pub HasNoHighest : Type 0
-  HasNoHighest = (h : ℕ) → (t : Tree) × Permitted c.grammar c.shapes text t × (h < height t)
-
   -- a depth is given, or the permitted trees have a highest one
   abbrev pub IsBounded : Option ℕ → Type 0
-  IsBounded None = HasNoHighest → ⊥
+  IsBounded None = HasNoHighest c text → ⊥
   IsBounded (Some depth) = Unit {0}
 
   -- the first tree stands before the second in the order of permitted trees

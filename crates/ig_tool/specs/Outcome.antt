@@ -14,7 +14,7 @@ use Rattle.ig_core.specs.Lowered.{CoreOf}
 use Rattle.ig_core.specs.Notation.{unchanged}
 use Rattle.ig_forest.specs.Forest.{Forest}
 use Rattle.ig_parse.specs.Parses.{IsUnparsed, IsOver, HasForest}
-use Rattle.ig_parse.specs.Laws.{PermitsTwo}
+use Rattle.ig_parse.specs.Laws.{HasNoHighest, PermitsTwo}
 use Rattle.ig_query.specs.Ambiguity.{AreAmbiguous}
 use Rattle.ig_query.specs.Report.{IsReport}
 use Rattle.ig_show.specs.declared.report.Report.{Report}
@@ -34,7 +34,7 @@ use Rattle.ig_tool.specs.Commands as asked
 use Rattle.ig_load.specs.Summary.{IsLoadSummary, IsTooLarge, summary_text}
 use Rattle.ig_load.specs.declared.summary.Summary.{Summary}
 use Rattle.ig_tool.specs.Jobs.{Job, print, list, ask, request_for}
-use Rattle.ig_tool.specs.Listing.{HasNoHighest, IsBounded, IsNoCursor, Begins, IsTreeListing, listing_text}
+use Rattle.ig_tool.specs.Listing.{IsBounded, IsNoCursor, Begins, IsTreeListing, listing_text}
 use Rattle.ig_tool.specs.Questions.{IsWanted, ArePermittedSpans}
 use Rattle.ig_walker.specs.Listed.{Listed}
 

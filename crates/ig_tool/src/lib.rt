@@ -8,15 +8,17 @@
 //!
 //! Inside, the words are tested (`words`), given to a command of `clap` (`rows`) and become what is
 //! asked for (`command`). A grammar text is read and its scopes are checked, or a note says why it
-//! is refused (`grammar_text`). Its parser is made, unless its core
-//! grammar has too many dots, and a forest is that parser's (`parse`). Its trees are listed
-//! (`listing`), or a question on it is answered (`answer`). A load has its line (`summary`).
+//! is refused (`grammar_text`). Each grammar that is read can be built, which
+//! [`read_grammars_are_buildable`] says, so its parser is made, unless its core grammar has too
+//! many dots, and a forest is that parser's (`parse`). Its trees are listed (`listing`), or a
+//! question on it is answered (`answer`). A load has its line (`summary`).
 #![tactic(auto)]
 
 mod answer;
 mod command;
 mod grammar_text;
 mod job;
+mod laws;
 mod listing;
 mod load;
 mod parse;
@@ -27,5 +29,6 @@ mod summary;
 mod top_call;
 mod words;
 
+pub use laws::read_grammars_are_buildable;
 pub use status::Status;
 pub use top_call::iguana;

@@ -20,7 +20,9 @@ use ig_forest::{Forest, cursors_are_short, tags_name_nonterminals};
 use ig_grammar::Checked;
 use ig_heights::depths_are_heights;
 use ig_item::{Items, RunFault};
-use ig_parse::{Parser, ambiguity_is_two_permitted, spans_are_of_declarations};
+use ig_parse::{
+    Parser, ambiguity_is_two_permitted, cyclic_is_without_highest, spans_are_of_declarations,
+};
 use ig_show::{Report, show_forest, show_report};
 use ig_text::Text;
 use itoa::Buffer;
@@ -52,6 +54,7 @@ pub(crate) fn parse(
     ensures { ParsesText parser.now input.now budget (stored_job job.entry) result }
 {
     ambiguity_is_two_permitted();
+    cyclic_is_without_highest();
     spans_are_of_declarations();
     depths_are_heights();
     tags_name_nonterminals();

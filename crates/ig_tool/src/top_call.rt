@@ -13,17 +13,14 @@ ghost use Rattle.ig_tool.specs.declared.status.Status.TheVariants.{Usage};
 
 use crate::command::{Command, command_of};
 use crate::job::{Job, Task};
+use crate::laws::read_grammars_are_buildable;
 use crate::load::{load_grammar, load_input};
 use crate::parse::{parse, parser_of};
 use crate::status::Status;
 use crate::stop::{Stop, stop_with};
 use crate::summary::summary_line;
-use ig_core::notation_is_buildable;
 use ig_grammar::Grammar;
-use ig_notation::{
-    one_reading, read_grammars_are_regular, read_grammars_are_written, read_names_are_names,
-    texts_are_read_or_refused,
-};
+use ig_notation::{one_reading, texts_are_read_or_refused};
 use ig_outside::{Shelf, Sink};
 use ig_parse::Parser;
 use ig_show::{show_core, show_grammar};
@@ -148,10 +145,7 @@ fn on_grammar<F: Shelf>(
         Decides words (change (F.state shelf.old) (F.state shelf.new)) result }
     ensures same { (n : List ℕ) → (F.state shelf.new).holds n ≡ (F.state shelf.old).holds n }
 {
-    read_grammars_are_regular();
-    read_grammars_are_written();
-    read_names_are_names();
-    notation_is_buildable();
+    read_grammars_are_buildable();
     let checked = load_grammar(alloc, shelf, name)?;
     let parser = parser_of(alloc, &checked)?;
     match task {
@@ -175,10 +169,7 @@ fn on_input<F: Shelf>(
         Decides words (change (F.state shelf.old) (F.state shelf.new)) result }
     ensures same { (n : List ℕ) → (F.state shelf.new).holds n ≡ (F.state shelf.old).holds n }
 {
-    read_grammars_are_regular();
-    read_grammars_are_written();
-    read_names_are_names();
-    notation_is_buildable();
+    read_grammars_are_buildable();
     let checked = load_grammar(alloc, shelf, grammar)?;
     let parser = parser_of(alloc, &checked)?;
     run(alloc, shelf, &parser, input, budget, job)

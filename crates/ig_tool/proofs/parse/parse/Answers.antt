@@ -53,6 +53,7 @@ returns c =
     (record {
       heights = c.depths_are_heights.ensures;
       two = c.ambiguity_is_two_permitted.ensures;
+      unbounded = c.cyclic_is_without_highest.ensures;
       spans = c.spans_are_of_declarations.ensures;
     })
     c.args.parser.now c.args.input.now c.in-Some.forest has.1 c.root-root.ensures.trim well c.requires.as_it_is

@@ -16,13 +16,8 @@ parser_of-requires-clause-as_it_is g c = c.in_ok-checked.ensures.answer.1.2.as_i
 pub parser_of-requires-clause-buildable : goal.parser_of-requires-clause-buildable
 parser_of-requires-clause-buildable g c =
     let shelf = change (g.F.Shelf.state c.args.shelf.now) (g.F.Shelf.state c.load_grammar.new.shelf) in
-    loaded_is_buildable
-    (record {
-      regular = c.read_grammars_are_regular.ensures;
-      written = c.read_grammars_are_written.ensures;
-      named = c.read_names_are_names.ensures;
-    })
-    c.notation_is_buildable.ensures shelf c.args.name.now c.in_ok-checked.checked c.in_ok-checked.ensures.answer
+    loaded_is_buildable c.read_grammars_are_buildable.ensures shelf c.args.name.now c.in_ok-checked.checked
+    c.in_ok-checked.ensures.answer
 
 pub returns-in_err-parser-clause-answer : goal.returns-in_err-parser-clause-answer
 returns-in_err-parser-clause-answer g c = λ words command.
