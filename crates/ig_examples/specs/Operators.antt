@@ -68,7 +68,7 @@ pub record SpinesAreWhole : Type 0 where
 abbrev pub comparison : List Level
 comparison = level Free ((OneOf (range 97 99) ∷ []) ∷ []) ∷ level Nonassoc (between (codes "<") ∷ []) ∷ []
 
--- an operator without associativity has none of its own level as an operand
+-- an operator under `nonassoc` has none of its own level as an operand
 pub record ComparisonsStandAlone : Type 0 where
   pub alone : Permits (grammar_of comparison) (codes "a<b") 6 (root 3 (binary 2 0 1 2 3 (atom 0 1) (atom 2 3) ∷ []) ∷ [])
   pub in_a_row : Permits (grammar_of comparison) (codes "a<b<c") 6 []
