@@ -1,1 +1,3 @@
 pub mod Barren
+pub mod LoneRoot
+pub mod ReadTexts

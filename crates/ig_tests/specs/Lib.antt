@@ -1,1 +1,2 @@
 pub mod Barren
+pub mod LoneRoot

@@ -1,4 +1,5 @@
 //! Each call that takes memory, with ample memory.
+use crate::letters::letter_core;
 use ig_expr::{Expr, Value};
 use ig_item::{EnvironmentTable, Step, Steps, VisibleNames};
 use ig_text::{Word, Words};
@@ -15,6 +16,16 @@ fn steps_are_added_with_their_names(rt: HostRuntime) -> Result<(), Fail> {
     assert_eq!(rt; names.at(0).map(|seen| seen.len()), Some(0));
     assert_eq!(rt; names.at(1).map(|seen| seen.len()), Some(1));
     assert!(rt; names.at(2).is_none());
+    Ok(())
+}
+
+#[test]
+fn names_of_an_alternative(rt: HostRuntime) -> Result<(), Fail> {
+    let alloc = rt.alloc();
+    let core = letter_core(alloc)?;
+    let names = core.names(alloc, 0, 1)?;
+    assert!(rt; names.is_some_and(|names| names.at(1).is_some_and(|seen| seen.is_empty())));
+    assert!(rt; core.names(alloc, 0, 2)?.is_none());
     Ok(())
 }
 

@@ -1,4 +1,9 @@
-//! The tests of the libraries: each public call that takes memory once, with ample memory.
+//! The tests of the libraries: public calls that take memory, each once with ample memory.
+//!
+//! `letters` makes a core grammar by hand, whose items, forest and report are known; `parsing` goes
+//! from the text of a grammar to a forest, as a program would embed it, and its forests are walked
+//! and asked. The passes run there inside a parser alone. Each function owns few values, since at
+//! each `?` all that is owned is dropped, and that is proved.
 //!
 //! They stand in a crate of their own, since the program of a crate's tests is proved whole, with
 //! all of that crate; over libraries, which are proved already, only the tests are. Worked rows on
@@ -10,13 +15,23 @@ mod arena;
 #[cfg(test)]
 mod expr;
 #[cfg(test)]
+mod forests;
+#[cfg(test)]
 mod grammar;
 #[cfg(test)]
 mod item;
 #[cfg(test)]
+mod letters;
+#[cfg(test)]
+mod listings;
+#[cfg(test)]
 mod notation;
 #[cfg(test)]
 mod outside;
+#[cfg(test)]
+mod parsing;
+#[cfg(test)]
+mod queries;
 #[cfg(test)]
 mod rewrite;
 #[cfg(test)]

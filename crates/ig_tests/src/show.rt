@@ -1,12 +1,19 @@
 //! Texts, written by hand: each call once. A table of every form is tried on the
 //! program.
+ghost use Rattle.std.specs.Prelude.{IfOk, List};
+ghost use Rattle.ig_forest.specs.Tags.{TagsAreNamed};
+ghost use Rattle.ig_item.specs.declared.core_grammar.Nonterminal.{Nonterminal};
+
+use crate::letters::letter_core;
 use ig_expr::{Expr, Function, Op, Operand};
+use ig_forest::{Part, Tree};
 use ig_grammar::{Decls, Grammar};
 use ig_show::{
     CursorFault, Report, read_cursor, show_cursor, show_cyclic, show_expression, show_furthest,
-    show_grammar, show_pattern, show_report, show_spans,
+    show_grammar, show_pattern, show_report, show_spans, show_tree,
 };
-use ig_text::{Class, Pattern, Patterns, Span, Word};
+use ig_text::{Class, Pattern, Patterns, Span, Tag, Word};
+use std::alloc::{AllocError, Global};
 use std::test::Fail;
 
 #[test]
@@ -52,6 +59,34 @@ fn reads_a_cursor_and_shows_it(rt: HostRuntime) -> Result<(), Fail> {
     assert_eq!(rt; shown.as_slice(), b"2.0.4294967295".as_slice());
     let refused = read_cursor(alloc, "2.00");
     assert!(rt; matches!(refused, Err(CursorFault::NotACursor)));
+    Ok(())
+}
+
+/// A root over a leaf.
+fn small_tree(alloc: Global) -> Result<Tree, AllocError>
+    ensures { IfOk result (λ tree. (core : List Nonterminal) → TagsAreNamed core tree) }
+{
+    let span = Span { begin: 0, end: 12 };
+    let root = Part {
+        tag: Some(Tag::Root),
+        span,
+        children: 1,
+    };
+    let leaf = Part {
+        tag: None,
+        span,
+        children: 0,
+    };
+    Ok(Tree::from_vec(vec![in alloc; root, leaf]?))
+}
+
+#[test]
+fn shows_a_tree(rt: HostRuntime) -> Result<(), Fail> {
+    let alloc = rt.alloc();
+    let core = letter_core(alloc)?;
+    let tree = small_tree(alloc)?;
+    let shown = show_tree(alloc, &tree, &core)?;
+    assert_eq!(rt; shown.as_slice(), b"($root 0..12 0..12)".as_slice());
     Ok(())
 }
 

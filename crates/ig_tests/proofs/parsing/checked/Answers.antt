@@ -1,0 +1,11 @@
+use Rattle.ig_tests.proofs.ReadTexts.{checked_is_buildable}
+use Rattle.ig_tests.proofs.parsing.checked.Goals as goal
+
+pub check-requires : goal.check-requires
+check-requires c = (c.read_grammars_are_regular.ensures c.args.source.now c.in_ok-grammar.grammar c.utf8.source c.in_ok-grammar.ensures.ok).0
+
+pub returns : goal.returns
+returns c =
+    checked_is_buildable c.read_grammars_are_buildable.ensures c.args.source.now c.in_ok-grammar.grammar c.in_ok-checked.checked
+    (record { utf8 = c.utf8.source; reading = c.in_ok-grammar.ensures.ok; scoped = c.in_ok-checked.ensures.scoped })
+    c.in_ok-checked.ensures.grammar c.in_ok-checked.ensures.shapes
