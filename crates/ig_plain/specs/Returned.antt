@@ -3,8 +3,9 @@ use Rattle.std.specs.Prelude.{◌≡◌, ℕ, zero, suc, ◌+◌, ◌-◌, ◌*�
 use Rattle.ig_item.specs.declared.items.Item.{Item}
 use Rattle.ig_plain.specs.declared.returned.Cell.{Cell}
 
+-- the number by which an item is put into a bucket; why these factors, `src/returned.rt` says
 unfoldable pub hash_of : Item → ℕ
-hash_of x = ((x.instance * 31 + x.alternative) * 31 + x.dot) * 31 + x.env
+hash_of x = x.instance + x.alternative * 0x33333333 + x.dot * 0x55555555 + x.env * 0x1e1e1e1e
 
 abbrev pub bucket_of : ℕ → Item → ℕ
 bucket_of mask x = bit_and (hash_of x) mask

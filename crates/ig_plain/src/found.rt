@@ -110,7 +110,9 @@ fn add_returned(
         found.old found.new trail.old trail.new) }
 {
     let Some(item) = trail.returned.number_of(item) else {
-        return add_behind_call(found, trail, item, prev, done, budget);
+        // A copy, so that the item that is looked up stays in registers.
+        let new = item;
+        return add_behind_call(found, trail, new, prev, done, budget);
     };
     trail.ways.push_further(FurtherWay { item, prev, done })?;
     Ok(())

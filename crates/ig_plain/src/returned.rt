@@ -11,6 +11,17 @@ use std::marker::Model;
 /// One less than the number of buckets at the beginning.
 const FIRST_MASK: u32 = 63;
 
+/// In base 2 `0101..`: whatever the number of buckets, each multiple lies a third or two thirds of
+/// them behind the one before. Instances are numbered side by side, so two dots of many don't meet.
+const THIRDS: u64 = 0x5555_5555;
+
+/// In base 2 `0011..`: each multiple lies some fifths of the buckets behind the one before.
+const FIFTHS: u64 = 0x3333_3333;
+
+/// In base 2 `00011110..`. It is even, so that an environment that rises with its instance still
+/// reaches all buckets.
+const SEVENTEENTHS: u64 = 0x1e1e_1e1e;
+
 /// An item with its number, and where the one before it in its bucket stands: its place + 1,
 /// counted on from the base. There is none where this is at most the base.
 #[derive(Clone, Copy)]
@@ -85,6 +96,10 @@ impl Returned {
         ensures none { IfNone result ((n : ℕ) → Contains self.now (entry item n) → ⊥) }
     {
         let mut at = self.heads[bucket_of(item, self.mask)];
+        // The walk tests this, too. Here it keeps the load of a head apart from that of a link.
+        if at <= self.base {
+            return None;
+        }
         while at > self.base {
             let cell = self.cells[(at - self.base - 1) as usize];
             if cell.item == item {
@@ -159,10 +174,10 @@ impl Returned {
 fn bucket_of(item: Item, mask: u32) -> usize
     ensures { result ≡ bucket_of mask item }
 {
-    let mut hash = u64::from(item.instance);
-    hash = hash * 31 + u64::from(item.alternative);
-    hash = hash * 31 + u64::from(item.dot);
-    hash = hash * 31 + u64::from(item.env);
+    let hash = u64::from(item.instance)
+        + u64::from(item.alternative) * FIFTHS
+        + u64::from(item.dot) * THIRDS
+        + u64::from(item.env) * SEVENTEENTHS;
     (hash & u64::from(mask)) as usize
 }
 

@@ -114,10 +114,13 @@ fn return_to(
     ensures ways { OnOk result (Records (By (Node caller.number done) (IsReturn core.now text.now
         (means found.old caller.item) end)) found.old found.new trail.old trail.new) }
 {
-    let Caller { item, number, .. } = caller;
+    let number = caller.number;
     if caller.is_bare {
-        return go_behind_bare_call(found, trail, item, end, number, done, budget);
+        // By `?`, so that the walk over the callers goes on without a second test.
+        go_behind_bare_call(found, trail, caller.item, end, number, done, budget)?;
+        return Ok(());
     }
+    let item = caller.item;
     let nonterminal = nonterminal_of(found, item);
     let Some(step) = step_behind(core, nonterminal, item) else {
         return Ok(());

@@ -6,6 +6,7 @@ ghost use Rattle.ig_item.specs.Recorded.{AreReachable, IsRecorded};
 ghost use Rattle.ig_item.specs.Tables.{HaveValues, items_of, tables_by};
 ghost use Rattle.ig_plain.specs.Found.{AllNamed};
 ghost use Rattle.ig_item.specs.WellKinded.{NoneTwice};
+ghost use Rattle.ig_item.specs.Limits.{numbers_end};
 ghost use Rattle.ig_plain.specs.Run.{IsRun, Refuses};
 ghost use Rattle.ig_plain.specs.Names.{all_dots};
 ghost use Rattle.ig_plain.specs.Arrival.{ArrivesWith, IsNothing, IsParted};
@@ -185,7 +186,7 @@ fn table_of(alloc: Global, envs: &[Values]) -> Result<EnvironmentTable, AllocErr
 fn finish(alloc: Global, found: Found) -> Result<Items, AllocError>
     requires values { HaveValues found.envs.keys found.keys }
     requires named { AllNamed found (found.done.items ++ found.here.items) }
-    requires few { length (found.done.items ++ found.here.items) < 4294967296 }
+    requires few { length (found.done.items ++ found.here.items) < numbers_end }
     ensures { IfOk result (λ t. t ≡ tables_by found.keys found.envs.keys (found.done.items ++
         found.here.items)) }
 {
@@ -207,7 +208,7 @@ fn finish(alloc: Global, found: Found) -> Result<Items, AllocError>
 
 /// Refuses a table whose members 32 bits don't number.
 fn keep_few(members: usize) -> Result<(), AllocError>
-    ensures { OnOk result (members < 4294967296) }
+    ensures { OnOk result (members < numbers_end) }
 {
     match u32::try_from(members) {
         Ok(_) => Ok(()),

@@ -6,6 +6,7 @@ use Rattle.ig_item.specs.Items.{MatchesNone, past, span_of, StandsBefore}
 use Rattle.ig_item.specs.declared.ways.Way.TheVariants.{Node}
 use Rattle.ig_plain.specs.Found.{Adds, means}
 use Rattle.ig_plain.specs.Trail.{By, Records}
+use Rattle.ig_plain.proofs.Additions.{adds_stops}
 use Rattle.ig_plain.proofs.Returns.{into_return, return_alike, records_return, into_bare, bare_alike, records_bare, step_is}
 use Rattle.ig_plain.proofs.run.return_to.Goals as goal
 
@@ -57,11 +58,16 @@ go_behind_bare_call-requires-clause-by_nodes c x e =
 pub returns-then-caller-clause-adds : goal.returns-then-caller-clause-adds
 returns-then-caller-clause-adds c =
     bare_alike c.args.core.now c.args.text.now (means c.args.found.now c.args.caller.item) c.args.end (c.requires.bare c.if-caller.true)
-    c.args.budget c.args.found.now c.go_behind_bare_call.new.found c.go_behind_bare_call.result c.go_behind_bare_call.ensures.adds
+    c.args.budget c.args.found.now c.go_behind_bare_call.new.found _ c.in_ok-go_behind_bare_call.ensures.adds
 
 pub returns-then-caller-clause-ways : goal.returns-then-caller-clause-ways
 returns-then-caller-clause-ways c =
-    on_ok_weaker c.go_behind_bare_call.result
-    (records_bare c.args.core.now c.args.text.now (means c.args.found.now c.args.caller.item) c.args.end (c.requires.bare c.if-caller.true)
-    (Node c.args.caller.number c.args.done) c.args.found.now c.go_behind_bare_call.new.found c.args.trail.now c.go_behind_bare_call.new.trail)
-    c.go_behind_bare_call.ensures.ways
+    records_bare c.args.core.now c.args.text.now (means c.args.found.now c.args.caller.item) c.args.end (c.requires.bare c.if-caller.true)
+    (Node c.args.caller.number c.args.done) c.args.found.now c.go_behind_bare_call.new.found c.args.trail.now c.go_behind_bare_call.new.trail
+    c.in_ok-go_behind_bare_call.ensures.ways
+
+pub returns-in_err-go_behind_bare_call-clause-adds : goal.returns-in_err-go_behind_bare_call-clause-adds
+returns-in_err-go_behind_bare_call-clause-adds c =
+    adds_stops c.args.end _ c.args.budget c.args.found.now c.go_behind_bare_call.new.found c.from_residual.result c.in_err-go_behind_bare_call.field-0.0 c.from_residual.ensures.1
+    (bare_alike c.args.core.now c.args.text.now (means c.args.found.now c.args.caller.item) c.args.end (c.requires.bare c.if-caller.true)
+    c.args.budget c.args.found.now c.go_behind_bare_call.new.found _ c.in_err-go_behind_bare_call.ensures.adds)

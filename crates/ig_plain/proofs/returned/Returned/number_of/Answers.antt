@@ -31,3 +31,11 @@ pub returns-clause-none : goal.returns-clause-none
 returns-clause-none c number h =
     absurd (walk_ends _ _ c.self.inside.cells.items c.args.item c.loop-at.at c.loop-at.invariant c.loop-at-test.false number
     (subst (λ z. Contains z (entry c.args.item number)) (sym c.self.view_is) h))
+
+pub returns-then-at-self-clause-none : goal.returns-then-at-self-clause-none
+returns-then-at-self-clause-none c number h =
+    let walk =
+    walk_starts c.self.inside.mask c.self.inside.base c.self.inside.heads.items c.self.inside.cells.items c.args.item c.index-at.result.now c.self.invariant
+    (subst (λ z. c.index-at.result.now ≡ slice_index_or c.self.inside.heads.items z c.index-at.result.now) c.bucket_of.ensures c.index-at.ensures) in
+    absurd (walk_ends c.self.inside.mask c.self.inside.base c.self.inside.cells.items c.args.item c.index-at.result.now walk c.if-at-self.true number
+    (subst (λ z. Contains z (entry c.args.item number)) (sym c.self.view_is) h))
