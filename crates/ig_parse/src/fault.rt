@@ -1,3 +1,4 @@
+use ig_core::CoreFault;
 use ig_item::RunFault;
 use ig_show::Report;
 use std::alloc::AllocError;
@@ -31,6 +32,20 @@ impl From<RunFault> for ParseFault {
         match error {
             RunFault::Budget => ParseFault::Budget,
             RunFault::Memory => ParseFault::Memory,
+        }
+    }
+}
+
+impl From<CoreFault> for ParseFault {
+    ghost use Rattle.std.specs.Prelude.{◌≡◌};
+    ghost use Rattle.ig_parse.specs.Faults.{fault_of_core};
+
+    ghost from_gives = { λ error fault. fault ≡ fault_of_core error };
+
+    fn from(error: CoreFault) -> ParseFault {
+        match error {
+            CoreFault::TooManyDots => ParseFault::TooManyDots,
+            CoreFault::Memory => ParseFault::Memory,
         }
     }
 }

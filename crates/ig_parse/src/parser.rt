@@ -158,10 +158,5 @@ pub fn parse(
     ensures parses { Parses grammar.now text.now budget result }
     ensures many { most_dots < dots (CoreOf grammar.now) → IsTooMany result }
 {
-    let parser = match Parser::of(alloc, grammar) {
-        Ok(parser) => parser,
-        Err(CoreFault::TooManyDots) => return Err(ParseFault::TooManyDots),
-        Err(CoreFault::Memory) => return Err(ParseFault::Memory),
-    };
-    parser.parse(alloc, text, budget)
+    Parser::of(alloc, grammar)?.parse(alloc, text, budget)
 }
