@@ -16,3 +16,4 @@ pub mod Counting
 pub mod Asking
 pub mod NamesOnce
 pub mod Passing
+pub mod Multiplying

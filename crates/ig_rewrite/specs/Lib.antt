@@ -14,3 +14,4 @@ pub mod Binders
 pub mod Asked
 pub mod Passing
 pub mod EachLevel
+pub mod Counts

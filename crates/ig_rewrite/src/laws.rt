@@ -3,6 +3,7 @@
 ghost use Rattle.ig_rewrite.specs.Added.{AddedNamesAreNew};
 ghost use Rattle.ig_rewrite.specs.Asked.{AsksElsewhere, SymbolsAsk};
 ghost use Rattle.ig_rewrite.specs.Binders.{BindersAreCounted};
+ghost use Rattle.ig_rewrite.specs.Counts.{CountsGrow};
 ghost use Rattle.ig_rewrite.specs.Found.{DeclarationsAreFound};
 ghost use Rattle.ig_rewrite.specs.KeptByRoot.{RootKeeps};
 ghost use Rattle.ig_rewrite.specs.Passing.{ResultsAreReady};
@@ -75,3 +76,14 @@ pub fn asks_elsewhere()
 pub fn results_are_ready()
     ensures { ResultsAreReady }
 {}
+
+/// Where a pass's own rule adds n symbols to a symbol at most, and no alternatives, the numbers of
+/// levels, alternatives and symbols of a declaration are multiplied by n + 1 at most. Where those
+/// of each declaration are multiplied by k at most, so is a bound on those of the grammar; the
+/// declaration that stands for the root raises it by two at most. This law, proved of all passes,
+/// computes nothing.
+pub fn counts_grow()
+    ensures { CountsGrow }
+{
+    ig_grammar::counts_by_form();
+}
