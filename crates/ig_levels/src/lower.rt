@@ -16,7 +16,7 @@ ghost use Rattle.ig_levels.specs.Tables.{levelled_by};
 use crate::laws::levels_keep;
 use crate::naming::{is_levelled, left_word, levelled_names, right_word};
 use crate::operands::{Bounds, bounds_at, has_left, has_right, is_test, role_at};
-use crate::symbols::lower_symbol;
+use crate::symbols::with_bounds;
 use ig_expr::{Expr, Op, Operand};
 use ig_grammar::{
     Alt, Alts, Assoc, Checked, Decl, Decls, Grammar, Level, Levels, Params, Symbol, Symbols,
@@ -170,7 +170,7 @@ fn add_alternatives(
         (numbered bounds.now.level level.now.assoc level.now.alts)) }
 {
     for alternative in level.alts.as_slice() {
-        let symbols = lower_alternative(alloc, table, bounds, &decl.name, alternative)?;
+        let symbols = lower_alternative(alloc, table, bounds, decl, alternative)?;
         push_alternative(all, Alt { symbols })?;
     }
     Ok(())
@@ -181,21 +181,21 @@ fn lower_alternative(
     alloc: Global,
     table: &BTreeMap<&str, bool>,
     bounds: &Bounds,
-    own: &Word,
+    decl: &Decl,
     alternative: &Alt,
 ) -> Result<Symbols, AllocError>
     ensures { IfOk result (λ r. r ≡ symbols_in (levelled_by table.now)
-        (place_of bounds.now own.now) bounds.now.level alternative.now.symbols) }
+        (place_of bounds.now decl.now.name) bounds.now.level alternative.now.symbols) }
 {
     let symbols = alternative.symbols.as_slice();
     let mut all = Symbols::new(alloc);
-    if has_left(bounds, own, symbols) {
+    if has_left(bounds, &decl.name, symbols) {
         push_test(alloc, &mut all, bounds.level, left_word(alloc)?)?;
     }
-    if has_right(bounds, own, symbols) {
+    if has_right(bounds, &decl.name, symbols) {
         push_test(alloc, &mut all, bounds.level, right_word(alloc)?)?;
     }
-    add_symbols(alloc, table, bounds, own, symbols, &mut all)?;
+    add_symbols(alloc, table, bounds, decl, symbols, &mut all)?;
     Ok(all)
 }
 
@@ -216,18 +216,18 @@ fn add_symbols(
     alloc: Global,
     table: &BTreeMap<&str, bool>,
     bounds: &Bounds,
-    own: &Word,
+    decl: &Decl,
     symbols: &[Symbol],
     all: &mut Symbols,
 ) -> Result<(), AllocError>
     ensures { OnOk result (all.new ≡ all.old ++ lowered (levelled_by table.now)
-        (place_of bounds.now own.now) true (map symbol_of symbols.now)) }
+        (place_of bounds.now decl.now.name) true (map symbol_of symbols.now)) }
 {
     let mut first = true;
     let mut rest = symbols;
     while let [symbol, others @ ..] = rest {
-        let role = role_at(bounds, own, first, symbol, others);
-        push_symbol(all, lower_symbol(alloc, table, symbol, role)?)?;
+        let role = role_at(bounds, &decl.name, first, symbol, others);
+        push_symbol(all, with_bounds(alloc, table, decl, symbol, role)?)?;
         first = first && is_test(symbol);
         rest = others;
     }

@@ -1,15 +1,15 @@
 //! Symbols, each call of a levelled nonterminal with two arguments more.
-ghost use Rattle.std.specs.Prelude.{◌≡◌, [], ◌∷◌, ◌++◌, map, IfOk};
+ghost use Rattle.std.specs.Prelude.{◌≡◌, ◌++◌, IfOk};
 ghost use Rattle.ig_expr.specs.View.{expression_of};
 ghost use Rattle.ig_grammar.specs.View.{symbol_of};
-ghost use Rattle.ig_levels.specs.Levels.{with_pair, no_pair, pair_arguments};
-ghost use Rattle.ig_levels.specs.Roles.{pair_of, outside};
+ghost use Rattle.ig_levels.specs.Levels.{with_pair, pair_arguments};
+ghost use Rattle.ig_levels.specs.Roles.{pair_of, unasked};
 ghost use Rattle.ig_levels.specs.Tables.{levelled_by};
 
 use crate::naming::{left_word, names_levelled, right_word};
 use ig_expr::{Expr, Exprs};
-use ig_grammar::{Alt, Alts, Inner, Symbol, Symbols};
-use ig_rewrite::{push_alternative, push_expression, push_symbol};
+use ig_grammar::{Decl, Inner, Symbol};
+use ig_rewrite::{OwnRule, push_expression, rewrite_symbol};
 use ig_text::{Copied, Word};
 use std::alloc::{AllocError, Global};
 use std::collections::BTreeMap;
@@ -48,15 +48,15 @@ fn right_argument(alloc: Global, role: Role) -> Result<Expr, AllocError>
 }
 
 /// The arguments of a call, with the two that its role gives where it is levelled.
-fn lower_arguments(
+fn add_bounds(
     alloc: Global,
-    arguments: &Exprs,
+    arguments: Exprs,
     levelled: bool,
     role: Role,
 ) -> Result<Exprs, AllocError>
-    ensures { IfOk result (λ r. r ≡ arguments.now ++ pair_arguments levelled (pair_of role)) }
+    ensures { IfOk result (λ r. r ≡ arguments ++ pair_arguments levelled (pair_of role)) }
 {
-    let mut list = arguments.copy(alloc)?;
+    let mut list = arguments;
     if levelled {
         push_expression(&mut list, left_argument(alloc, role)?)?;
         push_expression(&mut list, right_argument(alloc, role)?)?;
@@ -64,11 +64,72 @@ fn lower_arguments(
     Ok(list)
 }
 
-/// The symbol, with the two arguments of its role where it is a call, or a label round one.
-#[cycle(lowers)]
-pub(crate) fn lower_symbol(
+/// The own rule of the pass of levels: nothing is asked of what a call derives.
+#[derive(Drop)]
+struct Unasked<'a, 'b> {
+    table: &'a BTreeMap<&'b str, bool>,
+}
+
+impl<'a, 'b> OwnRule for Unasked<'a, 'b> {
+    ghost use Rattle.ig_levels.specs.Roles.{unasked};
+    ghost use Rattle.ig_levels.specs.Tables.{levelled_by};
+
+    ghost rule = { λ s decl x. unasked (levelled_by s.table.now) x };
+
+    fn apply(&self, alloc: Global, _decl: &Decl, symbol: Symbol) -> Result<Symbol, AllocError> {
+        ask_nothing(alloc, self.table, symbol)
+    }
+}
+
+/// The symbol, whose call has the two arguments that ask for nothing.
+#[cycle(asking)]
+fn ask_nothing(
     alloc: Global,
     table: &BTreeMap<&str, bool>,
+    symbol: Symbol,
+) -> Result<Symbol, AllocError>
+    ensures { IfOk result (λ r. symbol_of r ≡ unasked (levelled_by table.now) (symbol_of symbol)) }
+{
+    match symbol {
+        Symbol::Call(name, arguments) => {
+            let levelled = names_levelled(table, &name);
+            let arguments = add_bounds(alloc, arguments, levelled, Role::Outside)?;
+            Ok(Symbol::Call(name, arguments))
+        }
+        Symbol::Label(name, inner) => Ok(Symbol::Label(name, ask_nothing_of(alloc, table, inner)?)),
+        Symbol::Offside(inner) => Ok(Symbol::Offside(ask_nothing_of(alloc, table, inner)?)),
+        Symbol::Ignore(inner) => Ok(Symbol::Ignore(ask_nothing_of(alloc, table, inner)?)),
+        Symbol::Align(inner) => Ok(Symbol::Align(ask_nothing_of(alloc, table, inner)?)),
+        Symbol::Filtered(inner, filters) => {
+            let inner = ask_nothing_of(alloc, table, inner)?;
+            Ok(Symbol::Filtered(inner, filters))
+        }
+        Symbol::Entry(bindings, inner) => {
+            let inner = ask_nothing_of(alloc, table, inner)?;
+            Ok(Symbol::Entry(bindings, inner))
+        }
+        other => Ok(other),
+    }
+}
+
+/// What the symbol is directly round.
+#[cycle(asking)]
+fn ask_nothing_of(
+    alloc: Global,
+    table: &BTreeMap<&str, bool>,
+    inner: Inner,
+) -> Result<Inner, AllocError>
+    ensures { IfOk result (λ r. r ≡ unasked (levelled_by table.now) inner) }
+{
+    Inner::new(alloc, ask_nothing(alloc, table, inner.into_symbol())?)
+}
+
+/// The symbol of an alternative, with the two arguments of its role where it is a call, or a label
+/// round one.
+pub(crate) fn with_bounds(
+    alloc: Global,
+    table: &BTreeMap<&str, bool>,
+    decl: &Decl,
     symbol: &Symbol,
     role: Role,
 ) -> Result<Symbol, AllocError>
@@ -76,120 +137,16 @@ pub(crate) fn lower_symbol(
         with_pair (levelled_by table.now) (pair_of role) (symbol_of symbol.now)) }
 {
     match symbol {
-        Symbol::Literal(text) => Ok(Symbol::Literal(text.copy(alloc)?)),
-        Symbol::Class(class) => Ok(Symbol::Class(class.copy(alloc)?)),
         Symbol::Call(name, arguments) => {
             let levelled = names_levelled(table, name);
-            let arguments = lower_arguments(alloc, arguments, levelled, role)?;
+            let arguments = add_bounds(alloc, arguments.copy(alloc)?, levelled, role)?;
             Ok(Symbol::Call(name.copy(alloc)?, arguments))
         }
         Symbol::Label(name, inner) => {
             let name = name.copy(alloc)?;
-            Ok(Symbol::Label(name, lower_inner(alloc, table, inner, role)?))
+            let inner = with_bounds(alloc, table, decl, inner.as_symbol(), role)?;
+            Ok(Symbol::Label(name, Inner::new(alloc, inner)?))
         }
-        Symbol::Guard(condition) => Ok(Symbol::Guard(condition.copy(alloc)?)),
-        Symbol::Let(name, value) => {
-            let name = name.copy(alloc)?;
-            Ok(Symbol::Let(name, value.copy(alloc)?))
-        }
-        Symbol::Opt(inner) => Ok(Symbol::Opt(lower_inner(alloc, table, inner, Role::Outside)?)),
-        Symbol::Star(inner) => Ok(Symbol::Star(lower_inner(alloc, table, inner, Role::Outside)?)),
-        Symbol::Plus(inner) => Ok(Symbol::Plus(lower_inner(alloc, table, inner, Role::Outside)?)),
-        Symbol::SepStar(inner, separator) => {
-            let inner = lower_inner(alloc, table, inner, Role::Outside)?;
-            Ok(Symbol::SepStar(inner, lower_inner(alloc, table, separator, Role::Outside)?))
-        }
-        Symbol::SepPlus(inner, separator) => {
-            let inner = lower_inner(alloc, table, inner, Role::Outside)?;
-            Ok(Symbol::SepPlus(inner, lower_inner(alloc, table, separator, Role::Outside)?))
-        }
-        Symbol::Group(alternatives) => Ok(Symbol::Group(lower_alternatives(
-            alloc,
-            table,
-            alternatives,
-        )?)),
-        Symbol::Offside(inner) => Ok(Symbol::Offside(lower_inner(
-            alloc,
-            table,
-            inner,
-            Role::Outside,
-        )?)),
-        Symbol::Ignore(inner) => Ok(Symbol::Ignore(lower_inner(
-            alloc,
-            table,
-            inner,
-            Role::Outside,
-        )?)),
-        Symbol::Align(inner) => Ok(Symbol::Align(lower_inner(alloc, table, inner, Role::Outside)?)),
-        Symbol::Filtered(inner, filters) => {
-            let inner = lower_inner(alloc, table, inner, Role::Outside)?;
-            Ok(Symbol::Filtered(inner, filters.copy(alloc)?))
-        }
-        Symbol::Seq(symbols) => Ok(Symbol::Seq(lower_symbols(alloc, table, symbols)?)),
-        Symbol::Entry(bindings, inner) => {
-            let bindings = bindings.copy(alloc)?;
-            Ok(Symbol::Entry(bindings, lower_inner(alloc, table, inner, Role::Outside)?))
-        }
+        _ => rewrite_symbol(&Unasked { table }, alloc, decl, symbol),
     }
-}
-
-/// A symbol inside another.
-#[cycle(lowers)]
-fn lower_inner(
-    alloc: Global,
-    table: &BTreeMap<&str, bool>,
-    inner: &Inner,
-    role: Role,
-) -> Result<Inner, AllocError>
-    ensures { IfOk result (λ r. r ≡ with_pair (levelled_by table.now) (pair_of role) inner.now) }
-{
-    Inner::new(alloc, lower_symbol(alloc, table, inner.as_symbol(), role)?)
-}
-
-/// Symbols that are no operands.
-#[cycle(lowers)]
-fn lower_symbols(
-    alloc: Global,
-    table: &BTreeMap<&str, bool>,
-    symbols: &Symbols,
-) -> Result<Symbols, AllocError>
-    ensures { IfOk result (λ r. r ≡ map (with_pair (levelled_by table.now) no_pair) symbols.now) }
-{
-    let mut list = Symbols::new(alloc);
-    for symbol in symbols.as_slice() {
-        push_symbol(
-            &mut list,
-            lower_symbol(alloc, table, symbol, Role::Outside)?,
-        )?;
-    }
-    Ok(list)
-}
-
-/// An alternative of a group.
-#[cycle(lowers)]
-fn lower_alternative(
-    alloc: Global,
-    table: &BTreeMap<&str, bool>,
-    alternative: &Alt,
-) -> Result<Alt, AllocError>
-    ensures { IfOk result (λ r. r ≡ outside (levelled_by table.now) alternative.now) }
-{
-    let symbols = lower_symbols(alloc, table, &alternative.symbols)?;
-    Ok(Alt { symbols })
-}
-
-/// The alternatives of a group.
-#[cycle(lowers)]
-fn lower_alternatives(
-    alloc: Global,
-    table: &BTreeMap<&str, bool>,
-    alternatives: &Alts,
-) -> Result<Alts, AllocError>
-    ensures { IfOk result (λ r. r ≡ map (outside (levelled_by table.now)) alternatives.now) }
-{
-    let mut list = Alts::new(alloc);
-    for alternative in alternatives.as_slice() {
-        push_alternative(&mut list, lower_alternative(alloc, table, alternative)?)?;
-    }
-    Ok(list)
 }

@@ -23,9 +23,10 @@ pub trait OwnRule {
         ensures { IfOk result (λ r. symbol_of r ≡ rule self.now decl.now (symbol_of symbol)) };
 }
 
-/// The symbol of the declaration, rewritten.
+/// The symbol of the declaration, rewritten by the pass's own rule, for a pass that changes more of
+/// an alternative than its symbols. Refused for want of memory alone.
 #[cycle(rewriting)]
-fn rewritten_symbol<O: OwnRule>(
+pub fn rewrite_symbol<O: OwnRule>(
     own: &O,
     alloc: Global,
     decl: &Decl,
@@ -104,10 +105,7 @@ fn rewritten_inner<O: OwnRule>(
 ) -> Result<Inner, AllocError>
     ensures { IfOk result (λ r. r ≡ rewritten (O.rule own.now decl.now) inner.now) }
 {
-    Inner::new(
-        alloc,
-        rewritten_symbol(own, alloc, decl, inner.as_symbol())?,
-    )
+    Inner::new(alloc, rewrite_symbol(own, alloc, decl, inner.as_symbol())?)
 }
 
 /// A symbol inside another, in whose parts each symbol is rewritten.
@@ -135,7 +133,7 @@ fn rewritten_sequence<O: OwnRule>(
 {
     let mut all = Symbols::new(alloc);
     for symbol in symbols.as_slice() {
-        push_symbol(&mut all, rewritten_symbol(own, alloc, decl, symbol)?)?;
+        push_symbol(&mut all, rewrite_symbol(own, alloc, decl, symbol)?)?;
     }
     Ok(all)
 }

@@ -7,8 +7,8 @@ use Rattle.ig_levels.proofs.lower.add_symbols.Given as goal
 
 abbrev pub invariant-loop-rest : goal.invariant-loop-rest
 invariant-loop-rest l =
-    l.all ++ lowered (levelled_by l.table) (place_of l.bounds l.own) l.first (map symbol_of l.rest) ≡
-    l.initial.all ++ lowered (levelled_by l.table) (place_of l.bounds l.own) true (map symbol_of l.symbols)
+    l.all ++ lowered (levelled_by l.table) (place_of l.bounds l.decl.name) l.first (map symbol_of l.rest) ≡
+    l.initial.all ++ lowered (levelled_by l.table) (place_of l.bounds l.decl.name) true (map symbol_of l.symbols)
 
 abbrev pub decreases-loop-rest : goal.decreases-loop-rest
 decreases-loop-rest l = length l.rest

@@ -7,8 +7,8 @@ rewritten_alternatives-rewritten_sequence-requires g t c κs within =
     let n = choice_at c.args.choices.now c.loop-choice.choice-index c.choice-item.result (subst (λ z. c.loop-choice.choice-index < length z) c.as_slice-choice-items.ensures c.loop-choice-test.true) (subst (λ z. c.choice-item.result ≡ get_or z c.loop-choice.choice-index c.choice-item.result) c.as_slice-choice-items.ensures c.choice-item.is) in
     (omega arith, within)
 
-pub rewritten_sequence-rewritten_symbol-requires : goal.rewritten_sequence-rewritten_symbol-requires
-rewritten_sequence-rewritten_symbol-requires g t c κs within =
+pub rewritten_sequence-rewrite_symbol-requires : goal.rewritten_sequence-rewrite_symbol-requires
+rewritten_sequence-rewrite_symbol-requires g t c κs within =
     let n = node_below c.as_slice-symbol-items.result.now c.args.symbols.now c.loop-symbol.symbol-index c.symbol-item.result c.as_slice-symbol-items.ensures c.loop-symbol-test.true c.symbol-item.is in
     (omega arith, within)
 

@@ -6,8 +6,8 @@ use Rattle.ig_grammar.specs.Alternative.{gathered_alternatives}
 use Rattle.ig_rewrite.specs.Rewriting.{rewritten, rewritten_alternative}
 use Rattle.ig_rewrite.proofs.rewriting.+rewriting.Given as goal
 
-abbrev pub decreases-rewritten_symbol : goal.decreases-rewritten_symbol
-decreases-rewritten_symbol g l = 4 * nodes (symbol_of l.symbol.now) + 1
+abbrev pub decreases-rewrite_symbol : goal.decreases-rewrite_symbol
+decreases-rewrite_symbol g l = 4 * nodes (symbol_of l.symbol.now) + 1
 
 abbrev pub decreases-symbol_within : goal.decreases-symbol_within
 decreases-symbol_within g l = 4 * nodes (symbol_of l.symbol.now)
