@@ -40,6 +40,7 @@ pub mod Boxing
 pub mod Heads
 pub mod Sounding
 pub mod Counting
+pub mod Growing
 pub mod Located
 pub mod Whole
 pub mod Giving

@@ -8,6 +8,7 @@ use Rattle.ig_grammar.specs.declared.declaration.DeclKind.TheVariants.{Plain}
 use Rattle.ig_grammar.specs.declared.declaration.Decl.{Decl}
 use Rattle.ig_grammar.specs.declared.grammar.Grammar.{Grammar}
 use Rattle.ig_rewrite.specs.Added.{margin_name, first_name, column_name}
+use Rattle.ig_rewrite.specs.Counts.{Multiplies}
 use Rattle.ig_rewrite.specs.SameTrees.{PermitSame}
 use Rattle.ig_rewrite.specs.SameValues.{KeepsValues}
 use Rattle.ig_rewrite.specs.Sound.{IsSound, IsFree, IsUnmarked}
@@ -32,6 +33,10 @@ abbrev pub BlocksKeep : Type 0
 BlocksKeep =
     (c : CheckedGrammar) → IsSound c → IsFree c.grammar → IsUnbound c.grammar margin_name →
     IsUnbound c.grammar first_name → IsUnbound c.grammar column_name → PlainIsUnmarked c.grammar → KeptByBlocks c
+
+-- each count of the grammar is multiplied by five at most, with two for the root
+abbrev pub BlocksMultiply : Type 0
+BlocksMultiply = (c : CheckedGrammar) → Multiplies 5 c.grammar (BlocksOf c).grammar
 
 -- by the pair inside these blocks, the test before a token is true exactly where each of them allows it
 abbrev pub PairsTellOfBlocks : Type 0

@@ -14,5 +14,5 @@ mod marks;
 mod pairs;
 mod symbols;
 
-pub use laws::{blocks_keep, pairs_tell_of_blocks};
+pub use laws::{blocks_keep, blocks_multiply, pairs_tell_of_blocks};
 pub use lowering::lower_blocks;

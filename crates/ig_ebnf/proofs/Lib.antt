@@ -33,8 +33,9 @@ pub mod LoweredScoped
 pub mod Calls
 pub mod LoweredShaped
 pub mod Keeping
-pub mod CodeOfZipped
-pub mod CodeOfBound
+pub mod Counting
+pub mod CountingSymbols
+pub mod CountingGrammar
 pub mod CodeOfPlaced
 pub mod CodeOfSizes
 pub mod CodeOfForms

@@ -1,16 +1,19 @@
--- What the lists pass keeps.
-use Rattle.std.specs.Prelude.{◌≡◌, None, true, false}
+-- What the lists pass keeps, and how much it adds.
+use Rattle.std.specs.Prelude.{◌≡◌, ℕ, ◌*◌, ◌<◌, Contains, None, true, false}
 use Rattle.ig_grammar.specs.Numbering.{layout_among}
 use Rattle.ig_grammar.specs.Checked.{CheckedGrammar, FitShapes}
-use Rattle.ig_grammar.specs.Regular.{AlternativesStandWell, OfEachLevel}
+use Rattle.ig_grammar.specs.Regular.{AlternativesStandWell, HasFewerThan, OfEachLevel}
 use Rattle.ig_grammar.specs.WellScoped.{IsWellScoped}
+use Rattle.ig_grammar.specs.declared.declaration.Decl.{Decl}
+use Rattle.ig_grammar.specs.declared.grammar.Grammar.{Grammar}
+use Rattle.ig_rewrite.specs.Counts.{Multiplies}
 use Rattle.ig_rewrite.specs.SameTrees.{PermitSame}
 use Rattle.ig_rewrite.specs.SameValues.{KeepsValues}
 use Rattle.ig_rewrite.specs.Added.{root_name, IsFresh}
 use Rattle.ig_rewrite.specs.Rooted.{has_root}
 use Rattle.ig_rewrite.specs.Sound.{IsSound, IsFree, IsUnmarked, HasExclusionsAlone, RootIsNamed}
 use Rattle.ig_rewrite.specs.Remaining.{IsRemaining}
-use Rattle.ig_ebnf.specs.Lists.{HasFewLists, ListsOf, lowered}
+use Rattle.ig_ebnf.specs.Lists.{HasFewLists, ListsOf, count_levels, lowered}
 
 -- the same trees, with the same values, and a checked grammar of the forms that remain, with a declaration that stands for the root
 pub record KeptByLists (c : CheckedGrammar) : Type 0 where
@@ -43,3 +46,15 @@ abbrev pub LoweringKeeps : Type 0
 LoweringKeeps =
     (c : CheckedGrammar) → IsSound c → IsFree c.grammar → IsUnmarked c.grammar → layout_among c.grammar.decls ≡ None →
     HasExclusionsAlone c.grammar → HasFewLists c.grammar → KeptByLowering c
+
+-- where symbols stand well and no mark is left, no count grows more than threefold
+abbrev pub ListsMultiply : Type 0
+ListsMultiply =
+    (c : CheckedGrammar) → OfEachLevel AlternativesStandWell c.grammar → IsUnmarked c.grammar →
+    Multiplies 3 c.grammar (ListsOf c).grammar
+
+-- few symbols have few lists: two declarations are added for each symbol at most
+abbrev pub ListsAreFew : Type 0
+ListsAreFew =
+    (g : Grammar) (most : ℕ) → HasFewerThan most g → (decl : Decl) → Contains g.decls decl →
+    count_levels decl.levels < 2 * most

@@ -1,6 +1,7 @@
-//! What the lists pass keeps. The functions compute nothing: their contracts are the laws.
+//! What the lists pass keeps, and how much it adds. The functions compute nothing: their contracts
+//! are the laws.
 
-ghost use Rattle.ig_ebnf.specs.Laws.{ListsKeep, LoweringKeeps};
+ghost use Rattle.ig_ebnf.specs.Laws.{ListsAreFew, ListsKeep, ListsMultiply, LoweringKeeps};
 
 /// With lists, options and groups as calls of added nonterminals, and before the root is added, a
 /// checked grammar permits the same trees, with the same values, and stays checked, and the root
@@ -32,4 +33,22 @@ pub fn lists_keep()
     ig_rewrite::declarations_are_found();
     ig_rewrite::root_keeps();
     ig_rewrite::same_trees_is_an_equivalence();
+}
+
+/// Where symbols stand well and no mark is left, the pass makes no count of a grammar more than
+/// three times as great: that of its declarations, its levels, its alternatives, and its symbols
+/// with filters. This law, proved of all checked grammars, computes nothing.
+pub fn lists_multiply()
+    ensures { ListsMultiply }
+{
+    ig_rewrite::counts_grow();
+    ig_grammar::counts_by_form();
+}
+
+/// Where a grammar has fewer than so many symbols, fewer than twice as many declarations are added
+/// for each of its declarations. This law, proved of all grammars, computes nothing.
+pub fn lists_are_few()
+    ensures { ListsAreFew }
+{
+    ig_grammar::counts_by_form();
 }

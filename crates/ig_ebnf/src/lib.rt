@@ -5,7 +5,8 @@
 //! each symbol: a call for a list, an option, a group or an entry, and in place of a sequence its
 //! symbols. [`lower_ebnf`] is exactly that, and is refused for want of memory alone. The laws say
 //! that the pass changes no tree, and keeps a checked grammar checked; what is left are literals,
-//! classes and calls, with exclusions and a label, guards and lets.
+//! classes and calls, with exclusions and a label, guards and lets; and that no count of a grammar
+//! grows more than threefold.
 #![tactic(auto)]
 
 mod entries;
@@ -18,4 +19,4 @@ mod variables;
 mod wanting;
 
 pub use grammars::lower_ebnf;
-pub use laws::{lists_keep, lowering_keeps};
+pub use laws::{lists_are_few, lists_keep, lists_multiply, lowering_keeps};

@@ -28,6 +28,7 @@ pub mod Giving
 pub mod Shaped
 pub mod Kept
 pub mod Within
-pub mod Falling
+pub mod Rewritten
+pub mod Counting
 pub mod Telling
 pub mod Written

@@ -1,4 +1,4 @@
--- What the pass keeps.
+-- What the pass keeps, what bounds ask, and how much the pass adds.
 use Rattle.std.specs.Prelude.{◌≢◌, ◌↔◌, ◌++◌, ℕ, List, [], ◌∷◌, pos, ◌≡◌, true}
 use Rattle.ig_text.specs.Tree.{Tree}
 use Rattle.ig_expr.specs.declared.value.Value.{Value}
@@ -9,6 +9,7 @@ use Rattle.ig_grammar.specs.declared.declaration.DeclKind.TheVariants.{Syntax}
 use Rattle.ig_meaning.specs.Clean.{Clean}
 use Rattle.ig_meaning.specs.Derivation.{Instance}
 use Rattle.ig_rewrite.specs.Added.{left_name, right_name}
+use Rattle.ig_rewrite.specs.Counts.{Multiplies}
 use Rattle.ig_rewrite.specs.Rooted.{rooted}
 use Rattle.ig_rewrite.specs.SameTrees.{PermitSame}
 use Rattle.ig_rewrite.specs.SameValues.{KeepsValues}
@@ -46,3 +47,8 @@ BoundsAskOfSpines =
     names_levelled (rooted Syntax c).grammar.decls name ≡ true →
     IsWithin (rooted Syntax c) text name vs kind i e t starts l r ↔
     Instance (LevelsOf c).grammar (LevelsOf c).shapes text name (vs ++ Int (pos l) ∷ Int (pos r) ∷ []) kind i e t starts
+
+-- of declarations, levels, alternatives and symbols the grammar without levels has fewer than three times as many, but for
+-- two for the root
+abbrev pub LevelsMultiply : Type 0
+LevelsMultiply = (c : CheckedGrammar) → Multiplies 3 c.grammar (LevelsOf c).grammar

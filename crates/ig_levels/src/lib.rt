@@ -2,8 +2,8 @@
 //!
 //! `specs/Levels.antt` says what becomes of a levelled declaration: it has one level, two more
 //! parameters, `.l` and `.r`, and each of its alternatives first tests its level against them;
-//! calls hand the bounds of operands on. The laws say that the pass changes no tree, and keeps a
-//! sound grammar sound.
+//! calls hand the bounds of operands on. The laws say that the pass changes no tree, keeps a sound
+//! grammar sound, and makes it three times as large at most, but for the root.
 #![tactic(auto)]
 
 mod laws;
@@ -12,5 +12,5 @@ mod naming;
 mod operands;
 mod symbols;
 
-pub use laws::{bounds_ask_of_spines, levels_keep};
+pub use laws::{bounds_ask_of_spines, levels_keep, levels_multiply};
 pub use lower::lower_levels;

@@ -41,3 +41,4 @@ pub mod ValuedForms
 pub mod ValuedWalk
 pub mod ValuedGuards
 pub mod ValuedPass
+pub mod Multiplying

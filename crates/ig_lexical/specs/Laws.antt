@@ -1,7 +1,8 @@
--- What the passes for layout and for filters keep.
+-- What the passes for layout and for filters keep, and how much they add.
 use Rattle.std.specs.Prelude.{◌≡◌, None}
 use Rattle.ig_grammar.specs.Numbering.{layout_among}
 use Rattle.ig_grammar.specs.Checked.{CheckedGrammar}
+use Rattle.ig_rewrite.specs.Counts.{Multiplies}
 use Rattle.ig_rewrite.specs.SameTrees.{PermitSame}
 use Rattle.ig_rewrite.specs.SameValues.{KeepsValues}
 use Rattle.ig_rewrite.specs.Sound.{IsSound, IsFree, IsUnmarked, IsPlain, HasExclusionsAlone}
@@ -36,3 +37,11 @@ abbrev pub FiltersKeep : Type 0
 FiltersKeep =
     (c : CheckedGrammar) → IsSound c → IsFree c.grammar → IsUnmarked c.grammar → layout_among c.grammar.decls ≡ None →
     KeptByFilters c
+
+-- a token becomes a sequence with a call behind it
+abbrev pub LayoutMultiplies : Type 0
+LayoutMultiplies = (c : CheckedGrammar) → Multiplies 3 c.grammar (LayoutOf c).grammar
+
+-- what has filters becomes a sequence, with a guard for each filter that is a test
+abbrev pub FiltersMultiply : Type 0
+FiltersMultiply = (c : CheckedGrammar) → Multiplies 2 c.grammar (FiltersOf c).grammar

@@ -4,8 +4,8 @@
 //! in what were syntax declarations a call of the layout nonterminal stands behind each token;
 //! [`add_layout`] is exactly that. `specs/Filters.antt` says what becomes of filters: precede and
 //! follow filters are guards before and behind their symbol, and exclusions stay on the symbol
-//! itself; [`attach_filters`] is exactly that. The laws say that either pass changes no tree, and
-//! keeps a sound grammar sound. A call is refused for want of memory alone.
+//! itself; [`attach_filters`] is exactly that. The laws say that either pass changes no tree, keeps
+//! a sound grammar sound, and how much it adds at most. A call is refused for want of memory alone.
 #![tactic(auto)]
 
 mod declarations;
@@ -14,5 +14,5 @@ mod laws;
 mod layout;
 
 pub use filters::attach_filters;
-pub use laws::{filters_keep, layout_keeps};
+pub use laws::{filters_keep, filters_multiply, layout_keeps, layout_multiplies};
 pub use layout::add_layout;
