@@ -1,4 +1,3 @@
-pub mod Lists
 pub mod Premises
 pub mod Numbers
 pub mod Environments
@@ -14,11 +13,12 @@ pub mod Scoped
 pub mod Kinded
 pub mod WellKinded
 pub mod Whole
-pub mod NameTexts
 pub mod RootNames
 pub mod CoreNames
 pub mod Unmarked
 pub mod Passes
+pub mod RegularCores
+pub mod RegularResults
 pub mod Noted
 pub mod FormsAdded
 pub mod Declared

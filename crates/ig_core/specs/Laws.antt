@@ -5,7 +5,7 @@ use Rattle.ig_expr.specs.ValuedTree as valued
 use Rattle.ig_text.specs.declared.tag.Tag.TheVariants.{Rule}
 use Rattle.ig_grammar.specs.Checked.{CheckedGrammar}
 use Rattle.ig_grammar.specs.Numbering.{IsDeclaration}
-use Rattle.ig_grammar.specs.Regular.{AlternativesStandWell, OfEachLevel}
+use Rattle.ig_grammar.specs.Regular.{AlternativesStandWell, HasFewerThan, IsRegular, OfEachLevel}
 use Rattle.ig_grammar.specs.declared.declaration.Decl.{Decl}
 use Rattle.ig_grammar.specs.declared.grammar.Grammar.{Grammar}
 use Rattle.ig_grammar.specs.declared.place.Shape.{Shape}
@@ -15,6 +15,7 @@ use Rattle.ig_item.specs.Annotated as core
 use Rattle.ig_item.specs.CoreTrees.{CoreTree}
 use Rattle.ig_item.specs.Core.{dots, IsAlternative}
 use Rattle.ig_item.specs.Limits.{most_dots}
+use Rattle.ig_item.specs.Regular as item
 use Rattle.ig_item.specs.TagOrder.{TagsRise}
 use Rattle.ig_item.specs.WellKinded.{IsWellKinded, NoneTwice}
 use Rattle.ig_item.specs.declared.core_grammar.CoreAlt.{CoreAlt}
@@ -33,7 +34,7 @@ use Rattle.ig_lexical.specs.Layout.{LayoutOf}
 use Rattle.ig_lexical.specs.Laws.{KeptByFilters, KeptByLayout}
 use Rattle.ig_ebnf.specs.Laws.{KeptByLists}
 use Rattle.ig_core.specs.CoreOf.{core_of}
-use Rattle.ig_core.specs.Limits.{most_declarations}
+use Rattle.ig_core.specs.Limits.{counts_before_passes, most_declarations}
 use Rattle.ig_core.specs.Lowered.{BeforeLists, IsBuildable, Lowered, CoreOf, IsNumbered}
 use Rattle.ig_core.specs.Notation.{IsOfNotation, unchanged}
 use Rattle.ig_core.specs.Ready.{IsReady}
@@ -54,6 +55,19 @@ pub record ArePassed (c : CheckedGrammar) : Type 0 where
 -- each of the five results in turn is well scoped, regular in its form, and has no name that a later pass adds
 abbrev pub PassesInTurn : Type 0
 PassesInTurn = (c : CheckedGrammar) → IsBuildable c → ArePassed c
+
+-- each of the five results in turn is regular, counts too; and numbers tell the names apart that the pass for lists adds
+pub record AreRegular (c : CheckedGrammar) : Type 0 where
+  pub levels : IsRegular (LevelsOf c).grammar
+  pub blocks : IsRegular (BlocksOf (LevelsOf c)).grammar
+  pub layout : IsRegular (LayoutOf (BlocksOf (LevelsOf c))).grammar
+  pub filters : IsRegular (BeforeLists c).grammar
+  pub numbered : IsNumbered c
+  pub lists : IsRegular (Lowered c).grammar
+
+-- of a grammar whose counts are small
+abbrev pub PassesAreRegular : Type 0
+PassesAreRegular = (c : CheckedGrammar) → IsBuildable c → HasFewerThan counts_before_passes c.grammar → AreRegular c
 
 -- what all passes leave permits the same trees and keeps their values, and the last step takes it; a declaration stands
 -- for the root, and is named `$root`
@@ -114,3 +128,7 @@ NotationIsBuildable = (g : Grammar) → IsOfNotation g → IsBuildable (unchange
 -- of two alternatives of a nonterminal the later one has the greater tag number
 abbrev pub TagsRiseInCores : Type 0
 TagsRiseInCores = (c : CheckedGrammar) → IsBuildable c → IsNumbered c → TagsRise (CoreOf c)
+
+-- no literal of a grammar's core grammar is empty
+abbrev pub CoresAreRegular : Type 0
+CoresAreRegular = (c : CheckedGrammar) → IsBuildable c → IsNumbered c → item.IsRegular (CoreOf c)

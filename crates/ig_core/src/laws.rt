@@ -1,16 +1,17 @@
 //! What core grammars have to do with the grammars that they are of. The functions do nothing:
 //! their contracts are the laws, each proved for all grammars, shapes, texts and trees that it
 //! speaks of.
-ghost use Rattle.ig_core.specs.Laws.{CoresAreNamed, CoresAreWellKinded, CoreTreesArePermitted};
+ghost use Rattle.ig_core.specs.Laws.{CoresAreNamed, CoresAreRegular, CoresAreWellKinded};
+ghost use Rattle.ig_core.specs.Laws.{CoreTreesArePermitted, PassesAreRegular};
 ghost use Rattle.ig_core.specs.Laws.{DeclarationsKeepNumbers, NotationIsBuildable, PassesInTurn};
 ghost use Rattle.ig_core.specs.Laws.{PassesKeep, TagsRiseInCores, ValuesAreThoseOfCore};
 
-use ig_blocks::blocks_keep;
-use ig_ebnf::lists_keep;
+use ig_blocks::{blocks_keep, blocks_multiply};
+use ig_ebnf::{lists_are_few, lists_keep, lists_multiply};
 use ig_grammar::regularity_by_form;
 use ig_item::{names_differ, steps_fit};
-use ig_levels::levels_keep;
-use ig_lexical::{filters_keep, layout_keeps};
+use ig_levels::{levels_keep, levels_multiply};
+use ig_lexical::{filters_keep, filters_multiply, layout_keeps, layout_multiplies};
 use ig_meaning::trees_without_operators_are_clean;
 use ig_rewrite::{added_names_are_new, rooted_is_the_same, same_trees_is_an_equivalence};
 
@@ -24,6 +25,23 @@ pub fn passes_in_turn()
     layout_keeps();
     filters_keep();
     lists_keep();
+    regularity_by_form();
+    rooted_is_the_same();
+}
+
+/// Where a grammar has fewer than 1,048,576 declarations, levels, alternatives and symbols, each of
+/// the five passes leaves a grammar that is regular, with its bounds on counts; and numbers tell
+/// the names apart that the pass for lists adds. This law computes nothing.
+pub fn passes_are_regular()
+    ensures { PassesAreRegular }
+{
+    passes_in_turn();
+    levels_multiply();
+    blocks_multiply();
+    layout_multiplies();
+    filters_multiply();
+    lists_multiply();
+    lists_are_few();
     regularity_by_form();
     rooted_is_the_same();
 }
@@ -62,6 +80,14 @@ pub fn cores_are_well_kinded()
 {
     steps_fit();
     names_differ();
+}
+
+/// No literal of a grammar's core grammar is empty. This law computes nothing.
+pub fn cores_are_regular()
+    ensures { CoresAreRegular }
+{
+    regularity_by_form();
+    passes_keep();
 }
 
 /// Nonterminal 0 of a core grammar is named `$root`, and no two nonterminals have one name. This

@@ -24,7 +24,7 @@ mod steps;
 pub use builder::build;
 pub use fault::CoreFault;
 pub use laws::{
-    core_trees_are_permitted_trees, cores_are_named, cores_are_well_kinded,
-    declarations_keep_numbers, notation_is_buildable, passes_in_turn, passes_keep,
-    tags_rise_in_cores, values_are_those_of_core,
+    core_trees_are_permitted_trees, cores_are_named, cores_are_regular, cores_are_well_kinded,
+    declarations_keep_numbers, notation_is_buildable, passes_are_regular, passes_in_turn,
+    passes_keep, tags_rise_in_cores, values_are_those_of_core,
 };

@@ -1,7 +1,7 @@
-//! What holds of grammars that are read. The function does nothing: its contract is the law.
-ghost use Rattle.ig_tool.specs.Laws.{ReadGrammarsAreBuildable};
+//! What holds of grammars that are read. The functions do nothing: their contracts are the laws.
+ghost use Rattle.ig_tool.specs.Laws.{ReadGrammarsAreBuildable, ReadGrammarsStayRegular};
 
-use ig_core::notation_is_buildable;
+use ig_core::{notation_is_buildable, passes_are_regular};
 use ig_notation::{read_grammars_are_regular, read_grammars_are_written, read_names_are_names};
 
 /// A grammar that is read from a text and well scoped can be built, as it is written. This law
@@ -13,4 +13,14 @@ pub fn read_grammars_are_buildable()
     read_grammars_are_regular();
     read_grammars_are_written();
     read_names_are_names();
+}
+
+/// What each pass in turn leaves of a grammar that is read from a text and well scoped is regular,
+/// with its bounds on counts. This law computes nothing.
+pub fn read_grammars_stay_regular()
+    ensures { ReadGrammarsStayRegular }
+{
+    read_grammars_are_buildable();
+    read_grammars_are_regular();
+    passes_are_regular();
 }

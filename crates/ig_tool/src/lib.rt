@@ -29,6 +29,6 @@ mod summary;
 mod top_call;
 mod words;
 
-pub use laws::read_grammars_are_buildable;
+pub use laws::{read_grammars_are_buildable, read_grammars_stay_regular};
 pub use status::Status;
 pub use top_call::iguana;
