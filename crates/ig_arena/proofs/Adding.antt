@@ -1,7 +1,7 @@
 -- A cell that is added behind one chain.
 use Rattle.std.proofs.Common.{◌≡◌, ℕ, zero, suc, ◌+◌, ◌<◌, ◌⊎◌, inl, inr, Bool, true, false, List, [], ◌∷◌, ◌++◌, map, Option, Some, None, length, slice_get, get_or, set, refl, sym, ap, ap₂, ◌∙◌, subst, subst₂, arith, length-append}
 use Rattle.std.specs.Prelude.{◌==◌, if◌then◌else◌}
-use Rattle.std.proofs.lemmas.List.{append-nil, map-append, get_or-map}
+use Rattle.std.proofs.lemmas.List.{append-nil, map-append, get_or-map, length-set, length-map}
 use Rattle.std.proofs.lemmas.Option.{same_Some, slice_get_within, get_or_from_slice_get, slice_get_read}
 use Rattle.ig_arena.specs.declared.chains.Cell.{Cell}
 use Rattle.ig_arena.specs.declared.chains.Ends.{Ends}
@@ -140,11 +140,6 @@ set_cases (z ∷ xs) (suc k) (suc i) x y e =
       | inr p ↦ inr (λ s. p.0 (omega (arith, s)), p.1)
     ]
 
-set_length : {X : Type 0} (xs : List X) (k : ℕ) (x : X) → length (set xs k x) ≡ length xs
-set_length [] k x = refl
-set_length (z ∷ xs) zero x = refl
-set_length (z ∷ xs) (suc k) x = ap suc (set_length xs k x)
-
 others : {X Y : Type 0} (f g : X → Y) (xs : List X) → ((i : ℕ) (z : X) → slice_get xs i ≡ Some z → g z ≡ f z) → map g xs ≡ map f xs
 others f g [] same = refl
 others f g (z ∷ xs) same = ap₂ (λ (a : _) (s : List _). a ∷ s) (same 0 z refl) (others f g xs (λ i w at. same (suc i) w at))
@@ -241,8 +236,8 @@ module _ {T : Type 0} where
           lasts = lasts;
           owned =
               let within = slice_get_within heads k ends at in
-              owner_below c.owners k (length after) (omega (arith, within, set_length heads k (Some (longer ends n))))
-              (λ i o o_at. let h = c.owned i o o_at in omega (arith, h, set_length heads k (Some (longer ends n))));
+              owner_below c.owners k (length after) (omega (arith, within, length-set heads k (Some (longer ends n))))
+              (λ i o o_at. let h = c.owned i o o_at in omega (arith, h, length-set heads k (Some (longer ends n))));
         }
 
     own_chain : chain 0 more (first_of (Some (longer ends n))) ≡ get_or (chains cells heads) k [] ++ new.value ∷ []
@@ -305,10 +300,6 @@ module _ {T : Type 0} where
       map-append (λ (e : Option Ends). chain 0 cells (first_of e)) heads (None ∷ []) ∙
       ap (λ (xs : List T). chains cells heads ++ xs ∷ []) (no_chain 0 cells)
 
-map_length : {X Y : Type 0} (f : X → Y) (xs : List X) → length (map f xs) ≡ length xs
-map_length f [] = refl
-map_length f (x ∷ xs) = ap suc (map_length f xs)
-
 -- reading an image
 none_or : {X Y : Type 0} (f : Option X → List Y) (xs : List (Option X)) (k : ℕ) → f None ≡ [] →
     get_or (map f xs) k [] ≡ f (get_or xs k None)
@@ -336,7 +327,7 @@ module _ {T : Type 0} where
       chains cells heads ≡ now → k ≡ h → h < length now → ends ≡ get_or heads k ends → slice_get heads k ≡ Some ends
   place_there cells heads k h now ends view same lt read =
       let number : length heads ≡ length now =
-      sym (map_length (λ (e : Option Ends). chain 0 cells (first_of e)) heads) ∙ ap length view in
+      sym (length-map heads (λ (e : Option Ends). chain 0 cells (first_of e))) ∙ ap length view in
       let within : k < length heads = omega (arith, same, lt, number) in
       slice_get_read heads (length heads) k ends refl within read
 

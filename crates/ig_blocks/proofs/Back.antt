@@ -4,6 +4,7 @@ use Rattle.std.proofs.lemmas.Option.{slice_get_within}
 use Rattle.std.proofs.lemmas.List.{map-append}
 use Rattle.ig_text.specs.Lines.{column_of}
 use Rattle.ig_text.specs.Tree.{Tree, Trees, Node, one, join}
+use Rattle.ig_text.proofs.Trees.{join-none}
 use Rattle.ig_expr.specs.Expression.{Expression}
 use Rattle.ig_expr.specs.declared.value.Value.{Value}
 use Rattle.ig_grammar.specs.Binding.{Binding}
@@ -32,7 +33,7 @@ use Rattle.ig_blocks.proofs.Values.{agree_bound, keep_all, keep_then, keep_bound
 use Rattle.ig_blocks.proofs.Starts.{Each, each_none, each_one, each_join, derives_after}
 use Rattle.ig_blocks.proofs.Situations.{pair_values, column_values, Holds, Situated, situated_later, have_split, have_same, pair_values_had, HasColumn, IsInside, inside_box, box_values, inside_entry, inner_steady, lacking_values}
 use Rattle.ig_blocks.proofs.Tests.{Fits, fits_none, fits_join, fits_exposed, AreTrue, true_left, true_right, guards_allow, true_column, pair_args, pair_params, bound_back, situated_first}
-use Rattle.ig_blocks.proofs.Forth.{pair_steady, read_values, join-none, extra_had, no_extra}
+use Rattle.ig_blocks.proofs.Forth.{pair_steady, read_values, extra_had, no_extra}
 use Rattle.ig_blocks.proofs.Standing.{column_in, start_in, situated_in, Row, last, tested, Behind, behind, Standing, alone, back_of, standing}
 
 module _ (s : Setting) (apart : AreApart s) (g g2 : Grammar) (shapes shapes2 : List Shape) (text : List ℕ) (takes : Takes s g g2 shapes shapes2) where

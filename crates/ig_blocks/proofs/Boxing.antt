@@ -1,17 +1,18 @@
 -- What is visible inside the bindings that the pass adds.
 use Rattle.std.proofs.Common.{◌≡◌, ◌≢◌, ◌∙◌, ℕ, Bool, true, false, List, [], ◌∷◌, ◌++◌, Option, Some, None, refl, sym, ap, ap₂, subst, if◌then◌else◌}
 use Rattle.ig_text.specs.Words.{is_word}
+use Rattle.ig_text.proofs.Characters.{differs}
 use Rattle.ig_expr.specs.declared.kind.Kind.{Kind}
 use Rattle.ig_expr.specs.declared.kind.Kind.TheVariants as kind
 use Rattle.ig_grammar.specs.Binding.{Binding}
 use Rattle.ig_grammar.specs.Visible.{Visible, kind_at, with_kind, replaced}
 use Rattle.ig_blocks.specs.Setting.{Setting, Pair, lacking, carried, opened, cleared, inner, pair_bindings, column_bindings}
 use Rattle.ig_blocks.proofs.Reading.{IsWritten, AreApart, BindingsRead}
-use Rattle.ig_blocks.proofs.Looking.{find, if_true, if_false, same_word, other_word}
+use Rattle.ig_blocks.proofs.Looking.{find, if_true, if_false, same_word}
 use Rattle.ig_blocks.proofs.Sights.{SeeSame, IsPair, no_pair, handed_pair, opened_pair, cleared_pair, Sight, HasColumn, find_with, kind_same, margin_kind, first_kind}
 
 found_other : (v : Visible) (n : List ℕ) (k : Kind) (y : List ℕ) → n ≢ y → find (with_kind v n (Some k)) y ≡ find v y
-found_other v n k y ne = find_with v n k y ∙ if_false (is_word n y) _ _ (other_word n y ne)
+found_other v n k y ne = find_with v n k y ∙ if_false (is_word n y) _ _ (differs n y ne)
 
 found_same : (v : Visible) (n : List ℕ) (k : Kind) → find (with_kind v n (Some k)) n ≡ Some k
 found_same v n k = find_with v n k n ∙ if_true (is_word n n) _ _ (same_word n n refl)

@@ -1,11 +1,9 @@
 -- What a call with the pair asks.
-use Rattle.std.proofs.Common.{◌≡◌, ◌∙◌, ℕ, zero, suc, ◌+◌, Bool, true, false, List, [], ◌∷◌, ◌++◌, length, Some, None, refl, sym, ap, subst, inl, inr}
+use Rattle.std.proofs.Common.{◌≡◌, ◌∙◌, ℕ, zero, suc, Bool, true, false, List, [], ◌∷◌, ◌++◌, length, Some, None, refl, sym, ap, subst, inl, inr}
 use Rattle.std.specs.Prelude.{◌⊎◌, slice_get}
 use Rattle.std.proofs.lemmas.List.{append-nil}
 use Rattle.ig_text.proofs.Lists.{at_from_contains}
 use Rattle.ig_expr.specs.Expression.{Expression}
-use Rattle.ig_expr.specs.declared.kind.Kind.TheVariants as kind
-use Rattle.ig_grammar.specs.Condition as meets
 use Rattle.ig_grammar.specs.Visible.{Visible}
 use Rattle.ig_grammar.specs.Symbol.{Call}
 use Rattle.ig_grammar.specs.declared.declaration.DeclKind.{DeclKind}

@@ -3,7 +3,9 @@ use Rattle.std.proofs.Common.{◌≡◌, ◌≢◌, ◌⊎◌, ◌<◌, ◌≤�
 use Rattle.std.proofs.lemmas.Option.{slice_get_within}
 use Rattle.std.proofs.lemmas.List.{append-nil, map-append}
 use Rattle.ig_text.specs.Lines.{column_of}
-use Rattle.ig_text.specs.Tree.{Tree, Trees, Node, none, more, one, join}
+use Rattle.ig_text.specs.Tree.{Tree, Trees, Node, none, one}
+use Rattle.ig_text.proofs.Trees.{join-none}
+use Rattle.ig_text.proofs.Lists.{it_is_in}
 use Rattle.ig_expr.specs.Expression.{Expression}
 use Rattle.ig_expr.specs.declared.value.Value.{Value}
 use Rattle.ig_grammar.specs.Binding.{Binding}
@@ -29,7 +31,7 @@ use Rattle.ig_blocks.proofs.Lowered.{Lowered, Placed, Item, Listing, Covered, Ch
 use Rattle.ig_blocks.proofs.Takes.{Takes, IsRemade}
 use Rattle.ig_blocks.proofs.Columns.{all_allowed, allows_block}
 use Rattle.ig_blocks.proofs.Values.{agree_bound, keep_all, keep_then, keep_bound, value_agrees, have_forth}
-use Rattle.ig_blocks.proofs.Starts.{Each, each_left, each_right, each_none, contains_one, derives_after, items_begin}
+use Rattle.ig_blocks.proofs.Starts.{Each, each_left, each_right, each_none, derives_after, items_begin}
 use Rattle.ig_blocks.proofs.Wholes.{choose}
 use Rattle.ig_blocks.proofs.Situations.{int, start_int, pair_values, column_values, Holds, Situated, situated_later, situated_opened, situated_cleared, have_append, pair_values_had, HasColumn, inside_box, box_values, inside_entry, inner_steady}
 use Rattle.ig_blocks.proofs.Tests.{AreTrue, true_join, allowed_guards, column_true, pair_bound, pair_args, pair_params, bound_forth, situated_first}
@@ -44,11 +46,7 @@ read_values s (b ∷ bs) r = (r.0.1, read_values s bs r.1)
 
 exposed_allowed : (P : ℕ → Type 0) (c : DeclKind) (i : ℕ) (starts : List ℕ) → starts ≡ exposed c i → Each P starts → c ≡ Syntax → P i
 exposed_allowed P c i starts e all same =
-    all i (subst (λ z. Contains z i) (sym e) (subst (λ z. Contains (exposed z i) i) (sym same) (contains_one i)))
-
-pub join-none : (ts : Trees) → join ts none ≡ ts
-join-none none = refl
-join-none (more t ts) = ap (more t) (join-none ts)
+    all i (subst (λ z. Contains z i) (sym e) (subst (λ z. Contains (exposed z i) i) (sym same) (it_is_in i)))
 
 module _ (s : Setting) (apart : AreApart s) (g g2 : Grammar) (shapes shapes2 : List Shape) (text : List ℕ) (takes : Takes s g g2 shapes shapes2) where
   pub record Target (c : DeclKind) (gs : List Symbol) (y : Symbol) (other : Environment) (i e j : ℕ) (ts : Trees) (after : Environment) : Type 0 where
@@ -410,7 +408,7 @@ module _ (s : Setting) (apart : AreApart s) (g g2 : Grammar) (shapes shapes2 : L
         let a = to_lists list al p m f other (Star z) (low.stars al p x z steady it) at k col (λ b. each_left (λ q. column_of text q ≡ k) ps (h ∷ []) items begin (columns b)) (each_left (Allows text m f) ks ls starts exposes all) in
         let there = situated_later s text env other env other p m f i h steady (omega (arith, o.begins, o.ends)) (o.within at.within) at.agree (keep_all s other) at in
         let r = item_forth c al p x z other h e j ts after it
-        (column_true s text al other h k (o.within at.within) col (λ b. each_right (λ q. column_of text q ≡ k) ps (h ∷ []) items begin (columns b) h (contains_one h)))
+        (column_true s text al other h k (o.within at.within) col (λ b. each_right (λ q. column_of text q ≡ k) ps (h ∷ []) items begin (columns b) h (it_is_in h)))
         (λ gs2 z2 l. to_derives item p m f other gs2 z2 l there (each_right (Allows text m f) ks ls starts exposes all)) in
         record {
           exposes = a.exposes ++ r.exposes;
@@ -418,7 +416,7 @@ module _ (s : Setting) (apart : AreApart s) (g g2 : Grammar) (shapes shapes2 : L
           listed = snoc c z other r.left i h r.own j t ts a.exposes r.exposes (a.exposes ++ r.exposes) a.begins (a.begins ++ h ∷ []) a.listed r.derived refl refl;
         }
     to_lists (one_item c x env after i e j ts starts item) al p m f other y (low.pluses al2 p2 x2 z steady it) at k col columns all =
-        let r = item_forth c al p x z other i e j ts after it (column_true s text al other i k at.within col (λ b. columns b i (contains_one i)))
+        let r = item_forth c al p x z other i e j ts after it (column_true s text al other i k at.within col (λ b. columns b i (it_is_in i)))
         (λ gs2 z2 l. to_derives item p m f other gs2 z2 l at all) in
         record { exposes = r.exposes; begins = i ∷ []; listed = one_item c z other r.left i r.own j ts r.exposes r.derived }
     to_lists (more_items c x env after i h e j t ts ks ls starts ps items list item exposes begin) al p m f other y (low.pluses al2 p2 x2 z steady it) at k col columns all =
@@ -426,7 +424,7 @@ module _ (s : Setting) (apart : AreApart s) (g g2 : Grammar) (shapes shapes2 : L
         let a = to_lists list al p m f other (Plus z) (low.pluses al p x z steady it) at k col (λ b. each_left (λ q. column_of text q ≡ k) ps (h ∷ []) items begin (columns b)) (each_left (Allows text m f) ks ls starts exposes all) in
         let there = situated_later s text env other env other p m f i h steady (omega (arith, o.begins, o.ends)) (o.within at.within) at.agree (keep_all s other) at in
         let r = item_forth c al p x z other h e j ts after it
-        (column_true s text al other h k (o.within at.within) col (λ b. each_right (λ q. column_of text q ≡ k) ps (h ∷ []) items begin (columns b) h (contains_one h)))
+        (column_true s text al other h k (o.within at.within) col (λ b. each_right (λ q. column_of text q ≡ k) ps (h ∷ []) items begin (columns b) h (it_is_in h)))
         (λ gs2 z2 l. to_derives item p m f other gs2 z2 l there (each_right (Allows text m f) ks ls starts exposes all)) in
         record {
           exposes = a.exposes ++ r.exposes;
@@ -434,7 +432,7 @@ module _ (s : Setting) (apart : AreApart s) (g g2 : Grammar) (shapes shapes2 : L
           listed = more_items c z other r.left i h r.own j t ts a.exposes r.exposes (a.exposes ++ r.exposes) a.begins (a.begins ++ h ∷ []) a.listed r.derived refl refl;
         }
     to_lists (first_item c x separator env after i e j ts starts item) al p m f other y (low.sep_pluses al2 p2 x2 z sep2 z2 steady it it2) at k col columns all =
-        let r = item_forth c al p x z other i e j ts after it (column_true s text al other i k at.within col (λ b. columns b i (contains_one i)))
+        let r = item_forth c al p x z other i e j ts after it (column_true s text al other i k at.within col (λ b. columns b i (it_is_in i)))
         (λ gs3 z3 l. to_derives item p m f other gs3 z3 l at all) in
         record { exposes = r.exposes; begins = i ∷ []; listed = first_item c z z2 other r.left i r.own j ts r.exposes r.derived }
     to_lists (further_item c x separator env between after i h q n e j t us ts vs ks ms ls starts ps items list part item trees exposes begin) al p m f other y (low.sep_pluses al2 p2 x2 z sep2 z2 steady it it2) at k col columns all =
@@ -448,7 +446,7 @@ module _ (s : Setting) (apart : AreApart s) (g g2 : Grammar) (shapes shapes2 : L
         let b = item_forth c false p separator z2 other h q n us between it2 tt
         (λ gs3 z3 l. to_derives part p m f other gs3 z3 l there (each_right (Allows text m f) ks ms (ks ++ ms) refl front)) in
         let r = item_forth c al p x z other n e j ts after it
-        (column_true s text al other n k past col (λ d. each_right (λ q2. column_of text q2 ≡ k) ps (n ∷ []) items begin (columns d) n (contains_one n)))
+        (column_true s text al other n k past col (λ d. each_right (λ q2. column_of text q2 ≡ k) ps (n ∷ []) items begin (columns d) n (it_is_in n)))
         (λ gs3 z3 l. to_derives item p m f other gs3 z3 l there2 (each_right (Allows text m f) (ks ++ ms) ls starts exposes all)) in
         record {
           exposes = a.exposes ++ b.exposes ++ r.exposes;

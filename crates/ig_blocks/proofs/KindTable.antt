@@ -1,25 +1,23 @@
 -- The table of the kinds of declarations, from the last declaration to the first.
 use Rattle.std.proofs.Common.{◌≡◌, ◌∙◌, ℕ, suc, ◌≤◌, List, ◌∷◌, Option, Some, Bool, cond, true, false, ◌&&◌, not, refl, sym, ap, ap₂, arith, length, drop, get_or, if◌then◌else◌, drop-cons}
-use Rattle.std.specs.Prelude.{bytes_eq, chars, encode_utf8_all, IsUtf8}
+use Rattle.std.specs.Prelude.{bytes_eq, encode_utf8_all}
 use Rattle.std.specs.Cmp.Lexicographic.{slice_cmp}
 use Rattle.std.specs.Ordering.{nat_cmp}
 use Rattle.std.specs.BTreeMap as tree
 use Rattle.std.specs.BTreeMap.{BTreeMap}
 use denote.Ref.{Bor}
 use Rattle.std.proofs.lemmas.Slice.Eq.{bytes_eq-Decides}
-use Rattle.std.proofs.lemmas.Str.{encodes-chars, encodes_same}
+use Rattle.std.proofs.lemmas.Str.{encodes_same}
 use Rattle.std.proofs.lemmas.Map.Text.{btree_map_updates_str}
 use Rattle.ig_text.specs.Words.{is_word}
+use Rattle.ig_text.proofs.Characters.{differs}
 use Rattle.ig_grammar.specs.declared.declaration.Decl.{Decl}
 use Rattle.ig_grammar.specs.declared.declaration.DeclKind.{DeclKind}
 use Rattle.ig_grammar.specs.declared.place.Shape.{Shape}
 use Rattle.ig_rewrite.specs.Rooted.{is_root}
 use Rattle.ig_blocks.specs.Blocks.{kind_called}
 use Rattle.ig_blocks.specs.Code.{kind_by}
-use Rattle.ig_blocks.proofs.Looking.{if_true, if_false, same_word, other_word}
-
-pub word_bytes : (bytes name : List ℕ) → IsUtf8 bytes → chars bytes ≡ name → bytes ≡ encode_utf8_all name
-word_bytes bytes name u e = sym (encodes-chars bytes u) ∙ ap encode_utf8_all e
+use Rattle.ig_blocks.proofs.Looking.{if_true, if_false, same_word}
 
 -- the table, and the kinds of the declarations from a place on
 abbrev pub Has : BTreeMap (Bor (List ℕ)) DeclKind → List Decl → List Shape → Type 0
@@ -43,7 +41,7 @@ has_more m t d ds shape shapes bytes w h plain b v u =
     go name false q s =
         let y : kind_by t name ≡ kind_by m name = rw q at s in
         let other : is_word d.name name ≡ false =
-        other_word d.name name (λ p. let z : bytes_eq bytes (encode_utf8_all name) ≡ true = (bytes_eq-Decides bytes (encode_utf8_all name)).1 (b ∙ ap encode_utf8_all p) in cc) in
+        differs d.name name (λ p. let z : bytes_eq bytes (encode_utf8_all name) ≡ true = (bytes_eq-Decides bytes (encode_utf8_all name)).1 (b ∙ ap encode_utf8_all p) in cc) in
         let there : (is_word d.name name && not (is_root shape)) ≡ false = ap (λ u. u && not (is_root shape)) other in
         y ∙ h name ∙ sym (if_false (is_word d.name name && not (is_root shape)) (Some d.kind) (kind_called ds shapes name) there)
 

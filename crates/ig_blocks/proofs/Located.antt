@@ -4,7 +4,6 @@ use Rattle.std.specs.Prelude.{◌⊎◌, Contains, slice_get}
 use Rattle.std.proofs.lemmas.List.Elements.{Contains-append_cases}
 use Rattle.ig_text.proofs.Lists.{at_from_contains, contains_from_at, none_in_nil}
 use Rattle.ig_grammar.specs.Numbering.{alternatives}
-use Rattle.ig_grammar.specs.Symbol.{Alternatives}
 use Rattle.ig_grammar.specs.declared.declaration.Level.{Level}
 use Rattle.ig_grammar.specs.declared.symbol.Alt.{Alt}
 use Rattle.ig_blocks.specs.Setting.{Setting, Pair}

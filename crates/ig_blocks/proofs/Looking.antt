@@ -3,9 +3,12 @@ use Rattle.std.proofs.Common.{◌≡◌, ◌≢◌, ◌⊎◌, ◌<◌, ◌∙�
 use Rattle.std.specs.Prelude.{slice_get, position}
 use Rattle.std.specs.Cmp.Lexicographic.{bytes_decides}
 use Rattle.std.specs.List.{position_or_len}
+use Rattle.std.specs.Option.{option_or}
 use Rattle.std.proofs.lemmas.Bool.{lt-ltb}
 use Rattle.std.proofs.lemmas.Bool.Decides.{leb_tells}
 use Rattle.ig_text.specs.Words.{is_word}
+use Rattle.ig_text.proofs.Characters.{differs}
+use Rattle.ig_text.proofs.Fallbacks.{or_none}
 use Rattle.ig_expr.specs.Names.{look_up}
 
 -- names with what stands beside them
@@ -21,10 +24,6 @@ members env = map (λ pair. pair.1) env
 -- what stands beside the first place of the name
 abbrev pub find : {A : Type 0} → Table A → List ℕ → Option A
 find env x = look_up (keys env) (members env) x
-
-abbrev pub or_else : {A : Type 0} → Option A → Option A → Option A
-or_else (Some v) other = Some v
-or_else None other = other
 
 pub if_true : {A : Type 0} (b : Bool) (x y : A) → b ≡ true → (if b then x else y) ≡ x
 if_true b x y e = ap (λ z. if z then x else y) e
@@ -66,30 +65,23 @@ find_cons x v env y = go (is_word x y) refl
 pub same_word : (x y : List ℕ) → x ≡ y → is_word x y ≡ true
 same_word x y e = (bytes_decides x y).1 e
 
-pub other_word : (x y : List ℕ) → x ≢ y → is_word x y ≡ false
-other_word x y ne = go (is_word x y) refl
-  where
-    go : (b : Bool) → is_word x y ≡ b → is_word x y ≡ false
-    go true e = absurd (ne ((bytes_decides x y).0 e))
-    go false e = e
-
 pub word_is : (x y : List ℕ) → is_word x y ≡ true → x ≡ y
 word_is x y e = (bytes_decides x y).0 e
 
 -- what is bound last is found where nothing before has the name
 pub find_snoc : {A : Type 0} (env : Table A) (n : List ℕ) (v : A) (y : List ℕ) →
-    find (env ++ (n, v) ∷ []) y ≡ or_else (find env y) (if is_word n y then Some v else None)
+    find (env ++ (n, v) ∷ []) y ≡ option_or (find env y) (if is_word n y then Some v else None)
 find_snoc [] n v y = find_cons n v [] y
 find_snoc (pair ∷ env) n v y = go (find_snoc env n v y) (is_word pair.0 y) refl
   where
-    go : find (env ++ (n, v) ∷ []) y ≡ or_else (find env y) (if is_word n y then Some v else None) → (b : Bool) → is_word pair.0 y ≡ b →
-        find (pair ∷ env ++ (n, v) ∷ []) y ≡ or_else (find (pair ∷ env) y) (if is_word n y then Some v else None)
+    go : find (env ++ (n, v) ∷ []) y ≡ option_or (find env y) (if is_word n y then Some v else None) → (b : Bool) → is_word pair.0 y ≡ b →
+        find (pair ∷ env ++ (n, v) ∷ []) y ≡ option_or (find (pair ∷ env) y) (if is_word n y then Some v else None)
     go ih true e =
         find_cons pair.0 pair.1 (env ++ (n, v) ∷ []) y ∙ if_true (is_word pair.0 y) _ _ e ∙
-        sym (ap (λ z. or_else z (if is_word n y then Some v else None)) (find_cons pair.0 pair.1 env y ∙ if_true (is_word pair.0 y) _ _ e))
+        sym (ap (λ z. option_or z (if is_word n y then Some v else None)) (find_cons pair.0 pair.1 env y ∙ if_true (is_word pair.0 y) _ _ e))
     go ih false e =
         find_cons pair.0 pair.1 (env ++ (n, v) ∷ []) y ∙ if_false (is_word pair.0 y) _ _ e ∙ ih ∙
-        sym (ap (λ z. or_else z (if is_word n y then Some v else None)) (find_cons pair.0 pair.1 env y ∙ if_false (is_word pair.0 y) _ _ e))
+        sym (ap (λ z. option_or z (if is_word n y then Some v else None)) (find_cons pair.0 pair.1 env y ∙ if_false (is_word pair.0 y) _ _ e))
 
 -- the table with the member in place of that of the same name, or at the end where the name is new
 abbrev pub put : {A : Type 0} → Table A → List ℕ → A → Table A
@@ -131,16 +123,12 @@ pub find_same : {A : Type 0} (env : Table A) (n : List ℕ) (v : A) → find (pu
 find_same env n v = find_put env n v n ∙ if_true (is_word n n) _ _ (same_word n n refl)
 
 pub find_other : {A : Type 0} (env : Table A) (n : List ℕ) (v : A) (y : List ℕ) → n ≢ y → find (put env n v) y ≡ find env y
-find_other env n v y ne = find_put env n v y ∙ if_false (is_word n y) _ _ (other_word n y ne)
-
-or_none : {A : Type 0} (a : Option A) → or_else a None ≡ a
-or_none None = refl
-or_none (Some v) = refl
+find_other env n v y ne = find_put env n v y ∙ if_false (is_word n y) _ _ (differs n y ne)
 
 pub find_pushed_other : {A : Type 0} (env : Table A) (n : List ℕ) (v : A) (y : List ℕ) → n ≢ y → find (env ++ (n, v) ∷ []) y ≡ find env y
 find_pushed_other env n v y ne =
-    find_snoc env n v y ∙ ap (or_else (find env y)) (if_false (is_word n y) _ _ (other_word n y ne)) ∙ or_none (find env y)
+    find_snoc env n v y ∙ ap (option_or (find env y)) (if_false (is_word n y) _ _ (differs n y ne)) ∙ or_none (find env y)
 
 pub find_pushed_new : {A : Type 0} (env : Table A) (n : List ℕ) (v : A) → find env n ≡ None → find (env ++ (n, v) ∷ []) n ≡ Some v
 find_pushed_new env n v e =
-    find_snoc env n v n ∙ ap₂ or_else e (if_true (is_word n n) (Some v) None (same_word n n refl))
+    find_snoc env n v n ∙ ap₂ option_or e (if_true (is_word n n) (Some v) None (same_word n n refl))

@@ -8,8 +8,6 @@ use Rattle.ig_expr.specs.Expression.{Expression}
 use Rattle.ig_expr.specs.Expression as expression
 use Rattle.ig_expr.specs.Kinds.{of_two}
 use Rattle.ig_expr.specs.declared.kind.Kind.TheVariants as kind
-use Rattle.ig_grammar.specs.Condition.{expressions}
-use Rattle.ig_grammar.specs.Condition as meets
 use Rattle.ig_grammar.specs.Visible.{Visible, kind_at}
 use Rattle.ig_grammar.specs.Symbol.{Symbol, Call, Label, Guard, Let, Offside, Ignore, Align, Entry}
 use Rattle.ig_grammar.specs.declared.declaration.DeclKind.{DeclKind}

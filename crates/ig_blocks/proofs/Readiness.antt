@@ -1,11 +1,10 @@
 -- A prepared grammar in which a declaration stands for the root is ready.
 use Rattle.std.proofs.Common.{◌≡◌, ◌∙◌, ℕ, suc, List, Some, Bool, true, false, refl, sym, ap, subst, length, map}
 use Rattle.std.specs.Prelude.{◌≢◌, All, Contains, slice_get}
-use Rattle.ig_text.proofs.Lists.{at_from_contains, contains_from_at}
+use Rattle.ig_text.proofs.Lists.{at_from_contains, contains_from_at, mapped_at}
 use Rattle.ig_grammar.specs.Checked.{CheckedGrammar, IsRoot}
 use Rattle.ig_grammar.specs.Regular.{IsPlaced}
 use Rattle.ig_grammar.specs.Condition.{symbols_of}
-use Rattle.ig_grammar.specs.Condition as meets
 use Rattle.ig_grammar.specs.Numbering.{Levelled, IsAlternative, alternatives}
 use Rattle.ig_grammar.specs.Subterms.{subterms_of_symbols}
 use Rattle.ig_grammar.specs.Symbol.{Symbol, Offside}
@@ -31,14 +30,13 @@ use Rattle.ig_rewrite.specs.Throughout.{PlacedSymbols}
 use Rattle.ig_rewrite.specs.Throughout.{placed_symbols}
 use Rattle.ig_rewrite.specs.EachLevel.{alternative_at, everywhere}
 use Rattle.ig_blocks.proofs.Marking.{IsNoBlock, unmarked_is, none_blocked}
-use Rattle.ig_blocks.proofs.Remaking.{name_at}
 use Rattle.ig_blocks.proofs.Rooting.{IsPrepared}
 use Rattle.ig_blocks.proofs.Suiting.{IsGood, LacksAdded, MayBlock, params_written, symbols_fit}
 use Rattle.ig_rewrite.specs.Added.{margin_name, first_name, column_name}
 
 -- a name stands at one place
 pub one_place : DeclarationsAreFound → (g : Grammar) → IsWellScoped g → (n k : ℕ) (d e : Decl) → slice_get g.decls n ≡ Some d → slice_get g.decls k ≡ Some e → d.name ≡ e.name → n ≡ k
-one_place found g scoped n k d e a b same = found.distinct g scoped n k d.name (name_at g.decls n d a) (name_at g.decls k e b ∙ ap Some (sym same))
+one_place found g scoped n k d e a b same = found.distinct g scoped n k d.name (mapped_at (λ (z : Decl). z.name) g.decls n d a) (mapped_at (λ (z : Decl). z.name) g.decls k e b ∙ ap Some (sym same))
 
 module _ (found : DeclarationsAreFound) (c : CheckedGrammar) (prepared : IsPrepared c) where
   abbrev g : Grammar

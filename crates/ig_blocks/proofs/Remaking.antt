@@ -1,8 +1,10 @@
 -- What the pass makes of levels, and where declarations stand.
-use Rattle.std.proofs.Common.{◌≡◌, ◌∙◌, ℕ, suc, ◌+◌, List, [], ◌∷◌, ◌++◌, map, length, Option, Some, None, refl, sym, ap, ap₂}
+use Rattle.std.proofs.Common.{◌≡◌, ◌∙◌, ℕ, suc, ◌+◌, List, [], ◌∷◌, ◌++◌, map, length, Some, refl, sym, ap, ap₂}
 use Rattle.std.specs.Prelude.{slice_get, option_map}
 use Rattle.std.proofs.lemmas.Option.{slice_get-map}
 use Rattle.std.proofs.lemmas.List.{map-append, length-map}
+use Rattle.ig_text.proofs.Lists.{mapped_at}
+use Rattle.ig_text.proofs.Options.{mapped}
 use Rattle.ig_grammar.specs.Symbol.{Symbol, listed, gathered}
 use Rattle.ig_grammar.specs.Numbering.{Levelled, by_level, layout_among, name_of_layout}
 use Rattle.ig_grammar.specs.Names.{names, AreDistinct}
@@ -36,10 +38,6 @@ by_level_map s p (level ∷ others) =
     ap₂ (λ x y. x ++ y) (level_map s p level others level.alts) (by_level_map s p others) ∙
     sym (map-append (levelled_by s p) (map (λ a. record { alternative = a; level = length others + 1; assoc = level.assoc }) level.alts) (by_level others))
 
-pub some_mapped : {A B : Type 0} (f : A → B) (r : Option A) (b : B) → option_map f r ≡ Some b → (a : A) × (r ≡ Some a) × (f a ≡ b)
-some_mapped f None b e = absurd (cc)
-some_mapped f (Some a) b e = (a, refl, cc)
-
 pub alternative_forth : (s : Setting) (p : Pair) (levels : List Level) (k : ℕ) (a : Levelled) → slice_get (by_level levels) k ≡ Some a →
     slice_get (by_level (map (level_by s p) levels)) k ≡ Some (levelled_by s p a)
 alternative_forth s p levels k a e =
@@ -48,22 +46,18 @@ alternative_forth s p levels k a e =
 pub alternative_back : (s : Setting) (p : Pair) (levels : List Level) (k : ℕ) (b : Levelled) → slice_get (by_level (map (level_by s p) levels)) k ≡ Some b →
     (a : Levelled) × (slice_get (by_level levels) k ≡ Some a) × (levelled_by s p a ≡ b)
 alternative_back s p levels k b e =
-    some_mapped (levelled_by s p) (slice_get (by_level levels) k) b (sym (ap (λ z. slice_get z k) (by_level_map s p levels) ∙ slice_get-map (levelled_by s p) (by_level levels) k) ∙ e)
-
-pub some_is : (a b : List ℕ) → Some a ≡ Some b → a ≡ b
-some_is a b e = cc
+    let m = mapped (levelled_by s p) (slice_get (by_level levels) k) b
+    (sym (ap (λ z. slice_get z k) (by_level_map s p levels) ∙ slice_get-map (levelled_by s p) (by_level levels) k) ∙ e) in
+    (m.0, m.1, sym m.2)
 
 pub listed_gathered : (xs : List Symbol) → listed (gathered xs) ≡ xs
 listed_gathered [] = refl
 listed_gathered (x ∷ xs) = ap (λ z. x ∷ z) (listed_gathered xs)
 
 -- declarations of one name are one
-pub name_at : (ds : List Decl) (n : ℕ) (d : Decl) → slice_get ds n ≡ Some d → slice_get (names ds) n ≡ Some d.name
-name_at ds n d e = slice_get-map (λ x. x.name) ds n ∙ ap (option_map (λ x. x.name)) e
-
 pub same_decl : (ds : List Decl) → AreDistinct (names ds) → (n k : ℕ) (d e : Decl) → slice_get ds n ≡ Some d → slice_get ds k ≡ Some e → d.name ≡ e.name → d ≡ e
 same_decl ds distinct n k d e a b same =
-    let place : n ≡ k = distinct n k d.name (name_at ds n d a) (name_at ds k e b ∙ ap Some (sym same)) in
+    let place : n ≡ k = distinct n k d.name (mapped_at (λ (z : Decl). z.name) ds n d a) (mapped_at (λ (z : Decl). z.name) ds k e b ∙ ap Some (sym same)) in
     let both : Some d ≡ Some e = sym a ∙ ap (slice_get ds) place ∙ b in
     cc
 

@@ -1,29 +1,29 @@
 -- What is visible at a symbol and at what the pass makes of it.
 use Rattle.std.proofs.Common.{◌≡◌, ◌∙◌, ℕ, Bool, true, false, List, [], ◌∷◌, ◌++◌, Some, None, refl, sym, ap, ap₂, if◌then◌else◌}
+use Rattle.std.specs.Option.{option_or}
 use Rattle.ig_text.specs.Words.{is_word}
 use Rattle.ig_expr.specs.Expression.{Expression}
 use Rattle.ig_expr.specs.Expression as expression
 use Rattle.ig_expr.specs.Kinds.{of_one, of_two, kind_of_operation, argument_of}
 use Rattle.ig_expr.specs.declared.kind.Kind.{Kind}
 use Rattle.ig_expr.specs.declared.kind.Kind.TheVariants as kind
-use Rattle.ig_grammar.specs.Condition.{variables}
-use Rattle.ig_grammar.specs.Visible.{Visible, names, kind_at, with_kind}
+use Rattle.ig_grammar.specs.Visible.{Visible, kind_at, with_kind}
 use Rattle.ig_blocks.specs.Setting.{Setting, Pair, lacking, carried, opened, cleared, m_of, f_of, opened_by, cleared_by}
 use Rattle.ig_blocks.proofs.Reading.{IsWritten, Reads}
-use Rattle.ig_blocks.proofs.Looking.{find, find_cons, find_put, put, or_else, if_true, if_false}
+use Rattle.ig_blocks.proofs.Looking.{find, find_cons, find_put, put, if_true, if_false}
 
 -- lookups in joined lists
-pub find_join : (v b : Visible) (n : List ℕ) → find (v ++ b) n ≡ or_else (find v n) (find b n)
+pub find_join : (v b : Visible) (n : List ℕ) → find (v ++ b) n ≡ option_or (find v n) (find b n)
 find_join [] b n = refl
 find_join (pair ∷ v) b n = go (is_word pair.0 n) refl (find_join v b n)
   where
-    go : (t : Bool) → is_word pair.0 n ≡ t → find (v ++ b) n ≡ or_else (find v n) (find b n) → find (pair ∷ v ++ b) n ≡ or_else (find (pair ∷ v) n) (find b n)
+    go : (t : Bool) → is_word pair.0 n ≡ t → find (v ++ b) n ≡ option_or (find v n) (find b n) → find (pair ∷ v ++ b) n ≡ option_or (find (pair ∷ v) n) (find b n)
     go true t ih =
         find_cons pair.0 pair.1 (v ++ b) n ∙ if_true (is_word pair.0 n) _ _ t ∙
-        sym (ap (λ z. or_else z (find b n)) (find_cons pair.0 pair.1 v n ∙ if_true (is_word pair.0 n) _ _ t))
+        sym (ap (λ z. option_or z (find b n)) (find_cons pair.0 pair.1 v n ∙ if_true (is_word pair.0 n) _ _ t))
     go false t ih =
         find_cons pair.0 pair.1 (v ++ b) n ∙ if_false (is_word pair.0 n) _ _ t ∙ ih ∙
-        sym (ap (λ z. or_else z (find b n)) (find_cons pair.0 pair.1 v n ∙ if_false (is_word pair.0 n) _ _ t))
+        sym (ap (λ z. option_or z (find b n)) (find_cons pair.0 pair.1 v n ∙ if_false (is_word pair.0 n) _ _ t))
 
 with_is_put : (v : Visible) (n : List ℕ) (k : Kind) → with_kind v n (Some k) ≡ put v n k
 with_is_put [] n k = refl
@@ -58,10 +58,10 @@ module _ (s : Setting) where
   kind_same v w a (expression.FreeAfter pattern) r = refl
 
   pub see_joined : (v w b : Visible) → SeeSame v w → SeeSame (v ++ b) (w ++ b)
-  see_joined v w b a = record { same = λ n r. find_join v b n ∙ ap (λ z. or_else z (find b n)) (a.same n r) ∙ sym (find_join w b n) }
+  see_joined v w b a = record { same = λ n r. find_join v b n ∙ ap (λ z. option_or z (find b n)) (a.same n r) ∙ sym (find_join w b n) }
 
   found_joined : (w b : Visible) (n : List ℕ) (k : Kind) → find w n ≡ Some k → find (w ++ b) n ≡ Some k
-  found_joined w b n k e = find_join w b n ∙ ap (λ z. or_else z (find b n)) e
+  found_joined w b n k e = find_join w b n ∙ ap (λ z. option_or z (find b n)) e
 
   -- the pair at these variables
   pub data IsPair (w : Visible) : Pair → Type 0 where

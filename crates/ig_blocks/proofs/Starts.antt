@@ -1,7 +1,8 @@
 -- Where exposed starts lie, and where the items of a list start.
-use Rattle.std.proofs.Common.{◌≡◌, ◌⊎◌, ◌<◌, ◌≤◌, ℕ, zero, suc, List, [], ◌∷◌, ◌++◌, length, Contains, refl, sym, subst, inl, inr, arith, slice_index_or}
+use Rattle.std.proofs.Common.{◌≡◌, ◌⊎◌, ◌≤◌, ℕ, List, [], ◌∷◌, ◌++◌, Contains, refl, sym, subst, inl, inr, arith}
 use Rattle.std.proofs.lemmas.List.Elements.{Contains-append_left, Contains-append_right, Contains-append_cases}
 use Rattle.ig_text.specs.Tree.{Tree, Trees}
+use Rattle.ig_text.proofs.Lists.{it_is_in, contains_one}
 use Rattle.ig_expr.specs.declared.value.Value.{Value}
 use Rattle.ig_grammar.specs.Symbol.{Symbol, SepPlus}
 use Rattle.ig_meaning.specs.Environment.{Environment}
@@ -21,18 +22,8 @@ Each P xs = (q : ℕ) → Contains xs q → P q
 pub each_none : (P : ℕ → Type 0) → Each P []
 each_none P q h = absurd (omega (arith, h.1))
 
-pub only_one : (i q : ℕ) → Contains (i ∷ []) q → q ≡ i
-only_one i q h = go h.0 h.1 h.2
-  where
-    go : (k : ℕ) → k < length (i ∷ []) → slice_index_or (i ∷ []) k q ≡ q → q ≡ i
-    go zero l e = sym e
-    go (suc k) l e = absurd (omega (arith, l))
-
-pub contains_one : (i : ℕ) → Contains (i ∷ []) i
-contains_one i = (0, omega arith, refl)
-
 pub each_one : (P : ℕ → Type 0) (i : ℕ) → P i → Each P (i ∷ [])
-each_one P i p q h = subst P (sym (only_one i q h)) p
+each_one P i p q h = subst P (sym (contains_one i q h)) p
 
 pub each_join : (P : ℕ → Type 0) (xs ys zs : List ℕ) → zs ≡ xs ++ ys → Each P xs → Each P ys → Each P zs
 each_join P xs ys zs e a b q h = go (Contains-append_cases xs ys q (subst (λ l. Contains l q) e h))
@@ -137,14 +128,14 @@ module _ (in_order : SpansAreInOrder) (g : Grammar) (shapes : List Shape) (text 
   grown : (i h j : ℕ) (ps items : List ℕ) → items ≡ ps ++ h ∷ [] → Begins i h ps → Begins i j items
   grown i h j ps items e (inl b) = inl (subst (λ l. Contains l i) (sym e) (Contains-append_left ps (h ∷ []) i b))
   grown i h j ps items e (inr b) =
-      inl (subst (λ l. Contains l i) (sym e) (Contains-append_right ps (h ∷ []) i (subst (λ z. Contains (z ∷ []) i) b.1 (contains_one i))))
+      inl (subst (λ l. Contains l i) (sym e) (Contains-append_right ps (h ∷ []) i (subst (λ z. Contains (z ∷ []) i) b.1 (it_is_in i))))
 
   separated : (i h m j : ℕ) (ps items : List ℕ) → items ≡ ps ++ m ∷ [] → Contains ps i → Contains items i
   separated i h m j ps items e b = subst (λ l. Contains l i) (sym e) (Contains-append_left ps (m ∷ []) i b)
 
   separated_begins : {c : DeclKind} {x separator : Symbol} {env : Environment} {i j : ℕ} {t : Tree} {starts items : List ℕ} →
       Lists g shapes text c (SepPlus x separator) env i j t starts items → Contains items i
-  separated_begins (first_item c x separator env after i e j ts starts item) = contains_one i
+  separated_begins (first_item c x separator env after i e j ts starts item) = it_is_in i
   separated_begins (further_item c x separator env between after i h f m e j t us ts vs ks ms ls starts ps items list part item trees exposes begin) =
       separated i h m j ps items begin (separated_begins list)
 
@@ -153,10 +144,10 @@ module _ (in_order : SpansAreInOrder) (g : Grammar) (shapes : List Shape) (text 
   items_begin (nil c x env i) = inr (refl, refl)
   items_begin (snoc c x env after i h e j t ts ks ls starts ps items list item exposes begin) =
       grown i h j ps items begin (items_begin list)
-  items_begin (one_item c x env after i e j ts starts item) = inl (contains_one i)
+  items_begin (one_item c x env after i e j ts starts item) = inl (it_is_in i)
   items_begin (more_items c x env after i h e j t ts ks ls starts ps items list item exposes begin) =
       grown i h j ps items begin (items_begin list)
-  items_begin (first_item c x separator env after i e j ts starts item) = inl (contains_one i)
+  items_begin (first_item c x separator env after i e j ts starts item) = inl (it_is_in i)
   items_begin (further_item c x separator env between after i h f m e j t us ts vs ks ms ls starts ps items list part item trees exposes begin) =
       inl (separated i h m j ps items begin (separated_begins list))
   items_begin (no_item c x separator env i) = inr (refl, refl)

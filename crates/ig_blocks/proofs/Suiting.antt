@@ -1,17 +1,16 @@
 -- What a pass asks of the symbols of a grammar holds where it is well scoped and the added names are new.
 use Rattle.std.proofs.Common.{◌≡◌, ◌∙◌, ℕ, zero, suc, ◌<◌, List, [], ◌∷◌, ◌++◌, Option, Some, None, Bool, true, false, refl, sym, ap, subst, arith, length, inl, inr, map, if◌then◌else◌}
-use Rattle.std.specs.Prelude.{◌⊎◌, ◌≢◌, All, Contains, slice_get, option_map}
-use Rattle.std.proofs.lemmas.Option.{slice_get_within, slice_get-map}
+use Rattle.std.specs.Prelude.{◌⊎◌, ◌≢◌, All, Contains, slice_get}
+use Rattle.std.proofs.lemmas.Option.{slice_get_within}
 use Rattle.std.proofs.lemmas.List.Elements.{Contains-append_left, Contains-append_right}
 use Rattle.std.specs.List.{flat_map}
 use Rattle.std.specs.Cmp.Lexicographic.{bytes_decides}
-use Rattle.ig_text.proofs.Lists.{at_from_contains, contains_from_at, get_within}
+use Rattle.ig_text.proofs.Lists.{at_from_contains, get_within, mapped_in}
 use Rattle.ig_text.specs.Words.{is_word}
 use Rattle.ig_expr.specs.Expression.{Expression}
 use Rattle.ig_expr.specs.Expression as expression
 use Rattle.ig_grammar.specs.Binding.{Binding}
 use Rattle.ig_grammar.specs.Condition.{IsInLexical, declaration_of, expressions, variables}
-use Rattle.ig_grammar.specs.Condition as meets
 use Rattle.ig_grammar.specs.Subterms.{subterms, subterms_of_symbols, subterms_of_alternatives}
 use Rattle.ig_grammar.specs.Symbol.{Symbol, Literal, OneOf, Call, Label, Guard, Let, Opt, Star, Plus, SepStar, SepPlus, Group, Offside, Ignore, Align, Filtered, Seq, Entry}
 use Rattle.ig_grammar.specs.Symbol.{Symbols, no_symbols, next_symbol, Alternatives, no_alternatives, next_alternative}
@@ -95,9 +94,6 @@ flat_at (d ∷ es) zero e n at m =
     let same : d ≡ e = cc in Contains-append_left (variables d) (flat_map variables es) n (subst (λ z. Contains (variables z) n) (sym same) m)
 flat_at (d ∷ es) (suc k) e n at m = Contains-append_right (variables d) (flat_map variables es) n (flat_at es k e n at m)
 
-pub mapped : {A B : Type 0} (f : A → B) (xs : List A) (x : A) → Contains xs x → Contains (map f xs) (f x)
-mapped f xs x m = let k = at_from_contains xs x m in contains_from_at (map f xs) k.0 (f x) (slice_get-map f xs k.0 ∙ ap (option_map f) k.1)
-
 module _ (s : Setting) where
   pub read_in : (x : Symbol) (e : Expression) → LacksAdded s x → Contains (expressions x) e → Reads s e
   read_in x e l m =
@@ -110,7 +106,7 @@ module _ (s : Setting) where
   pub entry_read : (bs : List Binding) (x : Symbol) → LacksAdded s (Entry bs x) → BindingsRead s bs
   entry_read bs x l =
       bindings_read s bs (λ b m.
-      (binder_written s (Entry bs x) b.name l (mapped (λ d. d.name) bs b m), read_in (Entry bs x) b.value l (mapped (λ d. d.value) bs b m)))
+      (binder_written s (Entry bs x) b.name l (mapped_in (λ d. d.name) bs b m), read_in (Entry bs x) b.value l (mapped_in (λ d. d.value) bs b m)))
 
 is_syntax : (c : DeclKind) → (IsInLexical c → ⊥) → c ≢ Plain → c ≡ Syntax
 is_syntax Syntax f h = refl

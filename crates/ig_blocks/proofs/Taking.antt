@@ -2,8 +2,10 @@
 use Rattle.std.proofs.Common.{◌≡◌, ◌⊎◌, ◌<◌, ◌∙◌, ℕ, zero, suc, Bool, true, false, ◌&&◌, not, if◌then◌else◌, List, [], ◌∷◌, length, Some, refl, sym, ap, ap₂, subst, inl, inr, arith}
 use Rattle.std.specs.Prelude.{slice_get}
 use Rattle.std.specs.Cmp.Lexicographic.{bytes_decides}
-use Rattle.std.proofs.lemmas.Option.{slice_get_within}
+use Rattle.std.proofs.lemmas.Option.{slice_get_within, same_Some}
+use Rattle.std.proofs.Math.Nat.{suc_inj}
 use Rattle.ig_text.specs.Words.{is_word}
+use Rattle.ig_text.proofs.Lists.{get_within, mapped_at}
 use Rattle.ig_grammar.specs.Symbol.{Symbol, gathered}
 use Rattle.ig_grammar.specs.Numbering.{Levelled, by_level, Declares, HasShape, IsAlternative, layout_among, name_of_layout}
 use Rattle.ig_meaning.specs.Permitted.{IsRootAlternative, written, declared}
@@ -30,7 +32,7 @@ use Rattle.ig_blocks.proofs.Takes.{TakesRoot}
 use Rattle.ig_blocks.proofs.Looking.{same_word, if_true, if_false}
 use Rattle.ig_blocks.proofs.Lowers.{lowers_sequence}
 use Rattle.ig_blocks.proofs.Forth.{pair_steady}
-use Rattle.ig_blocks.proofs.Remaking.{levelled_by, alternative_forth, alternative_back, listed_gathered, some_is, name_at, layout_at}
+use Rattle.ig_blocks.proofs.Remaking.{levelled_by, alternative_forth, alternative_back, listed_gathered, layout_at}
 
 pub zip_forth : (s : Setting) (shapes : List Shape) (ds : List Decl) (n : ℕ) (shape : Shape) (d : Decl) → slice_get shapes n ≡ Some shape →
     slice_get ds n ≡ Some d → slice_get (lowered_declarations s shapes ds) n ≡ Some (lowered_declaration s shape d)
@@ -102,11 +104,8 @@ called_from (x ∷ ds) (y ∷ shapes) same zero d shape a b plain =
     let both : (is_word x.name d.name && not (is_root y)) ≡ true = ap₂ (λ u v. u && not v) w q in
     if_true (is_word x.name d.name && not (is_root y)) _ _ both ∙ ap (λ z. Some z.kind) e
 called_from (x ∷ ds) (y ∷ shapes) same (suc n) d shape a b plain =
-    go (is_word x.name d.name) refl (called_from ds shapes (λ p q d e u v w. pred_same p q (same (suc p) (suc q) d e u v w)) n d shape a b plain)
+    go (is_word x.name d.name) refl (called_from ds shapes (λ p q d e u v w. suc_inj (same (suc p) (suc q) d e u v w)) n d shape a b plain)
   where
-    pred_same : (p q : ℕ) → suc p ≡ suc q → p ≡ q
-    pred_same p q e = omega (arith, e)
-
     go : (w : Bool) → is_word x.name d.name ≡ w → kind_called ds shapes d.name ≡ Some d.kind → kind_called (x ∷ ds) (y ∷ shapes) d.name ≡ Some d.kind
     go true t later = let e : 0 ≡ suc n = same 0 (suc n) x d refl a ((bytes_decides x.name d.name).0 t) in absurd (omega (arith, e))
     go false t later = if_false (is_word x.name d.name && not (is_root y)) _ _ (ap (λ z. z && not (is_root y)) t) ∙ later
@@ -133,11 +132,6 @@ layout_kept s (x ∷ shapes) (d ∷ ds) e =
     ap₂ (λ k n. name_of_layout k n (layout_among (lowered_declarations s shapes ds))) (kind_kept s x d) (name_kept s x d) ∙
     ap (name_of_layout d.kind d.name) (layout_kept s shapes ds (omega (arith, e)))
 
-shape_at : (xs : List Shape) (n : ℕ) → n < length xs → (x : Shape) × (slice_get xs n ≡ Some x)
-shape_at [] n l = absurd (omega (arith, l))
-shape_at (x ∷ xs) zero l = (x, refl)
-shape_at (x ∷ xs) (suc n) l = shape_at xs n (omega (arith, l))
-
 pub root_or_not : (shape : Shape) → (shape ≡ Root) ⊎ (is_root shape ≡ false)
 root_or_not Root = inl refl
 root_or_not shape = inr refl
@@ -147,7 +141,7 @@ module _ (forms : RegularityByForm) (in_order : SpansAreInOrder) (inverts : Deri
   s = setting_of g.decls shapes
 
   place : (n k : ℕ) (d e : Decl) → slice_get g.decls n ≡ Some d → slice_get g.decls k ≡ Some e → d.name ≡ e.name → n ≡ k
-  place n k d e a b same = ready.distinct n k d.name (name_at g.decls n d a) (name_at g.decls k e b ∙ ap Some (sym same))
+  place n k d e a b same = ready.distinct n k d.name (mapped_at (λ (z : Decl). z.name) g.decls n d a) (mapped_at (λ (z : Decl). z.name) g.decls k e b ∙ ap Some (sym same))
 
   suits : (c : DeclKind) → Suits s c (pair_for s c)
   suits Syntax = go (is_marked g.decls) refl
@@ -241,7 +235,7 @@ module _ (forms : RegularityByForm) (in_order : SpansAreInOrder) (inverts : Deri
     layout_kind = λ name e.
         let r = layout_at g.decls name e in
         let within : r.0 < length g.decls = slice_get_within g.decls r.0 r.1 r.2 in
-        let sh = shape_at shapes r.0 (omega (arith, within, ready.as_many)) in
+        let sh = get_within shapes r.0 (omega (arith, within, ready.as_many)) in
         subst (λ z. kind_called g.decls shapes z ≡ Some Layout) r.3
         (called_from g.decls shapes place r.0 r.1 sh.0 r.2 sh.1 (plain_shape r.0 r.1 sh.0 r.2 r.4 sh.1 (root_or_not sh.0)) ∙ ap Some r.4);
     layout_unpaired = refl;
@@ -259,7 +253,7 @@ module _ (forms : RegularityByForm) (in_order : SpansAreInOrder) (inverts : Deri
       (ys : List Symbol) × IsRootAlternative (lowered_grammar g shapes) shapes kind ys × Covered s kind lacking xs ys
   root_forth kind xs (written start symbols is no_root are) =
       let r = ready.rooted in
-      absurd (no_root (suc r.1) r.2 (record { numbered = (r.1, refl, r.4); shaped = (r.1, refl, r.6); named = r.5 ∙ some_is r.0 start (sym r.3 ∙ is) }))
+      absurd (no_root (suc r.1) r.2 (record { numbered = (r.1, refl, r.4); shaped = (r.1, refl, r.6); named = r.5 ∙ same_Some r.0 start (sym r.3 ∙ is) }))
   root_forth kind xs (declared start d decl a kind2 symbols is declares alt same are) =
       let n = declares.numbered.0 in
       let shaped = aligned_shape d n Root declares.numbered.1 declares.shaped in (
@@ -277,7 +271,7 @@ module _ (forms : RegularityByForm) (in_order : SpansAreInOrder) (inverts : Deri
   root_back kind ys (written start symbols is no_root are) =
       let r = ready.rooted in
       absurd (no_root (suc r.1) (root_by s r.2)
-      (record { numbered = (r.1, refl, zip_forth s shapes g.decls r.1 Root r.2 r.6 r.4); shaped = (r.1, refl, r.6); named = r.5 ∙ some_is r.0 start (sym r.3 ∙ is) }))
+      (record { numbered = (r.1, refl, zip_forth s shapes g.decls r.1 Root r.2 r.6 r.4); shaped = (r.1, refl, r.6); named = r.5 ∙ same_Some r.0 start (sym r.3 ∙ is) }))
   root_back kind ys (declared start d other b kind2 symbols is declares alt same are) =
       let n = declares.numbered.0 in
       let shaped = aligned_shape d n Root declares.numbered.1 declares.shaped in

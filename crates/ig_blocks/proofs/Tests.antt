@@ -5,6 +5,7 @@ use Rattle.std.proofs.lemmas.List.{append-nil}
 use Rattle.std.specs.Prelude.{nat_eq}
 use Rattle.std.proofs.lemmas.Bool.Decides.{eqb_tells}
 use Rattle.ig_text.specs.Lines.{column_of}
+use Rattle.ig_text.proofs.Characters.{differs}
 use Rattle.ig_expr.specs.Expression.{Expression}
 use Rattle.ig_expr.specs.Expression as expression
 use Rattle.ig_expr.specs.Evaluation.{value_of, with_two}
@@ -26,7 +27,7 @@ use Rattle.ig_blocks.proofs.Takes.{AreWritten}
 use Rattle.ig_blocks.specs.Blocks.{int_param}
 use Rattle.ig_blocks.proofs.Columns.{all_allowed, inside_allows, allows_inside, column_within, int_eq_pos}
 use Rattle.ig_blocks.proofs.Values.{get_cons}
-use Rattle.ig_blocks.proofs.Looking.{find_pushed_new, find_pushed_other, if_false, other_word}
+use Rattle.ig_blocks.proofs.Looking.{find_pushed_new, find_pushed_other, if_false}
 use Rattle.ig_blocks.proofs.Starts.{Each, each_none, each_one, each_join}
 use Rattle.ig_blocks.proofs.Situations.{int, start_int, Holds, Situated, HasColumn, lacking_values, cleared_values}
 
@@ -188,7 +189,7 @@ module _ (s : Setting) (text : List ℕ) where
   unbound y no_parameters w ne = refl
   unbound y (next_parameter p ps v vs env others rest is) w ne =
       subst (λ z. get z y ≡ None) (sym is)
-      (get_cons p.name v others y ∙ if_false _ (Some v) (get others y) (other_word p.name y (ne p.name w.0)) ∙ unbound y rest w.1 ne)
+      (get_cons p.name v others y ∙ if_false _ (Some v) (get others y) (differs p.name y (ne p.name w.0)) ∙ unbound y rest w.1 ne)
 
   module _ (apart : AreApart s) where
     two_pushed : (env : Environment) (m : ℕ) (f : Option ℕ) → env ++ pair_bound true m f ≡ (env ++ (s.m, int m) ∷ []) ++ (s.f, start_int f) ∷ []

@@ -1,6 +1,8 @@
 -- Values in an environment with the added names.
 use Rattle.std.proofs.Common.{◌≡◌, ◌≢◌, ◌∙◌, ℕ, if◌then◌else◌, List, [], ◌∷◌, ◌++◌, Option, Some, None, option_and_then, refl, sym, ap, ap₂}
+use Rattle.std.specs.Option.{option_or}
 use Rattle.ig_text.specs.Words.{is_word}
+use Rattle.ig_text.proofs.Characters.{differs}
 use Rattle.ig_expr.specs.Expression.{Expression}
 use Rattle.ig_expr.specs.Expression as expression
 use Rattle.ig_expr.specs.Evaluation.{value_of, with_two}
@@ -12,7 +14,7 @@ use Rattle.ig_grammar.specs.Binding.{Binding}
 use Rattle.ig_meaning.specs.Environment.{Environment, names, values, HaveValues, no_values, next_value, with_value, replaced}
 use Rattle.ig_blocks.specs.Setting.{Setting}
 use Rattle.ig_blocks.proofs.Reading.{IsWritten, Reads, AllRead, BindingsRead, get, Agree, Keep}
-use Rattle.ig_blocks.proofs.Looking.{or_else, if_true, if_false, same_word, other_word, find_cons, find_snoc, put, find_put, find_pushed_other}
+use Rattle.ig_blocks.proofs.Looking.{if_true, if_false, same_word, find_cons, find_snoc, put, find_put, find_pushed_other}
 
 -- what is bound last is found where nothing before has the name
 pub get_cons : (x : List ℕ) (v : Value) (env : Environment) (y : List ℕ) →
@@ -20,7 +22,7 @@ pub get_cons : (x : List ℕ) (v : Value) (env : Environment) (y : List ℕ) →
 get_cons x v env y = find_cons x v env y
 
 get_snoc : (env : Environment) (n : List ℕ) (v : Value) (y : List ℕ) →
-    get (env ++ (n, v) ∷ []) y ≡ or_else (get env y) (if is_word n y then Some v else None)
+    get (env ++ (n, v) ∷ []) y ≡ option_or (get env y) (if is_word n y then Some v else None)
 get_snoc env n v y = find_snoc env n v y
 
 with_is_put : (env : Environment) (n : List ℕ) (v : Value) → with_value env n v ≡ put env n v
@@ -36,13 +38,13 @@ pub get_same : (env : Environment) (n : List ℕ) (v : Value) → get (with_valu
 get_same env n v = get_with env n v n ∙ if_true (is_word n n) _ _ (same_word n n refl)
 
 pub get_other : (env : Environment) (n : List ℕ) (v : Value) (y : List ℕ) → n ≢ y → get (with_value env n v) y ≡ get env y
-get_other env n v y ne = get_with env n v y ∙ if_false (is_word n y) _ _ (other_word n y ne)
+get_other env n v y ne = get_with env n v y ∙ if_false (is_word n y) _ _ (differs n y ne)
 
 module _ (s : Setting) where
   pub agree_bound : (env other : Environment) (n : List ℕ) (v : Value) → Agree s env other →
       Agree s (env ++ (n, v) ∷ []) (other ++ (n, v) ∷ [])
   agree_bound env other n v a =
-      record { same = λ x w. get_snoc env n v x ∙ ap (λ z. or_else z (if is_word n x then Some v else None)) (a.same x w) ∙ sym (get_snoc other n v x) }
+      record { same = λ x w. get_snoc env n v x ∙ ap (λ z. option_or z (if is_word n x then Some v else None)) (a.same x w) ∙ sym (get_snoc other n v x) }
 
   pub agree_with : (env other : Environment) (n : List ℕ) (v : Value) → Agree s env other →
       Agree s (with_value env n v) (with_value other n v)

@@ -1,6 +1,8 @@
 -- What the pass makes of a symbol wants the variables that the symbol wants, and the bindings that it adds are wanted.
 use Rattle.std.proofs.Common.{◌≡◌, ◌∙◌, ℕ, Bool, true, false, not, ◌&&◌, ◌||◌, List, [], ◌∷◌, ◌++◌, Option, Some, None, refl, sym, ap, ap₂}
+use Rattle.std.proofs.lemmas.Bool.{or_left, or_right}
 use Rattle.ig_text.specs.Words.{is_word}
+use Rattle.ig_text.proofs.Characters.{differs}
 use Rattle.ig_expr.specs.Expression.{Expression}
 use Rattle.ig_grammar.specs.Binding.{Binding}
 use Rattle.ig_grammar.specs.Symbol.{Symbol, Literal, OneOf, Call, Label, Guard, Let, Opt, Star, Plus, SepStar, SepPlus, Group, Offside, Ignore, Align, Filtered, Seq, Entry}
@@ -11,14 +13,6 @@ use Rattle.ig_rewrite.specs.Needs.{uses, any_uses, bindings_use, is_bound, is_pa
 use Rattle.ig_blocks.specs.Setting.{Setting, Pair, lacking, carried, opened, cleared, opened_by, cleared_by, inner, pair_bindings, column_bindings, column_guards, wrapped, entered}
 use Rattle.ig_blocks.specs.Body.{tests_of, arguments_of, body_of, sequence_of, choices_of}
 use Rattle.ig_blocks.proofs.Reading.{IsWritten}
-use Rattle.ig_blocks.proofs.Looking.{other_word}
-
-or_right : (a b : Bool) → b ≡ true → (a || b) ≡ true
-or_right true b e = refl
-or_right false b e = e
-
-or_left : (a b : Bool) → a ≡ true → (a || b) ≡ true
-or_left a b e = ap (λ z. z || b) e
 
 or_mono : (a b c d : Bool) → (a ≡ true → c ≡ true) → (b ≡ true → d ≡ true) → (a || b) ≡ true → (c || d) ≡ true
 or_mono true b c d f h e = or_left c d (f refl)
@@ -63,13 +57,13 @@ module _ (s : Setting) where
 
   module _ (n : List ℕ) (w : IsWritten s n) where
     not_m : is_word s.m n ≡ false
-    not_m = other_word s.m n (λ e. w.not_m (sym e))
+    not_m = differs s.m n (λ e. w.not_m (sym e))
 
     not_f : is_word s.f n ≡ false
-    not_f = other_word s.f n (λ e. w.not_f (sym e))
+    not_f = differs s.f n (λ e. w.not_f (sym e))
 
     not_c : is_word s.c n ≡ false
-    not_c = other_word s.c n (λ e. w.not_c (sym e))
+    not_c = differs s.c n (λ e. w.not_c (sym e))
 
     pub pair_unbound : (p : Pair) → is_bound n (pair_bindings s p) ≡ false
     pair_unbound lacking = refl

@@ -1,8 +1,11 @@
 -- Each alternative of the lowered grammar is sound.
-use Rattle.std.proofs.Common.{◌≡◌, ◌≢◌, ◌∙◌, ℕ, suc, Bool, true, false, List, [], ◌∷◌, ◌++◌, length, Option, Some, None, refl, sym, ap, subst, if◌then◌else◌}
+use Rattle.std.proofs.Common.{◌≡◌, ◌≢◌, ◌∙◌, ℕ, suc, Bool, true, false, List, [], ◌∷◌, ◌++◌, length, Some, None, refl, sym, ap, subst, if◌then◌else◌}
 use Rattle.std.specs.Prelude.{All, Contains, slice_get}
+use Rattle.std.specs.Option.{option_or}
 use Rattle.std.proofs.lemmas.List.{map-append, append-nil}
 use Rattle.ig_text.proofs.Lists.{at_from_contains, contains_from_at}
+use Rattle.ig_text.proofs.Characters.{differs}
+use Rattle.ig_text.proofs.Fallbacks.{or_none}
 use Rattle.ig_text.specs.Words.{is_word}
 use Rattle.ig_expr.specs.declared.kind.Kind.TheVariants as kind
 use Rattle.ig_grammar.specs.Checked.{CheckedGrammar}
@@ -28,7 +31,7 @@ use Rattle.ig_blocks.specs.Setting.{Setting, lacking, carried, pair_for, pair_by
 use Rattle.ig_blocks.specs.Blocks.{setting_of, int_param, alternative_by, declaration_by, root_by, lowered_declaration, lowered_declarations}
 use Rattle.ig_blocks.proofs.Reading.{IsWritten, AreApart}
 use Rattle.ig_blocks.proofs.Takes.{AreWritten}
-use Rattle.ig_blocks.proofs.Looking.{find, find_cons, or_else, if_true, if_false, same_word, other_word}
+use Rattle.ig_blocks.proofs.Looking.{find, find_cons, if_true, if_false, same_word}
 use Rattle.ig_blocks.proofs.Gathering.{gathered_by}
 use Rattle.ig_rewrite.specs.Throughout.{PlacedSymbols}
 use Rattle.ig_rewrite.specs.Throughout.{placed_symbols, of_placed_symbols}
@@ -43,30 +46,26 @@ use Rattle.ig_blocks.proofs.Readiness.{one_place, root_of, parameters_written}
 use Rattle.ig_blocks.proofs.Permitting.{apart, pair_at, levels_are}
 use Rattle.ig_blocks.proofs.Taking.{zip_back, kind_kept}
 
-or_none : {A : Type 0} (o : Option A) → or_else o None ≡ o
-or_none None = refl
-or_none (Some x) = refl
-
 module _ (s : Setting) where
   unseen : (ps : List Param) (n : List ℕ) → AreWritten s ps → ((y : List ℕ) → IsWritten s y → y ≢ n) → find (parameters ps) n ≡ None
   unseen [] n w ne = refl
   unseen (p ∷ ps) n w ne =
-      find_cons p.name p.kind (parameters ps) n ∙ if_false (is_word p.name n) (Some p.kind) (find (parameters ps) n) (other_word p.name n (ne p.name w.0)) ∙ unseen ps n w.1 ne
+      find_cons p.name p.kind (parameters ps) n ∙ if_false (is_word p.name n) (Some p.kind) (find (parameters ps) n) (differs p.name n (ne p.name w.0)) ∙ unseen ps n w.1 ne
 
   abbrev two : Visible
   two = (s.m, kind.Int) ∷ (s.f, kind.Int) ∷ []
 
   two_other : (n : List ℕ) → IsWritten s n → find two n ≡ None
   two_other n w =
-      find_cons s.m kind.Int ((s.f, kind.Int) ∷ []) n ∙ if_false (is_word s.m n) _ _ (other_word s.m n (λ e. w.not_m (sym e))) ∙
-      find_cons s.f kind.Int [] n ∙ if_false (is_word s.f n) _ _ (other_word s.f n (λ e. w.not_f (sym e)))
+      find_cons s.m kind.Int ((s.f, kind.Int) ∷ []) n ∙ if_false (is_word s.m n) _ _ (differs s.m n (λ e. w.not_m (sym e))) ∙
+      find_cons s.f kind.Int [] n ∙ if_false (is_word s.f n) _ _ (differs s.f n (λ e. w.not_f (sym e)))
 
   two_first : find two s.m ≡ Some kind.Int
   two_first = find_cons s.m kind.Int ((s.f, kind.Int) ∷ []) s.m ∙ if_true (is_word s.m s.m) _ _ (same_word s.m s.m refl)
 
   two_second : s.m ≢ s.f → find two s.f ≡ Some kind.Int
   two_second ne =
-      find_cons s.m kind.Int ((s.f, kind.Int) ∷ []) s.f ∙ if_false (is_word s.m s.f) _ _ (other_word s.m s.f ne) ∙
+      find_cons s.m kind.Int ((s.f, kind.Int) ∷ []) s.f ∙ if_false (is_word s.m s.f) _ _ (differs s.m s.f ne) ∙
       find_cons s.f kind.Int [] s.f ∙ if_true (is_word s.f s.f) _ _ (same_word s.f s.f refl)
 
   -- at the start of an alternative
@@ -78,10 +77,10 @@ module _ (s : Setting) where
       let v = parameters ps in
       let there : Sight s carried v (v ++ two) =
       record {
-        seen = record { same = λ n h. sym (find_join v two n ∙ ap (or_else (find v n)) (two_other n h) ∙ or_none (find v n)) };
+        seen = record { same = λ n h. sym (find_join v two n ∙ ap (option_or (find v n)) (two_other n h) ∙ or_none (find v n)) };
         pair = handed_pair
-            (find_join v two s.m ∙ ap (λ z. or_else z (find two s.m)) (unseen ps s.m w (λ y h. h.not_m)) ∙ two_first)
-            (find_join v two s.f ∙ ap (λ z. or_else z (find two s.f)) (unseen ps s.f w (λ y h. h.not_f)) ∙ two_second apart.m_f);
+            (find_join v two s.m ∙ ap (λ z. option_or z (find two s.m)) (unseen ps s.m w (λ y h. h.not_m)) ∙ two_first)
+            (find_join v two s.f ∙ ap (λ z. option_or z (find two s.f)) (unseen ps s.f w (λ y h. h.not_f)) ∙ two_second apart.m_f);
       } in
       subst (λ z. Sight s carried v z) (sym (map-append (λ (p : Param). (p.name, p.kind)) ps (int_param s.m ∷ int_param s.f ∷ []))) there
 

@@ -9,6 +9,7 @@ use Rattle.ig_grammar.specs.declared.place.Shape.{Shape}
 use Rattle.ig_item.specs.Step.{Step}
 use Rattle.ig_item.specs.declared.core_grammar.Nonterminal.{Nonterminal}
 use Rattle.ig_item.specs.declared.core_grammar.CoreAlt.{CoreAlt}
+use Rattle.ig_item.specs.Limits.{most_dots}
 use Rattle.ig_core.specs.Steps.{steps_of}
 use Rattle.ig_core.specs.CoreOf.{shaped, unrooted, alternative_of, alternatives_of, nonterminal_of, nonterminals_of}
 use Rattle.ig_rewrite.specs.Rooted.{is_root}
@@ -47,7 +48,7 @@ module _ (number : List ℕ → ℕ) where
   -- its number fits
   pub alt_fits : (s : Shape) (n : ℕ) (before first : List CoreAlt) (alts : List Alt) (i : ℕ) →
       before ++ alternatives_of number s n (suc (length before)) (drop i alts) ≡ first ++ alternatives_of number s n (suc (length first)) alts →
-      i < length alts → length first + length alts ≤ 65536 → length before < 65536
+      i < length alts → length first + length alts ≤ most_dots → length before < most_dots
   alt_fits s n before first alts i have within few =
       let a : length (before ++ alternatives_of number s n (suc (length before)) (drop i alts)) ≡ length before + length (drop i alts) =
       length-append before (alternatives_of number s n (suc (length before)) (drop i alts)) ∙
@@ -90,7 +91,7 @@ module _ (number : List ℕ → ℕ) where
 
   pub level_fits : (s : Shape) (n : ℕ) (before : List CoreAlt) (levels : List Level) (i : ℕ) (level : Level) (alts : List Alt) →
       before ++ alternatives_of number s n (suc (length before)) (alternatives (drop i levels)) ≡ alternatives_of number s n 1 (alternatives levels) →
-      i < length levels → level ≡ get_or levels i level → alts ≡ level.alts → length (alternatives levels) ≤ 65536 → length before + length alts ≤ 65536
+      i < length levels → level ≡ get_or levels i level → alts ≡ level.alts → length (alternatives levels) ≤ most_dots → length before + length alts ≤ most_dots
   level_fits s n before levels i level alts have within read viewed few =
       let rest = alternatives (drop i levels) in
       let a : length (before ++ alternatives_of number s n (suc (length before)) rest) ≡ length before + length rest =

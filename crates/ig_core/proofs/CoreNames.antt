@@ -1,7 +1,10 @@
 -- The names of the nonterminals of a core grammar differ.
 use Rattle.std.proofs.Common.{◌≡◌, ◌⊎◌, ℕ, zero, suc, List, [], ◌∷◌, map, Bool, true, false, if◌then◌else◌, Some, None, length, slice_get, refl, sym, ap, ◌∙◌, subst, arith, inl, inr}
 use Rattle.std.specs.Prelude.{◌≢◌}
+use Rattle.std.specs.Option.{unwrap_or}
 use Rattle.std.proofs.lemmas.Option.{same_Some}
+use Rattle.std.proofs.Math.Nat.{suc_inj}
+use Rattle.ig_text.proofs.Lists.{unmapped_at, mapped_at}
 use Rattle.ig_grammar.specs.Names.{names, AreDistinct}
 use Rattle.ig_grammar.specs.declared.grammar.Grammar.{Grammar}
 use Rattle.ig_grammar.specs.declared.declaration.Decl.{Decl}
@@ -9,20 +12,14 @@ use Rattle.ig_grammar.specs.declared.place.Shape.{Shape}
 use Rattle.ig_grammar.specs.declared.place.Shape.TheVariants.{Root}
 use Rattle.ig_item.specs.WellKinded.{NoneTwice}
 use Rattle.ig_item.specs.declared.core_grammar.Nonterminal.{Nonterminal}
-use Rattle.ig_core.specs.CoreOf.{Shaped, shaped, unrooted, root_among, root_of, written_root, or_else, numbered, number_of, nonterminals_of, core_of}
+use Rattle.ig_core.specs.CoreOf.{Shaped, shaped, unrooted, root_among, root_of, written_root, numbered, number_of, nonterminals_of, core_of}
 use Rattle.ig_rewrite.specs.Rooted.{is_root, has_root}
 use Rattle.ig_core.specs.Ready.{IsReady}
 use Rattle.ig_core.proofs.Places.{origin, root_cases, RootAt, NoRoot}
-use Rattle.ig_core.proofs.Lookups.{mapped_at}
 use Rattle.ig_core.proofs.Scoped.{distinct_names}
 
 abbrev row_name : Shaped → List ℕ
 row_name x = x.decl.name
-
-name_there : (ds : List Decl) (n : ℕ) (decl : Decl) → slice_get ds n ≡ Some decl → slice_get (names ds) n ≡ Some decl.name
-name_there [] n decl e = cc
-name_there (d ∷ ds) zero decl e = ap Some (ap (λ (z : Decl). z.name) (same_Some d decl e))
-name_there (d ∷ ds) (suc n) decl e = name_there ds n decl e
 
 -- a declaration that doesn't stand for the root, from its name among the others
 record Kept (decls : List Decl) (shapes : List Shape) (name : List ℕ) : Type 0 where
@@ -35,11 +32,11 @@ record Kept (decls : List Decl) (shapes : List Shape) (name : List ℕ) : Type 0
 kept_at : (decls : List Decl) (shapes : List Shape) (i : ℕ) (name : List ℕ) →
     slice_get (map row_name (unrooted decls shapes)) i ≡ Some name → Kept decls shapes name
 kept_at decls shapes i name e =
-    let row = mapped_at row_name (unrooted decls shapes) i name e in
+    let row = unmapped_at row_name (unrooted decls shapes) i name e in
     let o = origin decls shapes i row.0 row.1 in
     record {
       k = o.k;
-      named = name_there decls o.k row.0.decl o.decl_at ∙ ap Some row.2;
+      named = mapped_at (λ (z : Decl). z.name) decls o.k row.0.decl o.decl_at ∙ ap Some row.2;
       shape = row.0.shape;
       shape_at = o.shape_at;
       other = o.other;
@@ -52,15 +49,12 @@ one_more x xs fresh none zero (suc j) y e f = absurd (fresh j (f ∙ ap Some (sy
 one_more x xs fresh none (suc i) zero y e f = absurd (fresh i (e ∙ ap Some (sym (same_Some x y f))))
 one_more x xs fresh none (suc i) (suc j) y e f = ap suc (none i j y e f)
 
-suc_same : (i j : ℕ) → suc i ≡ suc j → i ≡ j
-suc_same i j e = omega (arith, e)
-
 others_differ : (decls : List Decl) (shapes : List Shape) → AreDistinct (names decls) →
     NoneTwice (map row_name (unrooted decls shapes))
 others_differ [] shapes distinct = λ i j x e f. cc
 others_differ (d ∷ ds) [] distinct = λ i j x e f. cc
 others_differ (d ∷ ds) (s ∷ shapes) distinct =
-    go (is_root s) (others_differ ds shapes (λ i j x e f. suc_same i j (distinct (suc i) (suc j) x e f)))
+    go (is_root s) (others_differ ds shapes (λ i j x e f. suc_inj (distinct (suc i) (suc j) x e f)))
   where
     go : (b : Bool) → NoneTwice (map row_name (unrooted ds shapes)) →
         NoneTwice (map row_name (if b then unrooted ds shapes else shaped d s ∷ unrooted ds shapes))
@@ -96,9 +90,9 @@ fresh_root : (g : Grammar) (shapes : List Shape) → AreDistinct (names g.decls)
 fresh_root g shapes distinct same there (inl none) j e = some_root g.decls shapes same there none.0
 fresh_root g shapes distinct same there (inr root) j e =
     let at = root.1 in
-    let root_is : (root_of g shapes).name ≡ root.0.name = ap (λ o. (or_else o (written_root g)).name) at.chosen in
+    let root_is : (root_of g shapes).name ≡ root.0.name = ap (λ o. (unwrap_or o (written_root g)).name) at.chosen in
     let k = kept_at g.decls shapes j root.0.name (e ∙ ap Some root_is) in
-    let same_place : k.k ≡ at.k = distinct k.k at.k root.0.name k.named (name_there g.decls at.k root.0 at.decl_at) in
+    let same_place : k.k ≡ at.k = distinct k.k at.k root.0.name k.named (mapped_at (λ (z : Decl). z.name) g.decls at.k root.0 at.decl_at) in
     k.other (same_Some k.shape Root (sym k.shape_at ∙ ap (slice_get shapes) same_place ∙ at.shape_at))
 
 pub core_names_differ : (g : Grammar) (shapes : List Shape) → IsReady g shapes → has_root shapes ≡ true →

@@ -26,14 +26,13 @@ use Rattle.ig_item.specs.Visible.{kinds_of}
 use Rattle.ig_item.specs.WellKinded.{NoneTwice, ExpressionsFit, CallFits}
 use Rattle.ig_item.specs.declared.core_grammar.Nonterminal.{Nonterminal}
 use Rattle.ig_item.specs.Fitting.{AreFit, no_steps, next_step}
-use Rattle.ig_core.proofs.Lists.{sides}
 use Rattle.ig_rewrite.specs.Remaining.{IsTerm, IsExcluding, Remains, unfiltered, patterns_of}
 use Rattle.ig_core.specs.Steps.{step_with, step_of, steps_of}
 use Rattle.ig_core.specs.CoreOf.{number_of, nonterminal_of, core_of}
 use Rattle.ig_rewrite.specs.Remaining.{IsRemaining}
-use Rattle.ig_text.proofs.Lists.{contains_first}
-use Rattle.ig_core.proofs.Lookups.{contains_at, declared_named}
-use Rattle.ig_core.proofs.Scoped.{Any, main_in, Each, Fine, may_call, has_core, distinct_names, name_at}
+use Rattle.ig_text.proofs.Lists.{contains_first, sides, contains_from_at, mapped_at}
+use Rattle.ig_core.proofs.Lookups.{declared_named}
+use Rattle.ig_core.proofs.Scoped.{Any, main_in, Each, Fine, may_call, has_core, distinct_names}
 use Rattle.ig_core.proofs.Law.{callee}
 
 kind_cases : (a b : Kind) → (a ≡ b) ⊎ (a ≢ b)
@@ -80,8 +79,8 @@ pushed ns n none fresh i j x at_i at_j = go (sides ns (n ∷ []) i x at_i) (side
     go : (slice_get ns i ≡ Some x) ⊎ ((m : ℕ) × (i ≡ length ns + m) × (slice_get (n ∷ []) m ≡ Some x)) →
         (slice_get ns j ≡ Some x) ⊎ ((m : ℕ) × (j ≡ length ns + m) × (slice_get (n ∷ []) m ≡ Some x)) → i ≡ j
     go (inl a) (inl b) = none i j x a b
-    go (inl a) (inr b) = absurd (fresh (subst (λ z. Contains ns z) (sym (new b.0 b.2).0) (contains_at ns i x a)))
-    go (inr a) (inl b) = absurd (fresh (subst (λ z. Contains ns z) (sym (new a.0 a.2).0) (contains_at ns j x b)))
+    go (inl a) (inr b) = absurd (fresh (subst (λ z. Contains ns z) (sym (new b.0 b.2).0) (contains_from_at ns i x a)))
+    go (inr a) (inl b) = absurd (fresh (subst (λ z. Contains ns z) (sym (new a.0 a.2).0) (contains_from_at ns j x b)))
     go (inr a) (inr b) = let p = a.1 in let q = b.1 in let r = (new a.0 a.2).1 in let s = (new b.0 b.2).1 in omega (arith, p, q, r, s)
 
 module _ (g : Grammar) (shapes : List Shape) (scoped : IsWellScoped g) (fit : FitShapes g shapes) (remaining : IsRemaining g) where
@@ -125,8 +124,8 @@ module _ (g : Grammar) (shapes : List Shape) (scoped : IsWellScoped g) (fit : Fi
         go x d same j at_d named (inl none) k e p at_e at_p other = fine.unmet condition.UnknownName (condition.unknown_name name arguments none)
         go x d same j at_d named (inr h) k e p at_e at_p other =
             let place_same : j ≡ h.0 =
-            distinct_names g shapes scoped fit remaining j h.0 name (name_at g shapes scoped fit remaining g.decls j d at_d ∙ ap Some named)
-            (name_at g shapes scoped fit remaining g.decls h.0 h.1 h.3 ∙ ap Some h.4) in
+            distinct_names g shapes scoped fit remaining j h.0 name (mapped_at (λ (z : Decl). z.name) g.decls j d at_d ∙ ap Some named)
+            (mapped_at (λ (z : Decl). z.name) g.decls h.0 h.1 h.3 ∙ ap Some h.4) in
             let decl_same : d ≡ h.1 = same_Some d h.1 (sym at_d ∙ ap (slice_get g.decls) place_same ∙ h.3) in
             fine.unmet condition.KindMismatch
             (argument_kind name arguments h.1 k e p h.2 at_e (ap (λ (z : Decl). slice_get z.params k) (sym (same ∙ decl_same)) ∙ at_p) other)

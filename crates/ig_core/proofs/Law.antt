@@ -1,14 +1,16 @@
 -- The core grammar of a grammar has the trees that the grammar permits, with the same values.
-use Rattle.std.proofs.Common.{◌≡◌, ℕ, zero, suc, ◌<◌, List, [], ◌∷◌, map, All, Some, None, length, slice_get, Contains, refl, sym, ap, ◌∙◌, subst, arith, inl, inr}
-use Rattle.std.specs.Prelude.{◌⊎◌, ◌↔◌, option_map}
-use Rattle.std.proofs.lemmas.Option.{same_Some, slice_get-map, slice_get_within, get_or_from_slice_get}
+use Rattle.std.proofs.Common.{◌≡◌, ℕ, zero, suc, ◌<◌, List, [], ◌∷◌, map, All, Some, None, length, slice_get, refl, sym, ap, ◌∙◌, subst, arith, inl, inr}
+use Rattle.std.specs.Prelude.{◌⊎◌, ◌↔◌}
+use Rattle.std.specs.Option.{unwrap_or}
+use Rattle.std.proofs.lemmas.Option.{same_Some, slice_get_within}
 use Rattle.std.proofs.lemmas.List.Elements.{All-nil, All-cons}
 use Rattle.ig_text.specs.declared.tag.Tag.TheVariants as tag
 use Rattle.ig_text.specs.Tree.{Tree, Trees, Node}
+use Rattle.ig_text.proofs.Lists.{contains_from_at, mapped_at}
+use Rattle.ig_text.proofs.Pairwise.{beside}
 use Rattle.ig_grammar.specs.Symbol.{Symbol, Call}
 use Rattle.ig_meaning.specs.Annotated.{Annotates}
 use Rattle.ig_meaning.specs.Environment.{values}
-use Rattle.ig_grammar.specs.Names.{names}
 use Rattle.ig_grammar.specs.Numbering.{Levelled, Declares, IsAlternative, alternatives, tag_of, layout_among}
 use Rattle.ig_meaning.specs.Permitted.{Permitted, IsRootAlternative, written, declared, behind_layout}
 use Rattle.ig_meaning.specs.Laws.{TreesWithoutOperatorsAreClean}
@@ -30,22 +32,16 @@ use Rattle.ig_item.specs.declared.core_grammar.Nonterminal.{Nonterminal}
 use Rattle.ig_item.specs.declared.core_grammar.CoreAlt.{CoreAlt}
 use Rattle.ig_rewrite.specs.Remaining.{Remains}
 use Rattle.ig_core.specs.Steps.{steps_of}
-use Rattle.ig_core.specs.CoreOf.{Shaped, shaped, unrooted, root_among, or_else, written_root, start_symbols, root_of, place, number_of, alternatives_of, nonterminal_of, core_of}
+use Rattle.ig_core.specs.CoreOf.{Shaped, shaped, unrooted, root_among, written_root, start_symbols, root_of, place, number_of, alternatives_of, nonterminal_of, core_of}
 use Rattle.ig_core.proofs.Scoped.{ready_has_core}
 use Rattle.ig_core.proofs.Premises.{IsCalled, HasCore}
 use Rattle.ig_core.specs.Ready.{IsReady}
 use Rattle.ig_core.proofs.Numbers.{Target, Source, Numbers}
-use Rattle.ig_core.proofs.Places.{kept, Origin, origin, root_cases, RootAt, NoRoot, found, there, nonterminal_at, nonterminal_was, alternative_at, alternative_was, only, beside, with_level, same_tag}
+use Rattle.ig_core.proofs.Places.{kept, Origin, origin, root_cases, RootAt, NoRoot, found, there, nonterminal_at, nonterminal_was, alternative_at, alternative_was, only, with_level, same_tag}
 use Rattle.ig_rewrite.specs.EachLevel.{alternative_at as without_level}
 use Rattle.ig_core.proofs.Forth.{leads}
 use Rattle.ig_core.proofs.Values.{leaves}
 use Rattle.ig_core.proofs.Back.{CoversFrom, covers}
-
-pub contains_at : {X : Type 0} (xs : List X) (k : ℕ) (x : X) → slice_get xs k ≡ Some x → Contains xs x
-contains_at xs k x h = (k, slice_get_within xs k x h, get_or_from_slice_get xs k x x h)
-
-name_at : (ds : List Decl) (n : ℕ) (decl : Decl) → slice_get ds n ≡ Some decl → slice_get (names ds) n ≡ Some decl.name
-name_at ds n decl e = slice_get-map (λ (d : Decl). d.name) ds n ∙ ap (option_map (λ (d : Decl). d.name)) e
 
 -- a nonterminal of the core grammar, and its alternative
 pub record AtNumber (number : List ℕ → ℕ) (n k : ℕ) (x : Shaped) (nonterminal : Nonterminal) (made_of : CoreAlt) : Type 0 where
@@ -87,7 +83,7 @@ module _ (g : Grammar) (shapes : List Shape) (text : List ℕ) (has : HasCore g 
 
   -- declarations of one name are one
   pub once : (j k : ℕ) (x y : Decl) → slice_get g.decls j ≡ Some x → slice_get g.decls k ≡ Some y → x.name ≡ y.name → j ≡ k
-  once j k x y at_j at_k same = has.distinct j k x.name (name_at g.decls j x at_j) (name_at g.decls k y at_k ∙ ap Some (sym same))
+  once j k x y at_j at_k same = has.distinct j k x.name (mapped_at (λ (z : Decl). z.name) g.decls j x at_j) (mapped_at (λ (z : Decl). z.name) g.decls k y at_k ∙ ap Some (sym same))
 
   rule_first : (k : ℕ) → slice_get shapes k ≡ Some Rule → (r : ℕ) → slice_get shapes r ≡ Some Root → k < r
   rule_first k at r root = has.after_rules k r at root
@@ -169,8 +165,8 @@ module _ (g : Grammar) (shapes : List Shape) (text : List ℕ) (has : HasCore g 
 
   remaining : (decl : Decl) (k b : ℕ) (a : Levelled) → slice_get g.decls b ≡ Some decl → IsAlternative decl k a → All (Remains May) a.alternative.symbols
   remaining decl k b a at is =
-      has.remains decl a.alternative (contains_at g.decls b decl at)
-      (contains_at (alternatives decl.levels) is.0 a.alternative (without_level decl.levels is.0 a is.2))
+      has.remains decl a.alternative (contains_from_at g.decls b decl at)
+      (contains_from_at (alternatives decl.levels) is.0 a.alternative (without_level decl.levels is.0 a is.2))
 
   numbers : Numbers g shapes (core_of g shapes) number May
   numbers =
@@ -281,10 +277,10 @@ module _ (g : Grammar) (shapes : List Shape) (text : List ℕ) (has : HasCore g 
   written_is k a is = ap (λ (z : Levelled). z.alternative.symbols) (sym (only first_alternative is.0 a is.2)) ∙ symbols_are
 
   pub unrooted_root : root_among g.decls shapes ≡ None → root_of g shapes ≡ written_root g
-  unrooted_root none = ap (λ o. or_else o (written_root g)) none
+  unrooted_root none = ap (λ o. unwrap_or o (written_root g)) none
 
   pub rooted_root : (decl : Decl) → RootAt g.decls shapes decl → root_of g shapes ≡ decl
-  rooted_root decl at = ap (λ o. or_else o (written_root g)) at.chosen
+  rooted_root decl at = ap (λ o. unwrap_or o (written_root g)) at.chosen
 
   permitted : TreesWithoutOperatorsAreClean → {t : Tree} (kind : DeclKind) (symbols : List Symbol) (children : Trees) → IsRootAlternative g shapes kind symbols →
       CoversFrom g shapes (core_of g shapes) number May text numbers kind symbols [] 0 (length text) children → t ≡ Node tag.Root 0 (length text) children →

@@ -1,19 +1,14 @@
 -- Members of lists, and the first declaration of a name.
-use Rattle.std.proofs.Common.{◌≡◌, ◌∙◌, ℕ, zero, suc, List, [], ◌∷◌, map, Option, Some, None, Bool, true, false, refl, ap, inl, inr}
+use Rattle.std.proofs.Common.{◌≡◌, ◌∙◌, ℕ, zero, suc, List, [], ◌∷◌, Option, Some, None, Bool, true, false, refl, ap, inl, inr}
 use Rattle.std.specs.Prelude.{◌⊎◌, slice_get, Contains, if◌then◌else◌}
 use Rattle.std.specs.Cmp.Lexicographic.{bytes_decides}
-use Rattle.std.proofs.lemmas.Option.{same_Some, slice_get-get_or, slice_get_within, get_or_from_slice_get}
+use Rattle.std.proofs.lemmas.Option.{same_Some}
 use Rattle.ig_text.specs.Words.{is_word}
 use Rattle.ig_text.proofs.Positions.{beside-cons}
+use Rattle.ig_text.proofs.Lists.{at_from_contains}
 use Rattle.ig_grammar.specs.Condition.{declaration_of}
 use Rattle.ig_grammar.specs.Names.{names}
 use Rattle.ig_grammar.specs.declared.declaration.Decl.{Decl}
-
-pub contains_at : {X : Type 0} (xs : List X) (k : ℕ) (x : X) → slice_get xs k ≡ Some x → Contains xs x
-contains_at xs k x h = (k, slice_get_within xs k x h, get_or_from_slice_get xs k x x h)
-
-pub at_contained : {X : Type 0} (xs : List X) (x : X) → Contains xs x → (k : ℕ) × (slice_get xs k ≡ Some x)
-at_contained xs x m = (m.0, slice_get-get_or xs m.0 x m.1 ∙ ap Some m.2)
 
 -- the first declaration of the name
 abbrev pub first_named : List Decl → List ℕ → Option Decl
@@ -46,22 +41,9 @@ declared_named ds name = go (first ds)
     go (inl e) = inl (declaration_first ds name ∙ e)
     go (inr h) = inr (h.0, h.1, declaration_first ds name ∙ h.2, h.3, h.4)
 
-pub mapped_at : {X Y : Type 0} (f : X → Y) (xs : List X) (i : ℕ) (y : Y) → slice_get (map f xs) i ≡ Some y →
-    (x : X) × (slice_get xs i ≡ Some x) × (f x ≡ y)
-mapped_at f [] i y e = cc
-mapped_at f (x ∷ xs) zero y e = (x, refl, same_Some (f x) y e)
-mapped_at f (x ∷ xs) (suc i) y e = mapped_at f xs i y e
-
--- what is found among the images of a list is one of a member
-pub among_images : {X Y : Type 0} (f : X → Y) (xs : List X) (y : Y) → Contains (map f xs) y → (x : X) × Contains xs x × (f x ≡ y)
-among_images f xs y here =
-    let at = at_contained (map f xs) y here in
-    let from = mapped_at f xs at.0 y at.1 in
-    (from.0, contains_at xs at.0 from.0 from.1, from.2)
-
 -- a list of one has no other member
 pub only_member : {X : Type 0} (x y : X) → Contains (x ∷ []) y → x ≡ y
-only_member x y here = let at = at_contained (x ∷ []) y here in first at.0 at.1
+only_member x y here = let at = at_from_contains (x ∷ []) y here in first at.0 at.1
   where
     first : (k : ℕ) → slice_get (x ∷ []) k ≡ Some y → x ≡ y
     first zero e = same_Some x y e

@@ -1,30 +1,27 @@
 -- Tables of names: what they have, and how they grow by a declaration.
 use Rattle.std.proofs.Common.{◌≡◌, ℕ, suc, ◌+◌, List, [], ◌∷◌, ◌++◌, Option, Some, None, Bool, cond, true, false, refl, sym, ◌∙◌, ap, subst, arith, length}
-use Rattle.std.specs.Prelude.{bytes_eq, chars, encode_utf8_all, IsUtf8, if◌then◌else◌}
+use Rattle.std.specs.Prelude.{bytes_eq, encode_utf8_all, if◌then◌else◌}
 use Rattle.std.specs.Cmp.Lexicographic.{slice_cmp, bytes_decides}
 use Rattle.std.specs.Ordering.{nat_cmp}
 use Rattle.std.specs.BTreeMap as tree
 use Rattle.std.specs.BTreeMap.{BTreeMap}
 use denote.Ref.{Bor}
 use Rattle.std.proofs.lemmas.Slice.Eq.{bytes_eq-Decides}
-use Rattle.std.proofs.lemmas.Str.{encodes-chars, encodes_same}
+use Rattle.std.proofs.lemmas.Str.{encodes_same}
 use Rattle.std.proofs.lemmas.Map.Text.{btree_map_updates_str}
 use Rattle.ig_text.specs.Words.{is_word}
-use Rattle.std.specs.Prelude.{slice_get, option_map}
+use Rattle.ig_text.proofs.Lists.{within_take, mapped_at}
+use Rattle.std.specs.Prelude.{slice_get}
 use Rattle.std.proofs.Common.{take, get_or, ◌<◌}
-use Rattle.std.proofs.lemmas.Option.{slice_get-map, slice_get_read}
+use Rattle.std.proofs.lemmas.Option.{slice_get_read}
 use Rattle.ig_grammar.specs.Names.{names, AreDistinct}
 use Rattle.ig_grammar.specs.declared.declaration.Decl.{Decl}
 use Rattle.ig_grammar.specs.declared.place.Shape.{Shape}
-use Rattle.ig_core.proofs.Lists.{within_take}
 use Rattle.ig_core.proofs.Places.{origin}
 use Rattle.ig_core.proofs.Building.{row_added, row_passed, count_more, count_same}
 use Rattle.ig_core.specs.CoreOf.{Shaped, shaped, unrooted, place, number_in}
 use Rattle.ig_rewrite.specs.Rooted.{is_root}
 use Rattle.ig_core.specs.Tables.{lookup, given, number_by, found_from, Numbers}
-
-pub word_bytes : (bytes name : List ℕ) → IsUtf8 bytes → chars bytes ≡ name → bytes ≡ encode_utf8_all name
-word_bytes bytes name u e = sym (encodes-chars bytes u) ∙ ap encode_utf8_all e
 
 -- a table of numbers has the numbers of these, and what it lacks stands behind all
 abbrev pub or_past : ℕ → Option ℕ → ℕ
@@ -113,9 +110,6 @@ among n (y ∷ all) name k e = go (is_word y.decl.name name) refl (λ h. among (
     go true is others = (0, y, refl, (bytes_decides y.decl.name name).0 is)
     go false is others = let h = others (let f : found_from (suc n) all name ≡ Some k = rw is at e in f) in (suc h.0, h.1, h.2, h.3)
 
-name_at : (ds : List Decl) (n : ℕ) (decl : Decl) → slice_get ds n ≡ Some decl → slice_get (names ds) n ≡ Some decl.name
-name_at ds n decl e = slice_get-map (λ (d : Decl). d.name) ds n ∙ ap (option_map (λ (d : Decl). d.name)) e
-
 pub fresh : (decls : List Decl) (shapes : List Shape) (i : ℕ) (decl : Decl) → AreDistinct (names decls) → i < length decls → decl ≡ get_or decls i decl →
     found_from 1 (unrooted (take i decls) (take i shapes)) decl.name ≡ None
 fresh decls shapes i decl distinct within read = go (found_from 1 (unrooted (take i decls) (take i shapes)) decl.name) refl
@@ -127,7 +121,7 @@ fresh decls shapes i decl distinct within read = go (found_from 1 (unrooted (tak
         let o = origin (take i decls) (take i shapes) h.0 h.1 h.2 in
         let w = within_take decls i o.k h.1.decl o.decl_at in
         let here : slice_get decls i ≡ Some decl = slice_get_read decls (length decls) i decl refl within read in
-        let same = distinct o.k i decl.name (name_at decls o.k h.1.decl w.1 ∙ ap Some h.3) (name_at decls i decl here) in
+        let same = distinct o.k i decl.name (mapped_at (λ (z : Decl). z.name) decls o.k h.1.decl w.1 ∙ ap Some h.3) (mapped_at (λ (z : Decl). z.name) decls i decl here) in
         let less = w.0 in
         absurd (omega (arith, same, less))
 

@@ -2,7 +2,8 @@
 use Rattle.std.proofs.Common.{◌≡◌, ◌∙◌, ℕ, List, [], ◌∷◌, map, All, Contains, Some, slice_get, length, false, true, refl, sym, ap, subst}
 use Rattle.std.proofs.lemmas.List.{length-map}
 use Rattle.std.proofs.lemmas.List.Elements.{All-weaker, All-contains}
-use Rattle.ig_grammar.specs.Name.{is_name}
+use Rattle.ig_text.proofs.Lists.{unmapped_at, unmapped_in}
+use Rattle.ig_grammar.specs.Name.{is_name, IsName}
 use Rattle.ig_grammar.specs.Names.{names}
 use Rattle.ig_grammar.specs.Numbering.{as_written}
 use Rattle.ig_grammar.specs.Alternative.{gathered_alternatives}
@@ -19,9 +20,8 @@ use Rattle.ig_rewrite.specs.Added.{AddedNamesAreNew, dot, root_name, left_name, 
 use Rattle.ig_rewrite.specs.Needs.{IsEntered}
 use Rattle.ig_rewrite.specs.Sound.{IsSound}
 use Rattle.ig_rewrite.specs.Unbound.{IsUnbound, LacksName, own_variables}
-use Rattle.ig_core.specs.Notation.{IsName, IsSaid, IsOfNotation, unchanged}
+use Rattle.ig_core.specs.Notation.{IsSaid, IsOfNotation, unchanged}
 use Rattle.ig_core.specs.Laws.{NotationIsBuildable}
-use Rattle.ig_core.proofs.Lookups.{mapped_at, among_images}
 
 no_name : (word : List ℕ) → is_name word ≡ false → IsName word → ⊥
 no_name word other is = let both : false ≡ true = sym other ∙ is in cc
@@ -39,14 +39,14 @@ said_entered x said = tt
 
 -- each declaration stands for itself
 is_rule : (g : Grammar) (k : ℕ) (shape : Shape) → slice_get (as_written g) k ≡ Some shape → shape ≡ Rule
-is_rule g k shape at = sym (mapped_at (λ (decl : Decl). Rule) g.decls k shape at).2
+is_rule g k shape at = sym (unmapped_at (λ (decl : Decl). Rule) g.decls k shape at).2
 
 module _ (new : AddedNamesAreNew) (g : Grammar) (said : IsOfNotation g) where
   unbound : (name : List ℕ) → is_name name ≡ false → IsUnbound g name
   unbound name other =
       record {
         parameters = λ decl among here.
-            let p = among_images (λ (p : Param). p.name) decl.params name here in
+            let p = unmapped_in (λ (p : Param). p.name) decl.params name here in
             let is : IsName p.0.name = All-contains (λ (p : Param). IsName p.name) decl.params p.0 (said.parameters decl among) p.1 in
             no_name name other (subst IsName p.2 is);
         symbols = λ decl level among inside.
@@ -59,7 +59,7 @@ module _ (new : AddedNamesAreNew) (g : Grammar) (said : IsOfNotation g) where
 
   declared : (word : List ℕ) → Contains (names g.decls) word → IsName word
   declared word here =
-      let d = among_images (λ (d : Decl). d.name) g.decls word here in subst IsName d.2 (said.declared d.0 d.1)
+      let d = unmapped_in (λ (d : Decl). d.name) g.decls word here in subst IsName d.2 (said.declared d.0 d.1)
 
   fits : (k : ℕ) (decl : Decl) (shape : Shape) → slice_get g.decls k ≡ Some decl → slice_get (as_written g) k ≡ Some shape →
       FitsShape g (as_written g) k decl shape

@@ -1,5 +1,5 @@
 -- Which declaration a nonterminal of a core grammar comes from, and which alternative.
-use Rattle.std.proofs.Common.{◌≡◌, ℕ, zero, suc, ◌+◌, ◌<◌, List, [], ◌∷◌, Option, Some, None, Bool, true, false, if◌then◌else◌, length, slice_get, refl, sym, ap, ap₂, ◌∙◌, arith, inl, inr}
+use Rattle.std.proofs.Common.{◌≡◌, ℕ, zero, suc, ◌+◌, ◌<◌, List, [], ◌∷◌, Option, Some, None, Bool, true, false, if◌then◌else◌, slice_get, refl, sym, ap, ap₂, ◌∙◌, arith, inl, inr}
 use Rattle.std.specs.Prelude.{◌≢◌, ◌⊎◌, option_map}
 use Rattle.std.specs.Cmp.Lexicographic.{bytes_decides}
 use Rattle.std.proofs.lemmas.Option.{same_Some, slice_get-map}
@@ -312,11 +312,3 @@ alternative_was number shape n alts a made e =
 pub only : {X : Type 0} (x : X) (n : ℕ) (y : X) → slice_get (x ∷ []) n ≡ Some y → x ≡ y
 only x zero y e = same_Some x y e
 only x (suc n) y e = cc
-
--- lists of one length have members in the same places
-pub beside : {X Y : Type 0} (xs : List X) (ys : List Y) (k : ℕ) (x : X) → length ys ≡ length xs → slice_get xs k ≡ Some x →
-    (y : Y) × (slice_get ys k ≡ Some y)
-beside [] ys k x same e = cc
-beside (z ∷ xs) [] k x same e = cc
-beside (z ∷ xs) (y ∷ ys) zero x same e = (y, refl)
-beside (z ∷ xs) (y ∷ ys) (suc k) x same e = let h : suc (length ys) ≡ suc (length xs) = same in beside xs ys k x (omega (arith, h)) e

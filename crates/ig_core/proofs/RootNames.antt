@@ -1,19 +1,20 @@
 -- The name of the root.
 use Rattle.std.proofs.Common.{◌≡◌, ℕ, suc, List, [], ◌∷◌, Some, refl, ap}
 use Rattle.std.specs.Prelude.{slice_get, option_map}
+use Rattle.std.specs.Option.{unwrap_or}
 use Rattle.ig_grammar.specs.declared.grammar.Grammar.{Grammar}
 use Rattle.ig_grammar.specs.declared.declaration.Decl.{Decl}
 use Rattle.ig_grammar.specs.declared.place.Shape.{Shape}
 use Rattle.ig_grammar.specs.declared.place.Shape.TheVariants.{Root}
 use Rattle.ig_rewrite.specs.Added.{root_name}
-use Rattle.ig_core.specs.CoreOf.{root_among, or_else, written_root, core_of}
+use Rattle.ig_core.specs.CoreOf.{root_among, written_root, core_of}
 
 abbrev NamesRoot : List Decl → List Shape → Type 0
 NamesRoot decls shapes =
     (k : ℕ) (decl : Decl) → slice_get decls k ≡ Some decl → slice_get shapes k ≡ Some Root → decl.name ≡ root_name
 
 named : (g : Grammar) (decls : List Decl) (shapes : List Shape) → NamesRoot decls shapes →
-    (or_else (root_among decls shapes) (written_root g)).name ≡ root_name
+    (unwrap_or (root_among decls shapes) (written_root g)).name ≡ root_name
 named g [] shapes h = refl
 named g (d ∷ ds) [] h = refl
 named g (d ∷ ds) (Root ∷ shapes) h = h 0 d refl refl

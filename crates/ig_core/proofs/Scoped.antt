@@ -1,7 +1,6 @@
 -- A checked grammar of forms that remain has a core grammar.
-use Rattle.std.proofs.Common.{◌≡◌, ℕ, zero, suc, ◌<◌, List, [], ◌∷◌, ◌++◌, All, Option, Some, None, length, slice_get, Contains, refl, sym, ap, ◌∙◌, subst, arith, inl, inr, take}
+use Rattle.std.proofs.Common.{◌≡◌, ℕ, suc, ◌<◌, List, [], ◌∷◌, ◌++◌, All, Option, Some, None, length, slice_get, Contains, refl, sym, ap, ◌∙◌, subst, inl, inr, take}
 use Rattle.std.specs.Prelude.{◌≢◌, ◌⊎◌}
-use Rattle.std.proofs.lemmas.Bool.{cases_order}
 use Rattle.std.proofs.lemmas.List.{take-map}
 use Rattle.std.proofs.lemmas.Option.{same_Some}
 use Rattle.std.proofs.lemmas.List.Elements.{All-nil, All-cons, All-head, All-tail, Contains-append_left, Contains-append_right}
@@ -24,8 +23,10 @@ use Rattle.ig_rewrite.specs.Remaining.{IsTerm, IsExcluding, Remains, main_of, un
 use Rattle.ig_core.proofs.Premises.{IsCalled, HasCore}
 use Rattle.ig_core.specs.Ready.{IsReady}
 use Rattle.ig_rewrite.specs.Remaining.{IsRemaining}
-use Rattle.ig_text.proofs.Lists.{contains_first, contains_later}
-use Rattle.ig_core.proofs.Lookups.{contains_at, at_contained, declared_named}
+use Rattle.ig_text.proofs.Lists.{contains_first, contains_later, contains_from_at, at_from_contains, unmapped_at, in_take, mapped_at}
+use Rattle.ig_text.proofs.Orders.{neither_below, equal_unless}
+use Rattle.ig_text.proofs.Pairwise.{beside}
+use Rattle.ig_core.proofs.Lookups.{declared_named}
 
 abbrev pub Any : List ℕ → ℕ → Type 0
 Any name n = Unit {0}
@@ -79,37 +80,9 @@ remains_by May (OneOf w) ok more = ok
 remains_by May (Call n es) ok more = more ok
 remains_by May x ok more = absurd ok
 
-pub declared_at : (ds : List Decl) (j : ℕ) (name : List ℕ) → slice_get (names ds) j ≡ Some name →
-    (d : Decl) × (slice_get ds j ≡ Some d) × (d.name ≡ name)
-declared_at [] j name e = cc
-declared_at (d ∷ ds) zero name e = (d, refl, cc)
-declared_at (d ∷ ds) (suc j) name e = declared_at ds j name e
-
-pub taken : {A : Type 0} (xs : List A) (i j : ℕ) (x : A) → i < j → slice_get xs i ≡ Some x → slice_get (take j xs) i ≡ Some x
-taken [] i j x l e = cc
-taken (y ∷ ys) zero zero x l e = absurd (omega arith)
-taken (y ∷ ys) zero (suc j) x l e = e
-taken (y ∷ ys) (suc i) zero x l e = absurd (omega arith)
-taken (y ∷ ys) (suc i) (suc j) x l e = taken ys i j x (omega arith) e
-
 no_parameters : (ps : List Param) → (ps ≢ [] → ⊥) → ps ≡ []
 no_parameters [] f = refl
 no_parameters (p ∷ ps) f = absurd (f (λ e. cc))
-
-pub equal_unless : (m n : ℕ) → (m ≢ n → ⊥) → m ≡ n
-equal_unless m n f = go (cases_order m n)
-  where
-    go : (m ≡ n) ⊎ ((m < n) ⊎ (n < m)) → m ≡ n
-    go (inl same) = same
-    go (inr (inl l)) = absurd (f (λ e. omega (arith, l, e)))
-    go (inr (inr l)) = absurd (f (λ e. omega (arith, l, e)))
-
-pub beside : {X Y : Type 0} (xs : List X) (ys : List Y) (k : ℕ) (x : X) → length ys ≡ length xs → slice_get xs k ≡ Some x →
-    (y : Y) × (slice_get ys k ≡ Some y)
-beside [] ys k x same e = cc
-beside (z ∷ xs) [] k x same e = cc
-beside (z ∷ xs) (y ∷ ys) zero x same e = (y, refl)
-beside (z ∷ xs) (y ∷ ys) (suc k) x same e = let h : suc (length ys) ≡ suc (length xs) = same in beside xs ys k x (omega (arith, h)) e
 
 -- no condition is met there, and no declaration of the root is called
 pub record Fine (g : Grammar) (shapes : List Shape) (decl : Decl) (o : Occurrence) : Type 0 where
@@ -121,20 +94,16 @@ module _ (g : Grammar) (shapes : List Shape) (scoped : IsWellScoped g) (fit : Fi
   not_again : (i j : ℕ) (name : List ℕ) → i < j → slice_get (names g.decls) i ≡ Some name →
       slice_get (names g.decls) j ≡ Some name → ⊥
   not_again i j name l e f =
-      let d = declared_at g.decls j name f in
+      let d = unmapped_at (λ (x : Decl). x.name) g.decls j name f in
       let earlier : Contains (names (take j g.decls)) name =
       subst (λ (z : List (List ℕ)). Contains z name) (take-map (λ (x : Decl). x.name) j g.decls)
-      (contains_at (take j (names g.decls)) i name (taken (names g.decls) i j name l e)) in
+      (contains_from_at (take j (names g.decls)) i name (in_take (names g.decls) j i name l e)) in
       scoped (record { decl = suc j; alt = 0; symbol = 0 }) condition.DuplicateName
       (d.0, d.1, duplicate_name (subst (λ (z : List ℕ). Contains (names (take j g.decls)) z) (sym d.2) earlier))
 
   pub distinct_names : AreDistinct (names g.decls)
-  distinct_names i j name e f = cases (cases_order i j)
-    where
-      cases : (i ≡ j) ⊎ ((i < j) ⊎ (j < i)) → i ≡ j
-      cases (inl same) = same
-      cases (inr (inl before)) = absurd (not_again i j name before e f)
-      cases (inr (inr behind)) = absurd (not_again j i name behind f e)
+  distinct_names i j name e f =
+      neither_below i j (λ before. not_again i j name before e f) (λ behind. not_again j i name behind f e)
 
   pub root_at : (k : ℕ) (decl : Decl) → slice_get g.decls k ≡ Some decl → slice_get shapes k ≡ Some Root → IsRoot g shapes k decl
   root_at k decl e f = (fit.each k decl Root e f).root refl
@@ -143,9 +112,9 @@ module _ (g : Grammar) (shapes : List Shape) (scoped : IsWellScoped g) (fit : Fi
   pub all_fine : (decl : Decl) (a : Alt) → Contains g.decls decl → Contains (alternatives decl.levels) a →
       (o : Occurrence) → Contains (symbols_of decl a) o → Fine g shapes decl o
   all_fine decl a decl_in a_in o o_in =
-      let d = at_contained g.decls decl decl_in in
-      let k = at_contained (alternatives decl.levels) a a_in in
-      let p = at_contained (symbols_of decl a) o o_in in
+      let d = at_from_contains g.decls decl decl_in in
+      let k = at_from_contains (alternatives decl.levels) a a_in in
+      let p = at_from_contains (symbols_of decl a) o o_in in
       record {
         unmet = λ c meets. scoped (record { decl = suc d.0; alt = suc k.0; symbol = suc p.0 }) c (decl, d.1, (a, k.1, (o, p.1, meets)));
         no_root = λ r root arguments e f. (root_at r root e f).uncalled decl a o arguments decl_in a_in o_in;
@@ -215,15 +184,10 @@ module _ (g : Grammar) (shapes : List Shape) (scoped : IsWellScoped g) (fit : Fi
       go None e = absurd (scoped (record { decl = 0; alt = 0; symbol = 0 }) condition.NoStart (no_start e))
       go (Some start) e = (start, e)
 
-  pub name_at : (ds : List Decl) (n : ℕ) (decl : Decl) → slice_get ds n ≡ Some decl → slice_get (names ds) n ≡ Some decl.name
-  name_at [] n decl e = cc
-  name_at (d ∷ ds) zero decl e = ap (λ z. Some z) (ap (λ (z : Decl). z.name) (same_Some d decl e))
-  name_at (d ∷ ds) (suc n) decl e = name_at ds n decl e
-
   root_plain : (k : ℕ) (decl : Decl) → slice_get g.decls k ≡ Some decl → slice_get shapes k ≡ Some Root → decl.params ≡ []
   root_plain k decl e f =
       let start = start_at decl.name (root_at k decl e f).start in
-      let same : start.0 ≡ k = distinct_names start.0 k decl.name (name_at g.decls start.0 start.1 start.2 ∙ ap Some start.3) (name_at g.decls k decl e) in
+      let same : start.0 ≡ k = distinct_names start.0 k decl.name (mapped_at (λ (z : Decl). z.name) g.decls start.0 start.1 start.2 ∙ ap Some start.3) (mapped_at (λ (z : Decl). z.name) g.decls k decl e) in
       let decl_same : start.1 ≡ decl = same_Some start.1 decl (sym start.2 ∙ ap (slice_get g.decls) same ∙ e) in
       ap (λ (z : Decl). z.params) (sym decl_same) ∙ start.4
 

@@ -20,8 +20,8 @@ use Rattle.ig_rewrite.specs.Rooted.{rooted, with_root, root_declaration, has_roo
 use Rattle.ig_rewrite.specs.Sound.{IsSound, IsUnmarked}
 use Rattle.ig_levels.specs.Levels.{Pair, Place, no_pair, pair_at, pair_arguments, with_pair, in_symbols, in_alternatives, is_test, has_left, has_right, lowered, test_of, place_in, lowered_alternative, one_level, lowered_declaration, names_levelled, LevelsOf}
 use Rattle.ig_blocks.specs.Laws.{PlainIsUnmarked}
-use Rattle.ig_text.proofs.Lists.{contains_first, contains_later}
-use Rattle.ig_core.proofs.Lookups.{among_images, only_member}
+use Rattle.ig_text.proofs.Lists.{contains_first, contains_later, unmapped_in}
+use Rattle.ig_core.proofs.Lookups.{only_member}
 
 none_among : {X : Type 0} (x : X) → Contains {X = X} [] x → ⊥
 none_among x here = absurd (omega (arith, here.1))
@@ -157,7 +157,7 @@ pub levels_unmarked : RegularityByForm → RootedIsTheSame → (c : CheckedGramm
     IsUnmarked (LevelsOf c).grammar
 levels_unmarked law root c sound h decl level among inside =
     let all = (rooted Syntax c).grammar.decls in
-    let from = among_images (lowered_declaration (names_levelled all)) all decl among in
+    let from = unmapped_in (lowered_declaration (names_levelled all)) all decl among in
     declaration_kept law (names_levelled all) from.0
     (λ l here. rooted_unmarked root c sound h from.0 l from.1 here)
     level (subst (λ (z : Decl). Contains z.levels level) (sym from.2) inside)
@@ -181,6 +181,6 @@ pub levels_plain : RegularityByForm → RootedIsTheSame → (c : CheckedGrammar)
     PlainIsUnmarked (LevelsOf c).grammar
 levels_plain law root c sound unmarked decl here plain =
     let all = (rooted Syntax c).grammar.decls in
-    let from = among_images (lowered_declaration (names_levelled all)) all decl here in
+    let from = unmapped_in (lowered_declaration (names_levelled all)) all decl here in
     let kind : from.0.kind ≡ Plain = ap (λ (d : Decl). d.kind) from.2 ∙ plain in
     levels_unmarked law root c sound (unmarked from.0 (was_plain c from.0 from.1 kind) kind)

@@ -2,13 +2,14 @@
 use Rattle.std.proofs.Common.{◌≡◌, ℕ, zero, suc, ◌<◌, ◌≤◌, ◌+◌, List, [], ◌∷◌, ◌++◌, All, Some, None, Bool, true, false, if◌then◌else◌, length, map, slice_get, Contains, refl, sym, ap, ◌∙◌, subst, arith, inl, inr, take, ◌==◌}
 use Rattle.std.specs.Prelude.{◌≢◌, ◌⊎◌}
 use Rattle.std.specs.List.{flat_map}
-use Rattle.std.proofs.lemmas.Bool.{cases_order}
 use Rattle.std.proofs.lemmas.List.{length-map}
 use Rattle.std.proofs.lemmas.Option.{same_Some, slice_get_within}
 use Rattle.std.proofs.lemmas.List.Elements.{All-head, All-tail}
 use Rattle.ig_text.specs.declared.tag.Tag.{Tag}
 use Rattle.ig_text.specs.declared.tag.Tag.TheVariants as tag
 use Rattle.ig_text.specs.TagNumber as tag_number
+use Rattle.ig_text.proofs.Lists.{contains_from_at, at_from_contains, in_take}
+use Rattle.ig_text.proofs.Orders.{neither_below}
 use Rattle.ig_grammar.specs.Symbol.{Symbol, Call, Seq}
 use Rattle.ig_grammar.specs.Visible.{names, kinds, parameters}
 use Rattle.ig_grammar.specs.Condition.{duplicate_parameter}
@@ -22,7 +23,7 @@ use Rattle.ig_grammar.specs.declared.symbol.Alt.{Alt}
 use Rattle.ig_grammar.specs.declared.grammar.Grammar.{Grammar}
 use Rattle.ig_grammar.specs.declared.place.Shape.{Shape}
 use Rattle.ig_grammar.specs.declared.place.Shape.TheVariants.{Rule, Opt, Star, Plus, SepPlus, SepStar, Group, Root}
-use Rattle.ig_item.specs.Step.{Step, names_of}
+use Rattle.ig_item.specs.Step.{names_of}
 use Rattle.ig_item.specs.Step as step
 use Rattle.ig_item.specs.Core.{IsAlternative as IsCoreAlternative, dots}
 use Rattle.ig_item.specs.TagOrder.{TagsRise}
@@ -41,11 +42,10 @@ use Rattle.ig_core.proofs.Premises.{HasCore}
 use Rattle.ig_core.specs.Laws.{CoresAreWellKinded}
 use Rattle.ig_core.specs.Ready.{IsReady}
 use Rattle.ig_rewrite.specs.Remaining.{IsRemaining}
-use Rattle.ig_core.proofs.Lookups.{contains_at, at_contained}
 use Rattle.ig_core.proofs.Places.{origin, root_cases, RootAt, NoRoot, nonterminal_from}
 use Rattle.ig_rewrite.specs.EachLevel.{alternative_at as without_level}
-use Rattle.ig_core.proofs.Law.{AtNumber, at_number, written_is, start_calls, calls_are, may_start, callee, rooted_root, unrooted_root, to_number, first_alternative}
-use Rattle.ig_core.proofs.Scoped.{Any, has_core, each_fine, root_at, taken}
+use Rattle.ig_core.proofs.Law.{AtNumber, at_number, written_is, start_calls, calls_are, may_start, callee, rooted_root, unrooted_root}
+use Rattle.ig_core.proofs.Scoped.{Any, has_core, each_fine, root_at}
 use Rattle.ig_core.proofs.Kinded.{all_fit}
 
 -- the tag of an alternative has its number
@@ -162,17 +162,13 @@ module _ (g : Grammar) (shapes : List Shape) (scoped : IsWellScoped g) (fit : Fi
       let p = param_at decl.params j name f in
       let earlier : Contains (names (parameters (take j decl.params))) name =
       subst (λ (z : List (List ℕ)). Contains z name) (taken_names decl.params j)
-      (contains_at (take j (names (parameters decl.params))) i name (taken (names (parameters decl.params)) i j name l e)) in
+      (contains_from_at (take j (names (parameters decl.params))) i name (in_take (names (parameters decl.params)) j i name l e)) in
       scoped (record { decl = suc k; alt = 0; symbol = 0 }) condition.DuplicateVariable
       (decl, at, duplicate_parameter j p.0 p.1 (subst (λ (z : List ℕ). Contains (names (parameters (take j decl.params))) z) (sym p.2) earlier))
 
   parameters_differ : (k : ℕ) (decl : Decl) → slice_get g.decls k ≡ Some decl → NoneTwice (names (parameters decl.params))
-  parameters_differ k decl at i j name e f = cases (cases_order i j)
-    where
-      cases : (i ≡ j) ⊎ ((i < j) ⊎ (j < i)) → i ≡ j
-      cases (inl same) = same
-      cases (inr (inl before)) = absurd (not_again k decl at i j name before e f)
-      cases (inr (inr behind)) = absurd (not_again k decl at j i name behind f e)
+  parameters_differ k decl at i j name e f =
+      neither_below i j (λ before. not_again k decl at i j name before e f) (λ behind. not_again k decl at j i name behind f e)
 
   -- an alternative of the core grammar
   pub record Member (n a : ℕ) (nonterminal : Nonterminal) (alternative : CoreAlt) : Type 0 where
@@ -220,9 +216,9 @@ module _ (g : Grammar) (shapes : List Shape) (scoped : IsWellScoped g) (fit : Fi
       go : Row n m.x → Fitting nonterminal alternative
       go (declared_row k at shape_at) =
           let a_in : Contains (alternatives m.x.decl.levels) m.of.a.alternative =
-          contains_at (alternatives m.x.decl.levels) m.of.numbered.0 m.of.a.alternative
+          contains_from_at (alternatives m.x.decl.levels) m.of.numbered.0 m.of.a.alternative
           (without_level m.x.decl.levels m.of.numbered.0 m.of.a m.of.numbered.2) in
-          let decl_in : Contains g.decls m.x.decl = contains_at g.decls k m.x.decl at in
+          let decl_in : Contains g.decls m.x.decl = contains_from_at g.decls k m.x.decl at in
           let all =
           all_fit g shapes scoped fit remaining m.x.decl (parameters m.x.decl.params) m.of.a.alternative.symbols
           (each_fine g shapes scoped fit remaining m.x.decl m.of.a.alternative decl_in a_in) (remaining.forms m.x.decl m.of.a.alternative decl_in a_in) in
@@ -312,7 +308,7 @@ module _ (g : Grammar) (shapes : List Shape) (scoped : IsWellScoped g) (fit : Fi
                 plain = ap (λ ps. map (λ p. p.name) ps) (core_has.rooted r.k decl r.decl_at r.shape_at).2;
                 single = ap (λ z. Rattle.ig_core.specs.CoreOf.alternatives_of number Root 0 1 z) is;
                 unbound =
-                    calls_unbound number alt.symbols (remaining.forms decl alt (contains_at g.decls r.k decl r.decl_at) among)
+                    calls_unbound number alt.symbols (remaining.forms decl alt (contains_from_at g.decls r.k decl r.decl_at) among)
                     ((root_at g shapes scoped fit remaining r.k decl r.decl_at r.shape_at).calls alt among);
               }
 
@@ -321,7 +317,7 @@ module _ (g : Grammar) (shapes : List Shape) (scoped : IsWellScoped g) (fit : Fi
       record {
         root = has_root;
         parameters = λ nonterminal among.
-            let at = at_contained core nonterminal among in
+            let at = at_from_contains core nonterminal among in
             let from = nonterminal_from number 0 (numbered g shapes) at.0 nonterminal at.1 in
             ap (λ (z : Nonterminal). length z.kinds) from.2 ∙ length-map from.0.decl.params (λ p. p.kind) ∙
             sym (length-map from.0.decl.params (λ p. p.name)) ∙ ap (λ (z : Nonterminal). length z.params) (sym from.2);

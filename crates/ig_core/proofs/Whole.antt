@@ -18,7 +18,7 @@ use Rattle.ig_item.specs.Core.{dots, dots_of_nonterminal, dots_of_alternative}
 use Rattle.ig_item.specs.declared.core_grammar.Nonterminal.{Nonterminal}
 use Rattle.ig_item.specs.declared.core_grammar.CoreAlt.{CoreAlt}
 use Rattle.ig_core.specs.Tables.{number_by, Numbers}
-use Rattle.ig_core.specs.CoreOf.{Shaped, shaped, unrooted, number_of, nonterminal_of, nonterminals_of, alternative_of, alternatives_of, core_of, root_of, root_among, written_root, start_symbols, call_of, or_else}
+use Rattle.ig_core.specs.CoreOf.{Shaped, shaped, unrooted, number_of, nonterminal_of, nonterminals_of, alternative_of, alternatives_of, core_of, root_of, root_among, written_root, start_symbols, call_of}
 use Rattle.ig_rewrite.specs.Rooted.{is_root}
 use Rattle.ig_core.specs.Steps.{step_of, steps_of}
 use Rattle.std.specs.Prelude.{if◌then◌else◌, MatchOption, is_some}
@@ -30,13 +30,16 @@ use Rattle.ig_grammar.specs.declared.declaration.Level.{Level}
 use Rattle.ig_core.specs.Dots.{alt_dots, level_dots, decl_dots, row_dots, row}
 use Rattle.ig_core.proofs.Building.{rest_is}
 use Rattle.ig_item.specs.Step.{Step}
+use Rattle.ig_item.specs.Limits.{most_dots}
 use Rattle.ig_expr.specs.declared.kind.Kind.{Kind}
 use Rattle.ig_text.specs.declared.tag.Tag.TheVariants as tag
+use Rattle.ig_text.proofs.Lists.{at_from_contains}
+use Rattle.ig_text.proofs.Pairwise.{beside}
 use Rattle.std.specs.Prelude.{codes}
-use Rattle.ig_core.proofs.Lookups.{at_contained}
+use Rattle.std.specs.Option.{unwrap_or}
 use Rattle.ig_core.proofs.Building.{alts_length}
 use Rattle.ig_core.proofs.NameNumbers.{number_is}
-use Rattle.ig_core.proofs.Places.{kept, nonterminal_at, beside}
+use Rattle.ig_core.proofs.Places.{kept, nonterminal_at}
 use Rattle.ig_core.proofs.WellKinded.{unrooted_few}
 
 -- the table is the numbering
@@ -75,8 +78,8 @@ alts_within (alt ∷ alts) =
     let j : sum_by dots_of_alternative (alt ∷ alts) ≡ length alt.steps + 1 + sum_by dots_of_alternative alts = sum_by-cons dots_of_alternative alt alts in
     omega (arith, i, j)
 
-few_in : (core : List Nonterminal) (n : ℕ) (number : List ℕ → ℕ) (m : ℕ) (x : Shaped) → slice_get core n ≡ Some (nonterminal_of number m x) → dots core ≤ 65536 →
-    length (alternatives x.decl.levels) ≤ 65536
+few_in : (core : List Nonterminal) (n : ℕ) (number : List ℕ → ℕ) (m : ℕ) (x : Shaped) → slice_get core n ≡ Some (nonterminal_of number m x) → dots core ≤ most_dots →
+    length (alternatives x.decl.levels) ≤ most_dots
 few_in core n number m x at few =
     let a : dots_of_nonterminal (nonterminal_of number m x) ≤ dots core = within dots_of_nonterminal core n (nonterminal_of number m x) at in
     let b : length (alternatives_of number x.shape m 1 (alternatives x.decl.levels)) ≤ dots_of_nonterminal (nonterminal_of number m x) =
@@ -85,23 +88,23 @@ few_in core n number m x at few =
     alts_length number x.shape m 1 (alternatives x.decl.levels) in
     omega (arith, a, b, e, few)
 
-pub few_root : (g : Grammar) (shapes : List Shape) → dots (core_of g shapes) ≤ 65536 → length (alternatives (root_of g shapes).levels) ≤ 65536
+pub few_root : (g : Grammar) (shapes : List Shape) → dots (core_of g shapes) ≤ most_dots → length (alternatives (root_of g shapes).levels) ≤ most_dots
 few_root g shapes few = few_in (core_of g shapes) 0 (number_of g shapes) 0 (shaped (root_of g shapes) Root) refl few
 
-pub few_each : (g : Grammar) (shapes : List Shape) → FitShapes g shapes → dots (core_of g shapes) ≤ 65536 → (decl : Decl) → Contains g.decls decl →
-    length (alternatives decl.levels) ≤ 65536
+pub few_each : (g : Grammar) (shapes : List Shape) → FitShapes g shapes → dots (core_of g shapes) ≤ most_dots → (decl : Decl) → Contains g.decls decl →
+    length (alternatives decl.levels) ≤ most_dots
 few_each g shapes fit few decl among =
-    let at = at_contained g.decls decl among in
+    let at = at_from_contains g.decls decl among in
     let shape = beside g.decls shapes at.0 decl fit.counted at.1 in
     go at.0 at.1 shape.0 shape.1
   where
-    other : (k : ℕ) → slice_get g.decls k ≡ Some decl → (s : Shape) → slice_get shapes k ≡ Some s → s ≢ Root → length (alternatives decl.levels) ≤ 65536
+    other : (k : ℕ) → slice_get g.decls k ≡ Some decl → (s : Shape) → slice_get shapes k ≡ Some s → s ≢ Root → length (alternatives decl.levels) ≤ most_dots
     other k e s f differs =
         let one = kept g.decls shapes k decl s e f differs in
         few_in (core_of g shapes) (suc one.m) (number_of g shapes) (suc one.m) (shaped decl s)
         (nonterminal_at (number_of g shapes) (unrooted g.decls shapes) one.m (shaped decl s) one.at) few
 
-    go : (k : ℕ) → slice_get g.decls k ≡ Some decl → (s : Shape) → slice_get shapes k ≡ Some s → length (alternatives decl.levels) ≤ 65536
+    go : (k : ℕ) → slice_get g.decls k ≡ Some decl → (s : Shape) → slice_get shapes k ≡ Some s → length (alternatives decl.levels) ≤ most_dots
     go k e Root f = let one : length (alternatives decl.levels) ≡ 1 = (fit.each k decl Root e f).count in omega (arith, one)
     go k e s f = other k e s f (λ h. cc)
 
@@ -212,18 +215,18 @@ made_root_dots g none =
 
 pub root_dots_none : (g : Grammar) (shapes : List Shape) → root_among g.decls shapes ≡ None → layout_among g.decls ≡ None →
     decl_dots (root_of g shapes) ≡ length (call_of g.start) + 1
-root_dots_none g shapes none no_layout = ap (λ o. decl_dots (or_else o (written_root g))) none ∙ made_root_dots g no_layout
+root_dots_none g shapes none no_layout = ap (λ o. decl_dots (unwrap_or o (written_root g))) none ∙ made_root_dots g no_layout
 
 pub root_dots_some : (g : Grammar) (shapes : List Shape) (decl : Decl) → root_among g.decls shapes ≡ Some decl → decl_dots (root_of g shapes) ≡ decl_dots decl
-root_dots_some g shapes decl some = ap (λ o. decl_dots (or_else o (written_root g))) some
+root_dots_some g shapes decl some = ap (λ o. decl_dots (unwrap_or o (written_root g))) some
 
-pub few_call : (start : Option (List ℕ)) → length (call_of start) + 1 ≤ 65536
+pub few_call : (start : Option (List ℕ)) → length (call_of start) + 1 ≤ most_dots
 few_call None = omega arith
 few_call (Some s) = omega arith
 
 pub few_some : (g : Grammar) (shapes : List Shape) (decls : List Decl) (n : ℕ) (o : Option ℕ) (b : Bool) → decls ≡ g.decls → n ≡ decl_dots (root_of g shapes) →
-    MatchOption o (65536 < n + sum_by row_dots (unrooted decls shapes)) (λ m. (m ≡ n + sum_by row_dots (unrooted decls shapes)) × (m ≤ 65536)) → b ≡ is_some o →
-    Decides b (dots (core_of g shapes) ≤ 65536)
+    MatchOption o (most_dots < n + sum_by row_dots (unrooted decls shapes)) (λ m. (m ≡ n + sum_by row_dots (unrooted decls shapes)) × (m ≤ most_dots)) → b ≡ is_some o →
+    Decides b (dots (core_of g shapes) ≤ most_dots)
 few_some g shapes decls n None b same root many is =
     let e = dots_are g shapes in
     let f = ap (λ z. sum_by row_dots (unrooted z shapes)) same in
@@ -236,5 +239,5 @@ few_some g shapes decls n (Some m) b same root counted is =
     let q = counted.1 in
     ((λ yes. omega (arith, e, f, root, p, q)), (λ few. is))
 
-pub few_none : (g : Grammar) (shapes : List Shape) → 65536 < decl_dots (root_of g shapes) → Decides false (dots (core_of g shapes) ≤ 65536)
+pub few_none : (g : Grammar) (shapes : List Shape) → most_dots < decl_dots (root_of g shapes) → Decides false (dots (core_of g shapes) ≤ most_dots)
 few_none g shapes many = let e = dots_are g shapes in ((λ yes. cc), (λ few. absurd (omega (arith, e, many, few))))

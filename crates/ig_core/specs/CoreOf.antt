@@ -1,5 +1,6 @@
 -- The last step: the core grammar of a grammar that all passes leave, with the shapes of its declarations.
 use Rattle.std.specs.Prelude.{ℕ, suc, List, [], ◌∷◌, Option, Some, None, map, if◌then◌else◌}
+use Rattle.std.specs.Option.{unwrap_or}
 use Rattle.ig_text.specs.Words.{is_word}
 use Rattle.ig_grammar.specs.Symbol.{Symbol, Call}
 use Rattle.ig_grammar.specs.Numbering.{alternatives, tag_of, layout_among}
@@ -51,12 +52,8 @@ written_root g =
       levels = record { assoc = Free; alts = record { symbols = start_symbols g g.start } ∷ [] } ∷ [];
     }
 
-abbrev pub or_else : {X : Type 0} → Option X → X → X
-or_else None y = y
-or_else (Some x) y = x
-
 abbrev pub root_of : Grammar → List Shape → Decl
-root_of g shapes = or_else (root_among g.decls shapes) (written_root g)
+root_of g shapes = unwrap_or (root_among g.decls shapes) (written_root g)
 
 -- how many of them stand before the first one of the name
 abbrev pub place : List Shaped → List ℕ → ℕ

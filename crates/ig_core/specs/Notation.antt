@@ -1,6 +1,5 @@
 -- Grammars as the notation can say them.
-use Rattle.std.specs.Prelude.{◌≡◌, ◌≢◌, ℕ, List, All, Contains, true}
-use Rattle.ig_grammar.specs.Name.{is_name}
+use Rattle.std.specs.Prelude.{◌≢◌, All, Contains}
 use Rattle.ig_grammar.specs.Numbering.{as_written}
 use Rattle.ig_grammar.specs.Regular.{OfEachLevel, AlternativesStandWell}
 use Rattle.ig_grammar.specs.Subterms.{subterms_of_alternatives}
@@ -10,10 +9,8 @@ use Rattle.ig_grammar.specs.WellScoped.{IsWellScoped}
 use Rattle.ig_grammar.specs.declared.declaration.Decl.{Decl}
 use Rattle.ig_grammar.specs.declared.declaration.DeclKind.TheVariants.{Plain}
 use Rattle.ig_grammar.specs.declared.grammar.Grammar.{Grammar}
+use Rattle.ig_grammar.specs.Name.{IsName}
 use Rattle.ig_rewrite.specs.Unbound.{own_variables}
-
-abbrev pub IsName : List ℕ → Type 0
-IsName word = is_name word ≡ true
 
 -- the symbol is no entry, and what it binds and reads itself are names of the notation
 abbrev pub IsSaid : Symbol → Type 0

@@ -3,12 +3,14 @@ use Rattle.std.proofs.Common.{◌≡◌, ℕ, suc, ◌+◌, Bool, true, false, L
 use Rattle.std.proofs.Common.{subst, cond}
 use Rattle.std.specs.Prelude.{◌||◌, option_map}
 use Rattle.std.proofs.lemmas.List.{append-nil, map-append}
+use Rattle.std.proofs.lemmas.Bool.{or_left, or_right}
 use Rattle.ig_ebnf.proofs.LoweredCalm.{Distinct, AreCalm, distinct_replaced, elements_calm}
 use Rattle.ig_ebnf.proofs.ClearSymbols.{nothing_bound, Clear, SymbolsClear, AlternativesClear}
 use Rattle.ig_ebnf.proofs.Definitions.{Proper, SymbolsProper, AlternativesProper, Ready, AllDeclared}
-use Rattle.ig_ebnf.proofs.Environments.{or_left, or_right, has_keep, has_append, itself}
+use Rattle.ig_ebnf.proofs.Environments.{has_keep, has_append}
 use Rattle.ig_ebnf.proofs.Definitions.{has}
 use Rattle.ig_text.specs.Words.{is_word}
+use Rattle.ig_text.proofs.Characters.{itself}
 use Rattle.ig_rewrite.specs.Needs.{is_added}
 use Rattle.std.specs.Prelude.{◌&&◌, not}
 use Rattle.ig_ebnf.specs.Lists.{keep}

@@ -1,8 +1,10 @@
 -- Instances of added declarations.
 use Rattle.std.proofs.Common.{◌≡◌, ℕ, suc, ◌+◌, Bool, true, List, [], ◌∷◌, refl, sym, ◌∙◌, ap, subst, Some, None}
+use Rattle.std.proofs.lemmas.Bool.{or_left, or_right}
+use Rattle.std.proofs.lemmas.Option.{same_Some}
 use Rattle.std.specs.Prelude.{slice_get}
 use Rattle.ig_ebnf.proofs.Definitions.{Quiet, Agree, AllDeclared, SymbolsProper, AlternativesProper, IsForm}
-use Rattle.ig_ebnf.proofs.Environments.{Holds, zipped, holding, held, bound_to, params_wanted, or_left, or_right}
+use Rattle.ig_ebnf.proofs.Environments.{Holds, zipped, holding, held, bound_to, params_wanted}
 use Rattle.ig_ebnf.proofs.Elements.{declared_first, declared_second}
 use Rattle.ig_ebnf.specs.Lists.{made, alts_of, params_for, arguments, entering, new_alternatives, new_symbols}
 use Rattle.ig_ebnf.specs.Lists.{new_symbol, added_symbols}
@@ -26,9 +28,6 @@ use Rattle.ig_rewrite.specs.Added.{added_name}
 use Rattle.ig_rewrite.specs.Needs.{symbols_need, alternatives_need, needs}
 use Rattle.ig_text.specs.Tree.{Tree, Trees, Node, none, one}
 
-some_same : {X : Type 0} (x y : X) → Some y ≡ Some x → x ≡ y
-some_same x y e = cc
-
 pub alternative_at : (alts : List (List Symbol)) (n : ℕ) (zs : List Symbol) → slice_get alts n ≡ Some zs →
     slice_get (by_level (record { assoc = Free; alts = alts_of alts } ∷ [])) n ≡ Some
     (record { alternative = record { symbols = zs }; level = 1; assoc = Free })
@@ -42,11 +41,8 @@ pub alternative_of : (alts : List (List Symbol)) (n : ℕ) (a : Levelled) →
     slice_get alts n ≡ Some a.alternative.symbols
 alternative_of [] n a e = absurd (cc)
 alternative_of (xs ∷ alts) ℕ.zero a e =
-    let same : record { alternative = record { symbols = xs }; level = 1; assoc = Free } ≡ a = some_same _ _ e in
+    let same : record { alternative = record { symbols = xs }; level = 1; assoc = Free } ≡ a = same_Some _ _ e in
     ap (λ (z : Levelled). Some z.alternative.symbols) same
-  where
-    some_same : (x y : Levelled) → Some x ≡ Some y → x ≡ y
-    some_same x y e = cc
 alternative_of (xs ∷ alts) (suc n) a e = alternative_of alts n a e
 
 module _ (g' : Grammar) (shapes' : List Shape) (text : List ℕ) where
@@ -175,7 +171,7 @@ module _ (g' : Grammar) (shapes' : List Shape) (text : List ℕ) where
                 (added_alternatives of v (k + count_symbols ys) others) d;
             needed = λ n u. or_left (symbols_need n ys) (alternatives_need n others) u;
           };
-          same = some_same zs (new_symbols of v k ys) e;
+          same = sym (same_Some (new_symbols of v k ys) zs e);
         }
     chosen_from (next_alternative ys others) k (suc m) zs e p d =
         let below =

@@ -1,9 +1,7 @@
 -- The names of added declarations: `A#k`, numbered in preorder.
 use Rattle.ig_ebnf.proofs.OfAdded.{OfAdded, of_added_both}
 use Rattle.ig_rewrite.specs.Added.{AddedNamesAreNew, HasNoSign}
-use Rattle.ig_text.proofs.Lists.{sides}
-use Rattle.ig_ebnf.proofs.Declarations.{named_at}
-use Rattle.std.proofs.Common.{⊎_elim}
+use Rattle.ig_text.proofs.Lists.{either_place, mapped_at}
 use Rattle.std.proofs.Common.{◌≡◌, ℕ, suc, ◌+◌, ◌<◌, List, [], ◌∷◌, ◌++◌, map, length, refl, sym, ◌∙◌, ap, subst}
 use Rattle.std.proofs.Common.{Some, inl, inr, arith}
 use Rattle.std.specs.Prelude.{◌≢◌, ◌⊎◌, slice_get, ◌^◌}
@@ -260,10 +258,6 @@ all_plain (d ∷ ds) =
     plain_append (added_by d) (all_added ds) (levels_plainly d.name (parameters d.params) 1 d.levels) (all_plain ds)
 
 -- lists without repeats
-pub either_place : {X : Type 0} (xs ys : List X) (k : ℕ) (a : X) → slice_get (xs ++ ys) k ≡ Some a →
-    (slice_get xs k ≡ Some a) ⊎ ((m : ℕ) × (slice_get ys m ≡ Some a) × (k ≡ length xs + m))
-either_place xs ys k a h = ⊎_elim (λ p. inl p) (λ p. inr (p.0, p.2, p.1)) (sides xs ys k a h)
-
 pub distinct_append : (xs ys : List (List ℕ)) → AreDistinct xs → AreDistinct ys →
     ((i j : ℕ) (name : List ℕ) → slice_get xs i ≡ Some name → slice_get ys j ≡ Some name → ⊥) → AreDistinct (xs ++ ys)
 distinct_append xs ys p q apart i j name e f = go (either_place xs ys i name e) (either_place xs ys j name f)
@@ -284,7 +278,7 @@ pub record TitleAt (ds : List Decl) (name : List ℕ) : Type 0 where
   pub small : k < 2 ^ 64
   pub same : name ≡ added_name decl.name k
 
-by_titles : (d : Decl) → titles (added_by d) ≡ map (added_name d.name) (numbers 1 (count_levels d.levels))
+pub by_titles : (d : Decl) → titles (added_by d) ≡ map (added_name d.name) (numbers 1 (count_levels d.levels))
 by_titles d = levels_titled d.name (parameters d.params) 1 d.levels
 
 pub title_at : (ds : List Decl) →
@@ -356,5 +350,5 @@ titles_distinct new (d ∷ ds) unsigned few distinct =
         (few 0 d refl (1 + i) (omega (arith, p))) b.small (sym a.0 ∙ b.same)).0 in
         let place : ℕ.zero ≡ suc b.place =
         distinct 0 (suc b.place) d.name refl
-        (named_at (d ∷ ds) (suc b.place) b.decl b.there ∙ ap Some (sym same)) in
+        (mapped_at (λ (z : Decl). z.name) (d ∷ ds) (suc b.place) b.decl b.there ∙ ap Some (sym same)) in
         let bad : ⊥ = omega (arith, place) in bad

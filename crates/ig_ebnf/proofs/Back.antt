@@ -1,13 +1,13 @@
 -- What is derived without lists is derived in the source.
-use Rattle.ig_ebnf.proofs.Elements.{join_assoc}
 use Rattle.std.proofs.Common.{◌≡◌, ℕ, suc, ◌+◌, Bool, true, List, [], ◌∷◌, ◌++◌, map, refl, sym, ◌∙◌, ap, subst}
+use Rattle.std.proofs.lemmas.Bool.{or_left, or_right, and_parts, and_from}
 use Rattle.std.specs.Prelude.{◌||◌, ◌&&◌, not}
 use Rattle.ig_ebnf.proofs.BoundNames.{derives_add}
 use Rattle.ig_ebnf.proofs.EntryValues.{binds_replaced, has_replaced, argument_value, arguments_from, argument_has}
 use Rattle.ig_ebnf.proofs.EntryValues.{bindings_valued}
 use Rattle.ig_ebnf.proofs.Definitions.{has, find, Binds, Agree, Keeps, Quiet, Proper, AllDeclared, Ready, IsSingle}
 use Rattle.ig_ebnf.proofs.Definitions.{IsForm, Takes}
-use Rattle.ig_ebnf.proofs.Environments.{or_left, or_right, and_parts, and_both, has_to, have_to, keeps_none}
+use Rattle.ig_ebnf.proofs.Environments.{has_to, have_to, keeps_none}
 use Rattle.ig_ebnf.proofs.Environments.{keeps_both, keeps_append, binds_more, Holds}
 use Rattle.ig_ebnf.proofs.Environments.{entered_agrees, binds_parameters, has_params, valued, flipped}
 use Rattle.ig_ebnf.proofs.AddedInstances.{chosen_from}
@@ -43,6 +43,7 @@ use Rattle.ig_text.specs.Pattern.{IsOneOf}
 use Rattle.ig_text.specs.Place.{Spells}
 use Rattle.ig_text.specs.Tree.{Tree, Trees, Node, none, more, one, join}
 use Rattle.ig_text.specs.declared.tag.Tag.TheVariants as tag
+use Rattle.ig_text.proofs.Trees.{join_join}
 use Rattle.ig_expr.specs.declared.value.Value.TheVariants as value
 use Rattle.ig_grammar.specs.Visible as visible
 use Rattle.ig_grammar.specs.declared.place.Shape.TheVariants as shape
@@ -157,7 +158,7 @@ module _ (g g' : Grammar) (shapes shapes' : List Shape) (May : List ℕ → Type
               symbol c x.x (sources es) env here.after next.after i e h next.h ts next.ts _ here.starts next.ks _
               here.derives next.first refl refl;
           second = next.second;
-          trees = trees ∙ ap (join ts) next.trees ∙ sym (join_assoc ts next.ts next.us);
+          trees = trees ∙ ap (join ts) next.trees ∙ sym (join_join ts next.ts next.us);
         }
 
     pub derives_from : {d : DeclKind} {z : Symbol} {env' left : Environment} {i e j : ℕ} {ts : Trees}
@@ -296,7 +297,7 @@ module _ (g g' : Grammar) (shapes shapes' : List Shape) (May : List ℕ → Type
         let vals =
         bindings_valued text v wanted bindings i env' p.1 (λ n u. argument_has text bindings ps i env' ws n have1
         (has_params w wanted n ∙
-        and_both (has w n) (needs n x)
+        and_from (has w n) (needs n x)
         (has_replaced v wanted v bindings n p.1 ∙ or_right (has v n) (is_bound n bindings) u)
         (bound_wanted v wanted bindings n p.1 u))) in
         let s_bindings : Agree (λ n. bindings_use n bindings) env env' =
@@ -308,7 +309,7 @@ module _ (g g' : Grammar) (shapes shapes' : List Shape) (May : List ℕ → Type
         let values_same : (n : List ℕ) → has ps n ≡ true → valued text env' i (argument bindings n) ≡ find within n =
         λ n u. argument_value text v wanted bindings vals.0 i env env' env n p.1 here_have s_bindings
         (λ y. s.at n (or_right (bindings_use n bindings) (not (is_bound n bindings) && needs n x)
-        (and_both (not (is_bound n bindings)) (needs n x) (ap not y)
+        (and_from (not (is_bound n bindings)) (needs n x) (ap not y)
         (and_parts (has w n) (needs n x) (sym (has_params w wanted n) ∙ u)).1))) in
         let here =
         forms_from instance of w k x p.0 (cc) p.2 all c q within

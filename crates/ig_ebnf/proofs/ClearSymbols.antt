@@ -3,6 +3,7 @@ use Rattle.std.proofs.Common.{◌≡◌, ℕ, zero, suc, List, [], ◌∷◌, �
 use Rattle.std.specs.Prelude.{All, slice_get}
 use Rattle.std.proofs.lemmas.Option.{same_Some}
 use Rattle.std.proofs.lemmas.List.Elements.{All-nil, All-cons, All-head, All-tail}
+use Rattle.ig_text.proofs.Lists.{both_empty}
 use Rattle.ig_grammar.specs.Symbol.{Symbol, Literal, OneOf, Call, Label, Guard, Let, Opt, Star, Plus, SepStar}
 use Rattle.ig_grammar.specs.Symbol.{SepPlus, Group, Offside, Ignore, Align}
 use Rattle.ig_grammar.specs.Symbol.{Filtered, Seq, Entry, Symbols, no_symbols, next_symbol, Alternatives}
@@ -123,10 +124,6 @@ more_than_none : {X : Type 0} (xs : List X) (x : X) → xs ++ x ∷ [] ≡ [] �
 more_than_none [] x e = cc
 more_than_none (y ∷ xs) x e = cc
 
-none_first : {X : Type 0} (xs ys : List X) → xs ++ ys ≡ [] → (xs ≡ []) × (ys ≡ [])
-none_first [] ys e = (refl, e)
-none_first (x ∷ xs) ys e = absurd (cc)
-
 mutual
   pub nothing_bound : (x : Symbol) (v : Visible) → bound_names x ≡ [] → binds v x ≡ []
   nothing_bound (Literal w) v e = refl
@@ -151,5 +148,5 @@ mutual
   none_bound : (xs : Symbols) (v : Visible) → names_bound_by xs ≡ [] → all_bind v xs ≡ []
   none_bound no_symbols v e = refl
   none_bound (next_symbol x xs) v e =
-      let parts = none_first (bound_names x) (names_bound_by xs) e in
+      let parts = both_empty (bound_names x) (names_bound_by xs) e in
       (λ z. nothing_bound x v parts.0 z ++ none_bound xs (v ++ binds v x) parts.1 z)

@@ -1,5 +1,6 @@
 -- The pass as the program does it: what is made is checked, and what is counted is few.
-use Rattle.std.proofs.Common.{◌≡◌, ℕ, zero, suc, ◌+◌, ◌<◌, ◌≤◌, List, [], ◌∷◌, Option, None, false, length, drop, refl, sym, ap, subst, arith}
+use Rattle.std.proofs.Common.{◌≡◌, ℕ, ◌+◌, ◌<◌, ◌≤◌, List, Option, None, false, length, drop, sym, ap, subst, arith}
+use Rattle.std.proofs.lemmas.List.{drop_all}
 use Rattle.ig_grammar.specs.Numbering.{layout_among}
 use Rattle.ig_grammar.specs.Checked.{CheckedGrammar, FitShapes}
 use Rattle.ig_grammar.specs.WellScoped.{IsWellScoped}
@@ -12,17 +13,11 @@ use Rattle.ig_rewrite.specs.Sound.{IsSound, IsFree, IsUnmarked, HasExclusionsAlo
 use Rattle.ig_ebnf.specs.Lists.{count_levels, HasFewLists, lowered, lowered_grammar}
 use Rattle.ig_ebnf.specs.Laws.{LoweringKeeps}
 
-none_left : {X : Type 0} (xs : List X) (i : ℕ) → length xs ≤ i → drop i xs ≡ []
-none_left [] zero h = refl
-none_left [] (suc i) h = refl
-none_left (x ∷ xs) zero h = let f : ⊥ = omega arith in absurd f
-none_left (x ∷ xs) (suc i) h = none_left xs i (omega arith)
-
 pub few_counted : (items levels : List Level) (i next : ℕ) → items ≡ levels → length items ≤ i →
     next + count_levels (drop i items) ≡ 1 + count_levels items → next < numbers_bound →
     count_levels levels < numbers_bound
 few_counted items levels i next m h e l =
-    let none : count_levels (drop i items) ≡ 0 = ap count_levels (none_left items i h) in
+    let none : count_levels (drop i items) ≡ 0 = ap count_levels (drop_all i items h) in
     let same : count_levels items ≡ count_levels levels = ap count_levels m in
     let n : count_levels levels < next = omega arith in omega (arith, n, l)
 

@@ -4,21 +4,17 @@ use Rattle.std.proofs.Common.{None}
 use Rattle.std.specs.Prelude.{slice_get}
 use Rattle.std.proofs.lemmas.Option.{same_Some}
 use Rattle.ig_text.specs.Words.{is_word}
+use Rattle.ig_text.proofs.Characters.{differs, itself}
+use Rattle.ig_text.proofs.Lists.{mapped_at}
 use Rattle.ig_grammar.specs.Condition.{declaration_of}
 use Rattle.ig_grammar.specs.Names.{AreDistinct, names}
 use Rattle.ig_grammar.specs.declared.declaration.Decl.{Decl}
-use Rattle.ig_ebnf.proofs.Environments.{look_up_next, differs, itself}
+use Rattle.ig_ebnf.proofs.Environments.{look_up_next}
 use Rattle.std.specs.Cmp.Lexicographic.{bytes_decides}
 
 pub declaration_next : (d : Decl) (ds : List Decl) (x : List ℕ) →
     declaration_of (d ∷ ds) x ≡ cond (is_word d.name x) (Some d) (declaration_of ds x)
 declaration_next d ds x = look_up_next d.name d (names ds) ds x
-
-pub named_at : (ds : List Decl) (k : ℕ) (decl : Decl) → slice_get ds k ≡ Some decl →
-    slice_get (names ds) k ≡ Some decl.name
-named_at [] k decl h = absurd (cc)
-named_at (d ∷ ds) zero decl h = ap (λ (z : Decl). Some z.name) (same_Some d decl h)
-named_at (d ∷ ds) (suc k) decl h = named_at ds k decl h
 
 pub declared_by : (ds : List Decl) → AreDistinct (names ds) → (n : ℕ) (decl : Decl) → slice_get ds n ≡ Some decl →
     declaration_of ds decl.name ≡ Some decl
@@ -31,7 +27,7 @@ declared_by (d ∷ ds) distinct zero decl e =
 declared_by (d ∷ ds) distinct (suc n) decl e =
     declaration_next d ds decl.name ∙
     ap (λ z. cond z (Some d) (declaration_of ds decl.name)) (differs d.name decl.name (λ same.
-    let places : zero ≡ suc n = distinct 0 (suc n) decl.name (ap Some same) (named_at ds n decl e) in
+    let places : zero ≡ suc n = distinct 0 (suc n) decl.name (ap Some same) (mapped_at (λ (z : Decl). z.name) ds n decl e) in
     let bad : ⊥ = omega (arith, places) in bad)) ∙
     declared_by ds (λ i j name p q. let f : suc i ≡ suc j = distinct (suc i) (suc j) name p q in omega (arith, f)) n
     decl e

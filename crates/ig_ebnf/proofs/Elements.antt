@@ -1,10 +1,10 @@
 -- Sequences stand in place.
-use Rattle.std.proofs.Common.{◌≡◌, ℕ, ◌+◌, Bool, true, false, List, [], ◌∷◌, ◌++◌, refl, sym, ◌∙◌, ap, subst}
+use Rattle.std.proofs.Common.{◌≡◌, ℕ, ◌+◌, Bool, false, List, [], ◌∷◌, ◌++◌, refl, sym, ◌∙◌, ap, subst}
 use Rattle.std.proofs.Common.{append_assoc}
 use Rattle.std.specs.Prelude.{◌||◌}
 use Rattle.std.proofs.lemmas.List.{append-nil}
+use Rattle.std.proofs.Math.Bool.{or-false, or_assoc}
 use Rattle.ig_ebnf.proofs.Definitions.{Proper, SymbolsProper, AllDeclared, Ready}
-use Rattle.ig_ebnf.proofs.Environments.{or_nothing}
 use Rattle.ig_ebnf.specs.Lists.{count, Element, elements, all_elements, Made, added, added_symbols}
 use Rattle.ig_grammar.specs.Symbol.{Symbol, Literal, OneOf, Call, Label, Guard, Let, Opt, Star, Plus, SepStar}
 use Rattle.ig_grammar.specs.Symbol.{SepPlus, Group, Offside, Ignore, Align}
@@ -17,15 +17,8 @@ use Rattle.ig_grammar.specs.declared.place.Shape.{Shape}
 use Rattle.ig_meaning.specs.Derivation.{Covers, Derives, empty, symbol, sequence}
 use Rattle.ig_meaning.specs.Environment.{Environment}
 use Rattle.ig_rewrite.specs.Needs.{needs, symbols_need}
-use Rattle.ig_text.specs.Tree.{Trees, none, more, join}
-
-pub join_none : (ts : Trees) → join ts none ≡ ts
-join_none none = refl
-join_none (more t ts) = ap (more t) (join_none ts)
-
-pub join_assoc : (ts us vs : Trees) → join (join ts us) vs ≡ join ts (join us vs)
-join_assoc none us vs = refl
-join_assoc (more t ts) us vs = ap (more t) (join_assoc ts us vs)
+use Rattle.ig_text.specs.Tree.{Trees, none, join}
+use Rattle.ig_text.proofs.Trees.{join-none, join_join}
 
 pub gathered_listed : (xs : Symbols) → gathered (listed xs) ≡ xs
 gathered_listed no_symbols = refl
@@ -70,7 +63,7 @@ module _ (g : Grammar) (shapes : List Shape) (text : List ℕ) where
   joined {ys = ys} {after = after} {us = us} {ls = ls}
       (symbol c x others env between out i e h j ts rs vs ks ms starts head rest trees exposes) second =
       symbol c x (others ++ ys) env between after i e h _ ts (join rs us) _ ks (ms ++ ls) _ head (joined rest second)
-      (ap (λ z. join z us) trees ∙ join_assoc ts rs us) (ap (λ z. z ++ ls) exposes ∙ append_assoc ks ms ls)
+      (ap (λ z. join z us) trees ∙ join_join ts rs us) (ap (λ z. z ++ ls) exposes ∙ append_assoc ks ms ls)
 
   pub parted : (xs ys : List Symbol) {c : DeclKind} {env after : Environment} {i j : ℕ} {vs : Trees}
       {starts : List ℕ} →
@@ -100,14 +93,14 @@ module _ (g : Grammar) (shapes : List Shape) (text : List ℕ) where
                   below.first.covers refl refl;
             };
         second = below.second;
-        trees = trees ∙ ap (join ts) below.trees ∙ sym (join_assoc ts below.ts below.us);
+        trees = trees ∙ ap (join ts) below.trees ∙ sym (join_join ts below.ts below.us);
       }
 
   lone : {c : DeclKind} {x : Symbol} {env after : Environment} {i j : ℕ} {vs : Trees} {starts : List ℕ} →
       Covers g shapes text c (x ∷ []) env i j vs after starts → Stands c x env i j vs after
   lone {vs = vs1}
       (symbol c x others env between after i e h j ts us vs ks ls starts head (empty c1 env1 i1) trees exposes) =
-      let whole : ts ≡ vs1 = sym (trees ∙ join_none ts) in
+      let whole : ts ≡ vs1 = sym (trees ∙ join-none ts) in
       record {
         e = e;
         starts = ks;
@@ -172,32 +165,28 @@ pub elements_need_append : (n : List ℕ) (es1 bs : List Element) →
     elements_need n (es1 ++ bs) ≡ (elements_need n es1 || elements_need n bs)
 elements_need_append n [] bs = refl
 elements_need_append n (a ∷ es1) bs = ap (λ z. needs n a.x || z) (elements_need_append n es1 bs) ∙
-    assoc (needs n a.x) (elements_need n es1) (elements_need n bs)
-  where
-    assoc : (a b c : Bool) → (a || (b || c)) ≡ ((a || b) || c)
-    assoc true b c = refl
-    assoc false b c = refl
+    sym (or_assoc (needs n a.x) (elements_need n es1) (elements_need n bs))
 
 mutual
   pub elements_want : (n : List ℕ) (x : Symbol) (v : Visible) (k : ℕ) → elements_need n (elements v k x) ≡ needs n x
   elements_want n (Seq xs) v k = all_elements_want n xs v k
   elements_want n (Literal w) v k = refl
   elements_want n (OneOf w) v k = refl
-  elements_want n (Call m es) v k = or_nothing _
-  elements_want n (Label m x) v k = or_nothing _
-  elements_want n (Guard e) v k = or_nothing _
-  elements_want n (Let m e) v k = or_nothing _
-  elements_want n (Opt x) v k = or_nothing _
-  elements_want n (Star x) v k = or_nothing _
-  elements_want n (Plus x) v k = or_nothing _
-  elements_want n (SepStar x s) v k = or_nothing _
-  elements_want n (SepPlus x s) v k = or_nothing _
-  elements_want n (Group ys) v k = or_nothing _
-  elements_want n (Offside x) v k = or_nothing _
-  elements_want n (Ignore x) v k = or_nothing _
-  elements_want n (Align x) v k = or_nothing _
-  elements_want n (Filtered x fs) v k = or_nothing _
-  elements_want n (Entry bs x) v k = or_nothing _
+  elements_want n (Call m es) v k = or-false _
+  elements_want n (Label m x) v k = or-false _
+  elements_want n (Guard e) v k = or-false _
+  elements_want n (Let m e) v k = or-false _
+  elements_want n (Opt x) v k = or-false _
+  elements_want n (Star x) v k = or-false _
+  elements_want n (Plus x) v k = or-false _
+  elements_want n (SepStar x s) v k = or-false _
+  elements_want n (SepPlus x s) v k = or-false _
+  elements_want n (Group ys) v k = or-false _
+  elements_want n (Offside x) v k = or-false _
+  elements_want n (Ignore x) v k = or-false _
+  elements_want n (Align x) v k = or-false _
+  elements_want n (Filtered x fs) v k = or-false _
+  elements_want n (Entry bs x) v k = or-false _
 
   pub all_elements_want : (n : List ℕ) (xs : Symbols) (v : Visible) (k : ℕ) →
       elements_need n (all_elements v k xs) ≡ symbols_need n xs

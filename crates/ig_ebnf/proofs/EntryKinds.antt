@@ -1,10 +1,10 @@
 -- The arguments that an entry gives fit; and lowered symbols bind what the source's do.
 use Rattle.std.proofs.Common.{◌≡◌, ℕ, Bool, true, false, List, [], ◌∷◌, ◌++◌, refl, sym, ◌∙◌, ap}
 use Rattle.std.proofs.Common.{cond, Some}
+use Rattle.std.proofs.lemmas.Bool.{or_left, or_right, and_from}
 use Rattle.std.specs.Prelude.{◌||◌, ◌&&◌, not}
 use Rattle.std.specs.Cmp.Lexicographic.{bytes_decides}
 use Rattle.ig_ebnf.proofs.Definitions.{has, BindingsFit, IsSingle, Proper}
-use Rattle.ig_ebnf.proofs.Environments.{itself, or_left, or_right, and_both}
 use Rattle.ig_ebnf.proofs.VisibleKinds.{look, look_cons, Narrow, narrower}
 use Rattle.ig_ebnf.proofs.VisibleKinds.{same_kind, Entries}
 use Rattle.ig_rewrite.specs.Asked.{Fit}
@@ -18,6 +18,7 @@ use Rattle.ig_grammar.specs.Symbol.{Filtered, Seq, Entry}
 use Rattle.ig_grammar.specs.Visible.{Visible, kind_at, with_kind, replaced, binds, bound}
 use Rattle.ig_rewrite.specs.Needs.{needs, uses, bindings_use, is_bound}
 use Rattle.ig_text.specs.Words.{is_word}
+use Rattle.ig_text.proofs.Characters.{itself}
 
 look_with : (v : Visible) (m : List ℕ) (k : Kind) (n : List ℕ) →
     look (with_kind v m (Some k)) n ≡ cond (is_word m n) (Some k) (look v n)
@@ -109,7 +110,7 @@ entry_fits v w wanted bs fit s (p ∷ ps) own sub =
     let outside : is_bound p.0 bs ≡ false → look v p.0 ≡ look w p.0 =
     λ o. s.at p.0
     (or_right (bindings_use p.0 bs) (not (is_bound p.0 bs) && wanted p.0)
-    (and_both (not (is_bound p.0 bs)) (wanted p.0) (ap not o) yes)) in (
+    (and_from (not (is_bound p.0 bs)) (wanted p.0) (ap not o) yes)) in (
       argument_kind v wanted bs v w p.0 fit s1 outside ∙ own.0,
       entry_fits v w wanted bs fit s ps own.1 (λ n e. sub n (or_right (is_word p.0 n) (has ps n) e)),
     )

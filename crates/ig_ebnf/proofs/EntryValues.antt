@@ -1,29 +1,27 @@
 -- The bindings of an entry, as arguments.
 use Rattle.std.proofs.Common.{◌≡◌, ℕ, Bool, true, false, List, [], ◌∷◌, map, refl, sym, ◌∙◌, ap, subst, cond, Option}
 use Rattle.std.proofs.Common.{Some, None}
+use Rattle.std.proofs.lemmas.Bool.{or_left, or_right}
+use Rattle.std.proofs.Math.Bool.{or-false, or_assoc}
 use Rattle.std.specs.Prelude.{◌||◌}
 use Rattle.std.specs.Cmp.Lexicographic.{bytes_decides}
 use Rattle.ig_ebnf.proofs.Definitions.{has, is_some, find, Binds, Agree, BindingsFit}
-use Rattle.ig_ebnf.proofs.Environments.{find_cons, itself, or_left, or_right, or_nothing, valued, same_value}
+use Rattle.ig_ebnf.proofs.Environments.{find_cons, valued, same_value}
 use Rattle.ig_ebnf.proofs.Environments.{is_found, Holds}
 use Rattle.ig_ebnf.specs.Lists.{argument, arguments}
 use Rattle.ig_expr.specs.declared.kind.Kind.{Kind}
 use Rattle.ig_expr.specs.declared.value.Value.{Value}
 use Rattle.ig_grammar.specs.Binding.{Binding}
-use Rattle.ig_grammar.specs.Visible.{Visible, kind_at, with_kind}
+use Rattle.ig_grammar.specs.Visible.{Visible, with_kind}
 use Rattle.ig_meaning.specs.Environment.{Environment, HaveValues, no_values, next_value, with_value, replaced}
 use Rattle.ig_rewrite.specs.Needs.{uses, bindings_use, is_bound}
 use Rattle.ig_text.specs.Words.{is_word}
+use Rattle.ig_text.proofs.Characters.{itself}
 use Rattle.ig_grammar.specs.Visible as visible
-
-or_swap : (a b c : Bool) → (a || (b || c)) ≡ (b || (a || c))
-or_swap true true c = refl
-or_swap true false c = refl
-or_swap false b c = refl
 
 or_twice : (a b : Bool) → (a || (b || a)) ≡ (a || b)
 or_twice true b = refl
-or_twice false b = or_nothing b
+or_twice false b = or-false b
 
 find_with : (env : Environment) (m : List ℕ) (w : Value) (n : List ℕ) →
     find (with_value env m w) n ≡ cond (is_word m n) (Some w) (find env n)
@@ -63,28 +61,24 @@ find_with (p ∷ env) m w n = go (is_word p.0 m) refl (find_with env m w n)
 
 has_with : (v : Visible) (m : List ℕ) (k : Kind) (n : List ℕ) →
     has (with_kind v m (Some k)) n ≡ (has v n || is_word m n)
-has_with [] m k n = or_nothing (is_word m n)
+has_with [] m k n = or-false (is_word m n)
 has_with (p ∷ v) m k n = go (is_word p.0 m) refl (has_with v m k n)
   where
     around : (a b : Bool) → (a || b) ≡ ((a || b) || a)
     around true b = refl
-    around false b = sym (or_nothing b)
-
-    assoc : (a b c : Bool) → (a || (b || c)) ≡ ((a || b) || c)
-    assoc true b c = refl
-    assoc false b c = refl
+    around false b = sym (or-false b)
 
     go : (t : Bool) → is_word p.0 m ≡ t → has (with_kind v m (Some k)) n ≡ (has v n || is_word m n) →
         has (cond t ((m, k) ∷ v) (p ∷ with_kind v m (Some k))) n ≡ ((is_word p.0 n || has v n) || is_word m n)
     go true e below =
         let same : p.0 ≡ m = (bytes_decides p.0 m).0 e in
         around (is_word m n) (has v n) ∙ ap (λ z. (is_word z n || has v n) || is_word m n) (sym same)
-    go false e below = ap (λ z. is_word p.0 n || z) below ∙ assoc (is_word p.0 n) (has v n) (is_word m n)
+    go false e below = ap (λ z. is_word p.0 n || z) below ∙ sym (or_assoc (is_word p.0 n) (has v n) (is_word m n))
 
 some_with : (t : Bool) (w : Value) (o : Option Value) → is_some (cond t (Some w) o) ≡ (is_some o || t)
 some_with true w None = refl
 some_with true w (Some x) = refl
-some_with false w o = sym (or_nothing (is_some o))
+some_with false w o = sym (or-false (is_some o))
 
 binds_with : (v : Visible) (env : Environment) (m : List ℕ) (k : Kind) (w : Value) → Binds v env →
     Binds (with_kind v m (Some k)) (with_value env m w)
@@ -109,16 +103,12 @@ binds_replaced text outer wanted (c ∷ bs) vs1 i base v env fit (next_value e e
 pub has_replaced : (outer : Visible) (wanted : List ℕ → Bool) (v : Visible) (bs : List Binding) (n : List ℕ) →
     BindingsFit outer wanted bs →
     has (visible.replaced outer v bs) n ≡ (has v n || is_bound n bs)
-has_replaced outer wanted v [] n fit = sym (or_nothing (has v n))
+has_replaced outer wanted v [] n fit = sym (or-false (has v n))
 has_replaced outer wanted v (c ∷ bs) n fit =
     ap (λ z. has (visible.replaced outer (with_kind v c.name z) bs) n) fit.0.1 ∙
     has_replaced outer wanted (with_kind v c.name (Some fit.0.0)) bs n fit.3 ∙
     ap (λ z. z || is_bound n bs) (has_with v c.name fit.0.0 n) ∙
-    assoc (has v n) (is_word c.name n) (is_bound n bs)
-  where
-    assoc : (a b c : Bool) → ((a || b) || c) ≡ (a || (b || c))
-    assoc true b c = refl
-    assoc false b c = refl
+    or_assoc (has v n) (is_word c.name n) (is_bound n bs)
 
 replaced_other : (bs : List Binding) (vs : List Value) (env : Environment) (n : List ℕ) → is_bound n bs ≡ false →
     find (replaced env bs vs) n ≡ find env n

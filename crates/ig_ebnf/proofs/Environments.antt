@@ -1,9 +1,14 @@
 -- Environments, by the names that are looked up in them.
-use Rattle.std.proofs.Common.{◌≡◌, ℕ, ◌+◌, Bool, true, false, List, [], ◌∷◌, ◌++◌, refl, sym, ◌∙◌, ap}
+use Rattle.std.proofs.Common.{◌≡◌, ℕ, Bool, true, false, List, [], ◌∷◌, ◌++◌, refl, sym, ◌∙◌, ap}
 use Rattle.std.proofs.Common.{cond, Option, Some, None}
-use Rattle.std.specs.Prelude.{◌≢◌, ◌||◌, ◌&&◌, not, option_and_then}
+use Rattle.std.proofs.lemmas.Bool.{or_parts, or_left, or_right, and_parts, and_from}
+use Rattle.std.proofs.Math.Bool.{or-false, or_assoc, and-false}
+use Rattle.std.specs.Prelude.{◌||◌, ◌&&◌, not, option_and_then}
 use Rattle.std.specs.Cmp.Lexicographic.{bytes_decides}
+use Rattle.std.specs.Option.{option_or}
 use Rattle.ig_text.proofs.Positions.{beside-cons}
+use Rattle.ig_text.proofs.Characters.{itself}
+use Rattle.ig_text.proofs.Fallbacks.{or_none, or_cond, some_cond}
 use Rattle.ig_ebnf.proofs.Definitions.{has, is_some, find, Binds, Agree, Keeps}
 use Rattle.ig_ebnf.specs.Lists.{keep, params_for, params_of, arguments}
 use Rattle.ig_expr.specs.Blocks.{outer, inside}
@@ -34,62 +39,20 @@ pub find_cons : (n : List ℕ) (v : Value) (rest : Environment) (x : List ℕ) �
     find ((n, v) ∷ rest) x ≡ cond (is_word n x) (Some v) (find rest x)
 find_cons n v rest x = look_up_next n v (names rest) (values rest) x
 
-pub differs : (a b : List ℕ) → a ≢ b → is_word a b ≡ false
-differs a b other = go (is_word a b) refl
-  where
-    go : (t : Bool) → is_word a b ≡ t → t ≡ false
-    go true e = absurd (other ((bytes_decides a b).0 e))
-    go false e = refl
-
-pub itself : (a : List ℕ) → is_word a a ≡ true
-itself a = (bytes_decides a a).1 refl
-
--- truth values
-pub or_left : (a b : Bool) → a ≡ true → (a || b) ≡ true
-or_left a b e = ap (λ z. z || b) e
-
-pub or_right : (a b : Bool) → b ≡ true → (a || b) ≡ true
-or_right true b e = refl
-or_right false b e = e
-
-pub and_parts : (a b : Bool) → (a && b) ≡ true → (a ≡ true) × (b ≡ true)
-and_parts true b e = (refl, e)
-and_parts false b e = absurd (cc)
-
-pub and_both : (a b : Bool) → a ≡ true → b ≡ true → (a && b) ≡ true
-and_both a b e f = ap (λ z. z && b) e ∙ f
-
-or_assoc : (a b c : Bool) → ((a || b) || c) ≡ (a || (b || c))
-or_assoc true b c = refl
-or_assoc false b c = refl
-
-pub or_nothing : (a : Bool) → (a || false) ≡ a
-or_nothing true = refl
-or_nothing false = refl
-
 pub has_append : (v w : Visible) (n : List ℕ) → has (v ++ w) n ≡ (has v n || has w n)
 has_append [] w n = refl
 has_append (p ∷ v) w n = ap (λ z. is_word p.0 n || z) (has_append v w n) ∙
     sym (or_assoc (is_word p.0 n) (has v n) (has w n))
 
-abbrev pub or_else : {X : Type 0} → Option X → Option X → Option X
-or_else None b = b
-or_else (Some x) b = Some x
-
-else_cond : {X : Type 0} (t : Bool) (v : X) (a b : Option X) →
-    cond t (Some v) (or_else a b) ≡ or_else (cond t (Some v) a) b
-else_cond true v a b = refl
-else_cond false v a b = refl
-
-pub find_append : (env xs : Environment) (n : List ℕ) → find (env ++ xs) n ≡ or_else (find env n) (find xs n)
+pub find_append : (env xs : Environment) (n : List ℕ) → find (env ++ xs) n ≡ option_or (find env n) (find xs n)
 find_append [] xs n = refl
 find_append ((m, v) ∷ env) xs n =
     find_cons m v (env ++ xs) n ∙ ap (cond (is_word m n) (Some v)) (find_append env xs n) ∙
-    else_cond (is_word m n) v (find env n) (find xs n) ∙ ap (λ z. or_else z (find xs n)) (sym (find_cons m v env n))
+    or_cond (is_word m n) v (find env n) (find xs n) ∙ ap (λ z. option_or z (find xs n)) (sym (find_cons m v env n))
 
 pub keeps_append : (env env' xs : Environment) → Keeps env env' (env ++ xs) (env' ++ xs)
 keeps_append env env' xs =
-    record { at = λ n e. find_append env xs n ∙ ap (λ z. or_else z (find xs n)) e ∙ sym (find_append env' xs n) }
+    record { at = λ n e. find_append env xs n ∙ ap (λ z. option_or z (find xs n)) e ∙ sym (find_append env' xs n) }
 
 pub keeps_none : (env env' : Environment) → Keeps env env' env env'
 keeps_none env env' = record { at = λ n e. e }
@@ -98,11 +61,7 @@ pub keeps_both : {env env' between left after out : Environment} → Keeps env e
     Keeps between left after out → Keeps env env' after out
 keeps_both k l = record { at = λ n e. l.at n (k.at n e) }
 
-some_cond : {X : Type 0} (t : Bool) (v : X) (a : Option X) → is_some (cond t (Some v) a) ≡ (t || is_some a)
-some_cond true v a = refl
-some_cond false v a = refl
-
-some_else : {X : Type 0} (a b : Option X) → is_some (or_else a b) ≡ (is_some a || is_some b)
+some_else : {X : Type 0} (a b : Option X) → is_some (option_or a b) ≡ (is_some a || is_some b)
 some_else None b = refl
 some_else (Some x) b = refl
 
@@ -119,16 +78,8 @@ pub record Adds (w : Visible) (env after : Environment) : Type 0 where
   pub at : (n : List ℕ) → is_some (find after n) ≡ (is_some (find env n) || has w n)
   pub others : (n : List ℕ) → has w n ≡ false → find after n ≡ find env n
 
-else_none : {X : Type 0} (a : Option X) → or_else a None ≡ a
-else_none None = refl
-else_none (Some x) = refl
-
-or_false : (a b : Bool) → (a || b) ≡ false → (a ≡ false) × (b ≡ false)
-or_false true b e = absurd (cc)
-or_false false b e = (refl, e)
-
 pub adds_nothing : (env : Environment) → Adds [] env env
-adds_nothing env = record { at = λ n. sym (or_nothing (is_some (find env n))); others = λ n e. refl }
+adds_nothing env = record { at = λ n. sym (or-false (is_some (find env n))); others = λ n e. refl }
 
 pub adds_one : (env : Environment) (name : List ℕ) (v : Value) (k : Kind) →
     Adds ((name, k) ∷ []) env (env ++ (name, v) ∷ [])
@@ -138,9 +89,9 @@ adds_one env name v k = record {
       ap (λ z. is_some (find env n) || z)
       (ap is_some (find_cons name v [] n) ∙ some_cond (is_word name n) v (find [] n));
   others = λ n e. find_append env ((name, v) ∷ []) n ∙
-      ap (or_else (find env n))
-      (find_cons name v [] n ∙ ap (λ z. cond z (Some v) None) (or_false (is_word name n) false e).0) ∙
-      else_none (find env n);
+      ap (option_or (find env n))
+      (find_cons name v [] n ∙ ap (λ z. cond z (Some v) None) (or_parts (is_word name n) false e).0) ∙
+      or_none (find env n);
 }
 
 pub adds_both : {v w : Visible} {env between after : Environment} → Adds v env between → Adds w between after →
@@ -149,7 +100,7 @@ adds_both {v = v} {w = w} {env = env} a b = record {
   at = λ n.
       b.at n ∙ ap (λ z. z || has w n) (a.at n) ∙ or_assoc (is_some (find env n)) (has v n) (has w n) ∙
       ap (λ z. is_some (find env n) || z) (sym (has_append v w n));
-  others = λ n e. let apart = or_false (has v n) (has w n) (sym (has_append v w n) ∙ e) in b.others n apart.1 ∙
+  others = λ n e. let apart = or_parts (has v n) (has w n) (sym (has_append v w n) ∙ e) in b.others n apart.1 ∙
       a.others n apart.0;
 }
 
@@ -296,22 +247,18 @@ pub has_keep : (p : List ℕ → Bool) (v : Visible) (n : List ℕ) → has (kee
 has_keep p [] n = refl
 has_keep p (x ∷ v) n = go (p x.0) refl (is_word x.0 n) refl (has_keep p v n)
   where
-    nothing : (a : Bool) → (a && false) ≡ false
-    nothing true = refl
-    nothing false = refl
-
     go : (t : Bool) → p x.0 ≡ t → (u : Bool) → is_word x.0 n ≡ u → has (keep p v) n ≡ (has v n && p n) →
         has (cond t (x ∷ keep p v) (keep p v)) n ≡ ((u || has v n) && p n)
     go true e true f below = ap (λ z. z || has (keep p v) n) f ∙ sym e ∙ ap p ((bytes_decides x.0 n).0 f)
     go true e false f below = ap (λ z. z || has (keep p v) n) f ∙ below
     go false e true f below =
         let none : p n ≡ false = sym (ap p ((bytes_decides x.0 n).0 f)) ∙ e in
-        below ∙ ap (λ z. has v n && z) none ∙ nothing (has v n) ∙ sym none
+        below ∙ ap (λ z. has v n && z) none ∙ and-false (has v n) ∙ sym none
     go false e false f below = below
 
 either : (h a w : Bool) → ((h && (not a && w)) || (h && (a && w))) ≡ (h && w)
 either true true w = refl
-either true false w = or_nothing w
+either true false w = or-false w
 either false a w = refl
 
 pub has_params : (v : Visible) (wanted : List ℕ → Bool) (n : List ℕ) →
@@ -343,7 +290,7 @@ entered_agrees v wanted env ws binds holds = record { at = λ n w. go n w (has v
     go n w true e =
         sym
         (zipped_found (params_for v wanted) env ws n holds
-        (has_params v wanted n ∙ and_both (has v n) (wanted n) e w))
+        (has_params v wanted n ∙ and_from (has v n) (wanted n) e w))
     go n w false e = is_none (find env n) (binds.at n ∙ e) ∙
         sym (zipped_unfound (params_for v wanted) ws n (has_params v wanted n ∙ ap (λ z. z && wanted n) e))
 

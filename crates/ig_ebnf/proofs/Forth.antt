@@ -3,17 +3,18 @@ use Rattle.ig_grammar.specs.Symbol.{Literal, OneOf, Label, Guard, Let, Offside, 
 use Rattle.std.proofs.Common.{◌≡◌, ℕ, suc, ◌+◌, Bool, true, List, [], ◌∷◌, ◌++◌, map, refl, sym, ◌∙◌, ap, subst}
 use Rattle.std.specs.Prelude.{◌||◌, ◌&&◌, not}
 use Rattle.std.proofs.lemmas.List.{map-append}
+use Rattle.std.proofs.lemmas.Bool.{or_left, or_right, and_parts, and_from}
 use Rattle.ig_text.specs.declared.tag.Tag.TheVariants as tag
 use Rattle.ig_ebnf.proofs.BoundNames.{derives_add}
 use Rattle.ig_ebnf.proofs.EntryValues.{binds_replaced, argument_value, arguments_to}
 use Rattle.ig_ebnf.proofs.Definitions.{has, find, Binds, Agree, Keeps, Quiet, Proper, SymbolsProper, AllDeclared}
 use Rattle.ig_ebnf.proofs.Definitions.{IsSingle, IsForm, Takes}
-use Rattle.ig_ebnf.proofs.Environments.{or_left, or_right, and_parts, and_both, has_to, have_to, keeps_none}
+use Rattle.ig_ebnf.proofs.Environments.{has_to, have_to, keeps_none}
 use Rattle.ig_ebnf.proofs.Environments.{keeps_both, keeps_append, binds_more, Holds}
 use Rattle.ig_ebnf.proofs.Environments.{zipped, enter, entered_agrees, binds_parameters, has_params, held_by, valued}
 use Rattle.ig_ebnf.proofs.AddedInstances.{instance_of, calling, bare as bare_end, no_trail, swapped, chosen_to}
 use Rattle.ig_ebnf.proofs.AddedInstances.{form_call}
-use Rattle.ig_ebnf.proofs.Elements.{join_none, gathered_listed, joined, declared_first, declared_second}
+use Rattle.ig_ebnf.proofs.Elements.{gathered_listed, joined, declared_first, declared_second}
 use Rattle.ig_ebnf.specs.Lists.{count, params_for, arguments, argument, element, elements, all_elements, entering}
 use Rattle.ig_ebnf.specs.Lists.{new_symbol, new_element, new}
 use Rattle.ig_ebnf.specs.Lists.{new_symbols, new_alternatives, sep_plus_alternatives, added, added_symbols}
@@ -36,6 +37,7 @@ use Rattle.ig_meaning.specs.Environment.{Environment}
 use Rattle.ig_rewrite.specs.Added.{added_name}
 use Rattle.ig_rewrite.specs.Needs.{needs, symbols_need, alternatives_need, is_pair, bindings_use, is_bound}
 use Rattle.ig_text.specs.Tree.{Tree, Trees, Node, none, more, one}
+use Rattle.ig_text.proofs.Trees.{join-none}
 use Rattle.ig_grammar.specs.Visible as visible
 use Rattle.ig_grammar.specs.declared.place.Shape.TheVariants as shape
 
@@ -98,7 +100,7 @@ module _ (g g' : Grammar) (shapes shapes' : List Shape) (May : List ℕ → Type
               subst (λ z. Covers g' shapes' text c (map (new_element of) z) env' i j ts here.left (here.starts ++ []))
               (sym same)
               (symbol c (new_symbol of v k x) [] env' here.left here.left i e j j ts none ts here.starts [] _
-              here.derives (empty c here.left j) (sym (join_none ts)) refl);
+              here.derives (empty c here.left j) (sym (join-none ts)) refl);
           keeps = here.keeps;
         };
         single = λ s. here;
@@ -353,7 +355,7 @@ module _ (g g' : Grammar) (shapes shapes' : List Shape) (May : List ℕ → Type
         λ n u. argument_value text v wanted bindings vs i env env' env n p.1 have
         (record { at = λ m y. s.at m (or_left (bindings_use m bindings) (not (is_bound m bindings) && needs m x) y) })
         (λ y. s.at n (or_right (bindings_use n bindings) (not (is_bound n bindings) && needs n x)
-        (and_both (not (is_bound n bindings)) (needs n x) (ap not y)
+        (and_from (not (is_bound n bindings)) (needs n x) (ap not y)
         (and_parts (has w n) (needs n x) (sym (has_params w wanted n) ∙ u)).1))) ∙
         ap (λ z. find z n) (sym renewed) in
         alone refl (record {

@@ -3,17 +3,17 @@ use Rattle.std.proofs.Common.{◌≡◌, ◌∙◌, ℕ, zero, suc, Bool, true, 
 use Rattle.std.proofs.Common.{take, Some, refl, sym, ap, arith}
 use Rattle.std.specs.Prelude.{◌≢◌, Contains, slice_get}
 use Rattle.std.proofs.lemmas.Option.{same_Some}
-use Rattle.ig_text.proofs.Lists.{at_from_contains}
-use Rattle.ig_grammar.specs.Names.{names, AreDistinct}
+use Rattle.std.proofs.lemmas.Bool.{or_left, or_right}
+use Rattle.ig_text.proofs.Lists.{at_from_contains, from_map}
+use Rattle.ig_text.proofs.Characters.{itself}
+use Rattle.ig_grammar.specs.Names.{AreDistinct}
 use Rattle.ig_grammar.specs.Visible.{parameters}
 use Rattle.ig_grammar.specs.Visible as visible
 use Rattle.ig_grammar.specs.declared.declaration.Param.{Param}
 use Rattle.ig_ebnf.proofs.Definitions.{has}
 use Rattle.ig_ebnf.proofs.VisibleKinds.{has_named}
-use Rattle.ig_ebnf.proofs.LoweredGrammar.{from_map}
 use Rattle.ig_ebnf.proofs.LoweredCalm.{Distinct}
 use Rattle.ig_rewrite.specs.Passing.{parameter_names}
-use Rattle.ig_ebnf.proofs.Environments.{itself, or_left, or_right}
 use Rattle.ig_text.specs.Words.{is_word}
 
 first_unseen : (p : Param) (ps : List Param) → ((k : ℕ) (q : Param) → slice_get ps k ≡ Some q → q.name ≢ p.name) →

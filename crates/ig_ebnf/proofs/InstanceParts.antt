@@ -1,6 +1,8 @@
 -- What the instance of an added declaration is made of.
 use Rattle.std.proofs.Common.{◌≡◌, ℕ, suc, ◌+◌, Bool, true, false, List, [], ◌∷◌, ◌++◌, map, refl, sym, ◌∙◌, ap}
 use Rattle.std.proofs.Common.{subst, Some}
+use Rattle.std.proofs.lemmas.Bool.{or_parts}
+use Rattle.std.proofs.lemmas.Option.{same_Some}
 use Rattle.std.specs.Prelude.{slice_get, ◌||◌}
 use Rattle.ig_ebnf.proofs.Definitions.{has, Agree, BindingsFit, Takes}
 use Rattle.ig_ebnf.proofs.Environments.{Holds, zipped, held, held_by, bound_from, params_wanted, flipped, has_append}
@@ -41,14 +43,8 @@ nothing_of (symbol c x others env between after i e h j ts us vs ks ls starts he
 pub two : {R : Type 0} {X : Type 0} (first second : X) (n m : ℕ) (z : X) → n ≡ suc m →
     slice_get (first ∷ second ∷ []) m ≡ Some z →
     (n ≡ 1 → z ≡ first → R) → (n ≡ 2 → z ≡ second → R) → R
-two first second n ℕ.zero z e at here there = here e (some_same z first at)
-  where
-    some_same : {X : Type 0} (x y : X) → Some y ≡ Some x → x ≡ y
-    some_same x y e = cc
-two first second n (suc ℕ.zero) z e at here there = there e (some_same z second at)
-  where
-    some_same : {X : Type 0} (x y : X) → Some y ≡ Some x → x ≡ y
-    some_same x y e = cc
+two first second n ℕ.zero z e at here there = here e (sym (same_Some first z at))
+two first second n (suc ℕ.zero) z e at here there = there e (sym (same_Some second z at))
 two first second n (suc (suc m)) z e at here there = absurd (cc)
 
 pub record Opened (ps : Visible) (sh : Shape) (alts : List (List Symbol)) (ws : List Value) (kind : DeclKind)
@@ -116,10 +112,6 @@ none_append : (n : List ℕ) (es fs : List Element) → NoneBinds n es → NoneB
 none_append n [] fs h k = k
 none_append n (e ∷ es) fs h k = (h.0, none_append n es fs h.1 k)
 
-or_false : (a b : Bool) → (a || b) ≡ false → (a ≡ false) × (b ≡ false)
-or_false true b e = absurd (cc)
-or_false false b e = (refl, e)
-
 mutual
   pub none_binds : (n : List ℕ) (x : Symbol) (v : Visible) (k : ℕ) → has (binds v x) n ≡ false →
       NoneBinds n (elements v k x)
@@ -147,7 +139,7 @@ mutual
   all_none n no_symbols v k h = tt
   all_none n (next_symbol x xs) v k h =
       let parts =
-      or_false (has (binds v x) n) (has (all_bind (v ++ binds v x) xs) n)
+      or_parts (has (binds v x) n) (has (all_bind (v ++ binds v x) xs) n)
       (sym (has_append (binds v x) (all_bind (v ++ binds v x) xs) n) ∙ h) in
       none_append n (elements v k x) (all_elements (v ++ binds v x) (k + count x) xs) (none_binds n x v k parts.0)
       (all_none n xs (v ++ binds v x) (k + count x) parts.1)

@@ -6,7 +6,7 @@ use Rattle.std.specs.Prelude.{◌||◌, option_map}
 use Rattle.std.specs.Cmp.Lexicographic.{bytes_decides}
 use Rattle.ig_ebnf.proofs.EntryKinds.{entry_fits, same_binds}
 use Rattle.ig_ebnf.proofs.Definitions.{has, Proper, Ready, AllDeclared, IsSingle, IsForm, BindingsFit}
-use Rattle.ig_ebnf.proofs.Environments.{itself, differs, or_left, or_right, has_params, and_parts}
+use Rattle.ig_ebnf.proofs.Environments.{has_params}
 use Rattle.ig_ebnf.proofs.VisibleKinds.{look, look_cons, Narrow, narrower, narrow_more, Entries, entries_params}
 use Rattle.ig_ebnf.proofs.VisibleKinds.{call_fits}
 use Rattle.ig_ebnf.proofs.Occurrences.{Calm, AllCalm, of_both}
@@ -17,9 +17,11 @@ use Rattle.ig_rewrite.specs.Needs.{uses, any_uses}
 use Rattle.ig_ebnf.specs.Lists.{params_of}
 use Rattle.ig_ebnf.proofs.VisibleKinds.{same_kind, named_has, has_named}
 use Rattle.ig_text.proofs.Lists.{at_from_contains}
+use Rattle.ig_text.proofs.Characters.{differs, itself}
 use Rattle.std.proofs.lemmas.Option.{same_Some}
 use Rattle.std.specs.Prelude.{Contains, slice_get}
 use Rattle.std.proofs.Common.{zero}
+use Rattle.std.proofs.lemmas.Bool.{or_left, or_right, and_parts}
 use Rattle.ig_ebnf.specs.Lists.{made, params_for, new, new_symbol, new_element, new_alternatives}
 use Rattle.ig_ebnf.specs.Lists.{sep_plus_alternatives}
 use Rattle.ig_ebnf.specs.Lists.{new_declaration, added, Element}
@@ -40,7 +42,6 @@ use Rattle.ig_grammar.specs.declared.place.Shape.{Shape}
 use Rattle.ig_rewrite.specs.Added.{added_name}
 use Rattle.ig_rewrite.specs.Needs.{needs}
 use Rattle.ig_text.specs.Words.{is_word}
-use Rattle.ig_grammar.specs.Condition as met
 use Rattle.ig_grammar.specs.declared.place.Shape.TheVariants as shape
 
 -- no two names

@@ -1,14 +1,13 @@
 -- The pass's grammar has what the induction uses.
-use Rattle.ig_text.proofs.Lists.{left_at}
-use Rattle.ig_text.proofs.Options.{mapped}
+use Rattle.ig_text.proofs.Lists.{left_at, mapped_at, either_place, from_map}
 use Rattle.std.proofs.lemmas.Option.{same_Some}
 use Rattle.std.proofs.Common.{◌≡◌, ℕ, suc, ◌+◌, ◌<◌, List, [], ◌∷◌, ◌++◌, map, length, refl, sym, ◌∙◌, ap, subst}
 use Rattle.std.proofs.Common.{Some, None, inl, inr, arith}
-use Rattle.std.specs.Prelude.{◌⊎◌, slice_get, option_map}
-use Rattle.std.proofs.lemmas.Option.{slice_get-map, slice_get_within}
+use Rattle.std.specs.Prelude.{◌⊎◌, slice_get}
+use Rattle.std.proofs.lemmas.Option.{slice_get_within}
 use Rattle.std.proofs.lemmas.List.{length-map, map-append}
 use Rattle.ig_ebnf.proofs.Definitions.{AllDeclared, Takes, DeclaredAs, NumberedTo, NumberedFrom, IsOld, MayBeLowered}
-use Rattle.ig_ebnf.proofs.AddedNames.{either_place, distinct_append, titles, titles_distinct, AllPlain, all_plain}
+use Rattle.ig_ebnf.proofs.AddedNames.{distinct_append, titles, titles_distinct, AllPlain, all_plain}
 use Rattle.ig_ebnf.proofs.Elements.{declared_first, declared_second}
 use Rattle.ig_ebnf.specs.Lists.{lowered_grammar, Made, new_symbols, added_symbols, new_alts, added_alts, new_levels}
 use Rattle.ig_ebnf.specs.Lists.{added_levels, count_symbols}
@@ -29,14 +28,6 @@ pub further : {X : Type 0} (xs ys : List X) (k n : ℕ) → n ≡ length xs + k 
 further [] ys k n e = ap (slice_get ys) (omega (arith, e))
 further (x ∷ xs) ys k ℕ.zero e = absurd (let f : ⊥ = omega (arith, e) in f)
 further (x ∷ xs) ys k (suc n) e = further xs ys k n (omega (arith, e))
-
-pub from_map : {X Y : Type 0} (f : X → Y) (xs : List X) (k : ℕ) (y : Y) → slice_get (map f xs) k ≡ Some y →
-    (x : X) × (slice_get xs k ≡ Some x) × (y ≡ f x)
-from_map f xs k y h = mapped f (slice_get xs k) y (sym (slice_get-map f xs k) ∙ h)
-
-pub into_map : {X Y : Type 0} (f : X → Y) (xs : List X) (k : ℕ) (x : X) → slice_get xs k ≡ Some x →
-    slice_get (map f xs) k ≡ Some (f x)
-into_map f xs k x h = slice_get-map f xs k ∙ ap (option_map f) h
 
 pub layout_plain : (ms : List Made) → AllPlain ms → layout_among (decls_of ms) ≡ None
 layout_plain [] p = refl
@@ -164,7 +155,7 @@ module _ (g : Grammar) (shapes : List Shape) (may : MayBeLowered g shapes) where
           at.0,
           at.1,
           left_at (map new_declaration g.decls) (decls_of made) at.0 (new_declaration decl)
-              (into_map new_declaration g.decls at.0 decl at.2),
+              (mapped_at new_declaration g.decls at.0 decl at.2),
         );
         shaped = (
           declares.shaped.0,
@@ -253,8 +244,8 @@ module _ (g : Grammar) (shapes : List Shape) (may : MayBeLowered g shapes) where
   once name d e decl other shape form a b =
       let same : a.numbered.0 ≡ b.numbered.0 =
       distinct a.numbered.0 b.numbered.0 name
-      (into_map (λ (d : Decl). d.name) g'.decls a.numbered.0 decl a.numbered.2 ∙ ap Some a.named)
-      (into_map (λ (d : Decl). d.name) g'.decls b.numbered.0 other b.numbered.2 ∙ ap Some b.named) in
+      (mapped_at (λ (d : Decl). d.name) g'.decls a.numbered.0 decl a.numbered.2 ∙ ap Some a.named)
+      (mapped_at (λ (d : Decl). d.name) g'.decls b.numbered.0 other b.numbered.2 ∙ ap Some b.named) in
       let shaped : a.shaped.0 ≡ b.shaped.0 =
       places d a.shaped.0 a.numbered.0 a.shaped.1 a.numbered.1 ∙ same ∙
       places e b.numbered.0 b.shaped.0 b.numbered.1 b.shaped.1 in (
@@ -274,13 +265,13 @@ module _ (g : Grammar) (shapes : List Shape) (may : MayBeLowered g shapes) where
             refl,
             further (map new_declaration g.decls) (decls_of made) n k
                 (ap (λ z. z + n) (sym (length-map g.decls new_declaration))) ∙
-                into_map (λ (z : Made). z.decl) made n x e,
+                mapped_at (λ (z : Made). z.decl) made n x e,
           );
           shaped = (
             k,
             refl,
             further shapes (forms_of made) n k (ap (λ z. z + n) (sym may.lengths)) ∙
-                into_map (λ (z : Made). z.shape) made n x e,
+                mapped_at (λ (z : Made). z.shape) made n x e,
           );
           named = refl;
         },

@@ -4,7 +4,7 @@ use Rattle.std.proofs.Common.{length, Some, refl, sym, ap, subst, arith}
 use Rattle.std.specs.Prelude.{◌≤◌, ◌++◌, Contains, slice_get}
 use Rattle.std.proofs.lemmas.Option.{same_Some, slice_get_within}
 use Rattle.std.proofs.lemmas.List.{append-nil, length-map, map-append}
-use Rattle.ig_text.proofs.Lists.{at_from_contains, contains_from_at, contains_one, none_in_nil, left_at, right_at}
+use Rattle.ig_text.proofs.Lists.{at_from_contains, contains_from_at, contains_one, none_in_nil, left_at, right_at, mapped_at, from_map}
 use Rattle.ig_grammar.specs.Name.{is_name}
 use Rattle.ig_grammar.specs.Names.{names, AreDistinct}
 use Rattle.ig_grammar.specs.Checked.{CheckedGrammar}
@@ -27,7 +27,7 @@ use Rattle.ig_ebnf.specs.Lists.{Made, new_declaration, new_levels, new_symbols, 
 use Rattle.ig_ebnf.specs.Lists.{decls_of, all_elements, lowered}
 use Rattle.ig_ebnf.proofs.Definitions.{IsOld, MayBeLowered, AllDeclared}
 use Rattle.ig_ebnf.proofs.AddedNames.{IsPlainly, all_plain, title_at}
-use Rattle.ig_ebnf.proofs.LoweredGrammar.{new_free, distinct, present, from_map, into_map, levels_from}
+use Rattle.ig_ebnf.proofs.LoweredGrammar.{new_free, distinct, present, levels_from}
 use Rattle.ig_ebnf.proofs.OldNames.{declared_old}
 use Rattle.ig_ebnf.proofs.Premises.{Given, may_be_lowered, calm_alternative, clear_alternative, proper_alternative}
 use Rattle.ig_ebnf.proofs.Premises.{alternative_there}
@@ -193,7 +193,7 @@ module _ (c : CheckedGrammar) (given : Given c) where
   added_is_no_name decl at =
       let title =
       title_at g.decls may.few at.place at.made.decl.name
-      (into_map (λ (x : Made). x.decl.name) (all_added g.decls) at.place at.made at.there) in
+      (mapped_at (λ (x : Made). x.decl.name) (all_added g.decls) at.place at.made at.there) in
       ap is_name (ap (λ (z : Decl). z.name) at.same ∙ title.same) ∙ given.new.numbered title.decl.name title.k
 
   pub added_plainly : (decl : Decl) (at : AddedAt decl) → IsPlainly at.made
@@ -244,7 +244,7 @@ module _ (c : CheckedGrammar) (given : Given c) where
       ap (λ ns. ns ++ titles) (same_names g.decls)) once
 
   new_at : (k : ℕ) (d e : Decl) → slice_get g.decls k ≡ Some d → slice_get (map new_declaration g.decls) k ≡ Some e → new_declaration d ≡ e
-  new_at k d e before after = same_Some (new_declaration d) e (sym (into_map new_declaration g.decls k d before) ∙ after)
+  new_at k d e before after = same_Some (new_declaration d) e (sym (mapped_at new_declaration g.decls k d before) ∙ after)
 
   pub remakes : Remakes [] g h
   remakes =
@@ -268,7 +268,7 @@ module _ (c : CheckedGrammar) (given : Given c) where
       fresh e m l =
           let i = at_from_contains (names g.decls) e.name l in
           let j = at_from_contains (decls_of (all_added g.decls)) e m in
-          let there = into_map (λ (z : Decl). z.name) (decls_of (all_added g.decls)) j.0 e j.1 in
+          let there = mapped_at (λ (z : Decl). z.name) (decls_of (all_added g.decls)) j.0 e j.1 in
           let same =
           all_once i.0 (length (names g.decls) + j.0) e.name (left_at (names g.decls) titles i.0 e.name i.1)
           (right_at (names g.decls) titles (length (names g.decls) + j.0) j.0 e.name refl there) in

@@ -6,7 +6,7 @@ use Rattle.std.proofs.lemmas.Option.{same_Some, slice_get_within}
 use Rattle.std.proofs.lemmas.List.{length-map, map-append}
 use Rattle.std.proofs.lemmas.List.Elements.{All-nil, All-cons, All-head, All-tail}
 use Rattle.ig_expr.specs.Expression.{Expression}
-use Rattle.ig_text.proofs.Lists.{at_from_contains, contains_from_at}
+use Rattle.ig_text.proofs.Lists.{at_from_contains, contains_from_at, mapped_at, either_place, from_map}
 use Rattle.ig_grammar.specs.Names.{names}
 use Rattle.ig_grammar.specs.Checked.{CheckedGrammar, FitShapes, FitsShape, IsRoot, IsCall, IsOfCalls, IsOneFreeLevel}
 use Rattle.ig_grammar.specs.Checked.{MayHave}
@@ -28,8 +28,8 @@ use Rattle.ig_ebnf.specs.Lists.{Made, count, elements, all_elements, new_declara
 use Rattle.ig_ebnf.specs.Lists.{new_alts, new_symbols, new, added_symbols, added_by}
 use Rattle.ig_ebnf.specs.Lists.{count_alts, count_symbols, all_added, decls_of, forms_of, lowered}
 use Rattle.ig_ebnf.proofs.Definitions.{MayBeLowered, SymbolsProper}
-use Rattle.ig_ebnf.proofs.AddedNames.{IsPlainly, all_plain, either_place, title_at}
-use Rattle.ig_ebnf.proofs.LoweredGrammar.{from_map, into_map, present}
+use Rattle.ig_ebnf.proofs.AddedNames.{IsPlainly, all_plain, title_at}
+use Rattle.ig_ebnf.proofs.LoweredGrammar.{present}
 use Rattle.ig_ebnf.proofs.Premises.{Given, may_be_lowered, calm_alternative, clear_alternative}
 use Rattle.ig_ebnf.proofs.Occurrences.{Calm, of_all, of_at}
 use Rattle.ig_ebnf.proofs.ProperSymbols.{symbols_proper}
@@ -394,13 +394,13 @@ module _ (c : CheckedGrammar) (given : Given c) where
           let is : root_name ≡ at.source.name = named ∙ ap (λ (z : Decl). z.name) at.same in
           let there = given.sound.fresh (subst (Contains (names g.decls)) (sym is)
           (contains_from_at (names g.decls) b at.source.name
-          (into_map (λ (z : Decl). z.name) g.decls b at.source at.there))) in
+          (mapped_at (λ (z : Decl). z.name) g.decls b at.source at.there))) in
           let bad : true ≡ false = sym there ∙ no_root_before c.shapes (forms_of (all_added g.decls)) none in
           absurd (cc)
       go b decl named (inr m) =
           let at = added_at c given m.0 decl m.1 in
           let title =
           title_at g.decls may.few at.place at.made.decl.name
-          (into_map (λ (x : Made). x.decl.name) (all_added g.decls) at.place at.made at.there) in
+          (mapped_at (λ (x : Made). x.decl.name) (all_added g.decls) at.place at.made at.there) in
           given.new.signed root_name title.decl.name title.k given.new.root_unsigned
           (named ∙ ap (λ (z : Decl). z.name) at.same ∙ title.same)

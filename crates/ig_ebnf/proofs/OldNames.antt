@@ -2,30 +2,32 @@
 use Rattle.std.proofs.Common.{◌≡◌, ℕ, suc, Bool, true, false, List, [], ◌∷◌, ◌++◌, map, refl, sym, ◌∙◌, ap, cond}
 use Rattle.std.proofs.Common.{Option, Some, None}
 use Rattle.std.specs.Prelude.{◌≢◌, option_map, slice_get}
+use Rattle.std.specs.Option.{option_or}
 use Rattle.ig_ebnf.proofs.Definitions.{IsOld}
-use Rattle.ig_ebnf.proofs.Environments.{or_else, differs}
 use Rattle.ig_ebnf.proofs.Declarations.{declaration_next}
 use Rattle.ig_ebnf.specs.Lists.{lowered_grammar, Made, new_declaration, all_added, decls_of}
 use Rattle.ig_grammar.specs.Condition.{declaration_of}
 use Rattle.ig_grammar.specs.declared.declaration.Decl.{Decl}
 use Rattle.ig_grammar.specs.declared.grammar.Grammar.{Grammar}
 use Rattle.ig_text.specs.Words.{is_word}
+use Rattle.ig_text.proofs.Characters.{differs}
+use Rattle.ig_text.proofs.Fallbacks.{or_none}
 
 new_cond : (t : Bool) (d : Decl) (o e : Option Decl) →
-    cond t (Some (new_declaration d)) (or_else (option_map new_declaration o) e) ≡ or_else
+    cond t (Some (new_declaration d)) (option_or (option_map new_declaration o) e) ≡ option_or
     (option_map new_declaration (cond t (Some d) o)) e
 new_cond true d o e = refl
 new_cond false d o e = refl
 
 mapped : (ds es : List Decl) (n : List ℕ) →
-    declaration_of (map new_declaration ds ++ es) n ≡ or_else (option_map new_declaration (declaration_of ds n))
+    declaration_of (map new_declaration ds ++ es) n ≡ option_or (option_map new_declaration (declaration_of ds n))
     (declaration_of es n)
 mapped [] es n = refl
 mapped (d ∷ ds) es n =
     declaration_next (new_declaration d) (map new_declaration ds ++ es) n ∙
     ap (cond (is_word d.name n) (Some (new_declaration d))) (mapped ds es n) ∙
     new_cond (is_word d.name n) d (declaration_of ds n) (declaration_of es n) ∙
-    ap (λ z. or_else (option_map new_declaration z) (declaration_of es n)) (sym (declaration_next d ds n))
+    ap (λ z. option_or (option_map new_declaration z) (declaration_of es n)) (sym (declaration_next d ds n))
 
 absent_name : (es : List Decl) (n : List ℕ) → ((k : ℕ) (d : Decl) → slice_get es k ≡ Some d → d.name ≢ n) →
     declaration_of es n ≡ None
@@ -42,17 +44,13 @@ made_absent (m ∷ ms) n each =
     ap (λ z. cond z (Some m.decl) (declaration_of (decls_of ms) n)) (differs m.decl.name n (each 0 m refl)) ∙
     made_absent ms n (λ k x e. each (suc k) x e)
 
-else_none : {X : Type 0} (a : Option X) → or_else a None ≡ a
-else_none None = refl
-else_none (Some x) = refl
-
 pub declared_old : (g : Grammar) (n : List ℕ) → IsOld g n →
     declaration_of (lowered_grammar g).decls n ≡ option_map new_declaration (declaration_of g.decls n)
 declared_old g n old =
     mapped g.decls (decls_of (all_added g.decls)) n ∙
-    ap (or_else (option_map new_declaration (declaration_of g.decls n)))
+    ap (option_or (option_map new_declaration (declaration_of g.decls n)))
     (made_absent (all_added g.decls) n old.not_added) ∙
-    else_none (option_map new_declaration (declaration_of g.decls n))
+    or_none (option_map new_declaration (declaration_of g.decls n))
 
 pub from_option : (o : Option Decl) (lower : Decl) → option_map new_declaration o ≡ Some lower →
     (callee : Decl) × (o ≡ Some callee) × (lower ≡ new_declaration callee)

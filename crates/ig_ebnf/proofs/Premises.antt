@@ -4,7 +4,7 @@ use Rattle.std.proofs.Common.{◌∙◌, ap, subst, arith}
 use Rattle.std.specs.Prelude.{Contains, All, slice_get}
 use Rattle.std.proofs.lemmas.List.{append-nil}
 use Rattle.std.proofs.lemmas.Option.{same_Some}
-use Rattle.ig_text.proofs.Lists.{contains_from_at}
+use Rattle.ig_text.proofs.Lists.{contains_from_at, mapped_at}
 use Rattle.ig_grammar.specs.Symbol.{gathered}
 use Rattle.ig_grammar.specs.Alternative.{gathered_alternatives}
 use Rattle.ig_grammar.specs.Subterms.{subterms_of_alternatives}
@@ -31,7 +31,6 @@ use Rattle.ig_rewrite.specs.Sound.{IsSound, IsFree, IsUnmarked, HasExclusionsAlo
 use Rattle.ig_ebnf.specs.Lists.{Made, HasFewLists, count_levels, all_added}
 use Rattle.ig_ebnf.proofs.Definitions.{IsOld, MayBeLowered, Small, SymbolsProper}
 use Rattle.ig_ebnf.proofs.AddedNames.{title_at}
-use Rattle.ig_ebnf.proofs.LoweredGrammar.{into_map}
 use Rattle.ig_ebnf.proofs.Declarations.{declared_by, named_by}
 use Rattle.ig_ebnf.proofs.Occurrences.{Calm, AllCalm, of_all}
 use Rattle.ig_ebnf.proofs.ClearSymbols.{IsFit, SymbolsClear, clear_at}
@@ -96,7 +95,7 @@ module _ (c : CheckedGrammar) (given : Given c) where
         not_added = λ n x e same.
             let at =
             title_at g.decls small n x.decl.name
-            (into_map (λ (m : Made). m.decl.name) (all_added g.decls) n x e) in
+            (mapped_at (λ (m : Made). m.decl.name) (all_added g.decls) n x e) in
             given.new.signed name at.decl.name at.k unsigned (sym same ∙ at.same);
       }
 

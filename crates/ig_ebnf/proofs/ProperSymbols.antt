@@ -10,7 +10,6 @@ use Rattle.ig_grammar.specs.Symbol.{Filtered, Seq, Entry, Symbols, no_symbols, n
 use Rattle.ig_grammar.specs.Symbol.{no_alternatives, next_alternative}
 use Rattle.ig_grammar.specs.Regular.{MayHaveLabel, MayHaveFilters, MayHaveEntry}
 use Rattle.ig_grammar.specs.Visible.{Visible, at, binds, replaced, kind_at, inside, inside_sequence, inside_choices}
-use Rattle.ig_grammar.specs.Condition as condition
 use Rattle.ig_grammar.specs.declared.declaration.DeclKind.{DeclKind}
 use Rattle.ig_grammar.specs.declared.grammar.Grammar.{Grammar}
 use Rattle.ig_rewrite.specs.Needs.{needs, AreWanted}
@@ -18,7 +17,7 @@ use Rattle.ig_ebnf.proofs.Definitions.{has, Proper, SymbolsProper, AlternativesP
 use Rattle.ig_ebnf.proofs.ClearSymbols.{Clear, SymbolsClear, AlternativesClear, nothing_bound}
 use Rattle.ig_ebnf.proofs.Occurrences.{Calm, OfAll, of_first, of_second}
 
-may_label : (x : Symbol) → MayHaveLabel x → IsSingle x
+pub may_label : (x : Symbol) → MayHaveLabel x → IsSingle x
 may_label (Literal w) h = tt
 may_label (OneOf w) h = tt
 may_label (Call m es) h = tt
@@ -38,7 +37,7 @@ may_label (Filtered x fs) h = tt
 may_label (Seq xs) h = absurd h
 may_label (Entry bs x) h = tt
 
-may_filters : (x : Symbol) → MayHaveFilters x → IsSingle x
+pub may_filters : (x : Symbol) → MayHaveFilters x → IsSingle x
 may_filters (Literal w) h = tt
 may_filters (OneOf w) h = tt
 may_filters (Call m es) h = tt

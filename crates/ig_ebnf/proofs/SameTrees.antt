@@ -1,5 +1,5 @@
 -- The pass keeps the permitted trees.
-use Rattle.ig_text.proofs.Lists.{at_from_contains}
+use Rattle.ig_text.proofs.Lists.{at_from_contains, either_place, from_map}
 use Rattle.std.proofs.lemmas.Option.{same_Some}
 use Rattle.ig_ebnf.proofs.OfAdded.{of_added_at}
 use Rattle.ig_ebnf.proofs.LoweredGrammar.{new_free}
@@ -18,8 +18,8 @@ use Rattle.ig_meaning.specs.Laws.{TreesWithoutOperatorsAreClean}
 use Rattle.ig_ebnf.proofs.Definitions.{SymbolsProper, AllDeclared, Takes, Binds, Quiet, IsOld, MayBeLowered}
 use Rattle.ig_ebnf.proofs.Forth.{covers_to}
 use Rattle.ig_ebnf.proofs.ValuedForth.{bind_to, same_values}
-use Rattle.ig_ebnf.proofs.LoweredGrammar.{takes_of, from_map}
-use Rattle.ig_ebnf.proofs.AddedNames.{either_place, all_plain}
+use Rattle.ig_ebnf.proofs.LoweredGrammar.{takes_of}
+use Rattle.ig_ebnf.proofs.AddedNames.{all_plain}
 use Rattle.ig_ebnf.proofs.InstanceParts.{nothing_of}
 use Rattle.ig_ebnf.proofs.Elements.{all_ready, reaching, listed_gathered}
 use Rattle.ig_ebnf.specs.Lists.{added_symbols, lowered, lowered_grammar, Made, new_declaration, new_symbols}

@@ -7,7 +7,7 @@ use Rattle.std.specs.Cmp.Lexicographic.{bytes_decides}
 use Rattle.std.proofs.lemmas.List.{append-nil}
 use Rattle.ig_ebnf.proofs.LoweredCalm.{Distinct, AreCalm}
 use Rattle.ig_ebnf.proofs.Definitions.{has}
-use Rattle.ig_ebnf.proofs.Environments.{differs, has_append}
+use Rattle.ig_ebnf.proofs.Environments.{has_append}
 use Rattle.ig_ebnf.proofs.VisibleKinds.{has_named}
 use Rattle.ig_ebnf.proofs.Occurrences.{Calm, AllCalm, of_first, of_second}
 use Rattle.ig_ebnf.proofs.ClearSymbols.{Clear, SymbolsClear}
@@ -22,7 +22,7 @@ use Rattle.ig_grammar.specs.Visible.{Visible, binds, all_bind, bound, kind_at, i
 use Rattle.ig_grammar.specs.declared.declaration.DeclKind.{DeclKind}
 use Rattle.ig_grammar.specs.declared.grammar.Grammar.{Grammar}
 use Rattle.ig_text.specs.Words.{is_word}
-use Rattle.ig_grammar.specs.Condition as met
+use Rattle.ig_text.proofs.Characters.{differs}
 
 filters_label : (x : Symbol) → MayHaveFilters x → MayHaveLabel x
 filters_label (Literal w) h = tt

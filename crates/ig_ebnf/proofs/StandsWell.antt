@@ -6,7 +6,7 @@ use Rattle.std.specs.List.{flat_map}
 use Rattle.std.proofs.lemmas.List.{map-append}
 use Rattle.std.proofs.lemmas.List.Elements.{All-nil, All-cons, All-head, All-tail, All-append, Contains-append_cases}
 use Rattle.std.proofs.lemmas.List.Elements.{Contains-push_cases}
-use Rattle.ig_text.proofs.Lists.{at_from_contains, contains_first, contains_from_at, contains_later, contains_one}
+use Rattle.ig_text.proofs.Lists.{at_from_contains, contains_first, contains_from_at, contains_later, contains_one, from_map}
 use Rattle.ig_text.proofs.Lists.{none_in_nil}
 use Rattle.ig_text.specs.Words.{is_word}
 use Rattle.ig_grammar.specs.Alternative.{gathered_alternatives}
@@ -38,7 +38,6 @@ use Rattle.ig_ebnf.specs.Lists.{count_symbols, decls_of, elements, entering, low
 use Rattle.ig_ebnf.specs.Lists.{new_alts, new_declaration, new_element, new_levels, new_symbol, new_symbols, params_for}
 use Rattle.ig_ebnf.specs.Lists.{sep_plus_alternatives}
 use Rattle.ig_ebnf.proofs.ClearSymbols.{all_split}
-use Rattle.ig_ebnf.proofs.LoweredGrammar.{from_map}
 use Rattle.ig_ebnf.proofs.OfAdded.{OfAdded, of_added_at, of_added_both, by_declarations}
 
 abbrev AllStand : List Symbol → Type 0

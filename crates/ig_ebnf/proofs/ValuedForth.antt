@@ -4,6 +4,7 @@ use Rattle.std.proofs.Common.{subst, Some, None}
 use Rattle.std.specs.Prelude.{◌&&◌, not}
 use Rattle.std.proofs.Math.Seq.{drop-append_seam}
 use Rattle.std.proofs.lemmas.List.{append-nil, append_assoc, map-append, length-map}
+use Rattle.std.proofs.lemmas.Bool.{or_left, or_right, and_parts, and_from}
 use Rattle.ig_ebnf.proofs.AddedInstances.{alternative_at, form_call}
 use Rattle.ig_ebnf.proofs.Definitions.{has, find, Binds as Shows, Agree, Keeps, Quiet, Proper, SymbolsProper, AllDeclared}
 use Rattle.ig_ebnf.proofs.Definitions.{IsForm, IsSingle, Takes}
@@ -11,7 +12,7 @@ use Rattle.ig_ebnf.proofs.Elements.{gathered_listed, declared_first, declared_se
 use Rattle.ig_ebnf.proofs.EntryValues.{binds_replaced, argument_value, arguments_to}
 use Rattle.ig_ebnf.proofs.Environments.{Adds, adds_nothing, adds_one, adds_both, binds_more, binds_parameters, bound_to}
 use Rattle.ig_ebnf.proofs.Environments.{keeps_append, has_to, have_to, held, holding, params_wanted, has_params, enter}
-use Rattle.ig_ebnf.proofs.Environments.{entered_agrees, zipped, Holds, or_left, or_right, and_parts, and_both, valued}
+use Rattle.ig_ebnf.proofs.Environments.{entered_agrees, zipped, Holds, valued}
 use Rattle.ig_ebnf.proofs.Forth.{form_single}
 use Rattle.ig_ebnf.proofs.ValuedParts.{lone_element, form_binds, parts_form, parts_need, Fit, new_parts, parts_made}
 use Rattle.ig_ebnf.specs.Lists.{count, params_for, arguments, argument, elements, all_elements, entering}
@@ -386,7 +387,7 @@ module _ (g g' : Grammar) (shapes shapes' : List Shape) (May : List ℕ → Type
         λ n u. argument_value text v wanted bindings vs i env env' env n p.1 have
         (record { at = λ m y. s.at m (or_left (bindings_use m bindings) (not (is_bound m bindings) && needs m x) y) })
         (λ y. s.at n (or_right (bindings_use n bindings) (not (is_bound n bindings) && needs n x)
-        (and_both (not (is_bound n bindings)) (needs n x) (ap not y)
+        (and_from (not (is_bound n bindings)) (needs n x) (ap not y)
         (and_parts (has w n) (needs n x) (sym (has_params w wanted n) ∙ u)).1))) ∙
         ap (λ z. find z n) (sym renewed) in
         alone tt (λ f. absurd f)

@@ -3,12 +3,13 @@ use Rattle.std.proofs.Common.{◌≡◌, ℕ, suc, ◌+◌, Bool, true, false, L
 use Rattle.std.proofs.Common.{Some}
 use Rattle.std.specs.Prelude.{◌||◌, slice_get}
 use Rattle.std.proofs.lemmas.List.{append-nil}
+use Rattle.std.proofs.lemmas.Bool.{or_left, or_right}
+use Rattle.std.proofs.Math.Bool.{or-false}
 use Rattle.ig_text.specs.declared.tag.Tag.{Tag}
 use Rattle.ig_text.specs.declared.tag.Tag.TheVariants as tag
 use Rattle.ig_ebnf.proofs.AddedInstances.{chosen_to}
 use Rattle.ig_ebnf.proofs.Definitions.{has, AllDeclared, IsForm, IsSingle, Proper}
 use Rattle.ig_ebnf.proofs.Elements.{declared_first, declared_second}
-use Rattle.ig_ebnf.proofs.Environments.{or_left, or_right, or_nothing}
 use Rattle.ig_ebnf.specs.Lists.{count, element, elements, made, new, new_alternatives, new_symbol, new_symbols}
 use Rattle.ig_ebnf.specs.Lists.{params_for, sep_plus_alternatives, added}
 use Rattle.ig_grammar.specs.Numbering.{Declares, tag_of}
@@ -100,7 +101,7 @@ module _ (g' : Grammar) (shapes' : List Shape) (May : List ℕ → Type 0) (of :
 
   -- an item is wanted with its list
   item_wanted : (w b : Bool) → (b || false) ≡ true → (w || b) ≡ true
-  item_wanted w b e = or_right w b (sym (or_nothing b) ∙ e)
+  item_wanted w b e = or_right w b (sym (or-false b) ∙ e)
 
   -- a part alone fits
   alone_fit : (k : ℕ) (x : Symbol) → Proper May v x → AllDeclared g' shapes' (added of v k x) → Fit (x ∷ []) (k ∷ [])
@@ -213,7 +214,7 @@ module _ (g' : Grammar) (shapes' : List Shape) (May : List ℕ → Type 0) (of :
             (declared_first g' shapes' May (added of v (suc k) x) (added of v (suc k + count x) separator) all.1);
         wanted = λ m e.
             or_right (is_pair m) (needs m x || needs m separator)
-            (or_left (needs m x) (needs m separator) (sym (or_nothing (needs m x)) ∙ e));
+            (or_left (needs m x) (needs m separator) (sym (or-false (needs m x)) ∙ e));
       }
   parts_made (a.further_item x separator) k p all =
       let here = declared_first g' shapes' May (added of v (suc k) x) (added of v (suc k + count x) separator) all.1 in
@@ -235,7 +236,7 @@ module _ (g' : Grammar) (shapes' : List Shape) (May : List ℕ → Type 0) (of :
           p,
           all,
           (λ n e. refl),
-          (p.1, there, (λ n e. p.2 n (sym (or_nothing (needs n x)) ∙ e)), alone_fit (suc k) x p.0 here),
+          (p.1, there, (λ n e. p.2 n (sym (or-false (needs n x)) ∙ e)), alone_fit (suc k) x p.0 here),
         );
         wanted = λ m.
             let w = needs m (SepPlus x separator) in
@@ -244,7 +245,7 @@ module _ (g' : Grammar) (shapes' : List Shape) (May : List ℕ → Type 0) (of :
             (or_either (needs m separator) (needs m x || false) w
             (λ e. or_right (is_pair m) items (or_right (needs m x) (needs m separator) e))
             (λ e.
-            or_right (is_pair m) items (or_left (needs m x) (needs m separator) (sym (or_nothing (needs m x)) ∙ e))));
+            or_right (is_pair m) items (or_left (needs m x) (needs m separator) (sym (or-false (needs m x)) ∙ e))));
       }
   parts_made (a.no_item x separator) k p all =
       record {
@@ -272,7 +273,7 @@ module _ (g' : Grammar) (shapes' : List Shape) (May : List ℕ → Type 0) (of :
         ks = suc k ∷ [];
         whole = refl;
         fit = alone_fit (suc k) (SepPlus x separator) p all.1;
-        wanted = λ m e. sym (or_nothing (needs m (SepPlus x separator))) ∙ e;
+        wanted = λ m e. sym (or-false (needs m (SepPlus x separator))) ∙ e;
       }
   parts_made (a.chosen choices k2 xs chosen) k p all =
       let at = chosen_to g' shapes' [] May of v choices (suc k) chosen.0 xs chosen.2 p all.1 in
@@ -289,5 +290,5 @@ module _ (g' : Grammar) (shapes' : List Shape) (May : List ℕ → Type 0) (of :
         fit = alone_fit at.k2 (Seq xs) at.proper at.present;
         wanted = λ m e.
             or_right (is_pair m) (alternatives_need m choices)
-            (at.needed m (sym (or_nothing (needs m (Seq xs))) ∙ e));
+            (at.needed m (sym (or-false (needs m (Seq xs))) ∙ e));
       }

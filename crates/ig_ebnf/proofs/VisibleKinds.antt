@@ -1,12 +1,13 @@
 -- Kinds of what is visible in the source, and in an added declaration.
-use Rattle.std.proofs.Common.{◌≡◌, ◌⊎◌, inl, inr, ℕ, zero, suc, ◌<◌, Bool, true, false, List, [], ◌∷◌, ◌++◌, length}
+use Rattle.std.proofs.Common.{◌≡◌, ◌⊎◌, inl, inr, ℕ, Bool, true, false, List, [], ◌∷◌, ◌++◌}
 use Rattle.std.proofs.Common.{refl, sym, ◌∙◌, ap, cond, Option, Some, None, arith}
 use Rattle.std.specs.Prelude.{◌||◌, ◌&&◌, not, Contains}
 use Rattle.std.specs.Cmp.Lexicographic.{bytes_decides}
+use Rattle.std.specs.Option.{option_or}
 use Rattle.std.proofs.lemmas.List.Elements.{Contains-append_cases}
+use Rattle.std.proofs.lemmas.Bool.{or_left, or_right, and_parts}
 use Rattle.ig_ebnf.proofs.Definitions.{has, is_some}
-use Rattle.ig_ebnf.proofs.Environments.{look_up_next, itself, or_left, or_right, and_parts, has_append, has_params}
-use Rattle.ig_ebnf.proofs.Environments.{or_else}
+use Rattle.ig_ebnf.proofs.Environments.{look_up_next, has_append, has_params}
 use Rattle.ig_ebnf.specs.Lists.{keep, params_for, arguments}
 use Rattle.ig_expr.specs.Expression.{Expression, Integer, Truth, Here, Variable, Not, Negative, Binary, Of, Same}
 use Rattle.ig_expr.specs.Expression.{Spells, Outer, Inside, FreeBefore}
@@ -18,6 +19,9 @@ use Rattle.ig_grammar.specs.Condition.{NamesUnknown, variables}
 use Rattle.ig_grammar.specs.Visible.{Visible, names, kinds, kind_at}
 use Rattle.ig_rewrite.specs.Needs.{uses, is_added}
 use Rattle.ig_text.specs.Words.{is_word}
+use Rattle.ig_text.proofs.Lists.{in_rest, contains_later, none_in_nil}
+use Rattle.ig_text.proofs.Characters.{itself}
+use Rattle.ig_text.proofs.Fallbacks.{or_cond, some_cond}
 use Rattle.ig_expr.specs.declared.kind.Kind.TheVariants as kind
 use Rattle.ig_rewrite.specs.Asked.{Fit}
 use Rattle.ig_ebnf.specs.Lists.{params_of}
@@ -29,27 +33,13 @@ pub look_cons : (n : List ℕ) (k : Kind) (rest : Visible) (x : List ℕ) →
     look ((n, k) ∷ rest) x ≡ cond (is_word n x) (Some k) (look rest x)
 look_cons n k rest x = look_up_next n k (names rest) (kinds rest) x
 
-some_cond : {X : Type 0} (t : Bool) (v : X) (a : Option X) → is_some (cond t (Some v) a) ≡ (t || is_some a)
-some_cond true v a = refl
-some_cond false v a = refl
-
 pub has_look : (v : Visible) (n : List ℕ) → is_some (look v n) ≡ has v n
 has_look [] n = refl
 has_look (p ∷ v) n = ap is_some (look_cons p.0 p.1 v n) ∙ some_cond (is_word p.0 n) p.1 (look v n) ∙
     ap (λ z. is_word p.0 n || z) (has_look v n)
 
-pub in_rest : {X : Type 0} (y : X) (ys : List X) (x : X) → Contains (y ∷ ys) x → (y ≡ x) ⊎ Contains ys x
-in_rest y ys x (zero, l, e) = inl e
-in_rest y ys x (suc k, l, e) = inr (k, (let h : suc k < suc (length ys) = l in omega (arith, h)), e)
-
-pub later_in : {X : Type 0} (y : X) (ys : List X) (x : X) → Contains ys x → Contains (y ∷ ys) x
-later_in y ys x h = (suc h.0, (let l = h.1 in omega (arith, l)), h.2)
-
-pub nothing_in : {X : Type 0} (x : X) → Contains [] x → ⊥
-nothing_in x h = let l : h.0 < 0 = h.1 in let f : ⊥ = omega (arith, l) in f
-
 pub named_has : (v : Visible) (n : List ℕ) → Contains (names v) n → has v n ≡ true
-named_has [] n h = absurd (nothing_in n h)
+named_has [] n h = absurd (none_in_nil n h)
 named_has (p ∷ v) n h = go (in_rest p.0 (names v) n h) (named_has v n)
   where
     go : (p.0 ≡ n) ⊎ Contains (names v) n → (Contains (names v) n → has v n ≡ true) →
@@ -63,7 +53,7 @@ has_named (p ∷ v) n h = go (is_word p.0 n) refl (has_named v n)
   where
     go : (t : Bool) → is_word p.0 n ≡ t → (has v n ≡ true → Contains (names v) n) → Contains (p.0 ∷ names v) n
     go true e below = (0, omega arith, (bytes_decides p.0 n).0 e)
-    go false e below = later_in p.0 (names v) n (below (sym (ap (λ z. z || has v n) e) ∙ h))
+    go false e below = contains_later p.0 (names v) n (below (sym (ap (λ z. z || has v n) e) ∙ h))
 
 either : {P : Type 0} (xs ys : List (List ℕ)) (n : List ℕ) → (Contains xs n → P) → (Contains ys n → P) →
     Contains (xs ++ ys) n → P
@@ -74,14 +64,14 @@ either {P = P} xs ys n f h c = go (Contains-append_cases xs ys n c)
     go (inr b) = h b
 
 pub names_used : (e : Expression) (n : List ℕ) → Contains (variables e) n → uses n e ≡ true
-names_used (Integer i) n h = absurd (nothing_in n h)
-names_used (Truth b) n h = absurd (nothing_in n h)
-names_used Here n h = absurd (nothing_in n h)
+names_used (Integer i) n h = absurd (none_in_nil n h)
+names_used (Truth b) n h = absurd (none_in_nil n h)
+names_used Here n h = absurd (none_in_nil n h)
 names_used (Variable x) n h = go (in_rest x [] n h)
   where
     go : (x ≡ n) ⊎ Contains [] n → is_word x n ≡ true
     go (inl e) = (bytes_decides x n).1 e
-    go (inr i) = absurd (nothing_in n i)
+    go (inr i) = absurd (none_in_nil n i)
 names_used (Not a) n h = names_used a n h
 names_used (Negative a) n h = names_used a n h
 names_used (Binary op a b) n h =
@@ -98,8 +88,8 @@ names_used (Outer a b) n h =
 names_used (Inside a b) n h =
     either (variables a) (variables b) n (λ i. or_left (uses n a) (uses n b) (names_used a n i))
     (λ i. or_right (uses n a) (uses n b) (names_used b n i)) h
-names_used (FreeBefore pattern) n h = absurd (nothing_in n h)
-names_used (FreeAfter pattern) n h = absurd (nothing_in n h)
+names_used (FreeBefore pattern) n h = absurd (none_in_nil n h)
+names_used (FreeAfter pattern) n h = absurd (none_in_nil n h)
 
 -- what is visible in the source, and in the added declaration: the same at the wanted names, and nothing new
 pub record Narrow (wanted : List ℕ → Bool) (v w : Visible) : Type 0 where
@@ -174,26 +164,21 @@ look_keep p (x ∷ v) n = go (p x.0) refl (is_word x.0 n) refl (look_keep p v n)
     go false e false f below = below ∙
         ap (λ z. cond (p n) z None) (sym (look_cons x.0 x.1 v n ∙ ap (λ z. cond z (Some x.1) (look v n)) f))
 
-else_cond : {X : Type 0} (t : Bool) (v : X) (a b : Option X) →
-    cond t (Some v) (or_else a b) ≡ or_else (cond t (Some v) a) b
-else_cond true v a b = refl
-else_cond false v a b = refl
-
-pub look_append : (v w : Visible) (n : List ℕ) → look (v ++ w) n ≡ or_else (look v n) (look w n)
+pub look_append : (v w : Visible) (n : List ℕ) → look (v ++ w) n ≡ option_or (look v n) (look w n)
 look_append [] w n = refl
 look_append (p ∷ v) w n =
     look_cons p.0 p.1 (v ++ w) n ∙ ap (cond (is_word p.0 n) (Some p.1)) (look_append v w n) ∙
-    else_cond (is_word p.0 n) p.1 (look v n) (look w n) ∙ ap (λ z. or_else z (look w n)) (sym (look_cons p.0 p.1 v n))
+    or_cond (is_word p.0 n) p.1 (look v n) (look w n) ∙ ap (λ z. option_or z (look w n)) (sym (look_cons p.0 p.1 v n))
 
 pub look_params : (v : Visible) (wanted : List ℕ → Bool) (n : List ℕ) → wanted n ≡ true →
     look (params_for v wanted) n ≡ look v n
 look_params v wanted n u =
     look_append (keep (λ n. not (is_added n) && wanted n) v) (keep (λ n. is_added n && wanted n) v) n ∙
-    (λ z. or_else (look_keep (λ n. not (is_added n) && wanted n) v n z)
+    (λ z. option_or (look_keep (λ n. not (is_added n) && wanted n) v n z)
     (look_keep (λ n. is_added n && wanted n) v n z)) ∙
     go (is_added n) (wanted n) u (look v n)
   where
-    go : (a t : Bool) → t ≡ true → (o : Option Kind) → or_else (cond (not a && t) o None) (cond (a && t) o None) ≡ o
+    go : (a t : Bool) → t ≡ true → (o : Option Kind) → option_or (cond (not a && t) o None) (cond (a && t) o None) ≡ o
     go true true e o = refl
     go false true e None = refl
     go false true e (Some k) = refl
@@ -212,7 +197,7 @@ entered_narrow v wanted =
 pub narrow_more : {wanted : List ℕ → Bool} {v w : Visible} (more : Visible) → Narrow wanted v w →
     Narrow wanted (v ++ more) (w ++ more)
 narrow_more {v = v} {w = w} more s = record {
-  at = λ n u. look_append v more n ∙ ap (λ z. or_else z (look more n)) (s.at n u) ∙ sym (look_append w more n);
+  at = λ n u. look_append v more n ∙ ap (λ z. option_or z (look more n)) (s.at n u) ∙ sym (look_append w more n);
   less = λ n h. has_append v more n ∙ go n (has w n) refl (sym (has_append w more n) ∙ h) (s.less n);
 }
   where

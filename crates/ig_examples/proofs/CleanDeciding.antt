@@ -2,12 +2,13 @@
 use Rattle.std.proofs.Common.{◌≡◌, ℕ, suc, ◌≤◌, Bool, true, false, List, [], ◌∷◌, ◌++◌, refl, sym, ◌∙◌, ap, subst, Option, Some, None, inl, inr, arith}
 use Rattle.std.specs.Prelude.{◌⊎◌, ◌&&◌, slice_get, leb, option_and_then}
 use Rattle.std.specs.Cmp.Lexicographic.{bytes_decides}
-use Rattle.std.proofs.lemmas.Bool.{leb-true}
+use Rattle.std.proofs.lemmas.Bool.{leb-true, and_parts}
 use Rattle.std.proofs.lemmas.Bool.Decides.{nat_tests}
 use Rattle.ig_text.specs.declared.tag.Tag.{Tag}
 use Rattle.ig_text.specs.declared.tag.Tag.TheVariants.{Rule}
 use Rattle.ig_text.specs.Tree.{Tree, Trees, Leaf, Node, none, more, one, join}
 use Rattle.ig_text.specs.Words.{is_word}
+use Rattle.ig_text.proofs.Options.{stepped}
 use Rattle.ig_grammar.specs.Symbol.{Symbol, Call, Label}
 use Rattle.ig_grammar.specs.Numbering.{Levelled, by_level}
 use Rattle.ig_meaning.specs.Operands.{without_tests, Calls, plain, labelled, HasLeftOperand, HasRightOperand, left_bound, right_bound}
@@ -94,14 +95,10 @@ abbrev at_least : ℕ → List ℕ → Bool
 at_least bound [] = true
 at_least bound (k ∷ ks) = leb bound k && at_least bound ks
 
-both : (a b : Bool) → a && b ≡ true → (a ≡ true) × (b ≡ true)
-both true b e = (refl, e)
-both false b e = absurd (cc)
-
 bounded : (bound : ℕ) (ks : List ℕ) (k : ℕ) → at_least bound ks ≡ true → IsAmong ks k → bound ≤ k
 bounded bound [] k holds member = absurd member
-bounded bound (j ∷ js) k holds (inl same) = subst (λ z. bound ≤ z) same (leb-true bound j (both (leb bound j) (at_least bound js) holds).0)
-bounded bound (j ∷ js) k holds (inr other) = bounded bound js k (both (leb bound j) (at_least bound js) holds).1 other
+bounded bound (j ∷ js) k holds (inl same) = subst (λ z. bound ≤ z) same (leb-true bound j (and_parts (leb bound j) (at_least bound js) holds).0)
+bounded bound (j ∷ js) k holds (inr other) = bounded bound js k (and_parts (leb bound j) (at_least bound js) holds).1 other
 
 all_bounded : (bound : ℕ) (ks : List ℕ) → ((k : ℕ) → IsAmong ks k → bound ≤ k) → at_least bound ks ≡ true
 all_bounded bound [] each = refl
@@ -118,11 +115,6 @@ kept false a = None
 kept_is : (b : Bool) (a x : Levelled) → kept b a ≡ Some x → (b ≡ true) × (a ≡ x)
 kept_is true a x e = (refl, cc)
 kept_is false a x e = absurd (cc)
-
-then_parts : {A B : Type 0} (f : A → Option B) (o : Option A) (y : B) → option_and_then f o ≡ Some y →
-    (x : A) × (o ≡ Some x) × (f x ≡ Some y)
-then_parts f None y e = absurd (cc)
-then_parts f (Some x) y e = (x, refl, e)
 
 -- the level of the alternative, in front of those below
 abbrev own : Option Levelled → Option (List ℕ) → List ℕ
@@ -194,9 +186,9 @@ module _ (g : Grammar) where
 
   is_operator : (test : List ℕ → List Symbol → Bool) (tag : Tag) (a : Levelled) → operator test tag ≡ Some a → IsOperator test tag a
   is_operator test (Rule (suc d) (suc k)) a e =
-      let outer = then_parts (λ (decl : Decl). option_and_then (λ (b : Levelled). kept (test decl.name (without_tests b.alternative.symbols)) b) (slice_get (by_level decl.levels) k)) (slice_get g.decls d) a e in
+      let outer = stepped (λ (decl : Decl). option_and_then (λ (b : Levelled). kept (test decl.name (without_tests b.alternative.symbols)) b) (slice_get (by_level decl.levels) k)) (slice_get g.decls d) a e in
       let decl = outer.0 in
-      let inner = then_parts (λ (b : Levelled). kept (test decl.name (without_tests b.alternative.symbols)) b) (slice_get (by_level decl.levels) k) a outer.2 in
+      let inner = stepped (λ (b : Levelled). kept (test decl.name (without_tests b.alternative.symbols)) b) (slice_get (by_level decl.levels) k) a outer.2 in
       let is = kept_is (test decl.name (without_tests inner.0.alternative.symbols)) inner.0 a inner.2 in
       record {
         decl = decl;
@@ -374,7 +366,7 @@ module _ (g : Grammar) where
 
   node_is_clean : (tag : Tag) (ts : Trees) → is_clean_at tag ts ≡ true → IsClean g tag ts
   node_is_clean tag ts holds =
-      let parts = both (asked left_bound (operator begins_with_call tag) (first_right_levels ts)) (asked right_bound (operator ends_with_call tag) (last_left_levels ts)) holds in
+      let parts = and_parts (asked left_bound (operator begins_with_call tag) (first_right_levels ts)) (asked right_bound (operator ends_with_call tag) (last_left_levels ts)) holds in
       record {
         left = λ a b operand other low us first spine last.
             bounded (left_bound a) (right_levels operand) b.level ((λ k. asked left_bound (sym (beginning tag ts a operand first) k) (sym (ap first_right_levels first.first) k)) ∙ parts.0) (on_right spine b other last);
@@ -414,12 +406,12 @@ module _ (g : Grammar) where
     pub clean_by : (t : Tree) → is_clean t ≡ true → Clean g t
     clean_by (Leaf i j) holds = tt
     clean_by (Node tag i j ts) holds =
-        let parts = both (is_clean_at tag ts) (are_clean ts) holds in (node_is_clean tag ts parts.0, all_clean_by ts parts.1)
+        let parts = and_parts (is_clean_at tag ts) (are_clean ts) holds in (node_is_clean tag ts parts.0, all_clean_by ts parts.1)
 
     pub all_clean_by : (ts : Trees) → are_clean ts ≡ true → AllClean g ts
     all_clean_by none holds = tt
     all_clean_by (more t ts) holds =
-        let parts = both (is_clean t) (are_clean ts) holds in (clean_by t parts.0, all_clean_by ts parts.1)
+        let parts = and_parts (is_clean t) (are_clean ts) holds in (clean_by t parts.0, all_clean_by ts parts.1)
 
   mutual
     pub by_clean : (t : Tree) → Clean g t → is_clean t ≡ true

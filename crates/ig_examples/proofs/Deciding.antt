@@ -8,6 +8,7 @@ use Rattle.ig_text.specs.Lines.{column_of}
 use Rattle.ig_text.specs.Pattern.{Matches}
 use Rattle.ig_text.specs.declared.pattern.Pattern.{Pattern}
 use Rattle.ig_text.specs.declared.pattern.Pattern.TheVariants as pattern
+use Rattle.ig_text.proofs.Options.{mapped}
 use Rattle.ig_expr.specs.Expression.{Expression}
 use Rattle.ig_expr.specs.Evaluation.{value_of}
 use Rattle.ig_expr.specs.Matching.{width, matches_at, matches_before}
@@ -57,10 +58,6 @@ bound_by [] [] = Some []
 bound_by [] (v ∷ vs) = None
 bound_by (p ∷ ps) [] = None
 bound_by (p ∷ ps) (v ∷ vs) = option_map (λ env. (p.name, v) ∷ env) (bound_by ps vs)
-
-mapped : {X Y : Type 0} (f : X → Y) (o : Option X) (y : Y) → option_map f o ≡ Some y → (x : X) × (o ≡ Some x) × (y ≡ f x)
-mapped f None y h = absurd (cc)
-mapped f (Some x) y h = (x, refl, cc)
 
 pub bound_are : (ps : List Param) (vs : List Value) (env : Environment) → bound_by ps vs ≡ Some env → AreBound ps vs env
 bound_are [] [] env e = let none : [] ≡ env = cc in subst (AreBound [] []) none no_parameters

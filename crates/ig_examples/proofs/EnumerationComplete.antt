@@ -3,6 +3,7 @@ use Rattle.std.proofs.Common.{◌≡◌, ◌∙◌, ℕ, zero, suc, ◌+◌, ◌
 use Rattle.std.specs.Prelude.{slice_get, ◌≢◌}
 use Rattle.std.specs.Cmp.Lexicographic.{bytes_decides}
 use Rattle.std.proofs.lemmas.Option.{slice_get_within}
+use Rattle.std.proofs.Math.Nat.{suc_inj}
 use Rattle.ig_text.specs.declared.pattern.Pattern.{Pattern}
 use Rattle.ig_text.specs.declared.pattern.Pattern.TheVariants as pattern
 use Rattle.ig_text.specs.declared.tag.Tag.TheVariants as tag
@@ -11,6 +12,7 @@ use Rattle.ig_text.specs.Tree.{Tree, Trees, Leaf, Node, none, more, one, join, h
 use Rattle.ig_expr.specs.Expression.{Expression}
 use Rattle.ig_expr.specs.Evaluation.{value_of}
 use Rattle.ig_text.specs.Words.{is_word}
+use Rattle.ig_text.proofs.Trees.{joined_height}
 use Rattle.ig_expr.specs.declared.value.Value.{Value}
 use Rattle.ig_expr.specs.declared.value.Value.TheVariants as value
 use Rattle.ig_expr.specs.Laws.{MatchesAreDecided}
@@ -30,8 +32,7 @@ use Rattle.ig_examples.proofs.Choosing.{IsAmong}
 use Rattle.ig_examples.proofs.Members.{below, among_left, among_right, among_map, among_each, among_given, among_from, among_below, same_member}
 use Rattle.ig_examples.proofs.Deciding.{values_at, have_values, bound_by, are_bound, ends_of, matches_end, passes_all, passes_all_decides, are_right, are_right_decides, are_aligned, are_aligned_decides}
 use Rattle.ig_examples.proofs.Enumeration as all
-use Rattle.ig_examples.proofs.Enumeration.{Outcome, Covering, Listing, Itemised, Instanced, Trailing, Lower, nothing, before}
-use Rattle.ig_examples.proofs.EnumerationSound.{joined_height}
+use Rattle.ig_examples.proofs.Enumeration.{Outcome, Covering, Listing, Itemised, Instanced, before}
 
 gathered_listed : (xs : Symbols) → gathered (listed xs) ≡ xs
 gathered_listed no_symbols = refl
@@ -160,9 +161,6 @@ module _ (decided : MatchesAreDecided) (g : Grammar) (shapes : List Shape) (text
   outside_found n Syntax e other = absurd (other refl)
   outside_found n c e other = inl refl
 
-  suc_injective : {a b : ℕ} → suc a ≡ suc b → a ≡ b
-  suc_injective h = omega (arith, h)
-
   mutual
     pub covered_found : {c : DeclKind} {xs : List Symbol} {env after : Environment} {i j : ℕ} {vs : Trees} {starts : List ℕ} →
         Covers g shapes text c xs env i j vs after starts → (n : ℕ) → greatest_height vs < suc n →
@@ -275,7 +273,7 @@ module _ (decided : MatchesAreDecided) (g : Grammar) (shapes : List Shape) (text
     instance_of (alternative name vs kind d k decl shape a env after i e ts t starts declares numbered bound same covers tree) n low =
         let b = declares.shaped.0 in
         let whole : height t ≡ greatest_height ts + 1 = ap height tree in
-        let alike : declares.numbered.0 ≡ b = suc_injective (sym declares.numbered.1 ∙ declares.shaped.1) in
+        let alike : declares.numbered.0 ≡ b = suc_inj (sym declares.numbered.1 ∙ declares.shaped.1) in
         let found = lower_covering (greatest_height ts) n kind (gathered a.alternative.symbols) env i (record { end = e; trees = ts; after = after; starts = starts }) (omega (arith, low, whole)) (covered_found covers) in
         same_member _ _ _ (λ z. record { kind = sym same z; end = e; tree = (ap (λ q. Node (tag_of shape q (suc numbered.0)) i e ts) (sym declares.shaped.1) ∙ ap (λ q. Node (tag_of shape d q) i e ts) (sym numbered.1) ∙ sym tree) z; starts = starts })
         (instance_found n name vs b numbered.0 decl shape a env after i e ts starts (subst (λ q. slice_get g.decls q ≡ Some decl) alike declares.numbered.2) declares.named declares.shaped.2 (are_bound bound) numbered.2 (subst (λ c. IsAmong ((before g shapes text n).covered c (gathered a.alternative.symbols) env i) (record { end = e; trees = ts; after = after; starts = starts })) same found))

@@ -1,15 +1,16 @@
 -- Each member of the enumeration is a derivation with low trees.
-use Rattle.std.proofs.Common.{◌≡◌, ◌∙◌, ℕ, zero, suc, ◌+◌, ◌<◌, max, List, [], ◌∷◌, ◌++◌, map, length, refl, ap, subst, arith, add-zero, Option, Some, None, true}
+use Rattle.std.proofs.Common.{◌≡◌, ◌∙◌, ℕ, zero, suc, ◌+◌, ◌<◌, List, [], ◌∷◌, ◌++◌, map, length, refl, ap, subst, arith, add-zero, Option, Some, None, true}
 use Rattle.std.specs.Prelude.{slice_get, ◌≢◌}
 use Rattle.std.specs.Cmp.Lexicographic.{bytes_decides}
 use Rattle.ig_text.specs.declared.class.Class.{Class}
 use Rattle.ig_text.specs.declared.pattern.Pattern.TheVariants as pattern
 use Rattle.ig_text.specs.declared.tag.Tag.TheVariants as tag
 use Rattle.ig_text.specs.Pattern.{Matches}
-use Rattle.ig_text.specs.Tree.{Tree, Trees, Leaf, Node, none, more, one, join, height, greatest_height}
+use Rattle.ig_text.specs.Tree.{Tree, Leaf, Node, more, one, join, height, greatest_height}
 use Rattle.ig_expr.specs.Expression.{Expression}
 use Rattle.ig_expr.specs.Evaluation.{value_of}
 use Rattle.ig_text.specs.Words.{is_word}
+use Rattle.ig_text.proofs.Trees.{joined_height}
 use Rattle.ig_expr.specs.declared.value.Value.{Value}
 use Rattle.ig_expr.specs.Laws.{MatchesAreDecided}
 use Rattle.ig_grammar.specs.Symbol.{Symbol, Literal, OneOf, Call, Label, Guard, Let, Opt, Star, Plus, SepStar, SepPlus, Group, Offside, Ignore, Align, Filtered, Seq, Entry}
@@ -31,13 +32,6 @@ use Rattle.ig_examples.proofs.Members.{below, each_append, each_map, each_of_eac
 use Rattle.ig_examples.proofs.Deciding.{values_at, values_have, bound_by, bound_are, is_truth, truth_is, ends_of, ends_match, passes_all, passes_all_decides, are_right, are_right_decides, are_aligned, are_aligned_decides}
 use Rattle.ig_examples.proofs.Enumeration as all
 use Rattle.ig_examples.proofs.Enumeration.{Outcome, Covering, Listing, Itemised, Instanced, Trailing, Lower, nothing, before}
-
--- trees that are joined are no higher than the higher ones
-pub joined_height : (ts us : Trees) → greatest_height (join ts us) ≡ max (greatest_height ts) (greatest_height us)
-joined_height none us = let h : greatest_height us ≡ max 0 (greatest_height us) = omega arith in h
-joined_height (more t ts) us =
-    let h = joined_height ts us in
-    let i : max (height t) (greatest_height (join ts us)) ≡ max (max (height t) (greatest_height ts)) (greatest_height us) = omega (arith, h) in i
 
 pub listed_gathered : (xs : List Symbol) → listed (gathered xs) ≡ xs
 listed_gathered [] = refl

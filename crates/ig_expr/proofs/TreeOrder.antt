@@ -10,22 +10,13 @@ use Rattle.ig_expr.specs.declared.value.Value.{Value}
 use Rattle.ig_expr.specs.declared.value.Value.TheVariants as value
 use Rattle.ig_expr.specs.ValuedTree.{Tree, Trees, Leaf, Node, none, more, one, join}
 use Rattle.ig_text.specs.TagNumber.{number_of}
+use Rattle.ig_text.proofs.Options.{then_assoc, then_nothing}
 use Rattle.ig_expr.specs.ValueOrder.{value_cmp}
 use Rattle.ig_expr.specs.TreeOrder.{begin_of, starts_cmp, tree_cmp, trees_cmp, children_cmp, count_of}
 
-then_assoc : (a b c : Ordering) → ordering_then (ordering_then a b) c ≡ ordering_then a (ordering_then b c)
-then_assoc Less b c = refl
-then_assoc Equal b c = refl
-then_assoc Greater b c = refl
-
-then_equal : (a : Ordering) → ordering_then a Equal ≡ a
-then_equal Less = refl
-then_equal Equal = refl
-then_equal Greater = refl
-
 starts_last : (ts us : Trees) (t u : Tree) → count_of ts ≡ count_of us →
     starts_cmp (join ts (one t)) (join us (one u)) ≡ ordering_then (nat_cmp (begin_of t) (begin_of u)) (starts_cmp ts us)
-starts_last none none t u same = sym (then_equal (nat_cmp (begin_of t) (begin_of u)))
+starts_last none none t u same = sym (then_nothing (nat_cmp (begin_of t) (begin_of u)))
 starts_last none (more b us) t u same = absurd (cc)
 starts_last (more a ts) none t u same = absurd (cc)
 starts_last (more a ts) (more b us) t u same =
@@ -34,7 +25,7 @@ starts_last (more a ts) (more b us) t u same =
 
 trees_last : (ts us : Trees) (t u : Tree) → count_of ts ≡ count_of us →
     trees_cmp (join ts (one t)) (join us (one u)) ≡ ordering_then (trees_cmp ts us) (tree_cmp t u)
-trees_last none none t u same = then_equal (tree_cmp t u)
+trees_last none none t u same = then_nothing (tree_cmp t u)
 trees_last none (more b us) t u same = absurd (cc)
 trees_last (more a ts) none t u same = absurd (cc)
 trees_last (more a ts) (more b us) t u same =

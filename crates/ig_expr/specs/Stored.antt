@@ -1,3 +1,4 @@
+-- For the proof checker alone: a reader need not read this file.
 -- Expressions stored as trees of labels, from which they are read back: so a proof tells expressions apart.
 use Rattle.std.specs.Prelude.{◌≡◌, ℕ, ℤ, List, Bool, ◌⊎◌, refl}
 use Rattle.std.specs.Coded.{Coded, code_by, coded_ℕ, coded_ℤ, coded_bool, coded_list, coded⊎}

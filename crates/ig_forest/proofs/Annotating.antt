@@ -8,6 +8,7 @@ use Rattle.ig_text.specs.declared.tag.Tag.{Tag}
 use Rattle.ig_text.specs.declared.text.Span.{Span}
 use Rattle.ig_text.proofs.Lists.{take_step}
 use Rattle.ig_text.proofs.Trees.{Parted, parted}
+use Rattle.ig_text.proofs.Equal.{same_listed}
 use Rattle.ig_expr.specs.Evaluation.{value_of}
 use Rattle.ig_expr.specs.TreeOrder.{begin_of, tree_cmp, count_of}
 use Rattle.ig_expr.specs.ValuedTree.{Tree, Trees, Leaf, Node, none, more, one, join, bare_tree, bare_trees}
@@ -28,7 +29,6 @@ use Rattle.ig_item.specs.Gives.{NodeKey, Taken}
 use Rattle.ig_forest.specs.Live.{Gives}
 use Rattle.ig_forest.proofs.Given.{GivenValues}
 use Rattle.ig_forest.proofs.Cursors.{node_parts}
-use Rattle.ig_forest.proofs.Lists.{same_listed}
 
 -- none behind the trees
 join-none : (ts : Trees) → join ts none ≡ ts

@@ -3,8 +3,8 @@ use Rattle.std.proofs.Common.{◌≡◌, ℕ, ◌+◌, ◌<◌, ◌≤◌, List,
 use Rattle.std.specs.Prelude.{option_map}
 use Rattle.std.proofs.lemmas.List.{take_all}
 use Rattle.std.proofs.lemmas.Option.{same_Some}
+use Rattle.ig_text.proofs.Lists.{get_within}
 use Rattle.ig_item.specs.declared.core_grammar.Nonterminal.{Nonterminal}
-use Rattle.ig_forest.proofs.Lists.{at_within}
 use Rattle.ig_forest.proofs.CodeEnvironments.{row_next}
 
 -- one more name
@@ -13,7 +13,7 @@ pub name_next : (core : List Nonterminal) (done more : List (List ℕ)) (name co
     Some name ≡ option_map (λ z. z.name) (slice_get core k) → done ≡ map (λ z. z.name) (take k core) →
     more ≡ map (λ z. z.name) (take (k + 1) core)
 name_next core done more name copy k n lt long more_is copied named so_far =
-    let (z, at) = at_within core k (omega (arith, lt, long)) in
+    let (z, at) = get_within core k (omega (arith, lt, long)) in
     let e : name ≡ z.name = same_Some name z.name (named ∙ ap (option_map (λ (m : Nonterminal). m.name)) at) in
     row_next (λ (m : Nonterminal). m.name) done more copy core k z more_is so_far at (copied ∙ e)
 

@@ -9,13 +9,13 @@ use Rattle.std.specs.Ordering.{ordering_index, eq_by_cmp}
 use Rattle.std.proofs.lemmas.List.{take_more, map-append}
 use Rattle.std.proofs.lemmas.List.Filters.{dedup_is}
 use Rattle.std.proofs.lemmas.Option.{slice_get-get_or, slice_get_within, get_or_from_slice_get}
-use Rattle.ig_forest.proofs.Lists.{contains_from_at}
+use Rattle.ig_text.proofs.Lists.{contains_from_at, mapped_at}
 use Rattle.ig_expr.specs.declared.value.Value.{Value}
 use Rattle.ig_expr.specs.contracts.value.ValuePartialEq.TheImpl as value_eq
 use Rattle.ig_expr.specs.contracts.value.ValueOrd.TheImpl.Laws as value_laws
 use Rattle.ig_forest.specs.CodeTables.{AreLists, ArePlaces, list_cmp}
 use Rattle.ig_forest.specs.CodeOnce.{IsOnce}
-use Rattle.ig_forest.proofs.CodeSorted.{not_found, map_at, once_by}
+use Rattle.ig_forest.proofs.CodeSorted.{not_found, once_by}
 use Rattle.ig_forest.proofs.CodeOrders.{value_derived, values_as, list_total, list_exact}
 
 abbrev pub now_of : Bor (List Value) → List Value
@@ -27,7 +27,7 @@ pub found_place : (lists : List (Bor (List Value))) (list : Bor (List Value)) (k
 found_place lists list k lt equal =
     let same : slice_cmp value_derived (get_or lists k list).now list.now ≡ Equal = equal list in
     let tied : list_cmp (get_or lists k list).now list.now ≡ Equal = subst (λ r. slice_cmp r (get_or lists k list).now list.now ≡ Equal) values_as same in
-    map_at now_of lists k (get_or lists k list) (slice_get-get_or lists k list lt) ∙ ap Some (list_exact _ _ tied)
+    mapped_at now_of lists k (get_or lists k list) (slice_get-get_or lists k list lt) ∙ ap Some (list_exact _ _ tied)
 
 pub no_place : (lists : List (Bor (List Value))) (list : Bor (List Value)) (i : ℕ) → IsStrictlySortedBy list_cmp (map now_of lists) →
     (IsNonDecreasingBy (λ y. ordering_index (slice_cmp value_derived y.now list.now)) lists →

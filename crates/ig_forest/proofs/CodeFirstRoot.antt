@@ -1,10 +1,12 @@
 -- The first complete item of the root over the whole text.
-use Rattle.std.proofs.Common.{◌≡◌, ◌↔◌, ◌⊎◌, inl, inr, ℕ, ◌+◌, ◌<◌, ◌≤◌, List, [], ◌∷◌, ◌==◌, Some, Bool, true, false, length, get_or, slice_get, Contains, refl, sym, ap, ◌∙◌, subst, arith}
+use Rattle.std.proofs.Common.{◌≡◌, ◌↔◌, inl, inr, ℕ, ◌+◌, ◌<◌, ◌≤◌, List, [], ◌==◌, Some, Bool, true, false, length, get_or, slice_get, Contains, sym, ap, ◌∙◌, subst, arith}
 use Rattle.std.specs.Prelude.{IsTrue, slice_index_or}
 use Rattle.std.proofs.lemmas.Bool.Decides.{nat_tests}
-use Rattle.std.proofs.lemmas.List.{length-map}
+use Rattle.std.proofs.lemmas.List.{length-map, nil_from_length}
 use Rattle.std.proofs.lemmas.List.Elements.{Contains-get_or}
 use Rattle.std.proofs.lemmas.Option.{get_or_from_slice_get, same_Some, slice_get-get_or, slice_get_within}
+use Rattle.ig_text.proofs.Lists.{at_from_contains, contains_from_at, mapped_at}
+use Rattle.ig_text.proofs.Orders.{below_or_at, le_or_lt}
 use Rattle.ig_item.specs.Gives.{Completes, NodeKey}
 use Rattle.ig_item.specs.Items.{Item, Reachable, RootIsComplete, root_instance}
 use Rattle.ig_item.specs.Recorded.{IsRecorded, Recording}
@@ -16,9 +18,6 @@ use Rattle.ig_item.specs.declared.items.InstanceView.{InstanceView}
 use Rattle.ig_item.specs.declared.items.Item as stored
 use Rattle.ig_forest.specs.Reduced.{root_key}
 use Rattle.ig_forest.specs.CodeFirstRoot.{IsFirstRoot}
-use Rattle.ig_forest.proofs.Lists.{at_from_contains, contains_from_at}
-use Rattle.ig_forest.proofs.CodeKeeping.{below_or_at}
-use Rattle.ig_forest.proofs.CodeSorted.{map_at}
 
 abbrev key_to : ℕ → NodeKey
 key_to end = record { instance = root_instance; end = end }
@@ -31,17 +30,13 @@ module _ (view : InstanceView) where
       let b : view.start ≡ 0 = omega (arith, s) in
       λ i. record { nonterminal = a i; values = v i; start = b i }
 
-none_long : {X : Type 0} (xs : List X) → length xs ≡ 0 → xs ≡ []
-none_long [] e = refl
-none_long (x ∷ xs) e = absurd (omega (arith, e))
-
 is_zero : (n : ℕ) (b : Bool) → b ≡ (n == 0) → b ≡ true → n ≡ 0
 is_zero n b e t = grind (arith, nat_tests)
 
 pub told_by_values : (view : InstanceView) (b : Bool) → view.nonterminal ≤ 0 → view.start ≤ 0 → b ≡ (length view.values.now == 0) →
     IsTrue b ↔ (instance_of view ≡ root_instance)
 told_by_values view b n s is = (
-  λ t. is_the_root view n s (none_long view.values.now (is_zero (length view.values.now) b is t)),
+  λ t. is_the_root view n s (nil_from_length view.values.now (is_zero (length view.values.now) b is t)),
   λ e. is ∙ ap (λ (i : Instance). length i.values == 0) e,
 )
 
@@ -65,9 +60,9 @@ module _ (r : Recording) (is : IsRecorded r) where
       IsRootEnd k
   found_root k x at c = record {
     item = item_of r.tables x;
-    there = map_at (item_of r.tables) r.tables.items k x at;
+    there = mapped_at (item_of r.tables) r.tables.items k x at;
     is_known = (is.reachable (item_of r.tables x)).0 (contains_from_at (items_of r.tables) k (item_of r.tables x)
-        (map_at (item_of r.tables) r.tables.items k x at));
+        (mapped_at (item_of r.tables) r.tables.items k x at));
     completes = c;
   }
 
@@ -78,7 +73,7 @@ module _ (r : Recording) (is : IsRecorded r) where
       elim (below_or_at j k lt) [
         | inl low ↦ before j low e
         | inr same ↦
-            let here = map_at (item_of r.tables) r.tables.items k x at in
+            let here = mapped_at (item_of r.tables) r.tables.items k x at in
             let item : e.item ≡ item_of r.tables x = same_Some e.item (item_of r.tables x)
             (sym e.there ∙ ap (slice_get (items_of r.tables)) same ∙ here) in
             not (subst (λ (z : Item). Completes r.core z (root_key r.text)) item e.completes)
@@ -91,9 +86,6 @@ module _ (r : Recording) (is : IsRecorded r) where
     least = λ j e. not_below j e;
   }
     where
-      le_or_lt : (a b : ℕ) → (a ≤ b) ⊎ (b < a)
-      le_or_lt a b = grind arith
-
       not_below : (j : ℕ) → IsRootEnd j → k ≤ j
       not_below j e = elim (le_or_lt k j) [ inl le ↦ le | inr lt ↦ absurd (before j lt e) ]
 

@@ -3,6 +3,8 @@ use Rattle.std.proofs.Common.{◌≡◌, ℕ, ◌<◌, List, [], ◌∷◌, Some
 use Rattle.std.proofs.lemmas.Option.{slice_get-get_or, same_Some}
 use Rattle.ig_text.specs.declared.pattern.Pattern.{Pattern}
 use Rattle.ig_text.specs.Pattern.{Matches}
+use Rattle.ig_text.proofs.Rising.{one_place}
+use Rattle.ig_text.proofs.Equal.{same_listed}
 use Rattle.ig_expr.specs.Expression.{Expression}
 use Rattle.ig_expr.specs.declared.value.Value.{Value}
 use Rattle.ig_expr.specs.declared.value.Value.TheVariants.{Bool}
@@ -17,7 +19,6 @@ use Rattle.ig_forest.specs.Live.{Gives}
 use Rattle.ig_forest.specs.CodeTables.{item_by, list_at, list_cmp}
 use Rattle.ig_forest.specs.CodeDone.{StandsLast}
 use Rattle.ig_forest.specs.declared.rows.ItemRow.{ItemRow}
-use Rattle.ig_forest.proofs.Lists.{one_place, same_listed}
 use Rattle.ig_forest.proofs.Uniqueness.{same_key}
 use Rattle.ig_forest.proofs.CodeOrders.{list_total}
 use Rattle.std.specs.List.Sorted.{IsStrictlySortedBy}

@@ -1,12 +1,12 @@
 -- The entries of live items, made from their ways.
-use Rattle.std.proofs.Common.{◌≡◌, ◌↔◌, ◌⊎◌, inl, inr, ℕ, zero, suc, ◌+◌, ◌<◌, ◌≤◌, List, [], ◌∷◌, ◌++◌, Some, length, map, take, drop, get_or, slice_get, Contains, IsPermutation, IsSorted, refl, sym, ap, ◌∙◌, subst, arith}
+use Rattle.std.proofs.Common.{◌≡◌, ◌↔◌, ◌⊎◌, inl, inr, ℕ, zero, suc, ◌+◌, ◌<◌, ◌≤◌, List, [], ◌∷◌, ◌++◌, Some, length, map, drop, get_or, slice_get, Contains, IsPermutation, IsSorted, refl, sym, ap, ◌∙◌, subst, arith}
 use Rattle.std.specs.List.{dedup}
 use Rattle.std.specs.Ordering.{nat_cmp, eq_by_cmp}
 use Rattle.std.proofs.Math.ListN.{set}
 use Rattle.std.proofs.Math.Seq.{drop-cons}
 use Rattle.std.proofs.lemmas.Bool.Decides.{Decides-eqb}
 use Rattle.std.proofs.lemmas.Cmp.{nat_cmp_total}
-use Rattle.std.proofs.lemmas.List.{get_or-set_same, get_or-set_other, length-set, take_more, take_all}
+use Rattle.std.proofs.lemmas.List.{get_or-set_same, get_or-set_other, length-set}
 use Rattle.std.proofs.lemmas.List.Elements.{Contains-append_left, Contains-push, Contains-push_cases}
 use Rattle.std.proofs.lemmas.List.Kept.{Contains-from_dedup}
 use Rattle.std.proofs.lemmas.List.Sorted.{Contains-permutation, IsPermutation-sym}
@@ -14,14 +14,15 @@ use Rattle.std.proofs.lemmas.Map.Lookups.{exact_unsigned}
 use Rattle.std.proofs.lemmas.Map.Made.{IsDistinct-from_AllPairs, is_member-Decides}
 use Rattle.std.proofs.lemmas.Map.Steps.{length-le_from_distinct_below}
 use Rattle.std.proofs.lemmas.Option.{same_Some, slice_get-get_or, slice_get_within, get_or_from_slice_get}
+use Rattle.ig_text.proofs.Lists.{at_from_contains, contains_from_at, mapped_in, unmapped_in, contains_later}
+use Rattle.ig_text.proofs.Orders.{below_or_at}
+use Rattle.ig_text.proofs.Rising.{one_sorted}
 use Rattle.ig_item.specs.WellKinded.{NoneTwice}
 use Rattle.ig_item.specs.Ways.{WayTo, found, again}
 use Rattle.ig_item.specs.declared.ways.Way.{Way}
 use Rattle.ig_item.specs.declared.ways.Way.TheVariants as way
 use Rattle.ig_item.specs.declared.ways.FurtherWay.{FurtherWay}
 use Rattle.ig_forest.specs.Orders.{entry_cmp, previous}
-use Rattle.ig_forest.specs.Reduced as reduced
-use Rattle.ig_forest.specs.Reduced.{Each}
 use Rattle.ig_forest.specs.CodeItemNodes.{AreNumbers, AreFromOne, AreSources, AreEntriesOf, AddsItem, WayFits, entry_by, further_entry}
 use Rattle.ig_forest.specs.CodeLiveOrder.{item_at, row_of}
 use Rattle.ig_forest.specs.CodeOnce.{IsOnce}
@@ -29,11 +30,7 @@ use Rattle.ig_forest.specs.CodeParts.{StoredItem}
 use Rattle.ig_forest.specs.declared.entry.Entry.{Entry}
 use Rattle.ig_forest.specs.declared.rows.ItemRow.{ItemRow}
 use Rattle.ig_forest.specs.declared.item_nodes.Sources.{Sources}
-use Rattle.ig_forest.proofs.Lists.{at_from_contains, contains_from_at, one_sorted}
-use Rattle.ig_forest.proofs.TotalOrders.{entry_total}
-use Rattle.ig_forest.proofs.CodeKeeping.{below_or_at}
-use Rattle.ig_forest.proofs.CodePlacing.{in_more}
-use Rattle.ig_forest.proofs.CodeSorted.{map_member, member_of_map, once_by, strict_unmap}
+use Rattle.ig_forest.proofs.CodeSorted.{once_by, strict_unmap}
 
 -- different numbers below count are no more than that
 pub few_numbers : (xs : List ℕ) (count : ℕ) → NoneTwice xs → ((k : ℕ) → Contains xs k → k < count) → length xs ≤ count
@@ -94,7 +91,7 @@ sorted_once xs ys zs one moved sorted is = record {
   members = λ e. (
     λ c. from e c,
     λ c.
-        let (z, among, same) = member_of_map previous zs (previous e) ((images.members (previous e)).1 (map_member previous xs e c)) in
+        let (z, among, same) = unmapped_in previous zs (previous e) ((images.members (previous e)).1 (mapped_in previous xs e c)) in
         subst (Contains zs) (one z e (from z among) c same) among,
   );
   order = strict_unmap previous nat_cmp zs images.order;
@@ -107,21 +104,6 @@ sorted_once xs ys zs one moved sorted is = record {
     from e c =
         Contains-permutation ys xs e (IsPermutation-sym xs ys moved)
         (Contains-from_dedup (eq_by_cmp (λ x y. nat_cmp (previous x) (previous y))) ys e (subst (λ (z : List Entry). Contains z e) is c))
-
-module _ {X Y : Type 0} (P : X → Y → Type 0) where
-  -- one more of both
-  each_push : (xs : List X) (ys : List Y) (x : X) (y : Y) → Each P xs ys → P x y → Each P (xs ++ x ∷ []) (ys ++ y ∷ [])
-  each_push _ _ x y reduced.none p = reduced.more x y [] [] p reduced.none
-  each_push _ _ x y (reduced.more a b xs ys q each) p = reduced.more a b (xs ++ x ∷ []) (ys ++ y ∷ []) q (each_push xs ys x y each p)
-
-  pub each_next : (xs : List X) (ys more : List Y) (i : ℕ) (d : X) (y : Y) → i < length xs → Each P (take i xs) ys → P (get_or xs i d) y →
-      more ≡ ys ++ y ∷ [] → Each P (take (i + 1) xs) more
-  each_next xs ys more i d y lt each p is =
-      subst (λ (v : List X). Each P v more) (sym (take_more xs i d lt))
-      (subst (λ (v : List Y). Each P (take i xs ++ get_or xs i d ∷ []) v) (sym is) (each_push (take i xs) ys (get_or xs i d) y each p))
-
-  pub each_all : (xs : List X) (ys : List Y) (i : ℕ) → length xs ≤ i → Each P (take i xs) ys → Each P xs ys
-  each_all xs ys i le each = subst (λ (v : List X). Each P v ys) (take_all i xs le) each
 
 -- the entries of the further ways from that place on
 pub record AreGathered (s : Sources) (further : List FurtherWay) (place : ℕ) (es : List Entry) : Type 0 where
@@ -144,7 +126,7 @@ module _ (s : Sources) (further : List FurtherWay) where
       λ c. elim (Contains-push_cases es new e (subst (λ (v : List Entry). Contains v e) is c)) [
         | inl old ↦
             let h = (so_far.members e).0 old in
-            (h.0, subst (λ (v : List FurtherWay). Contains v h.0) (sym split) (in_more here rest h.0 h.1), h.2)
+            (h.0, subst (λ (v : List FurtherWay). Contains v h.0) (sym split) (contains_later here rest h.0 h.1), h.2)
         | inr same ↦ (here, subst (λ (v : List FurtherWay). Contains v here) (sym split) (contains_from_at (here ∷ rest) 0 here refl), sym same)
       ],
       λ h. subst (λ (v : List Entry). Contains v e) (sym is) (elim (head_or_rest here rest h.0
@@ -242,7 +224,7 @@ module _ (s : Sources) (are : AreSources s) (k : ℕ) (live : Contains s.order.n
       is =
           record {
             row = row_is;
-            entries = record { members = members_of [] (entry ∷ []) refl no_more; order = one_sorted entry_cmp entry_total entry };
+            entries = record { members = members_of [] (entry ∷ []) refl no_more; order = one_sorted entry_cmp entry };
           };
       added = is;
     }

@@ -1,8 +1,12 @@
 -- The live items of what was recorded make the reduced forest.
-use Rattle.std.proofs.Common.{◌≡◌, ◌↔◌, ℕ, zero, suc, ◌<◌, List, ◌∷◌, Some, true, Bor, length, map, slice_get, Contains, refl, sym, ap, ◌∙◌, subst, subst₂, arith}
+use Rattle.std.proofs.Common.{◌≡◌, ◌↔◌, ℕ, ◌<◌, List, Some, true, Bor, length, map, slice_get, Contains, refl, sym, ap, ◌∙◌, subst, subst₂, arith}
 use Rattle.std.specs.Prelude.{slice_index}
 use Rattle.std.proofs.lemmas.List.{length-map}
-use Rattle.std.proofs.lemmas.Option.{same_Some, slice_get_within, get_or_from_slice_get}
+use Rattle.std.proofs.lemmas.Option.{slice_get_within, get_or_from_slice_get}
+use Rattle.ig_text.proofs.Lists.{at_from_contains, get_within, contains_from_at, unmapped_at, mapped_in, mapped_at, map_twice}
+use Rattle.ig_text.proofs.Pairwise.{same_length, each_mapped, each_right}
+use Rattle.ig_text.proofs.Rising.{one_place}
+use Rattle.ig_text.specs.Pairwise.{Each}
 use Rattle.ig_expr.specs.declared.value.Value.{Value}
 use Rattle.ig_item.specs.Laws.{EnvironmentsFit}
 use Rattle.ig_item.specs.WellKinded.{IsWellKinded, NoneTwice}
@@ -17,8 +21,7 @@ use Rattle.ig_item.specs.declared.items.Item as stored
 use Rattle.ig_forest.specs.Live as live
 use Rattle.ig_forest.specs.Live.{IsLive}
 use Rattle.ig_forest.specs.Orders.{choice_cmp, node_cmp}
-use Rattle.ig_forest.specs.Reduced as reduced
-use Rattle.ig_forest.specs.Reduced.{Each, IsEntry, IsItemNode, IsReduced, root_key}
+use Rattle.ig_forest.specs.Reduced.{IsEntry, IsItemNode, IsReduced, root_key}
 use Rattle.ig_forest.specs.Unfold.{IsTrim}
 use Rattle.ig_forest.specs.CodeForest.{FitsForest, forest_by, item_node_by}
 use Rattle.ig_forest.specs.CodeItemNodes.{AreSources, AreNumbers, IsStoredItem, entry_by}
@@ -36,38 +39,14 @@ use Rattle.ig_forest.specs.declared.mark.Mark.{Mark}
 use Rattle.ig_forest.specs.declared.entry.Entry.{Entry}
 use Rattle.ig_forest.specs.declared.item_nodes.Sources.{Sources}
 use Rattle.ig_forest.specs.declared.rows.ItemRow.{ItemRow}
-use Rattle.ig_forest.proofs.Lists.{at_from_contains, at_within, contains_from_at, one_place, same_length}
 use Rattle.ig_forest.proofs.Liveness.{live_is_reachable}
 use Rattle.ig_forest.proofs.TotalOrders.{node_total}
 use Rattle.ig_forest.proofs.CodeItemNodes.{few_numbers}
 use Rattle.ig_forest.proofs.CodeLiveOrder.{number_total}
 use Rattle.ig_forest.proofs.CodeLiveRows as rows
 use Rattle.ig_forest.proofs.CodeMembers.{are_items}
-use Rattle.ig_forest.proofs.CodeNodesReduced.{each_node, map_twice, name_within, named, node_numbered, nodes_are, nodes_listed, nodes_named}
-use Rattle.ig_forest.proofs.CodeSorted.{at_of_map, map_at, map_member}
+use Rattle.ig_forest.proofs.CodeNodesReduced.{each_node, name_within, named, node_numbered, nodes_are, nodes_listed, nodes_named}
 use Rattle.ig_forest.proofs.CodeWayEntries.{AreOfRun, are_sources, entries_are}
-
-module _ {X Y A B : Type 0} (P : X → Y → Type 0) (Q : A → B → Type 0) (f : X → A) (g : Y → B) where
-  -- what belongs together belongs together by its images
-  pub each_mapped : (xs : List X) (ys : List Y) → ((x : X) (y : Y) → Contains xs x → P x y → Q (f x) (g y)) → Each P xs ys →
-      Each Q (map f xs) (map g ys)
-  each_mapped _ _ h reduced.none = reduced.none
-  each_mapped _ _ h (reduced.more x y xs ys p each) =
-      reduced.more (f x) (g y) (map f xs) (map g ys) (h x y (contains_from_at (x ∷ xs) 0 x refl) p)
-      (each_mapped xs ys (λ z w c q. let at = at_from_contains xs z c in h z w (contains_from_at (x ∷ xs) (suc at.0) z at.1) q) each)
-
-module _ {X Y : Type 0} (P : X → Y → Type 0) where
-  each_at : (xs : List X) (ys : List Y) → Each P xs ys → (k : ℕ) (y : Y) → slice_get ys k ≡ Some y → (x : X) × (slice_get xs k ≡ Some x) × P x y
-  each_at _ _ reduced.none k y e = cc
-  each_at _ _ (reduced.more x z xs ys p each) zero y e = (x, refl, subst (P x) (same_Some z y e) p)
-  each_at _ _ (reduced.more x z xs ys p each) (suc k) y e = each_at xs ys each k y e
-
-  -- each member of the second list belongs to one of the first
-  pub each_right : (xs : List X) (ys : List Y) → Each P xs ys → (y : Y) → Contains ys y → (x : X) × Contains xs x × P x y
-  each_right xs ys each y c =
-      let (k, at) = at_from_contains ys y c in
-      let (x, there, p) = each_at xs ys each k y at in
-      (x, contains_from_at xs k x there, p)
 
 -- what the builder reads of a recording
 module _ (tables : Tables) (lists : List (List Value)) (found : Found) (are : AreFound tables lists found) where
@@ -218,16 +197,16 @@ module _ (l : LiveItems) (are : AreLiveItems l) where
   live_item k c =
       let lt = order_below k c in
       let n = are.marks.long in
-      let (x, at) = at_within items k (omega (arith, lt, n)) in
+      let (x, at) = get_within items k (omega (arith, lt, n)) in
       record { item = x; at = at; is_live = (order_members k x at).0 c; meant = row_meant k x at }
 
   placed_at : (p k : ℕ) (x : Item) → slice_get l.order.now p ≡ Some k → slice_get items k ≡ Some x → slice_get placed p ≡ Some x
-  placed_at p k x at item = map_at (item_by L) live_rows p (row k) (map_at row l.order.now p k at) ∙ ap Some (row_meant k x item)
+  placed_at p k x at item = mapped_at (item_by L) live_rows p (row k) (mapped_at row l.order.now p k at) ∙ ap Some (row_meant k x item)
 
   placed_by : (p : ℕ) (x : Item) → slice_get placed p ≡ Some x → (k : ℕ) × (slice_get l.order.now p ≡ Some k) × (slice_get items k ≡ Some x)
   placed_by p x at =
-      let (r, at_r, is) = at_of_map (item_by L) live_rows p x at in
-      let (k, at_k, row_is) = at_of_map row l.order.now p r at_r in
+      let (r, at_r, is) = unmapped_at (item_by L) live_rows p x at in
+      let (k, at_k, row_is) = unmapped_at row l.order.now p r at_r in
       let i = live_item k (contains_from_at l.order.now p k at_k) in
       (k, at_k, i.at ∙ ap Some (sym i.meant ∙ ap (item_by L) row_is ∙ is))
 
@@ -356,7 +335,7 @@ module _ (l : LiveItems) (are : AreLiveItems l) where
       row_fits : (it : StoredItem) → Contains stored it → RowFits L it.row
       row_fits it c =
           let (k, among, is) = item_row it c in
-          subst (RowFits L) (sym is) (are_live_rows.fit (row k) (map_member row l.order.now k among))
+          subst (RowFits L) (sym is) (are_live_rows.fit (row k) (mapped_in row l.order.now k among))
 
       pub fits_forest : IsTrim (forest_by root names lists table stored) → FitsForest root names lists table stored
       fits_forest trim =

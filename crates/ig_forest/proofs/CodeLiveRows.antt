@@ -4,6 +4,7 @@ use Rattle.std.specs.Prelude.{slice_index, slice_index_or}
 use Rattle.std.proofs.lemmas.List.{length-map}
 use Rattle.std.proofs.lemmas.List.Elements.{Contains-get_or}
 use Rattle.std.proofs.lemmas.Option.{get_or_from_slice_get, slice_get-get_or, slice_get_within}
+use Rattle.ig_text.proofs.Lists.{at_from_contains, get_within, unmapped_at, mapped_in, unmapped_in, mapped_at}
 use Rattle.ig_expr.specs.declared.value.Value.{Value}
 use Rattle.ig_item.specs.Items.{Item, IsComplete, root_instance}
 use Rattle.ig_item.specs.Tables.{AreTables, HaveValues, Tables, instance_by, item_of, items_of}
@@ -17,10 +18,9 @@ use Rattle.ig_forest.specs.CodeNodes.{MarkComplete, rows_of}
 use Rattle.ig_forest.specs.declared.mark.Mark.{Mark}
 use Rattle.ig_forest.specs.declared.mark.Mark.TheVariants.{Complete}
 use Rattle.ig_forest.specs.declared.rows.ItemRow.{ItemRow}
-use Rattle.ig_forest.proofs.Lists.{at_from_contains, at_within}
 use Rattle.ig_forest.proofs.CodeGives.{complete_from_last, last_from_complete}
 use Rattle.ig_forest.proofs.CodeLiveOrder.{marked_within}
-use Rattle.ig_forest.proofs.CodeSorted.{at_of_map, map_at, map_member, member_of_map, strict_map}
+use Rattle.ig_forest.proofs.CodeSorted.{strict_map}
 
 same_item : (x y : Item) → x.instance ≡ y.instance → x.alternative ≡ y.alternative → x.dot ≡ y.dot → x.env ≡ y.env →
     x.position ≡ y.position → x ≡ y
@@ -38,8 +38,8 @@ module _ (tables : Tables) (keys : List InstanceKey) (lists : List (List Value))
   -- each environment stands at its place among the lists
   list_there : (n : ℕ) → n < length places → slice_get lists (slice_index places n) ≡ Some (slice_index_or tables.environments n [])
   list_there n lt =
-      let here = map_at (λ p. slice_get lists p) places n (slice_index places n) (slice_get-get_or places n 0 lt) in
-      let (list, at, is) = at_of_map Some tables.environments n (slice_get lists (slice_index places n)) (sym (ap (λ z. slice_get z n) placed) ∙ here) in
+      let here = mapped_at (λ p. slice_get lists p) places n (slice_index places n) (slice_get-get_or places n 0 lt) in
+      let (list, at, is) = unmapped_at Some tables.environments n (slice_get lists (slice_index places n)) (sym (ap (λ z. slice_get z n) placed) ∙ here) in
       sym is ∙ ap Some (sym (get_or_from_slice_get tables.environments n list [] at))
 
   -- all that an item names is there
@@ -62,7 +62,7 @@ module _ (tables : Tables) (keys : List InstanceKey) (lists : List (List Value))
       let key = key_at keys x in
       let at : slice_get tables.instances x.instance ≡ Some (instance_by tables.environments key) =
       ap (λ z. slice_get z x.instance) (sym instances) ∙
-      map_at (instance_by tables.environments) keys x.instance key (slice_get-get_or keys x.instance no_key there.instance) in
+      mapped_at (instance_by tables.environments) keys x.instance key (slice_get-get_or keys x.instance no_key there.instance) in
       let named : slice_index_or tables.instances x.instance root_instance ≡ instance_by tables.environments key =
       get_or_from_slice_get tables.instances x.instance (instance_by tables.environments key) root_instance at in
       let valued : list_at lists (slice_index places key.env) ≡ slice_index_or tables.environments key.env [] =
@@ -75,7 +75,7 @@ module _ (tables : Tables) (keys : List InstanceKey) (lists : List (List Value))
 
   pub row_meant : (k : ℕ) (x : Item) → slice_get (items_of tables) k ≡ Some x → item_by lists (row_of tables.items keys places k) ≡ x
   row_meant k x at =
-      let (s, at_s, is) = at_of_map (item_of tables) tables.items k x at in
+      let (s, at_s, is) = unmapped_at (item_of tables) tables.items k x at in
       row_item k (slice_get_within tables.items k s at_s) ∙ ap (item_of tables) (get_or_from_slice_get tables.items k s no_item at_s) ∙ is
 
   -- what a row names is there
@@ -90,7 +90,7 @@ module _ (tables : Tables) (keys : List InstanceKey) (lists : List (List Value))
       }
 
   meant_at : (k : ℕ) → k < length tables.items → slice_get (items_of tables) k ≡ Some (item_of tables (item_at tables.items k))
-  meant_at k lt = map_at (item_of tables) tables.items k (item_at tables.items k) (slice_get-get_or tables.items k no_item lt)
+  meant_at k lt = mapped_at (item_of tables) tables.items k (item_at tables.items k) (slice_get-get_or tables.items k no_item lt)
 
   -- the rows tell the items apart
   pub are_apart : NoneTwice (items_of tables) → AreApart tables.items keys places
@@ -101,7 +101,7 @@ module _ (tables : Tables) (keys : List InstanceKey) (lists : List (List Value))
   module _ (core : List Nonterminal) (text : List ℕ) (marks : List Mark) (long : length marks ≡ length (items_of tables))
       (live : (k : ℕ) (x : Item) → slice_get (items_of tables) k ≡ Some x → (slice_get (map is_live marks) k ≡ Some true) ↔ IsLive core text x) where
     marked_item : (k : ℕ) → k < length marks → (x : Item) × (slice_get (items_of tables) k ≡ Some x)
-    marked_item k lt = at_within (items_of tables) k (let l = long in omega (arith, lt, l))
+    marked_item k lt = get_within (items_of tables) k (let l = long in omega (arith, lt, l))
 
     pub there_by_marks : (k : ℕ) → k < length marks → IsThere tables.items keys places k
     there_by_marks k lt = are_there k (let l = long in let m = length-map tables.items (item_of tables) in omega (arith, lt, l, m))
@@ -129,12 +129,12 @@ module _ (tables : Tables) (keys : List InstanceKey) (lists : List (List Value))
     live_rows order in_order all = record {
       fit =
           λ row c.
-          let (k, among, is) = member_of_map (row_of tables.items keys places) order row c in
+          let (k, among, is) = unmapped_in (row_of tables.items keys places) order row c in
           let lt = there_by_marks k (marked_within marks k ((in_order.members k).0 among)) in
           subst (RowFits lists) is (row_fits k lt.item);
       sound =
           λ row c.
-          let (k, among, is) = member_of_map (row_of tables.items keys places) order row c in
+          let (k, among, is) = unmapped_in (row_of tables.items keys places) order row c in
           let marked = (in_order.members k).0 among in
           let (x, at) = marked_item k (marked_within marks k marked) in
           subst (λ (z : ItemRow). IsLive core text (item_by lists z)) is (subst (IsLive core text) (sym (row_meant k x at)) ((live k x at).0 marked));
@@ -142,7 +142,7 @@ module _ (tables : Tables) (keys : List InstanceKey) (lists : List (List Value))
           λ x l.
           let (k, at) = at_from_contains (items_of tables) x (all x l) in (
             row_of tables.items keys places k,
-            map_member (row_of tables.items keys places) order k ((in_order.members k).1 ((live k x at).1 l)),
+            mapped_in (row_of tables.items keys places) order k ((in_order.members k).1 ((live k x at).1 l)),
             row_meant k x at,
           );
       order =

@@ -5,6 +5,9 @@ use Rattle.std.specs.List.Sorted.{IsStrictlySortedBy}
 use Rattle.std.specs.Ordering.{nat_cmp, ordering_then, ordering_reverse}
 use Rattle.std.proofs.lemmas.Cmp.{tied_itself, nat_cmp_total}
 use Rattle.std.proofs.lemmas.Option.{slice_get-get_or}
+use Rattle.std.proofs.lemmas.Bool.{cases_order}
+use Rattle.ig_text.proofs.Lists.{mapped_in, unmapped_in}
+use Rattle.ig_text.proofs.Rising.{rises}
 use Rattle.ig_expr.specs.declared.value.Value.{Value}
 use Rattle.ig_item.specs.Items.{Item}
 use Rattle.ig_item.specs.declared.core_grammar.Nonterminal.{Nonterminal}
@@ -16,9 +19,8 @@ use Rattle.ig_forest.specs.CodeTables.{RowFits, AreRows, item_by, key_by, list_a
 use Rattle.ig_forest.specs.CodeDone.{AreNodesOf}
 use Rattle.ig_forest.specs.declared.rows.ItemRow.{ItemRow}
 use Rattle.ig_forest.specs.declared.rows.NodeRow.{NodeRow}
-use Rattle.ig_forest.proofs.Lists.{rises, three_ways}
 use Rattle.ig_forest.proofs.CodeOrders.{list_total}
-use Rattle.ig_forest.proofs.CodeSorted.{map_member, member_of_map, strict_map}
+use Rattle.ig_forest.proofs.CodeSorted.{strict_map}
 use Rattle.ig_forest.proofs.CodeGives.{complete_from_last, last_from_complete}
 use Rattle.ig_forest.proofs.CodeKeeping.{less_number}
 
@@ -28,16 +30,16 @@ pub rank : (lists : List (List Value)) (a b : ℕ) → IsStrictlySortedBy list_c
 rank lists a b sorted la lb =
     let at_a = slice_get-get_or lists a [] la in
     let at_b = slice_get-get_or lists b [] lb in
-    elim (three_ways a b) [
-      | inl lt ↦ less_number a b lt ∙ sym (rises list_cmp list_total lists a b (list_at lists a) (list_at lists b) sorted at_a at_b lt)
-      | inr (inl e) ↦
+    elim (cases_order a b) [
+      | inr (inl lt) ↦ less_number a b lt ∙ sym (rises list_cmp lists a b (list_at lists a) (list_at lists b) sorted at_a at_b lt)
+      | inl e ↦
           let n : nat_cmp a b ≡ Equal = ap (nat_cmp a) (sym e) ∙ tied_itself nat_cmp_total a in
           let m : list_cmp (list_at lists a) (list_at lists b) ≡ Equal =
           ap (λ z. list_cmp (list_at lists a) (list_at lists z)) (sym e) ∙ tied_itself list_total (list_at lists a) in
           n ∙ sym m
       | inr (inr gt) ↦
           let n : nat_cmp a b ≡ Greater = nat_cmp_total.antisymm a b ∙ ap ordering_reverse (less_number b a gt) in
-          let r = rises list_cmp list_total lists b a (list_at lists b) (list_at lists a) sorted at_b at_a gt in
+          let r = rises list_cmp lists b a (list_at lists b) (list_at lists a) sorted at_b at_a gt in
           let m : list_cmp (list_at lists a) (list_at lists b) ≡ Greater = list_total.antisymm (list_at lists a) (list_at lists b) ∙ ap ordering_reverse r in
           n ∙ sym m
     ]
@@ -57,8 +59,8 @@ module _ (lists : List (List Value)) (sorted : IsStrictlySortedBy list_cmp lists
   pub are_items : (core : List Nonterminal) (text : List ℕ) (rows : List ItemRow) → AreRows (IsLive core text) lists rows → AreItems core text (map (item_by lists) rows)
   are_items core text rows are = record {
     members = λ x. (
-      λ c. let (row, among, is) = member_of_map (item_by lists) rows x c in subst (IsLive core text) is (are.sound row among),
-      λ l. let (row, among, is) = are.complete x l in subst (Contains (map (item_by lists) rows)) is (map_member (item_by lists) rows row among),
+      λ c. let (row, among, is) = unmapped_in (item_by lists) rows x c in subst (IsLive core text) is (are.sound row among),
+      λ l. let (row, among, is) = are.complete x l in subst (Contains (map (item_by lists) rows)) is (mapped_in (item_by lists) rows row among),
     );
     order =
         strict_map (item_by lists) row_cmp item_cmp (RowFits lists) (λ x y fx fy e. sym (row_as_item x y fx fy) ∙ e) rows are.fit are.order;
@@ -81,11 +83,11 @@ module _ (lists : List (List Value)) (sorted : IsStrictlySortedBy list_cmp lists
   are_nodes core rows nodes fit are = record {
     members = λ key. (
       λ c.
-          let (node, among, is) = member_of_map (key_by lists) nodes key c in
+          let (node, among, is) = unmapped_in (key_by lists) nodes key c in
           let (row, row_among, done) = (are.members node).0 among in
           let e : key_by lists (node_of row) ≡ key = ap (key_by lists) done.node_is ∙ is in (
             item_by lists row,
-            map_member (item_by lists) rows row row_among,
+            mapped_in (item_by lists) rows row row_among,
             record {
               complete = complete_from_last core lists row done.last;
               instance = ap (λ (z : NodeKey). z.instance) e;
@@ -93,11 +95,11 @@ module _ (lists : List (List Value)) (sorted : IsStrictlySortedBy list_cmp lists
             },
           ),
       λ h.
-          let (row, among, is) = member_of_map (item_by lists) rows h.0 h.1 in
+          let (row, among, is) = unmapped_in (item_by lists) rows h.0 h.1 in
           let c : Completes core (item_by lists row) key = subst (λ (z : Item). Completes core z key) (sym is) h.2 in
           let e : key_by lists (node_of row) ≡ key = (λ i. record { instance = c.instance i; end = c.end i }) in
           subst (Contains (map (key_by lists) nodes)) e
-          (map_member (key_by lists) nodes (node_of row)
+          (mapped_in (key_by lists) nodes (node_of row)
           ((are.members (node_of row)).1 (row, among, record { last = last_from_complete core lists row c.complete; node_is = refl }))),
     );
     order =

@@ -5,15 +5,15 @@ use Rattle.std.proofs.lemmas.List.{length-drop, length-take-le}
 use Rattle.std.proofs.lemmas.List.Sorted.{IsPermutation-put_mid, length_permutation}
 use Rattle.std.proofs.lemmas.Option.{same_Some, slice_get_within}
 use Rattle.std.proofs.lemmas.Slice.{between_is, between-put_mid, drop-put_mid, take-put_mid_below}
+use Rattle.ig_text.proofs.Lists.{get_within}
+use Rattle.ig_text.proofs.Orders.{below_or_at}
+use Rattle.ig_text.proofs.Pairwise.{each_places}
+use Rattle.ig_text.specs.Pairwise.{Each}
 use borrow.Rule.Slice.PartMut.{put_mid}
 use Rattle.ig_forest.specs.Orders.{choice_cmp}
-use Rattle.ig_forest.specs.Reduced as reduced
-use Rattle.ig_forest.specs.Reduced.{Each}
 use Rattle.ig_forest.specs.CodeNodeRows.{IsPutInOrder, RiseIn, begin_at, end_before, nodes_from, stored_upto, StoredNode}
 use Rattle.ig_forest.specs.declared.entry.Choice.{Choice}
 use Rattle.ig_forest.specs.declared.node_rows.Begun.{Begun}
-use Rattle.ig_forest.proofs.Lists.{at_within}
-use Rattle.ig_forest.proofs.CodeKeeping.{below_or_at}
 use Rattle.ig_forest.proofs.CodeNodeRows.{begin_found, length-nodes, node_got, node_within}
 
 -- what stands before and behind a part stays when the part changes
@@ -143,18 +143,9 @@ module _ (begun : List Begun) (before now : List Choice) (rise : RiseIn before b
 pub next_ends : (begun : List Begun) (before now : List Choice) → RiseIn before begun → (k : ℕ) → ArePutUpTo begun k before now → k < length begun →
     (end : ℕ) → end ≡ begin_at (length now) begun (k + 1) → end ≤ length now
 next_ends begun before now rise k so_far lt end is =
-    let (node, at) = at_within begun k lt in
+    let (node, at) = get_within begun k lt in
     let fits = next_within begun before now rise k so_far node at end is in
     fits.1
-
--- what belongs together at each place belongs together
-each_places : {X Y : Type 0} (P : X → Y → Type 0) (xs : List X) (ys : List Y) → length xs ≡ length ys →
-    ((k : ℕ) (x : X) (y : Y) → slice_get xs k ≡ Some x → slice_get ys k ≡ Some y → P x y) → Each P xs ys
-each_places P [] [] long h = reduced.none
-each_places P [] (y ∷ ys) long h = absurd (omega (arith, long))
-each_places P (x ∷ xs) [] long h = absurd (omega (arith, long))
-each_places P (x ∷ xs) (y ∷ ys) long h =
-    reduced.more x y xs ys (h 0 x y refl refl) (each_places P xs ys (omega (arith, long)) (λ k a b at_a at_b. h (suc k) a b at_a at_b))
 
 -- a node stands where it begins
 begun_there : (choices : List Choice) (begun : List Begun) (k : ℕ) (a : StoredNode) → slice_get (nodes_from choices begun) k ≡ Some a →

@@ -1,5 +1,5 @@
 -- One pass over the complete items in order makes the nodes.
-use Rattle.std.proofs.Common.{◌≡◌, ◌≢◌, ◌⊎◌, inl, inr, ℕ, zero, suc, ◌+◌, ◌-◌, ◌<◌, ◌≤◌, List, [], ◌∷◌, ◌++◌, true, Some, Option, Less, Equal, Greater, length, map, take, get_or, slice_get, Contains, refl, sym, ap, ◌∙◌, subst, arith, length-append}
+use Rattle.std.proofs.Common.{◌≡◌, ◌≢◌, ◌⊎◌, inl, inr, ℕ, suc, ◌+◌, ◌-◌, ◌<◌, ◌≤◌, List, [], ◌∷◌, ◌++◌, true, Some, Option, Less, Equal, Greater, length, map, take, get_or, slice_get, Contains, refl, sym, ap, ◌∙◌, subst, arith}
 use Rattle.std.specs.Prelude.{option_map, option_and_then}
 use Rattle.std.specs.declared.cmp.Ordering.{Ordering}
 use Rattle.std.specs.List.Sorted.{IsStrictlySortedBy}
@@ -7,12 +7,14 @@ use Rattle.std.specs.Ordering.{nat_cmp, ordering_then}
 use Rattle.std.proofs.lemmas.Bool.{cases_lt}
 use Rattle.std.proofs.lemmas.Bool.Decides.{Decides-eqb}
 use Rattle.std.proofs.lemmas.Cmp.{tied_itself}
-use Rattle.std.proofs.lemmas.List.{get_or-take, length-map, length-take-le, map-append, map_more}
+use Rattle.std.proofs.lemmas.List.{get_or-take, length-map, length-take-le, map-append, map_more, length_push}
 use Rattle.std.proofs.lemmas.List.Elements.{Contains-append_left, Contains-get_or, Contains-push, Contains-push_cases}
 use Rattle.std.proofs.lemmas.Map.Made.{IsDistinct-from_AllPairs, is_member-Decides}
 use Rattle.std.proofs.lemmas.Map.Steps.{length-le_from_distinct_below}
 use Rattle.std.proofs.lemmas.Option.{same_Some, slice_get-get_or, slice_get_within}
 use Rattle.ig_text.specs.declared.tag.Tag.{Tag}
+use Rattle.ig_text.proofs.Lists.{at_from_contains, get_within, contains_from_at, mapped_in, unmapped_in, place_cases, place_last, left_at}
+use Rattle.ig_text.proofs.Rising.{rises}
 use Rattle.ig_item.specs.Core.{alternative_at, numbered}
 use Rattle.ig_item.specs.declared.core_grammar.CoreAlt.{CoreAlt}
 use Rattle.ig_item.specs.declared.core_grammar.Nonterminal.{Nonterminal}
@@ -29,32 +31,10 @@ use Rattle.ig_forest.specs.declared.mark.Mark.{Mark}
 use Rattle.ig_forest.specs.declared.mark.Mark.TheVariants.{Complete}
 use Rattle.ig_forest.specs.declared.rows.ItemRow.{ItemRow}
 use Rattle.ig_forest.specs.declared.rows.NodeRow.{NodeRow}
-use Rattle.ig_forest.proofs.Lists.{at_from_contains, at_within, contains_from_at, rises}
 use Rattle.ig_forest.proofs.CodeGives.{same_alternative}
 use Rattle.ig_forest.proofs.CodeKeeping.{less_number, strict_none, strict_push}
 use Rattle.ig_forest.proofs.CodeLiveOrder.{marked_within, number_total}
 use Rattle.ig_forest.proofs.CodeOrders.{node_row_exact, node_row_total}
-use Rattle.ig_forest.proofs.CodeSorted.{map_member, member_of_map}
-
--- places of a list with one more member
-at_end : {X : Type 0} (xs : List X) (y : X) → slice_get (xs ++ y ∷ []) (length xs) ≡ Some y
-at_end [] y = refl
-at_end (x ∷ xs) y = at_end xs y
-
-at_left : {X : Type 0} (xs : List X) (y x : X) (k : ℕ) → slice_get xs k ≡ Some x → slice_get (xs ++ y ∷ []) k ≡ Some x
-at_left [] y x k e = cc
-at_left (z ∷ xs) y x zero e = e
-at_left (z ∷ xs) y x (suc k) e = at_left xs y x k e
-
-at_cases : {X : Type 0} (xs : List X) (y x : X) (k : ℕ) → slice_get (xs ++ y ∷ []) k ≡ Some x →
-    (slice_get xs k ≡ Some x) ⊎ ((k ≡ length xs) × (y ≡ x))
-at_cases [] y x zero e = inr (refl, same_Some y x e)
-at_cases [] y x (suc k) e = cc
-at_cases (z ∷ xs) y x zero e = inl e
-at_cases (z ∷ xs) y x (suc k) e = elim (at_cases xs y x k e) [ inl old ↦ inl old | inr new ↦ inr (ap suc new.0, new.1) ]
-
-one_longer : {X : Type 0} (xs : List X) (y : X) → length (xs ++ y ∷ []) ≡ length xs + 1
-one_longer xs y = length-append xs (y ∷ [])
 
 -- the nodes of rows that rise don't fall
 first_four : (a b c d r : Ordering) → ordering_then a (ordering_then b (ordering_then c (ordering_then d r))) ≡ Less →
@@ -85,14 +65,14 @@ all_below : (nodes : List NodeRow) (node : NodeRow) → IsStrictlySortedBy node_
 all_below nodes node order upto never n c =
     let at = at_from_contains nodes n c in
     let within = slice_get_within nodes at.0 n at.1 in
-    let last = at_within nodes (length nodes - 1) (omega (arith, within)) in
+    let last = get_within nodes (length nodes - 1) (omega (arith, within)) in
     let low : node_row_cmp last.0 node ≡ Less =
     elim (upto last.0 (contains_from_at nodes (length nodes - 1) last.0 last.1)) [
       | inl less ↦ less
       | inr same ↦ absurd (never (last.1 ∙ ap Some same))
     ] in
     elim (cases_lt at.0 (length nodes - 1)) [
-      | inl lt ↦ node_row_total.trans n last.0 node (rises node_row_cmp node_row_total nodes at.0 (length nodes - 1) n last.0 order at.1 last.1 lt) low
+      | inl lt ↦ node_row_total.trans n last.0 node (rises node_row_cmp nodes at.0 (length nodes - 1) n last.0 order at.1 last.1 lt) low
       | inr le ↦
           let place : length nodes - 1 ≡ at.0 = omega (arith, le, within) in
           subst (λ (z : NodeRow). node_row_cmp z node ≡ Less) (same_Some last.0 n (sym last.1 ∙ ap (slice_get nodes) place ∙ at.1)) low
@@ -141,12 +121,12 @@ module _ (core : List Nonterminal) (rows : List ItemRow) (row : ItemRow) where
   More = rows ++ row ∷ []
 
   choice_left : (n : NodeRow) (c : Choice) → IsChoiceRow core rows n c → IsChoiceRow core More n c
-  choice_left n c h = record { row = h.row; numbered = at_left rows row h.row c.item h.numbered; node_is = h.node_is; tag = h.tag }
+  choice_left n c h = record { row = h.row; numbered = left_at rows (row ∷ []) c.item h.row h.numbered; node_is = h.node_is; tag = h.tag }
 
   choice_cases : (n : NodeRow) (c : Choice) → IsChoiceRow core More n c →
       IsChoiceRow core rows n c ⊎ ((c.item ≡ length rows) × (node_of row ≡ n) × IsTagged core row c.tag)
   choice_cases n c h =
-      elim (at_cases rows row h.row c.item h.numbered) [
+      elim (place_cases rows row h.row c.item h.numbered) [
         | inl old ↦ inl (record { row = h.row; numbered = old; node_is = h.node_is; tag = h.tag })
         | inr new ↦ inr (new.0, ap node_of new.1 ∙ h.node_is, subst (λ (z : ItemRow). IsTagged core z c.tag) (sym new.1) h.tag)
       ]
@@ -168,7 +148,7 @@ module _ (core : List Nonterminal) (rows : List ItemRow) (row : ItemRow) where
         members = λ c. (
           λ h. elim (Contains-push_cases cs new_choice c h) [
             | inl old ↦ choice_left n c ((has.members c).0 old)
-            | inr same ↦ subst (IsChoiceRow core More n) same (record { row = row; numbered = at_end rows row; node_is = is; tag = tagged })
+            | inr same ↦ subst (IsChoiceRow core More n) same (record { row = row; numbered = place_last rows row; node_is = is; tag = tagged })
           ],
           λ h. elim (choice_cases n c h) [
             | inl old ↦ Contains-append_left cs (new_choice ∷ []) c ((has.members c).1 old)
@@ -232,14 +212,14 @@ module _ (core : List Nonterminal) (rows : List ItemRow) (row : ItemRow) where
       ((k : ℕ) (x : ItemRow) → slice_get rows k ≡ Some x → StandsLast core x → IsNumbered table numbers k x) →
       (k : ℕ) (x : ItemRow) → slice_get More k ≡ Some x → StandsLast core x → IsNumbered after (numbers ++ v ∷ []) k x
   numbers_grow table after numbers v long onward here so_far k x at last =
-      elim (at_cases rows row x k at) [
+      elim (place_cases rows row x k at) [
         | inl old ↦
             let n = so_far k x old last in
-            record { number = n.number; there = at_left numbers v n.number k n.there; node = onward n.number (node_of x) n.node }
+            record { number = n.number; there = left_at numbers (v ∷ []) k n.number n.there; node = onward n.number (node_of x) n.node }
         | inr new ↦
             record {
               number = v;
-              there = ap (slice_get (numbers ++ v ∷ [])) (new.0 ∙ sym long) ∙ at_end numbers v;
+              there = ap (slice_get (numbers ++ v ∷ [])) (new.0 ∙ sym long) ∙ place_last numbers v;
               node = here (subst (StandsLast core) (sym new.1) last) ∙ ap (λ (z : ItemRow). Some (node_of z)) new.1;
             }
       ]
@@ -248,13 +228,13 @@ module _ (core : List Nonterminal) (rows : List ItemRow) (row : ItemRow) where
   pub step_skips : (table : List StoredNode) (numbers more : List ℕ) (v : ℕ) → (StandsLast core row → ⊥) → more ≡ numbers ++ v ∷ [] →
       AreNodesWith choice_item_cmp core rows table numbers → AreNodesWith choice_item_cmp core More table more
   step_skips table numbers more v never is are =
-      let longer = one_longer rows row in
+      let longer = length_push rows row in
       subst (AreNodesWith choice_item_cmp core More table) (sym is)
       (record {
         nodes = nodes_stay (rows_in table) never are.nodes;
         choices = λ n c. choices_stay n.row n.alternatives (λ e last. never last) (are.choices n c);
         few = let f = are.few in omega (arith, f, longer);
-        long = let n = one_longer numbers v in let l = are.long in omega (arith, n, l, longer);
+        long = let n = length_push numbers v in let l = are.long in omega (arith, n, l, longer);
         numbered = numbers_grow table table numbers v are.long (λ k n e. e) (λ last. absurd (never last)) are.numbered;
       })
 
@@ -285,21 +265,21 @@ module _ (core : List Nonterminal) (rows : List ItemRow) (row : ItemRow) where
     grown init cs after more v is more_is v_is few nodes onward other has here =
         let added : StoredNode = record { row = node_of row; alternatives = cs ++ record { tag = tag; item = length rows } ∷ [] } in
         let rows_are : rows_in after ≡ rows_in init ++ node_of row ∷ [] = ap rows_in is ∙ rows_pushed init added in
-        let longer = one_longer rows row in
-        let long : length after ≡ length init + 1 = ap length is ∙ one_longer init added in
+        let longer = length_push rows row in
+        let long : length after ≡ length init + 1 = ap length is ∙ length_push init added in
         let place : v ≡ length (rows_in init) = let l = length-map init (λ (n : StoredNode). n.row) in omega (arith, v_is, long, l) in
         subst (AreNodesWith choice_item_cmp core More after) (sym more_is)
         (record {
           nodes = subst (AreNodesOf core More) (sym rows_are) nodes;
           choices = λ n c. grown_choices init cs other has here n (subst (λ (z : List StoredNode). Contains z n) is c);
           few = omega (arith, few, long, longer);
-          long = let n = one_longer numbers v in let l = are.long in omega (arith, n, l, longer);
+          long = let n = length_push numbers v in let l = are.long in omega (arith, n, l, longer);
           numbered =
               numbers_grow table after numbers v are.long
               (λ k n e. ap (λ (z : List NodeRow). slice_get z k) rows_are ∙ onward k n e)
               (λ last.
               ap (λ (z : List NodeRow). slice_get z v) rows_are ∙ ap (slice_get (rows_in init ++ node_of row ∷ [])) place ∙
-              at_end (rows_in init) (node_of row))
+              place_last (rows_in init) (node_of row))
               are.numbered;
         })
 
@@ -316,7 +296,7 @@ module _ (core : List Nonterminal) (rows : List ItemRow) (row : ItemRow) where
         let ordered : IsStrictlySortedBy node_row_cmp (rows_in init ++ node_of row ∷ []) =
         subst (IsStrictlySortedBy node_row_cmp) rows_are are.nodes.order in
         let few = are.few in
-        let long : length table ≡ length init + 1 = ap length split ∙ one_longer init last in
+        let long : length table ≡ length init + 1 = ap length split ∙ length_push init last in
         let in_table : (n : StoredNode) → Contains (init ++ last ∷ []) n → Contains table n =
         λ n h. subst (λ (z : List StoredNode). Contains z n) (sym split) h in
         grown init cs after more v (is ∙ ap (λ (z : List StoredNode). with_choice z c) split ∙ choice_pushed init last c) more_is v_is
@@ -325,10 +305,10 @@ module _ (core : List Nonterminal) (rows : List ItemRow) (row : ItemRow) where
         (nodes_same (rows_in table) (contains_from_at (rows_in table) (length table - 1) (node_of row) ends) are.nodes))
         (λ k n e. ap (λ (z : List NodeRow). slice_get z k) (sym rows_are) ∙ e)
         (λ n h same.
-        let at = at_from_contains (rows_in init) n.row (map_member (λ (m : StoredNode). m.row) init n h) in
+        let at = at_from_contains (rows_in init) n.row (mapped_in (λ (m : StoredNode). m.row) init n h) in
         let less : node_row_cmp n.row (node_of row) ≡ Less =
-        rises node_row_cmp node_row_total (rows_in init ++ node_of row ∷ []) at.0 (length (rows_in init)) n.row (node_of row) ordered
-        (at_left (rows_in init) (node_of row) n.row at.0 at.1) (at_end (rows_in init) (node_of row)) (slice_get_within (rows_in init) at.0 n.row at.1) in
+        rises node_row_cmp (rows_in init ++ node_of row ∷ []) at.0 (length (rows_in init)) n.row (node_of row) ordered
+        (left_at (rows_in init) (node_of row ∷ []) at.0 n.row at.1) (place_last (rows_in init) (node_of row)) (slice_get_within (rows_in init) at.0 n.row at.1) in
         let tied : node_row_cmp (node_of row) (node_of row) ≡ Equal = tied_itself node_row_total (node_of row) in
         let lower : node_row_cmp (node_of row) (node_of row) ≡ Less = subst (λ (z : NodeRow). node_row_cmp z (node_of row) ≡ Less) same less in
         cc)
@@ -360,8 +340,8 @@ module _ (core : List Nonterminal) (rows : List ItemRow) (row : ItemRow) where
         cc in
         grown table [] after more v (is ∙ choice_pushed table last c) more_is v_is are.few
         (nodes_grow (rows_in table) tagged.last lower are.nodes)
-        (λ k n e. at_left (rows_in table) (node_of row) n k e)
-        (λ n h same. absent (subst (Contains (rows_in table)) same (map_member (λ (m : StoredNode). m.row) table n h)))
+        (λ k n e. left_at (rows_in table) (node_of row ∷ []) k n e)
+        (λ n h same. absent (subst (Contains (rows_in table)) same (mapped_in (λ (m : StoredNode). m.row) table n h)))
         are.choices
         (record {
           members = λ d. (
@@ -415,7 +395,7 @@ opens_long node before after (opens.same ends is) =
     let same = ap length is in
     (omega (arith, within, long, same), omega (arith, same))
 opens_long node before after (opens.new never is) =
-    let same = ap length is ∙ one_longer before (record { row = node; alternatives = [] }) in (omega (arith, same), omega (arith, same))
+    let same = ap length is ∙ length_push before (record { row = node; alternatives = [] }) in (omega (arith, same), omega (arith, same))
 
 module _ (items : List Item) (keys : List InstanceKey) (places : List ℕ) (marks : List Mark) (order : List ℕ)
     (live : AreLiveInOrder marks (number_cmp items keys places) order) where
@@ -426,7 +406,7 @@ module _ (items : List Item) (keys : List InstanceKey) (places : List ℕ) (mark
   apart : (i j d : ℕ) → i < j → j < length order → get_or order i d ≢ get_or order j d
   apart i j d below within same =
       let less : number_cmp items keys places (get_or order i d) (get_or order j d) ≡ Less =
-      rises (number_cmp items keys places) (number_total items keys places) order i j (get_or order i d) (get_or order j d) live.order_is
+      rises (number_cmp items keys places) order i j (get_or order i d) (get_or order j d) live.order_is
       (slice_get-get_or order i d (omega (arith, below, within))) (slice_get-get_or order j d within) below in
       let tied : number_cmp items keys places (get_or order j d) (get_or order j d) ≡ Equal =
       tied_itself (number_total items keys places) (get_or order j d) in
@@ -443,14 +423,14 @@ module _ (items : List Item) (keys : List InstanceKey) (places : List ℕ) (mark
   rows_below : (place d : ℕ) → place < length order → (x : ItemRow) → Contains (rows_of items keys places (take place order)) x →
       row_cmp x (row_of items keys places (get_or order place d)) ≡ Less
   rows_below place d lt x c =
-      let (n, among, is) = member_of_map (row_of items keys places) (take place order) x c in
+      let (n, among, is) = unmapped_in (row_of items keys places) (take place order) x c in
       let long = length-take-le place order (omega (arith, lt)) in
       let within = among.1 in
       let low : among.0 < place = omega (arith, within, long) in
       let at : slice_get order among.0 ≡ Some n =
       slice_get-get_or order among.0 n (omega (arith, low, lt)) ∙ ap Some (sym (get_or-take place order among.0 n low) ∙ among.2) in
       subst (λ (z : ItemRow). row_cmp z (row_of items keys places (get_or order place d)) ≡ Less) is
-      (rises (number_cmp items keys places) (number_total items keys places) order among.0 place n (get_or order place d) live.order_is at
+      (rises (number_cmp items keys places) order among.0 place n (get_or order place d) live.order_is at
       (slice_get-get_or order place d lt) low)
 
   rows_long : (place : ℕ) → place ≤ length order → length (rows_of items keys places (take place order)) ≡ place

@@ -1,19 +1,13 @@
 -- Nodes that grow at the end.
 use Rattle.std.proofs.lemmas.Option.{same_Some}
 use Rattle.std.specs.Prelude.{Option, option_map}
-use Rattle.std.proofs.Common.{Some, None, slice_get, zero, ◌≡◌, ℕ, suc, ◌+◌, ◌-◌, ◌≤◌, List, [], ◌∷◌, ◌++◌, length, take, drop, refl, sym, ap, ◌∙◌, subst, arith, length-append, length-drop}
-use Rattle.std.proofs.lemmas.List.{drop-append-le, take-append-le, take_rest}
+use Rattle.std.proofs.Common.{Some, None, slice_get, zero, ◌≡◌, ℕ, suc, ◌+◌, ◌-◌, ◌≤◌, List, [], ◌∷◌, ◌++◌, length, take, drop, refl, sym, ap, ◌∙◌, subst, arith, length-append}
+use Rattle.std.proofs.lemmas.List.{drop-append-le, take_rest}
 use Rattle.std.specs.List.{slice_range}
+use Rattle.ig_text.proofs.Lists.{range_left}
 use Rattle.ig_forest.specs.CodeNodeRows.{RiseIn, begin_at, end_before, nodes_from, rows_in, stored_upto, with_choice, StoredNode}
 use Rattle.ig_forest.specs.declared.entry.Choice.{Choice}
 use Rattle.ig_forest.specs.declared.node_rows.Begun.{Begun}
-
--- a range of a list that grew
-range_kept : {X : Type 0} (xs ys : List X) (a b : ℕ) → a ≤ b → b ≤ length xs → slice_range (xs ++ ys) a b ≡ slice_range xs a b
-range_kept xs ys a b up within =
-    let long = length-drop a xs in
-    let short : b - a ≤ length (drop a xs) = omega (arith, long, within) in
-    ap (take (b - a)) (drop-append-le a xs ys (omega (arith, up, within))) ∙ take-append-le (b - a) (drop a xs) ys short
 
 range_more : {X : Type 0} (xs : List X) (y : X) (a : ℕ) → a ≤ length xs →
     slice_range (xs ++ y ∷ []) a (length (xs ++ y ∷ [])) ≡ slice_range xs a (length xs) ++ y ∷ []
@@ -33,7 +27,7 @@ choice_more choices c (node ∷ []) rise =
     ap (λ (z : List Choice). (let n : StoredNode = record { row = node.row; alternatives = z } in n) ∷ []) (range_more choices c node.begin rise.0)
 choice_more choices c (node ∷ next ∷ begun) rise =
     let head = ap (λ (z : List Choice). (let n : StoredNode = record { row = node.row; alternatives = z } in n))
-    (range_kept choices (c ∷ []) node.begin next.begin rise.0 (end_within choices (next ∷ begun) rise.1)) in
+    (range_left choices (c ∷ []) node.begin next.begin rise.0 (end_within choices (next ∷ begun) rise.1)) in
     let rest = choice_more choices c (next ∷ begun) rise.1 in
     ap (λ (z : StoredNode). z ∷ nodes_from (choices ++ c ∷ []) (next ∷ begun)) head ∙
     ap (λ (z : List StoredNode). (let n : StoredNode = record { row = node.row; alternatives = slice_range choices node.begin next.begin } in n) ∷ z) rest

@@ -7,21 +7,20 @@ use Rattle.std.proofs.lemmas.Cmp.{eq_by_cmp_equiv, nat_cmp_total, on_total, tied
 use Rattle.std.proofs.lemmas.List.Sorted.{Contains-permutation, IsPermutation-sym}
 use Rattle.std.proofs.lemmas.Map.Keys.{IsDistinct-IsPermutation, IsDistinct-from_sorted, apart_from_distinct, sorted_from_all_adjacent}
 use Rattle.std.proofs.lemmas.Map.Lookups.{exact_unsigned}
+use Rattle.ig_text.proofs.Options.{equal_parts}
+use Rattle.ig_text.proofs.Pairwise.{same_length, each_right}
+use Rattle.ig_text.specs.Pairwise.{Each}
 use Rattle.ig_item.specs.declared.core_grammar.Nonterminal.{Nonterminal}
 use Rattle.ig_forest.specs.Orders.{choice_cmp}
-use Rattle.ig_forest.specs.Reduced as reduced
-use Rattle.ig_forest.specs.Reduced.{Each}
+use Rattle.ig_text.specs.Pairwise as pairwise
 use Rattle.ig_forest.specs.CodeDone.{AreNodesOf, HasChoices, choice_item_cmp}
 use Rattle.ig_forest.specs.CodeNodeRows.{IsPutInOrder, rows_in, StoredNode}
 use Rattle.ig_forest.specs.CodeNodes.{AreNodesWith}
 use Rattle.ig_forest.specs.declared.entry.Choice.{Choice}
 use Rattle.ig_forest.specs.declared.rows.ItemRow.{ItemRow}
 use Rattle.ig_forest.specs.declared.rows.NodeRow.{NodeRow}
-use Rattle.ig_forest.proofs.Lists.{same_length}
 use Rattle.ig_forest.proofs.TotalOrders.{choice_total}
 use Rattle.ig_forest.proofs.CodeKeeping.{strict_none}
-use Rattle.ig_forest.proofs.CodeLiveItems.{each_right}
-use Rattle.ig_forest.proofs.CodeOrders.{then_equal}
 
 -- what isn't below and doesn't tie is above
 above : (o : Ordering) → is_lt o ≡ false → (o ≡ Equal → ⊥) → ordering_reverse o ≡ Less
@@ -35,7 +34,7 @@ rises_by x y up differ =
     choice_total.antisymm x y ∙
     above (choice_cmp y x) up
     (λ tied.
-    let same : y.item ≡ x.item = exact_unsigned y.item x.item (then_equal _ (nat_cmp y.item x.item) tied).1 in
+    let same : y.item ≡ x.item = exact_unsigned y.item x.item (equal_parts _ (nat_cmp y.item x.item) tied).1 in
     let equal : nat_cmp x.item y.item ≡ Equal =
     subst (λ (k : ℕ). nat_cmp x.item k ≡ Equal) (sym same) (tied_itself nat_cmp_total x.item) in
     let yes : true ≡ false = sym (ap is_eq equal) ∙ differ in
@@ -56,8 +55,8 @@ strictly_sorted xs (y ∷ ys) strict moved sorted =
 
 -- the rows stay
 rows_stay : (before after : List StoredNode) → Each IsPutInOrder before after → rows_in after ≡ rows_in before
-rows_stay _ _ reduced.none = refl
-rows_stay _ _ (reduced.more a b before after p each) =
+rows_stay _ _ pairwise.none = refl
+rows_stay _ _ (pairwise.more a b before after p each) =
     ap₂ (λ (n : NodeRow) (ns : List NodeRow). n ∷ ns) p.row (rows_stay before after each)
 
 -- the choices of a node are put in order

@@ -1,15 +1,17 @@
 -- The nodes that one pass makes are those of the reduced forest.
-use Rattle.std.proofs.Common.{◌≡◌, ℕ, suc, ◌<◌, List, [], ◌∷◌, Some, length, map, slice_get, Contains, refl, sym, ap, ◌∙◌, subst}
+use Rattle.std.proofs.Common.{◌≡◌, ℕ, ◌<◌, List, [], Some, length, map, slice_get, Contains, refl, sym, ap, ◌∙◌, subst}
 use Rattle.std.specs.Prelude.{option_map, slice_index}
 use Rattle.std.specs.List.Sorted.{IsStrictlySortedBy}
 use Rattle.std.proofs.lemmas.Option.{get_or_from_slice_get, slice_get_within}
+use Rattle.ig_text.proofs.Lists.{contains_from_at, unmapped_at, mapped_in, mapped_at, map_twice}
+use Rattle.ig_text.proofs.Pairwise.{each_from}
+use Rattle.ig_text.specs.Pairwise.{Each}
 use Rattle.ig_expr.specs.declared.value.Value.{Value}
 use Rattle.ig_item.specs.Items.{Item}
 use Rattle.ig_item.specs.Gives.{NodeKey, Completes}
 use Rattle.ig_item.specs.declared.core_grammar.Nonterminal.{Nonterminal}
 use Rattle.ig_forest.specs.Orders.{choice_cmp}
-use Rattle.ig_forest.specs.Reduced as reduced
-use Rattle.ig_forest.specs.Reduced.{AreNodes, Each, IsChoice, IsNamed, IsNode}
+use Rattle.ig_forest.specs.Reduced.{AreNodes, IsChoice, IsNamed, IsNode}
 use Rattle.ig_forest.specs.CodeTables.{RowFits, item_by, key_by, list_cmp, node_of}
 use Rattle.ig_forest.specs.CodeForest.{name_at, node_by}
 use Rattle.ig_forest.specs.CodeDone.{IsChoiceRow, IsTagged}
@@ -18,36 +20,22 @@ use Rattle.ig_forest.specs.CodeNodes.{AreNodesWith}
 use Rattle.ig_forest.specs.declared.entry.Choice.{Choice}
 use Rattle.ig_forest.specs.declared.rows.ItemRow.{ItemRow}
 use Rattle.ig_forest.specs.declared.rows.NodeRow.{NodeRow}
-use Rattle.ig_forest.proofs.Lists.{at_from_contains, contains_from_at}
 use Rattle.ig_forest.proofs.CodeGives.{complete_from_last, last_from_complete, same_list_place}
 use Rattle.ig_forest.proofs.CodeMembers.{are_nodes, nodes_fit}
-use Rattle.ig_forest.proofs.CodeSorted.{at_of_map, map_at, map_member}
-
--- what belongs together by one list belongs together place by place
-pub each_from : {S X Y : Type 0} (P : X → Y → Type 0) (f : S → X) (g : S → Y) (xs : List S) →
-    ((s : S) → Contains xs s → P (f s) (g s)) → Each P (map f xs) (map g xs)
-each_from P f g [] h = reduced.none
-each_from P f g (x ∷ xs) h =
-    reduced.more (f x) (g x) (map f xs) (map g xs) (h x (contains_from_at (x ∷ xs) 0 x refl))
-    (each_from P f g xs (λ s c. let at = at_from_contains xs s c in h s (contains_from_at (x ∷ xs) (suc at.0) s at.1)))
-
-pub map_twice : {S X Y : Type 0} (f : S → X) (g : X → Y) (xs : List S) → map g (map f xs) ≡ map (λ s. g (f s)) xs
-map_twice f g [] = refl
-map_twice f g (x ∷ xs) = ap (λ (z : List _). g (f x) ∷ z) (map_twice f g xs)
 
 -- the name by its number is the nonterminal's
 pub named : (core : List Nonterminal) (names : List (List ℕ)) (n : ℕ) (nonterminal : Nonterminal) → names ≡ map (λ z. z.name) core →
     slice_get core n ≡ Some nonterminal → IsNamed core n (name_at names n)
 named core names n nonterminal is at =
     let a : slice_get names n ≡ Some nonterminal.name =
-    ap (λ (z : List (List ℕ)). slice_get z n) is ∙ map_at (λ (z : Nonterminal). z.name) core n nonterminal at in
+    ap (λ (z : List (List ℕ)). slice_get z n) is ∙ mapped_at (λ (z : Nonterminal). z.name) core n nonterminal at in
     ap (option_map (λ (z : Nonterminal). z.name)) at ∙ ap Some (sym (get_or_from_slice_get names n nonterminal.name [] a))
 
 pub name_within : (core : List Nonterminal) (names : List (List ℕ)) (n : ℕ) (nonterminal : Nonterminal) → names ≡ map (λ z. z.name) core →
     slice_get core n ≡ Some nonterminal → n < length names
 name_within core names n nonterminal is at =
     slice_get_within names n nonterminal.name
-    (ap (λ (z : List (List ℕ)). slice_get z n) is ∙ map_at (λ (z : Nonterminal). z.name) core n nonterminal at)
+    (ap (λ (z : List (List ℕ)). slice_get z n) is ∙ mapped_at (λ (z : Nonterminal). z.name) core n nonterminal at)
 
 module _ (core : List Nonterminal) (lists : List (List Value)) (sorted : IsStrictlySortedBy list_cmp lists) (rows : List ItemRow)
     (fit : (row : ItemRow) → Contains rows row → RowFits lists row) (table : List StoredNode) (numbers : List ℕ)
@@ -62,7 +50,7 @@ module _ (core : List Nonterminal) (lists : List (List Value)) (sorted : IsStric
   choice_to : (node : NodeRow) (c : Choice) → IsChoiceRow core rows node c → IsChoice core TheItems (key_by lists node) c
   choice_to node c h = record {
     item = item_by lists h.row;
-    numbered = map_at (item_by lists) rows c.item h.row h.numbered;
+    numbered = mapped_at (item_by lists) rows c.item h.row h.numbered;
     completes =
         record {
           complete = complete_from_last core lists h.row h.tag.last;
@@ -86,7 +74,7 @@ module _ (core : List Nonterminal) (lists : List (List Value)) (sorted : IsStric
 
   choice_back : (node : NodeRow) (c : Choice) → node.values < length lists → IsChoice core TheItems (key_by lists node) c → IsChoiceRow core rows node c
   choice_back node c there h =
-      let (row, at, is) = at_of_map (item_by lists) rows c.item h.item h.numbered in
+      let (row, at, is) = unmapped_at (item_by lists) rows c.item h.item h.numbered in
       let complete = subst (λ (z : Item). Completes core z (key_by lists node)) (sym is) h.completes in
       let tagged : IsTagged core row c.tag =
       subst
@@ -101,7 +89,7 @@ module _ (core : List Nonterminal) (lists : List (List Value)) (sorted : IsStric
       }
 
   node_row : (n : StoredNode) → Contains table n → Contains (rows_in table) n.row
-  node_row n c = map_member (λ (m : StoredNode). m.row) table n c
+  node_row n c = mapped_in (λ (m : StoredNode). m.row) table n c
 
   -- what the nodes name is there
   pub nodes_listed : (n : StoredNode) → Contains table n → n.row.values < length lists
@@ -147,11 +135,11 @@ module _ (core : List Nonterminal) (lists : List (List Value)) (sorted : IsStric
   pub node_numbered : (k : ℕ) (x : Item) (key : NodeKey) → slice_get TheItems k ≡ Some x → Completes core x key →
       (k < length numbers) × (slice_get TheKeys (slice_index numbers k) ≡ Some key)
   node_numbered k x key at completes =
-      let (row, at_row, is) = at_of_map (item_by lists) rows k x at in
+      let (row, at_row, is) = unmapped_at (item_by lists) rows k x at in
       let done : Completes core (item_by lists row) key = subst (λ (z : Item). Completes core z key) (sym is) completes in
       let n = are.numbered k row at_row (last_from_complete core lists row done.complete) in
       let here : key_by lists (node_of row) ≡ key = (λ i. record { instance = done.instance i; end = done.end i }) in
       let number : slice_index numbers k ≡ n.number = get_or_from_slice_get numbers k n.number _ n.there in (
         slice_get_within numbers k n.number n.there,
-        ap (slice_get TheKeys) number ∙ map_at (key_by lists) (rows_in table) n.number (node_of row) n.node ∙ ap Some here,
+        ap (slice_get TheKeys) number ∙ mapped_at (key_by lists) (rows_in table) n.number (node_of row) n.node ∙ ap Some here,
       )

@@ -1,37 +1,14 @@
 -- Entries that stand side by side in one list, which grows at its end.
-use Rattle.std.proofs.Common.{◌≡◌, inl, inr, ℕ, suc, ◌+◌, ◌-◌, ◌≤◌, List, [], ◌∷◌, ◌++◌, Some, None, length, map, take, drop, Contains, slice_get, refl, sym, ap, ap₂, ◌∙◌, subst, arith, length-append, length-drop}
-use Rattle.std.specs.Prelude.{slice_range, option_map}
+use Rattle.std.proofs.Common.{◌≡◌, inl, inr, ℕ, ◌+◌, List, [], ◌∷◌, ◌++◌, Some, None, length, map, Contains, slice_get, sym, ap, ◌∙◌, subst, arith, length-append}
+use Rattle.std.specs.Prelude.{option_map}
 use Rattle.std.proofs.lemmas.Option.{slice_get-map}
-use Rattle.std.proofs.lemmas.List.{take-append-le, drop-append-le, map-append}
+use Rattle.std.proofs.lemmas.List.{map-append}
 use Rattle.std.proofs.lemmas.List.Elements.{Contains-push_cases}
-use Rattle.std.proofs.Math.Seq.{take-length, drop-append_seam}
+use Rattle.ig_text.proofs.Lists.{contains_from_at, range_left, range_right, same_map, mapped_at}
 use Rattle.ig_forest.specs.declared.entry.Entry.{Entry}
 use Rattle.ig_forest.specs.declared.rows.ItemRow.{ItemRow}
 use Rattle.ig_forest.specs.declared.item_table.Part.{Part}
 use Rattle.ig_forest.specs.CodeParts.{StoredItem, entries_in, item_in, IsPartOf, ArePartsOf}
-use Rattle.ig_forest.proofs.Lists.{at_from_contains, contains_from_at}
-use Rattle.ig_forest.proofs.CodeSorted.{map_at}
-
-module _ {X : Type 0} where
-  -- a range of a list that grows stays
-  pub range_left : (xs ys : List X) (a b : ℕ) → a ≤ b → b ≤ length xs → slice_range (xs ++ ys) a b ≡ slice_range xs a b
-  range_left xs ys a b onward within =
-      let few : b - a ≤ length (drop a xs) = omega (arith, length-drop a xs, within) in
-      ap (take (b - a)) (drop-append-le a xs ys (omega (arith, onward, within))) ∙ take-append-le (b - a) (drop a xs) ys few
-
-  -- the range of what was added
-  pub range_right : (xs ys : List X) (a b : ℕ) → a ≡ length xs → b ≡ length xs + length ys → slice_range (xs ++ ys) a b ≡ ys
-  range_right xs ys a b a_is b_is =
-      let d : drop a (xs ++ ys) ≡ ys = ap (λ n. drop n (xs ++ ys)) a_is ∙ drop-append_seam xs ys in
-      let n : b - a ≡ length ys = omega (arith, a_is, b_is) in
-      ap (take (b - a)) d ∙ ap (λ m. take m ys) n ∙ take-length ys
-
-  pub same_images : {Y : Type 0} (f g : X → Y) (xs : List X) → ((x : X) → Contains xs x → f x ≡ g x) → map f xs ≡ map g xs
-  same_images f g [] same = refl
-  same_images f g (x ∷ xs) same =
-      ap₂ (λ y ys. y ∷ ys) (same x (contains_from_at (x ∷ xs) 0 x refl))
-      (same_images f g xs
-      (λ y c. let at = at_from_contains xs y c in same y (contains_from_at (x ∷ xs) (suc at.0) y at.1)))
 
 pub no_parts : (entries : List Entry) (parts : List Part) → parts ≡ [] → ArePartsOf entries parts
 no_parts entries parts none part c = let d = subst (λ (z : List Part). Contains z part) none c in absurd (let lt = d.1 in omega (arith, lt))
@@ -43,7 +20,7 @@ no_items entries parts none = ap (map (item_in entries)) none
 pub items_left : (entries more : List Entry) (parts : List Part) → ArePartsOf entries parts →
     map (item_in (entries ++ more)) parts ≡ map (item_in entries) parts
 items_left entries more parts are =
-    same_images (item_in (entries ++ more)) (item_in entries) parts
+    same_map (item_in (entries ++ more)) (item_in entries) parts
     (λ part c.
     let p = are part c in
     ap (λ (z : List Entry). record { row = part.row; entries = z }) (range_left entries more part.begin part.end p.onward p.within))
@@ -95,7 +72,7 @@ pub item_got : (entries es got : List Entry) (parts ps : List Part) (k : ℕ) (p
 item_got entries es got parts ps k part all es_is ps_is e got_is all_is =
     let shown : List Entry → StoredItem = λ z. record { row = part.row; entries = z } in
     ap (λ (z : List Entry). Some (shown z)) (got_is ∙ ap (λ (z : List Entry). entries_in z part) es_is) ∙
-    sym (map_at (item_in entries) parts k part (ap (λ (z : List Part). slice_get z k) (sym ps_is) ∙ sym e)) ∙
+    sym (mapped_at (item_in entries) parts k part (ap (λ (z : List Part). slice_get z k) (sym ps_is) ∙ sym e)) ∙
     ap (λ (z : List StoredItem). slice_get z k) all_is
 
 pub item_lacks : (entries : List Entry) (parts ps : List Part) (k : ℕ) (all : List StoredItem) → ps ≡ parts → None ≡ slice_get ps k →

@@ -2,6 +2,7 @@
 use Rattle.std.proofs.Common.{◌≡◌, ℕ, ◌<◌, List, Some, None, length, slice_get, sym, ap, ◌∙◌}
 use Rattle.std.specs.Prelude.{option_map}
 use Rattle.std.proofs.lemmas.Option.{slice_get-get_or, slice_get-map, get_or_from_slice_get, none-some}
+use Rattle.ig_text.proofs.Lists.{mapped_at}
 use Rattle.ig_expr.specs.declared.value.Value.{Value}
 use Rattle.ig_forest.specs.Forest as parts
 use Rattle.ig_forest.specs.CodeTables.{list_at}
@@ -10,7 +11,6 @@ use Rattle.ig_forest.specs.declared.entry.Choice.{Choice}
 use Rattle.ig_forest.specs.declared.entry.Entry.{Entry}
 use Rattle.ig_forest.specs.CodeNodeRows.{StoredNode}
 use Rattle.ig_forest.specs.CodeParts.{StoredItem}
-use Rattle.ig_forest.proofs.CodeSorted.{map_at}
 
 pub there_not : {X : Type 0} (xs : List X) (d : X) (n : ℕ) → n < length xs → None ≡ slice_get xs n → ⊥
 there_not xs d n lt none = none-some _ (none ∙ slice_get-get_or xs n d lt)
@@ -40,7 +40,7 @@ module _ (root : ℕ) (names : List (List ℕ)) (lists : List (List Value)) (nod
       let b : values ≡ list_at lists n.row.values = sym (get_or_from_slice_get lists n.row.values values _ (sym values_are)) in
       let node : ◌≡◌ {A = parts.Node} (record { name = name; nonterminal = n.row.nonterminal; values = values; span = record { begin = n.row.start; end = n.row.end }; alternatives = cs }) (node_by names lists n) =
       (λ i. record { name = a i; nonterminal = n.row.nonterminal; values = b i; span = record { begin = n.row.start; end = n.row.end }; alternatives = choices i }) in
-      ap Some node ∙ sym (map_at (node_by names lists) nodes k n at) ∙ ap (λ (z : parts.Forest). slice_get z.nodes k) is
+      ap Some node ∙ sym (mapped_at (node_by names lists) nodes k n at) ∙ ap (λ (z : parts.Forest). slice_get z.nodes k) is
 
   pub item_read : (k : ℕ) (n : StoredItem) (name : List ℕ) (values env : List Value) (es : List Entry) → slice_get items k ≡ Some n → Some name ≡ slice_get names n.row.nonterminal →
       Some values ≡ slice_get lists n.row.values → Some env ≡ slice_get lists n.row.env → es ≡ n.entries →
@@ -52,4 +52,4 @@ module _ (root : ℕ) (names : List (List ℕ)) (lists : List (List Value)) (nod
       let c : env ≡ list_at lists n.row.env = sym (get_or_from_slice_get lists n.row.env env _ (sym env_is)) in
       let node : ◌≡◌ {A = parts.ItemNode} (record { name = name; nonterminal = n.row.nonterminal; values = values; start = n.row.start; alternative = n.row.alternative; dot = n.row.dot; env = env; position = n.row.position; entries = es }) (item_node_by names lists n) =
       (λ i. record { name = a i; nonterminal = n.row.nonterminal; values = b i; start = n.row.start; alternative = n.row.alternative; dot = n.row.dot; env = c i; position = n.row.position; entries = entries i }) in
-      ap Some node ∙ sym (map_at (item_node_by names lists) items k n at) ∙ ap (λ (z : parts.Forest). slice_get z.items k) is
+      ap Some node ∙ sym (mapped_at (item_node_by names lists) items k n at) ∙ ap (λ (z : parts.Forest). slice_get z.items k) is

@@ -1,11 +1,13 @@
 -- Marks that are set by a work list along the ways of a recording.
-use Rattle.std.proofs.Common.{◌≡◌, ◌↔◌, ◌⊎◌, inl, inr, ℕ, zero, suc, ◌+◌, ◌<◌, ◌≤◌, List, [], ◌∷◌, ◌++◌, Bool, true, false, cond, Some, None, length, take, set, get_or, slice_get, Contains, replicate, refl, sym, ap, ◌∙◌, subst, arith, length-set, length-append}
+use Rattle.std.proofs.Common.{◌≡◌, ◌↔◌, ◌⊎◌, inl, inr, ℕ, zero, suc, ◌+◌, ◌<◌, ◌≤◌, List, [], ◌∷◌, ◌++◌, Bool, true, false, Some, None, length, take, set, get_or, slice_get, Contains, replicate, refl, sym, ap, ◌∙◌, subst, arith, length-set, length-append}
 use Rattle.std.specs.List.{filter}
 use Rattle.std.proofs.lemmas.Bool.{cases_eq}
 use Rattle.std.proofs.lemmas.List.{take_all, take_more, length-replicate}
 use Rattle.std.proofs.lemmas.List.Elements.{Contains-append_left, Contains-push, Contains-push_cases}
 use Rattle.std.proofs.lemmas.Option.{same_Some, slice_get_within}
-use Rattle.ig_text.proofs.Lists.{left_at, none_in_nil}
+use Rattle.ig_text.proofs.Lists.{left_at, none_in_nil, contains_from_at, at_from_contains, get_within, unmapped_at, mapped_at}
+use Rattle.ig_text.proofs.Orders.{below_or_at}
+use Rattle.ig_text.proofs.Filtered.{one_kept}
 use Rattle.ig_item.specs.Ways as ways
 use Rattle.ig_item.specs.Ways.{WayLists, WayTo}
 use Rattle.ig_item.specs.declared.ways.Way.{Way}
@@ -17,14 +19,7 @@ use Rattle.ig_forest.specs.CodeWayMarks.{IsMarked, HasPrev, OfNode, first, furth
 use Rattle.ig_forest.specs.declared.mark.Mark.{Mark}
 use Rattle.ig_forest.specs.declared.mark.Mark.TheVariants.{Dead, Open, Complete}
 use Rattle.ig_forest.specs.declared.marks.Walk.{Walk}
-use Rattle.ig_forest.proofs.Lists.{contains_from_at, at_from_contains, at_within}
-use Rattle.ig_forest.proofs.CodeKeeping.{below_or_at}
 use Rattle.ig_forest.proofs.CodeGroups.{kept_few, place_set, place_elsewhere}
-use Rattle.ig_forest.proofs.CodeSorted.{map_at, at_of_map}
-
-one_kept : {X : Type 0} (b : Bool) (x : X) (ys : List X) → length (cond b (x ∷ ys) ys) ≡ cond b 1 0 + length ys
-one_kept true x ys = omega arith
-one_kept false x ys = omega arith
 
 -- where a member that fails a test becomes one that passes it, one more passes
 one_more : {X : Type 0} (p : X → Bool) (xs : List X) (k : ℕ) (old new : X) → slice_get xs k ≡ Some old → p old ≡ false →
@@ -41,10 +36,10 @@ one_more p (x ∷ xs) (suc k) old new at fails passes =
 
 -- what marks are there
 pub marked_by : (marks : List Mark) (k : ℕ) (mark : Mark) → slice_get marks k ≡ Some mark → is_live mark ≡ true → IsMarked marks k
-marked_by marks k mark at live = map_at is_live marks k mark at ∙ ap Some live
+marked_by marks k mark at live = mapped_at is_live marks k mark at ∙ ap Some live
 
 pub mark_of : (marks : List Mark) (k : ℕ) → IsMarked marks k → (mark : Mark) × (slice_get marks k ≡ Some mark) × (is_live mark ≡ true)
-mark_of marks k marked = at_of_map is_live marks k true marked
+mark_of marks k marked = unmapped_at is_live marks k true marked
 
 pub marked_within : (marks : List Mark) (k : ℕ) → IsMarked marks k → k < length marks
 marked_within marks k marked = let m = mark_of marks k marked in slice_get_within marks k m.0 m.1
@@ -409,7 +404,7 @@ module _ (lists : WayLists) where
       closed =
           λ i u lt at_u k m leads. elim (below_or_at i turn lt) [
             | inl lower ↦
-                let (x, at_x) = at_within a.found.items i (earlier i lower) in
+                let (x, at_x) = get_within a.found.items i (earlier i lower) in
                 let same : u ≡ x = same_Some u x (sym at_u ∙ more.begins i x at_x) in
                 still k (walked.closed i x lower at_x k m (subst (λ (z : ℕ). LeadsFrom lists z k m) same leads))
             | inr now ↦

@@ -3,6 +3,7 @@ use Rattle.std.proofs.Common.{◌≡◌, ◌↔◌, ℕ, ◌<◌, List, Some, le
 use Rattle.std.specs.Prelude.{slice_index}
 use Rattle.std.proofs.lemmas.Option.{same_Some, slice_get_within, get_or_from_slice_get}
 use Rattle.ig_text.specs.declared.text.Span.{Span}
+use Rattle.ig_text.proofs.Lists.{at_from_contains, get_within}
 use Rattle.ig_item.specs.WellKinded.{NoneTwice}
 use Rattle.ig_item.specs.Items.{Item, Reachable}
 use Rattle.ig_item.specs.Gives.{NodeKey, Taken, Completes, nothing, leaf, tree}
@@ -22,7 +23,6 @@ use Rattle.ig_forest.specs.declared.entry.Entry.{Entry}
 use Rattle.ig_forest.specs.declared.entry.Entry.TheVariants.{Begin, Pass, Take}
 use Rattle.ig_forest.specs.declared.entry.Child.TheVariants as child
 use Rattle.ig_forest.specs.declared.item_nodes.Sources.{Sources}
-use Rattle.ig_forest.proofs.Lists.{at_from_contains, at_within}
 use Rattle.ig_forest.proofs.Steps.{given_dot}
 use Rattle.ig_forest.proofs.CodeGives.{gives_one}
 
@@ -203,7 +203,7 @@ module _ (core : List Nonterminal) (text : List ℕ) (s : Sources) (items placed
   live_at k c =
       let t = are.there k c in
       let a = are.raw_long in
-      let (x, at) = at_within items k (let i = t.item in omega (arith, i, a)) in
+      let (x, at) = get_within items k (let i = t.item in omega (arith, i, a)) in
       record { item = x; at = at; live = (are.members k x at).0 c }
 
   pub are_sources : AreSources s
@@ -263,7 +263,7 @@ module _ (core : List Nonterminal) (text : List ℕ) (s : Sources) (items placed
   begins k x at dot =
       let a = slice_get_within items k x at in
       let b = are.ways.ways.number in
-      let (w, here) = at_within s.links.now.ways.firsts k (omega (arith, a, b)) in
+      let (w, here) = get_within s.links.now.ways.firsts k (omega (arith, a, b)) in
       by w here (are.ways.ways.sound k x w at (found here))
     where
       by : (w : Way) → slice_get s.links.now.ways.firsts k ≡ Some w → IsWay core text Known items x w → WayOf k x.position Begin

@@ -3,6 +3,7 @@ use Rattle.std.proofs.Common.{◌≡◌, ◌↔◌, inl, inr, ℕ, ◌<◌, List
 use Rattle.std.proofs.lemmas.Bool.{cases_eq}
 use Rattle.std.proofs.lemmas.List.Elements.{Contains-get_or}
 use Rattle.std.proofs.lemmas.Option.{same_Some, slice_get_within}
+use Rattle.ig_text.proofs.Lists.{at_from_contains, get_within}
 use Rattle.ig_item.specs.Gives.{NodeKey, Taken, tree, Completes}
 use Rattle.ig_item.specs.Items.{Item, Reachable, IsComplete}
 use Rattle.ig_item.specs.Recorded.{Recording, IsRecorded}
@@ -20,7 +21,6 @@ use Rattle.ig_forest.specs.CodeWayMarks.{IsMarked, AreMarks, IsAWay, HasPrev, Of
 use Rattle.ig_forest.specs.declared.mark.Mark.{Mark}
 use Rattle.ig_forest.specs.declared.mark.Mark.TheVariants.{Dead, Open, Complete}
 use Rattle.ig_forest.specs.declared.marks.Walk.{Walk}
-use Rattle.ig_forest.proofs.Lists.{at_from_contains, at_within}
 use Rattle.ig_forest.proofs.CodeGives.{any_step, same_alternative}
 use Rattle.ig_forest.proofs.CodeWalk.{IsNoFirst, mark_of, whole_with, Reached, at_root, step, AreReached}
 
@@ -65,7 +65,7 @@ module _ (r : Recording) (recorded : IsRecorded r) where
   way_item n way to =
       let lt = item_of_way to in
       let long = recorded.are_ways.ways.number in
-      let (x, at) = at_within items n (omega (arith, lt, long)) in
+      let (x, at) = get_within items n (omega (arith, lt, long)) in
       (x, recorded.are_ways.ways.sound n x way at to)
 
   -- a way with a previous item

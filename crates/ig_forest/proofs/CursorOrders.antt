@@ -10,6 +10,8 @@ use Rattle.std.proofs.lemmas.Bool.{cases_order}
 use Rattle.std.proofs.lemmas.Cmp.{nat_cmp_total, lists_total, tied_itself}
 use Rattle.std.proofs.lemmas.Bool.Decides.{nat_tests}
 use Rattle.std.proofs.lemmas.Map.Lookups.{exact_unsigned}
+use Rattle.ig_text.proofs.Options.{then_assoc, then_nothing}
+use Rattle.ig_text.proofs.Rising.{rises}
 use Rattle.ig_expr.specs.ValueOrder.{value_cmp, values_cmp}
 use Rattle.ig_expr.specs.declared.value.Value.{Value}
 use Rattle.ig_item.specs.Items.{Item}
@@ -17,21 +19,14 @@ use Rattle.ig_forest.specs.Cursors.{Less}
 use Rattle.ig_forest.specs.Cursors as order
 use Rattle.ig_forest.specs.Orders.{item_cmp}
 use Rattle.ig_forest.specs.Unfold.{noted}
-use Rattle.ig_forest.proofs.Lists.{rises}
 use Rattle.ig_forest.proofs.Targets.{Alike}
-use Rattle.ig_forest.proofs.TotalOrders.{then_nothing, value_total}
+use Rattle.ig_forest.proofs.TotalOrders.{value_total}
 
 -- what decides first decides alike, and what comes behind it matters only where nothing is decided
 pub decides : (o p q : Ordering) → (o ≡ ordering.Equal → p ≡ q) → ordering_then o p ≡ ordering_then o q
 decides ordering.Less p q same = refl
 decides ordering.Equal p q same = same refl
 decides ordering.Greater p q same = refl
-
--- what decides first, second and third
-pub then_assoc : (a b c : Ordering) → ordering_then (ordering_then a b) c ≡ ordering_then a (ordering_then b c)
-then_assoc ordering.Less b c = refl
-then_assoc ordering.Equal b c = refl
-then_assoc ordering.Greater b c = refl
 
 -- what is undecided first is passed over
 pub passed : (a b : Ordering) → a ≡ ordering.Equal → ordering_then a b ≡ b
@@ -54,9 +49,9 @@ places_cmp {X = X} cmp total xs i j x y sorted at_x at_y =
     elim (cases_order i j) [
       | inl e ↦
           let same : x ≡ y = cc in tied i j e ∙ sym (tied_itself total x) ∙ ap (cmp x) same
-      | inr (inl lt) ↦ lower i j lt ∙ sym (rises cmp total xs i j x y sorted at_x at_y lt)
+      | inr (inl lt) ↦ lower i j lt ∙ sym (rises cmp xs i j x y sorted at_x at_y lt)
       | inr (inr lt) ↦
-          higher i j lt ∙ sym (ap ordering_reverse (rises cmp total xs j i y x sorted at_y at_x lt)) ∙
+          higher i j lt ∙ sym (ap ordering_reverse (rises cmp xs j i y x sorted at_y at_x lt)) ∙
           sym (total.antisymm x y)
     ]
 

@@ -5,6 +5,9 @@ use Rattle.ig_text.specs.declared.tag.Tag.{Tag}
 use Rattle.ig_text.specs.declared.text.Span.{Span}
 use Rattle.ig_text.specs.Tree.{Tree, Trees, Leaf, Node, one, join}
 use Rattle.ig_text.proofs.Trees.{parted}
+use Rattle.ig_text.proofs.Lists.{contains_from_at}
+use Rattle.ig_text.proofs.Pairwise.{both_at, key_at}
+use Rattle.ig_text.proofs.Rising.{one_place}
 use Rattle.ig_item.specs.Core.{IsAlternative}
 use Rattle.ig_item.specs.Items.{Item, first}
 use Rattle.ig_item.specs.WellKinded.{IsWellKinded}
@@ -16,7 +19,7 @@ use Rattle.ig_forest.specs.Forest.{Forest, ItemNode}
 use Rattle.ig_forest.specs.Unfold as ways
 use Rattle.ig_forest.specs.Unfold.{OfNode, OfItem, noted}
 use Rattle.ig_item.specs.Gives as rules
-use Rattle.ig_item.specs.Gives.{NodeKey, Taken}
+use Rattle.ig_item.specs.Gives.{NodeKey}
 use Rattle.ig_forest.specs.Live.{Gives}
 use Rattle.ig_forest.specs.Orders.{item_cmp, node_cmp, choice_cmp, entry_cmp}
 use Rattle.ig_forest.specs.Reduced.{IsReduced, IsChoice}
@@ -28,7 +31,6 @@ use Rattle.ig_forest.specs.declared.entry.Child.TheVariants as child
 use Rattle.ig_forest.proofs.Given.{Given}
 use Rattle.ig_item.specs.ItemTrees as reached
 use Rattle.ig_item.specs.ItemTrees.{Comes}
-use Rattle.ig_forest.proofs.Lists.{contains_from_at, both_at, key_at, one_place}
 use Rattle.ig_forest.proofs.TotalOrders.{item_total, node_total, choice_total, entry_total}
 use Rattle.ig_forest.proofs.Liveness.{live_is_reachable}
 use Rattle.ig_forest.proofs.Steps.{given_dot, begin_only, pass_only, leaf_only, node_only, Passed, TookLeaf, TookNode}

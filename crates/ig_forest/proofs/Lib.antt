@@ -1,4 +1,3 @@
-pub mod Lists
 pub mod TotalOrders
 pub mod Given
 pub mod Liveness

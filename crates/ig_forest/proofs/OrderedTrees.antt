@@ -11,6 +11,10 @@ use Rattle.std.specs.declared.cmp.Ordering.{Ordering}
 use Rattle.std.specs.declared.cmp.Ordering.TheVariants as ordering
 use Rattle.ig_text.specs.Tree as plain
 use Rattle.ig_text.specs.TagNumber.{number_of}
+use Rattle.ig_text.proofs.Lists.{contains_from_at}
+use Rattle.ig_text.proofs.Options.{then_assoc, then_nothing}
+use Rattle.ig_text.proofs.Pairwise.{both_at}
+use Rattle.ig_text.proofs.Rising.{one_place}
 use Rattle.ig_expr.specs.TreeOrder.{tree_cmp, children_cmp, count_of}
 use Rattle.ig_expr.specs.ValueOrder.{values_cmp}
 use Rattle.ig_expr.specs.ValuedTree.{Tree, Trees, none, more, one, join, bare_tree, bare_trees}
@@ -40,13 +44,12 @@ use Rattle.ig_forest.specs.declared.entry.Entry.{Entry}
 use Rattle.ig_forest.specs.declared.entry.Entry.TheVariants.{Pass, Take}
 use Rattle.ig_forest.specs.declared.entry.Child.TheVariants as child
 use Rattle.ig_forest.proofs.Annotating.{Valued, Last, OfComplete, leaf_tied, equally_many, by_nothing, by_leaf, by_tree, of_complete}
-use Rattle.ig_forest.proofs.CursorOrders.{decides, then_assoc, passed, tied, places_cmp, Compared, chosen_cmp, joined_cmp, same_cmp, values_append, less_cmp, cmp_less, same_beginning, alike_cmp, beside_cmp}
+use Rattle.ig_forest.proofs.CursorOrders.{decides, passed, tied, places_cmp, Compared, chosen_cmp, joined_cmp, same_cmp, values_append, less_cmp, cmp_less, same_beginning, alike_cmp, beside_cmp}
 use Rattle.ig_forest.proofs.Cursors.{Entered, same_item, pass_entry, leaf_entry, node_entry, as_begin, as_pass, as_leaf, as_node}
 use Rattle.ig_forest.proofs.Given.{GivenValues}
 use Rattle.ig_forest.proofs.Liveness.{live_is_reachable}
-use Rattle.ig_forest.proofs.Lists.{contains_from_at, both_at, one_place}
 use Rattle.ig_forest.proofs.Targets.{Alike, alike_before, stepped, one_callee, end_of}
-use Rattle.ig_forest.proofs.TotalOrders.{then_nothing, item_total, node_total, choice_total, entry_total}
+use Rattle.ig_forest.proofs.TotalOrders.{item_total, node_total, choice_total, entry_total}
 use Rattle.ig_forest.proofs.Unfolding.{live_at, item_trees}
 
 -- trees without a tree, and trees that are as many

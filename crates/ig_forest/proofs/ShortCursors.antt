@@ -11,6 +11,9 @@ use Rattle.std.proofs.lemmas.Map.Made.{IsDistinct-from_AllPairs, is_member-Decid
 use Rattle.std.proofs.lemmas.Map.Steps.{length-le_from_distinct_below}
 use Rattle.std.proofs.lemmas.Option.{get_or_from_slice_get, same_Some, slice_get_within}
 use Rattle.ig_text.specs.Tree.{Tree, Trees}
+use Rattle.ig_text.proofs.Lists.{get_within, contains_from_at, unmapped_in, mapped_at}
+use Rattle.ig_text.proofs.Pairwise.{key_at, same_length}
+use Rattle.ig_text.proofs.Rising.{rises}
 use Rattle.ig_item.specs.Core.{IsAlternative}
 use Rattle.ig_item.specs.Gives.{NodeKey}
 use Rattle.ig_item.specs.Items.{Item}
@@ -26,9 +29,7 @@ use Rattle.ig_forest.specs.Unfold as ways
 use Rattle.ig_forest.specs.Unfold.{OfNode, OfItem, noted}
 use Rattle.ig_forest.specs.declared.entry.Choice.{Choice}
 use Rattle.ig_forest.specs.declared.entry.Entry.{Entry}
-use Rattle.ig_forest.proofs.Lists.{at_within, contains_from_at, key_at, rises, same_length}
 use Rattle.ig_forest.proofs.CodeGives.{same_alternative}
-use Rattle.ig_forest.proofs.CodeSorted.{map_at, member_of_map}
 use Rattle.ig_forest.proofs.CursorOrders.{tied}
 use Rattle.ig_forest.proofs.TotalOrders.{choice_total, entry_total}
 
@@ -41,18 +42,18 @@ few {R = R} total key n xs sorted apart below =
     let long = length-map xs key in
     let differ : (i j d : ℕ) → i < j → j < length numbers → get_or numbers i d ≢ get_or numbers j d =
     λ i j d lt within same.
-    let (x, at_x) = at_within xs i (omega (arith, lt, within, long)) in
-    let (y, at_y) = at_within xs j (omega (arith, within, long)) in
-    let first : get_or numbers i d ≡ key x = get_or_from_slice_get numbers i (key x) d (map_at key xs i x at_x) in
-    let second : get_or numbers j d ≡ key y = get_or_from_slice_get numbers j (key y) d (map_at key xs j y at_y) in
-    let less : R x y ≡ Less = rises R total xs i j x y sorted at_x at_y lt in
+    let (x, at_x) = get_within xs i (omega (arith, lt, within, long)) in
+    let (y, at_y) = get_within xs j (omega (arith, within, long)) in
+    let first : get_or numbers i d ≡ key x = get_or_from_slice_get numbers i (key x) d (mapped_at key xs i x at_x) in
+    let second : get_or numbers j d ≡ key y = get_or_from_slice_get numbers j (key y) d (mapped_at key xs j y at_y) in
+    let less : R x y ≡ Less = rises R xs i j x y sorted at_x at_y lt in
     let equal : R x y ≡ Equal =
     apart x y (contains_from_at xs i x at_x) (contains_from_at xs j y at_y) (sym first ∙ same ∙ second) in
     cc in
     let all =
     length-le_from_distinct_below numbers n (IsDistinct-from_AllPairs Decides-eqb numbers differ)
     (λ q e.
-    let (x, among, is) = member_of_map key xs q ((is_member-Decides Decides-eqb numbers q).0 e) in
+    let (x, among, is) = unmapped_in key xs q ((is_member-Decides Decides-eqb numbers q).0 e) in
     subst (λ (m : ℕ). m < n) is (below x among)) in
     omega (arith, all, long)
 

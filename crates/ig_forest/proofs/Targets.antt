@@ -1,5 +1,6 @@
 -- What the step before which an item stands leads to is determined.
 use Rattle.std.proofs.Common.{◌≡◌, ℕ, List, [], ◌∷◌, map, Option, Some, None, slice_get, refl, sym, ap, ◌∙◌, subst, subst₂, arith}
+use Rattle.ig_text.proofs.Equal.{same_listed}
 use Rattle.ig_expr.specs.Evaluation.{value_of}
 use Rattle.ig_expr.specs.declared.value.Value.{Value}
 use Rattle.ig_item.specs.Core.{IsAlternative}
@@ -12,7 +13,6 @@ use Rattle.ig_item.specs.Gives as rules
 use Rattle.ig_item.specs.Gives.{NodeKey, Taken}
 use Rattle.ig_forest.specs.Live.{Gives}
 use Rattle.ig_forest.proofs.Given.{Given}
-use Rattle.ig_forest.proofs.Lists.{same_listed}
 use Rattle.ig_forest.proofs.Steps.{given_dot}
 
 -- the same alternative of the same instance, at the same dot

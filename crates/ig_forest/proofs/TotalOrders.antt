@@ -4,10 +4,10 @@ use Rattle.std.specs.Prelude.{Bool, false, ℤ, pos}
 use Rattle.std.specs.Cmp.{IsTotalOrder}
 use Rattle.std.specs.Ordering.{nat_cmp, int_cmp, bool_cmp, ordering_then}
 use Rattle.std.specs.declared.cmp.Ordering.{Ordering}
-use Rattle.std.specs.declared.cmp.Ordering.TheVariants.{Less, Equal, Greater}
 use Rattle.std.specs.Cmp.{bool_cmp_total}
 use Rattle.std.proofs.lemmas.Cmp.{nat_cmp_total, int_cmp_total, lists_total, on_total, then_total}
 use Rattle.ig_text.specs.TagNumber.{number_of}
+use Rattle.ig_text.proofs.Options.{then_nothing}
 use Rattle.ig_expr.specs.declared.value.Value.{Value}
 use Rattle.ig_expr.specs.declared.value.Value.TheVariants.{Int, Bool as Truth, Span}
 use Rattle.ig_item.specs.Items.{Item}
@@ -55,11 +55,6 @@ parts_total =
     (then_total (on_total int_of int_cmp_total)
     (then_total (on_total truth_of bool_cmp_total)
     (then_total (on_total begin_of nat_cmp_total) (on_total end_of nat_cmp_total))))
-
-pub then_nothing : (o : Ordering) → ordering_then o Equal ≡ o
-then_nothing Less = refl
-then_nothing Equal = refl
-then_nothing Greater = refl
 
 by_parts : (x y : Value) → parts_cmp x y ≡ value_cmp x y
 by_parts (Int a) (Int b) = then_nothing (int_cmp a b)

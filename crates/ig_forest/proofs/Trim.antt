@@ -8,6 +8,9 @@ use Rattle.std.proofs.lemmas.Option.{slice_get_within, same_Some}
 use Rattle.ig_text.specs.Pattern.{Matches}
 use Rattle.ig_text.specs.declared.pattern.Pattern.{Pattern}
 use Rattle.ig_text.specs.declared.pattern.Pattern.TheVariants.{Literal, OneOf}
+use Rattle.ig_text.proofs.Lists.{at_from_contains, contains_from_at}
+use Rattle.ig_text.proofs.Pairwise.{key_at, partner, same_length}
+use Rattle.ig_text.proofs.Rising.{same_members, one_sorted, stands_before}
 use Rattle.ig_expr.specs.declared.value.Value.{Value}
 use Rattle.ig_item.specs.Items.{Item, past}
 use Rattle.ig_item.specs.declared.core_grammar.Nonterminal.{Nonterminal}
@@ -22,7 +25,6 @@ use Rattle.ig_forest.specs.Reduced as reduced
 use Rattle.ig_forest.specs.Reduced.{IsReduced, IsEntry, IsItemNode}
 use Rattle.ig_forest.specs.declared.entry.Entry.{Entry}
 use Rattle.ig_forest.specs.declared.entry.Entry.TheVariants.{Begin}
-use Rattle.ig_forest.proofs.Lists.{at_from_contains, contains_from_at, key_at, partner, same_length, same_members, one_sorted, stands_before}
 use Rattle.ig_forest.proofs.TotalOrders.{value_total, item_total, entry_total}
 use Rattle.ig_forest.proofs.Steps.{given_dot}
 use Rattle.ig_forest.proofs.CursorOrders.{lower}
@@ -113,7 +115,7 @@ module _ (in_text : ItemsAreInText) (core : List Nonterminal) (text : List ℕ) 
     begins : (x : Item) (it : ItemNode) → x.dot ≡ 0 → IsItemNode core text r.items r.keys x it → it.entries ≡ Begin ∷ []
     begins x it dot n =
         same_members entry_cmp entry_total (IsEntry core text r.items r.keys x) it.entries (Begin ∷ []) n.order
-        (one_sorted entry_cmp entry_total Begin) n.entries
+        (one_sorted entry_cmp Begin) n.entries
         (λ e. (
           λ c. let at = at_from_contains (Begin ∷ []) e c in reduced.begin e dot (only e at.0 at.1),
           λ h. contains_from_at (Begin ∷ []) 0 e (ap Some (sym (first_entry x e dot h))),

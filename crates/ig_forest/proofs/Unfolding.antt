@@ -4,6 +4,8 @@ use Rattle.ig_text.specs.declared.pattern.Pattern.{Pattern}
 use Rattle.ig_text.specs.declared.tag.Tag.{Tag}
 use Rattle.ig_text.specs.declared.text.Span.{Span}
 use Rattle.ig_text.proofs.Trees.{join-none}
+use Rattle.ig_text.proofs.Lists.{at_from_contains, contains_from_at}
+use Rattle.ig_text.proofs.Pairwise.{both_at, partner}
 use Rattle.ig_text.specs.Tree.{Tree, Trees, Leaf, Node, none, one, join, height, greatest_height}
 use Rattle.ig_expr.specs.declared.value.Value.{Value}
 use Rattle.ig_item.specs.Core.{IsAlternative}
@@ -19,18 +21,17 @@ use Rattle.ig_forest.specs.Unfold as ways
 use Rattle.ig_forest.specs.Unfold.{OfNode, OfItem, noted}
 use Rattle.ig_item.specs.Gives as rules
 use Rattle.ig_forest.specs.Live as live
-use Rattle.ig_item.specs.Gives.{NodeKey, Taken, nothing, leaf, tree}
+use Rattle.ig_item.specs.Gives.{NodeKey, nothing, leaf, tree}
 use Rattle.ig_forest.specs.Live.{Gives, IsLive}
 use Rattle.ig_forest.specs.Reduced as reduced
-use Rattle.ig_forest.specs.Reduced.{IsReduced, IsNode, IsItemNode, root_key}
+use Rattle.ig_forest.specs.Reduced.{IsReduced, root_key}
 use Rattle.ig_forest.specs.Laws.{UnfoldsToCoreTrees}
 use Rattle.ig_forest.specs.declared.entry.Choice.{Choice}
 use Rattle.ig_forest.specs.declared.entry.Entry.TheVariants.{Begin, Pass, Take}
 use Rattle.ig_forest.specs.declared.entry.Child.TheVariants as child
 use Rattle.ig_forest.proofs.Given.{Given}
 use Rattle.ig_item.specs.ItemTrees as reached
-use Rattle.ig_item.specs.ItemTrees.{Comes, Passes}
-use Rattle.ig_forest.proofs.Lists.{at_from_contains, contains_from_at, both_at, partner}
+use Rattle.ig_item.specs.ItemTrees.{Comes}
 use Rattle.ig_forest.proofs.Liveness.{live_is_reachable}
 use Rattle.ig_forest.proofs.Steps.{joined_height, parted_height, comes_by_nothing, comes_by_leaf, comes_by_tree, HasKeyTree, begin_only, pass_only, leaf_only, node_only}
 

@@ -2,15 +2,18 @@
 use Rattle.std.proofs.Common.{◌≡◌, ℕ, List, Some, slice_get, Contains, sym, ap, ◌∙◌, subst, subst₂}
 use Rattle.std.proofs.lemmas.Option.{same_Some}
 use Rattle.ig_text.specs.declared.text.Span.{Span}
+use Rattle.ig_text.specs.Pairwise.{Each}
+use Rattle.ig_text.proofs.Lists.{contains_from_at}
+use Rattle.ig_text.proofs.Pairwise.{same_each, key_at}
+use Rattle.ig_text.proofs.Rising.{one_place, same_members}
 use Rattle.ig_item.specs.Items.{Item}
 use Rattle.ig_item.specs.declared.core_grammar.Nonterminal.{Nonterminal}
 use Rattle.ig_forest.specs.Forest.{Node, ItemNode, item_of}
 use Rattle.ig_item.specs.Gives.{NodeKey, Completes}
 use Rattle.ig_forest.specs.Live.{IsLive}
 use Rattle.ig_forest.specs.Orders.{item_cmp, node_cmp, choice_cmp, entry_cmp}
-use Rattle.ig_forest.specs.Reduced.{Each, IsNamed, AreNodes, IsNode, IsItemNode, IsChoice, IsEntry, root_key}
+use Rattle.ig_forest.specs.Reduced.{IsNamed, AreNodes, IsNode, IsItemNode, IsChoice, IsEntry, root_key}
 use Rattle.ig_forest.specs.Laws.{OnlyOne, ReducedHasNoKeyTwice, RootIsThere}
-use Rattle.ig_forest.proofs.Lists.{one_place, same_members, same_each, key_at, contains_from_at}
 use Rattle.ig_forest.proofs.TotalOrders.{item_total, node_total, choice_total, entry_total}
 use Rattle.ig_forest.proofs.Liveness.{live_is_reachable}
 

@@ -2,6 +2,9 @@
 use Rattle.std.proofs.Common.{◌≡◌, ◌⊎◌, inl, inr, ℕ, zero, suc, ◌+◌, ◌<◌, ◌++◌, List, Some, length, slice_get, refl, sym, ap, ◌∙◌, subst, arith}
 use Rattle.std.proofs.lemmas.Option.{same_Some, slice_get_within}
 use Rattle.ig_text.specs.Tree.{Tree, Trees, Leaf, Node, none, one, join, greatest_height}
+use Rattle.ig_text.proofs.Lists.{at_from_contains, contains_from_at, get_within}
+use Rattle.ig_text.proofs.Pairwise.{key_at}
+use Rattle.ig_text.proofs.Rising.{one_place}
 use Rattle.ig_item.specs.Items.{Item, IsComplete, StandsBefore}
 use Rattle.ig_item.specs.Step.{Step, Test, Bind, Term, Call}
 use Rattle.ig_item.specs.declared.core_grammar.Nonterminal.{Nonterminal}
@@ -9,7 +12,7 @@ use Rattle.ig_item.specs.declared.core_grammar.CoreAlt.{CoreAlt}
 use Rattle.ig_forest.specs.Forest as forest
 use Rattle.ig_forest.specs.Forest.{Forest, ItemNode}
 use Rattle.ig_forest.specs.Unfold as ways
-use Rattle.ig_forest.specs.Unfold.{OfNode, OfItem, Part, TheNode, TheAlternative, TheEntry, node_uses, item_uses, noted, IsUsed, HasNoDeadPart, IsTrim}
+use Rattle.ig_forest.specs.Unfold.{OfNode, OfItem, Part, TheNode, TheAlternative, TheEntry, node_uses, item_uses, noted, IsUsed, HasNoDeadPart}
 use Rattle.ig_item.specs.Gives as rules
 use Rattle.ig_forest.specs.Live as live
 use Rattle.ig_item.specs.Gives.{NodeKey, Taken}
@@ -22,7 +25,6 @@ use Rattle.ig_forest.specs.declared.entry.Entry.{Entry}
 use Rattle.ig_forest.specs.declared.entry.Entry.TheVariants.{Begin, Pass, Take}
 use Rattle.ig_forest.specs.declared.entry.Child.TheVariants as child
 use Rattle.ig_forest.proofs.Given.{Given}
-use Rattle.ig_forest.proofs.Lists.{at_from_contains, contains_from_at, at_within, key_at, one_place}
 use Rattle.ig_forest.proofs.TotalOrders.{item_total, node_total}
 use Rattle.ig_forest.proofs.Liveness.{live_is_reachable}
 use Rattle.ig_forest.proofs.Unfolding.{Unfolded, by_pass, by_leaf, by_tree, chosen, item_unfolds, nodes_unfold, live_at}
@@ -190,7 +192,7 @@ trim_has_trees f alive =
       nodes = λ v within. let u = alive.nodes v within in node_found f u.unfolds (TheNode v) u.uses;
       items =
           λ k within.
-          let it = at_within f.items k within in
+          let it = get_within f.items k within in
           let u = alive.entries k 0 it.0 it.1 (alive.items k it.0 it.1) in
           node_found f u.unfolds (TheEntry k 0) u.uses;
     }
@@ -363,7 +365,7 @@ module _ (given : Given) (core : List Nonterminal) (text : List ℕ) (f : Forest
 
   node_used : (v : ℕ) → v < length f.nodes → IsUsed f (TheNode v)
   node_used v within =
-      let n = at_within f.nodes v within in
+      let n = get_within f.nodes v within in
       let key = key_at r.nodes v n.0 n.1 in
       let x = (r.are_nodes.members key.0).0 (contains_from_at r.keys v key.0 key.1) in
       let l = (r.are_items.members x.0).0 x.1 in
@@ -381,7 +383,7 @@ module _ (given : Given) (core : List Nonterminal) (text : List ℕ) (f : Forest
   alternative_used : (v i : ℕ) (node : forest.Node) → slice_get f.nodes v ≡ Some node → i < length node.alternatives →
       IsUsed f (TheAlternative v i)
   alternative_used v i node at within =
-      let choice = at_within node.alternatives i within in
+      let choice = get_within node.alternatives i within in
       let key = key_at r.nodes v node at in
       let c = (key.2.choices choice.0).0 (contains_from_at node.alternatives i choice.0 choice.1) in
       let l = live_at given core text f r choice.0.item c.item c.numbered in
@@ -438,7 +440,7 @@ module _ (given : Given) (core : List Nonterminal) (text : List ℕ) (f : Forest
         items = has_entry;
         entries =
             λ k i it at within.
-            let e = at_within it.entries i within in
+            let e = get_within it.entries i within in
             let x = key_at r.item_nodes k it at in
             entry_of k i it x.0 e.0 at e.1 x.1 ((x.2.entries e.0).0 (contains_from_at it.entries i e.0 e.1));
       }

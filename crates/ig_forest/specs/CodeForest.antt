@@ -1,5 +1,6 @@
 -- The forest of the stored nodes and item nodes, and what the code knows of their parts.
 use Rattle.std.specs.Prelude.{ℕ, ◌<◌, List, [], map, length, Contains, slice_index_or}
+use Rattle.ig_item.specs.Limits.{numbers_end}
 use Rattle.ig_expr.specs.declared.value.Value.{Value}
 use Rattle.ig_forest.specs.Forest as parts
 use Rattle.ig_forest.specs.Unfold.{IsTrim}
@@ -47,5 +48,5 @@ pub record FitsForest (root : ℕ) (names : List (List ℕ)) (lists : List (List
   pub items_named : (it : StoredItem) → Contains items it → it.row.nonterminal < length names
   pub items_listed : (it : StoredItem) → Contains items it → it.row.values < length lists
   pub envs_listed : (it : StoredItem) → Contains items it → it.row.env < length lists
-  pub few_nodes : length nodes < 4294967296
-  pub few_items : length items < 4294967296
+  pub few_nodes : length nodes < numbers_end
+  pub few_items : length items < numbers_end

@@ -3,6 +3,7 @@ use Rattle.std.specs.Prelude.{◌≡◌, ℕ, suc, ◌<◌, List, [], ◌∷◌,
 use Rattle.ig_text.specs.declared.text.Span.{Span}
 use Rattle.ig_expr.specs.declared.value.Value.{Value}
 use Rattle.ig_item.specs.Items.{Item}
+use Rattle.ig_item.specs.Limits.{numbers_end}
 use Rattle.ig_forest.specs.declared.entry.Choice.{Choice}
 use Rattle.ig_forest.specs.declared.entry.Entry.{Entry}
 use Rattle.ig_forest.specs.declared.entry.Entry.TheVariants.{Begin, Pass, Take}
@@ -81,7 +82,7 @@ PreviousAreBefore f =
 
 -- all lists have fewer than 2 to the power of 32 members, so numbers of 32 bits serve
 pub record IsShort (f : Forest) : Type 0 where
-  pub nodes : length f.nodes < 4294967296
-  pub items : length f.items < 4294967296
-  pub alternatives : (v : ℕ) (node : Node) → slice_get f.nodes v ≡ Some node → length node.alternatives < 4294967296
-  pub entries : (k : ℕ) (it : ItemNode) → slice_get f.items k ≡ Some it → length it.entries < 4294967296
+  pub nodes : length f.nodes < numbers_end
+  pub items : length f.items < numbers_end
+  pub alternatives : (v : ℕ) (node : Node) → slice_get f.nodes v ≡ Some node → length node.alternatives < numbers_end
+  pub entries : (k : ℕ) (it : ItemNode) → slice_get f.items k ≡ Some it → length it.entries < numbers_end

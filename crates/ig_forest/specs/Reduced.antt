@@ -1,7 +1,8 @@
 -- The reduced forest of a core grammar and a text. Its members and their orders are given, so it is a function of both.
-use Rattle.std.specs.Prelude.{◌≡◌, ◌↔◌, ℕ, List, [], ◌∷◌, length, Contains, Some, slice_get, option_map}
+use Rattle.std.specs.Prelude.{◌≡◌, ◌↔◌, ℕ, List, length, Contains, Some, slice_get, option_map}
 use Rattle.std.specs.List.Sorted.{IsStrictlySortedBy}
 use Rattle.ig_text.specs.declared.text.Span.{Span}
+use Rattle.ig_text.specs.Pairwise.{Each}
 use Rattle.ig_item.specs.Items.{Item, root_instance}
 use Rattle.ig_item.specs.declared.core_grammar.Nonterminal.{Nonterminal}
 use Rattle.ig_forest.specs.Forest.{Forest, Node, ItemNode, item_of}
@@ -12,11 +13,6 @@ use Rattle.ig_forest.specs.declared.entry.Choice.{Choice}
 use Rattle.ig_forest.specs.declared.entry.Entry.{Entry}
 use Rattle.ig_forest.specs.declared.entry.Entry.TheVariants.{Begin, Pass, Take}
 use Rattle.ig_forest.specs.declared.entry.Child.TheVariants as child
-
--- the two lists are equally long, and what stands at one place belongs together
-pub data Each {X Y : Type 0} (P : X → Y → Type 0) : List X → List Y → Type 0 where
-  none : Each P [] []
-  more : (x : X) (y : Y) (xs : List X) (ys : List Y) → P x y → Each P xs ys → Each P (x ∷ xs) (y ∷ ys)
 
 -- nonterminal n has that name
 abbrev pub IsNamed : List Nonterminal → ℕ → List ℕ → Type 0

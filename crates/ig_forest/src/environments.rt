@@ -1,6 +1,7 @@
 //! The lists of values of a run, each once and in order.
 ghost use Rattle.std.specs.Prelude.{◌≡◌, ◌<◌, IfOk, MatchOption, map, slice_get, Contains, length};
 ghost use Rattle.std.specs.List.Sorted.{IsStrictlySortedBy};
+ghost use Rattle.ig_item.specs.Limits.{numbers_end};
 ghost use Rattle.ig_forest.specs.CodeTables.{AreLists, ArePlaces, list_cmp};
 
 use ig_expr::Value;
@@ -11,7 +12,7 @@ use std::alloc::{AllocError, Global};
 pub(crate) fn lists_of<'a>(alloc: Global, items: &'a Items) -> Result<Vec<&'a [Value]>, AllocError>
     ensures lists { IfOk result (λ lists.
         AreLists items.now.environments (map (λ l. l.now) lists.items)) }
-    ensures few { IfOk result (λ lists. length lists.items < 4294967296) }
+    ensures few { IfOk result (λ lists. length lists.items < numbers_end) }
 {
     let mut lists = all_lists(alloc, items)?;
     lists.sort_unstable();
@@ -23,7 +24,7 @@ pub(crate) fn lists_of<'a>(alloc: Global, items: &'a Items) -> Result<Vec<&'a [V
 fn all_lists<'a>(alloc: Global, items: &'a Items) -> Result<Vec<&'a [Value]>, AllocError>
     ensures lists { IfOk result (λ lists.
         map (λ l. l.now) lists.items ≡ items.now.environments) }
-    ensures few { IfOk result (λ lists. length lists.items < 4294967296) }
+    ensures few { IfOk result (λ lists. length lists.items < numbers_end) }
 {
     let mut lists = Vec::new(alloc);
     for k in 0..items.environments() {
@@ -38,7 +39,7 @@ fn all_lists<'a>(alloc: Global, items: &'a Items) -> Result<Vec<&'a [Value]>, Al
 /// The place of a list among them; `None` exactly where it isn't there.
 pub(crate) fn place_of(lists: &[&[Value]], list: &[Value]) -> Option<u32>
     requires order { IsStrictlySortedBy list_cmp (map (λ l. l.now) lists.now) }
-    requires few { length lists.now < 4294967296 }
+    requires few { length lists.now < numbers_end }
     ensures { MatchOption result (Contains (map (λ l. l.now) lists.now) list.now → ⊥)
         (λ k. slice_get (map (λ l. l.now) lists.now) k ≡ Some list.now) }
 {
@@ -55,7 +56,7 @@ pub(crate) fn places_of(
     lists: &[&[Value]],
 ) -> Result<Vec<u32>, AllocError>
     requires lists { AreLists items.now.environments (map (λ l. l.now) lists.now) }
-    requires few { length lists.now < 4294967296 }
+    requires few { length lists.now < numbers_end }
     ensures { IfOk result (λ places.
         ArePlaces items.now.environments (map (λ l. l.now) lists.now) places.items) }
 {

@@ -4,8 +4,9 @@ ghost use Rattle.std.specs.List.{AllAdjacentBelow};
 ghost use Rattle.std.specs.declared.cmp.Ordering.TheVariants.{Less};
 ghost use Rattle.ig_item.specs.WellKinded.{NoneTwice};
 ghost use Rattle.ig_item.specs.declared.ways.Way.TheVariants as way;
+ghost use Rattle.ig_item.specs.Limits.{numbers_end};
 ghost use Rattle.ig_forest.specs.Orders.{entry_cmp, previous};
-ghost use Rattle.ig_forest.specs.Reduced.{Each};
+ghost use Rattle.ig_text.specs.Pairwise.{Each};
 ghost use Rattle.ig_forest.specs.CodeItemNodes.{AddsItem, AreSources, AreFromOne, AreNumbers};
 ghost use Rattle.ig_forest.specs.CodeItemNodes.{IsStoredItem, WayFits, entry_by, further_entry};
 ghost use Rattle.ig_forest.specs.CodeItemNodes.{node_by, number_by};
@@ -36,7 +37,7 @@ pub(crate) struct Sources<'a> {
 pub(crate) fn numbers_of(alloc: Global, count: usize, order: &[u32]) -> Result<Vec<u32>, AllocError>
     requires below { (k : ℕ) → Contains order.now k → k < count }
     requires once { NoneTwice order.now }
-    requires few { count ≤ 4294967296 }
+    requires few { count ≤ numbers_end }
     ensures long { IfOk result (λ numbers. length numbers.items ≡ count) }
     ensures numbers { IfOk result (λ numbers. AreNumbers order.now numbers.items) }
 {

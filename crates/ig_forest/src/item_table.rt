@@ -1,6 +1,7 @@
 //! Item nodes as they are kept: the entries of all of them side by side in one vector.
 ghost use Rattle.std.specs.Prelude.{◌≡◌, ◌<◌, [], ◌∷◌, ◌++◌, IfOk, OnOk, length, option_map};
 ghost use Rattle.std.specs.Prelude.{slice_get};
+ghost use Rattle.ig_item.specs.Limits.{numbers_end};
 ghost use Rattle.ig_forest.specs.CodeParts.{IsPartOf, entries_in, stored_view};
 
 use crate::entry::Entry;
@@ -120,7 +121,7 @@ fn part_at(parts: &[Part], k: u32) -> Option<Part>
 
 /// A place in the vector of all entries.
 fn place(k: usize) -> Result<u32, AllocError>
-    ensures { IfOk result (λ p. (p ≡ k) × (k < 4294967296)) }
+    ensures { IfOk result (λ p. (p ≡ k) × (k < numbers_end)) }
 {
     match u32::try_from(k) {
         Ok(p) => Ok(p),

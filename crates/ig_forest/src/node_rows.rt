@@ -4,7 +4,7 @@ ghost use Rattle.std.specs.Prelude.{◌≡◌, ◌≤◌, ◌-◌, [], ◌∷◌
 ghost use Rattle.std.specs.Prelude.{option_map, slice_get, slice_range};
 ghost use Rattle.ig_forest.specs.CodeNodeRows.{begin_at, nodes_from, rows_in, with_choice};
 ghost use Rattle.ig_forest.specs.CodeNodeRows.{IsPutInOrder, RiseIn, stored_view};
-ghost use Rattle.ig_forest.specs.Reduced.{Each};
+ghost use Rattle.ig_text.specs.Pairwise.{Each};
 
 use crate::choice_order::put_in_order;
 use crate::entry::Choice;

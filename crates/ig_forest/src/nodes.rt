@@ -1,5 +1,6 @@
 //! The nodes of a forest, read off its complete items in order.
 ghost use Rattle.std.specs.Prelude.{◌≡◌, ◌<◌, ◌+◌, ◌-◌, ℕ, false, IfOk, OnOk, IsTrue, length};
+ghost use Rattle.ig_item.specs.Limits.{numbers_end};
 ghost use Rattle.ig_forest.specs.declared.mark.Mark.TheVariants.{Complete};
 ghost use Rattle.ig_forest.specs.CodeDone.{IsTagged, StandsLast};
 ghost use Rattle.ig_forest.specs.CodeLiveOrder.{AreLiveInOrder, IsThere, number_cmp};
@@ -34,7 +35,7 @@ pub(crate) fn nodes_of(
     marks: &[Mark],
     order: &[u32],
 ) -> Result<Nodes, AllocError>
-    requires few { length marks.now < 4294967296 }
+    requires few { length marks.now < numbers_end }
     requires there { (k : ℕ) → k < length marks.now →
         IsThere found.now.items.now found.now.keys.now found.now.places.now k }
     requires complete { MarkComplete core.now
@@ -66,7 +67,7 @@ fn add_item(
     nodes: &mut Nodes,
     place: usize,
 ) -> Result<(), AllocError>
-    requires few { length marks.now < 4294967296 }
+    requires few { length marks.now < numbers_end }
     requires there { (k : ℕ) → k < length marks.now →
         IsThere found.now.items.now found.now.keys.now found.now.places.now k }
     requires complete { MarkComplete core.now
@@ -146,7 +147,7 @@ fn ends_with(table: &NodeRows, node: NodeRow) -> bool
 /// The number of the last node.
 fn last_number(table: &NodeRows) -> u32
     requires some { 0 < length table.now }
-    requires few { length table.now < 4294967296 }
+    requires few { length table.now < numbers_end }
     ensures { result ≡ length table.now - 1 }
 {
     table.len() as u32 - 1

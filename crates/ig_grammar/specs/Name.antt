@@ -1,5 +1,5 @@
 -- Which words are names of the notation.
-use Rattle.std.specs.Prelude.{ℕ, Bool, false, not, ◌&&◌, List, [], ◌∷◌, codes}
+use Rattle.std.specs.Prelude.{ℕ, Bool, false, not, ◌&&◌, List, [], ◌∷◌, codes, ◌≡◌, true}
 use Rattle.std.specs.List.{list_any, list_all}
 use Rattle.ig_text.specs.declared.class.Class.TheVariants.{XidStart, XidContinue}
 use Rattle.ig_text.specs.Class.{is_in_class}
@@ -24,3 +24,7 @@ is_identifier (c ∷ cs) = is_in_class XidStart c && list_all (is_in_class XidCo
 -- an identifier that is no keyword
 abbrev pub is_name : List ℕ → Bool
 is_name word = is_identifier word && not (is_keyword word)
+
+-- the word is a name of the notation
+abbrev pub IsName : List ℕ → Type 0
+IsName word = is_name word ≡ true

@@ -1,13 +1,14 @@
 -- The heights of a forest from those that its rules give.
 use Rattle.std.proofs.Common.{◌≡◌, ◌↔◌, inl, inr, ℕ, ◌+◌, ◌<◌, ◌≤◌, List, [], ◌∷◌, ◌++◌, Bool, true, false, IsTrue, Some, length, slice_get, sym, ap, ◌∙◌, subst, arith}
 use Rattle.std.proofs.lemmas.Option.{slice_get_within}
+use Rattle.ig_text.proofs.Orders.{le_or_lt}
 use Rattle.ig_forest.specs.Forest.{Forest}
 use Rattle.ig_forest.specs.Unfold.{IsTrim, HasTrees}
 use Rattle.ig_heights.specs.Heights.{IsLeastOfNode, IsLeastOfItem, AreHeights}
 use Rattle.ig_heights.specs.Rules.{height_at, AreLeast, IsPart}
 use Rattle.ig_heights.specs.Table.{IsLeastTable, IsWholeTable}
 use Rattle.ig_heights.specs.declared.rule.Table.{Table}
-use Rattle.ig_heights.proofs.Numbers.{le_or_lt, long_push}
+use Rattle.ig_heights.proofs.Numbers.{long_push}
 use Rattle.ig_heights.proofs.Exact.{node_exact, item_exact, node_small, item_small}
 use Rattle.ig_heights.proofs.Endless.{cyclic, bounded}
 use Rattle.ig_heights.proofs.Linking.{at_push}

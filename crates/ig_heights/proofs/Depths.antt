@@ -1,18 +1,15 @@
 -- Depths and heights.
 use Rattle.std.proofs.Common.{◌≡◌, ℕ, suc, pred, ◌≤◌, max, List, length, refl, ap, subst, arith, false, true}
-use Rattle.ig_text.specs.Tree.{Tree, Trees, Leaf, none, more, one, join, height, greatest_height}
+use Rattle.ig_text.specs.Tree.{Tree, Trees, Leaf, one, join, height, greatest_height}
+use Rattle.ig_text.proofs.Trees.{joined_height}
 use Rattle.ig_forest.specs.Forest.{Forest}
 use Rattle.ig_forest.specs.Unfold.{OfNode, OfItem}
 use Rattle.ig_forest.specs.Unfold as trees
 use Rattle.ig_heights.specs.Heights.{HasNoHigher}
 use Rattle.ig_heights.specs.Laws.{DepthsAreHeights, NoneAboveNodes, TreesAreNoHigherThanNodes}
 
-greatest_join : (ts us : Trees) → greatest_height (join ts us) ≡ max (greatest_height ts) (greatest_height us)
-greatest_join none us = omega arith
-greatest_join (more t ts) us = let h = greatest_join ts us in omega (arith, h)
-
 pub greatest_one : (ts : Trees) (t : Tree) → greatest_height (join ts (one t)) ≡ max (greatest_height ts) (height t)
-greatest_one ts t = let h = greatest_join ts (one t) in omega (arith, h)
+greatest_one ts t = let h = joined_height ts (one t) in omega (arith, h)
 
 module _ (f : Forest) where
   mutual

@@ -2,6 +2,8 @@
 use Rattle.std.proofs.Common.{◌≡◌, ◌⊎◌, inl, inr, ℕ, zero, suc, ◌+◌, ◌<◌, ◌≤◌, List, ◌∷◌, ◌++◌, Some, length, slice_get, Contains, refl, sym, ap, ◌∙◌, arith}
 use Rattle.std.proofs.lemmas.Option.{same_Some, slice_get_within}
 use Rattle.ig_text.specs.Tree.{Tree, Trees, Leaf, Node, one, join, height, greatest_height}
+use Rattle.ig_text.proofs.Lists.{at_from_contains, contains_from_at}
+use Rattle.ig_text.proofs.Orders.{le_or_lt}
 use Rattle.ig_forest.specs.Forest as forest
 use Rattle.ig_forest.specs.Forest.{Forest, ItemNode}
 use Rattle.ig_forest.specs.Unfold.{noted, OfNode, OfItem, IsTrim, HasTrees}
@@ -17,9 +19,8 @@ use Rattle.ig_heights.specs.Table.{ground_of, entry_rule, choice_rule, IsRuleOf,
 use Rattle.ig_heights.specs.Table as table
 use Rattle.ig_heights.specs.declared.rule.Rule.{Rule}
 use Rattle.ig_heights.specs.declared.rule.Table.{Table}
-use Rattle.ig_heights.proofs.Numbers.{le_or_lt, rise_one}
+use Rattle.ig_heights.proofs.Numbers.{rise_one}
 use Rattle.ig_heights.proofs.Depths.{greatest_one, node_low, item_low, node_at, item_at}
-use Rattle.ig_heights.proofs.Exact.{at_from_contains, contains_from_at}
 use Rattle.ig_heights.proofs.Working.{among_more}
 
 module _ (f : Forest) (l t : Table) (rules : IsLeastTable f l) (whole : IsWholeTable l t) (hs : List ℕ) (least : AreLeast t hs) where

@@ -1,7 +1,8 @@
 -- Heights that the rules of a forest give are the least heights of its trees.
-use Rattle.std.proofs.Common.{◌≡◌, inl, inr, ℕ, zero, suc, ◌+◌, ◌<◌, ◌≤◌, max, List, [], ◌∷◌, ◌++◌, Some, length, slice_get, Contains, refl, sym, ap, ◌∙◌, arith}
-use Rattle.std.proofs.lemmas.Option.{slice_get-get_or, slice_get_within, get_or_from_slice_get}
+use Rattle.std.proofs.Common.{◌≡◌, inl, inr, ℕ, zero, suc, ◌+◌, ◌<◌, ◌≤◌, max, List, ◌++◌, Some, length, slice_get, Contains, refl, sym, ap, ◌∙◌, arith}
+use Rattle.std.proofs.lemmas.Option.{slice_get_within}
 use Rattle.ig_text.specs.Tree.{Tree, Trees, Leaf, Node, none, one, join, height, greatest_height}
+use Rattle.ig_text.proofs.Lists.{at_from_contains, contains_from_at}
 use Rattle.ig_forest.specs.Forest as forest
 use Rattle.ig_forest.specs.Forest.{Forest, ItemNode}
 use Rattle.ig_forest.specs.Unfold.{noted, OfNode, OfItem, IsTrim, HasTrees}
@@ -18,18 +19,6 @@ use Rattle.ig_heights.specs.declared.rule.Rule.{Rule}
 use Rattle.ig_heights.specs.declared.rule.Table.{Table}
 use Rattle.ig_heights.proofs.Numbers.{rise_low, rise_one, rise_none}
 use Rattle.ig_heights.proofs.Depths.{greatest_one, node_low, item_low}
-
-module _ {X : Type 0} where
-  pub at_from_contains : (xs : List X) (x : X) → Contains xs x → (k : ℕ) × (slice_get xs k ≡ Some x)
-  at_from_contains xs x c = (c.0, slice_get-get_or xs c.0 x c.1 ∙ ap Some c.2)
-
-  pub contains_from_at : (xs : List X) (k : ℕ) (x : X) → slice_get xs k ≡ Some x → Contains xs x
-  contains_from_at xs k x e = (k, slice_get_within xs k x e, get_or_from_slice_get xs k x x e)
-
-  pub at_within : (xs : List X) (k : ℕ) → k < length xs → (x : X) × (slice_get xs k ≡ Some x)
-  at_within [] k less = absurd (omega (arith, less))
-  at_within (x ∷ xs) zero less = (x, refl)
-  at_within (x ∷ xs) (suc k) less = at_within xs k (omega (arith, less))
 
 module _ (f : Forest) (t : Table) (rules : IsLeastTable f t) (hs : List ℕ) (least : AreLeast t hs) where
   abbrev of_node : ℕ → ℕ

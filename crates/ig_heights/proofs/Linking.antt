@@ -1,26 +1,22 @@
 -- Chains of links, as they grow.
 use Rattle.std.proofs.Common.{◌≡◌, ◌⊎◌, inl, inr, ℕ, zero, suc, ◌+◌, ◌<◌, ◌≤◌, List, [], ◌∷◌, ◌++◌, Some, length, get_or, set, take, replicate, slice_get, Contains, refl, sym, ap, ◌∙◌, subst, arith, length-set}
-use Rattle.std.proofs.lemmas.List.{get_or-replicate, length-replicate}
+use Rattle.std.proofs.lemmas.List.{get_or-replicate, length-replicate, take_all, get_or-set_same}
 use Rattle.std.proofs.lemmas.Option.{same_Some, slice_get_within}
 use Rattle.std.proofs.lemmas.List.Elements.{Contains-append_left, Contains-push, Contains-push_cases}
+use Rattle.std.proofs.lemmas.Bool.{cases_eq}
+use Rattle.ig_text.proofs.Lists.{at_from_contains, contains_from_at, none_in_nil, left_at}
+use Rattle.ig_text.proofs.Orders.{le_or_lt}
 use Rattle.ig_heights.specs.Rules.{FitsRule, FitsTable}
 use Rattle.ig_heights.specs.Table.{Chain, IsSource, NeedsAll, IsWholeTable, AreLinks, AreLasts, Links, Linked}
 use Rattle.ig_heights.specs.Table as table
 use Rattle.ig_heights.specs.declared.rule.Rule.{Rule}
 use Rattle.ig_heights.specs.declared.rule.Table.{Table}
-use Rattle.ig_heights.proofs.Numbers.{le_or_lt, same_or_not, set_here, set_there, long_push}
-use Rattle.ig_heights.proofs.Turns.{nothing}
+use Rattle.ig_heights.proofs.Numbers.{set_there, long_push}
 use Rattle.ig_heights.proofs.Working.{among_more}
-use Rattle.ig_heights.proofs.Exact.{at_from_contains, contains_from_at}
-use Rattle.ig_heights.proofs.Using.{read_at, taken_only, taken_all, taken_here, taken_whole}
+use Rattle.ig_heights.proofs.Using.{read_at, taken_only, taken_all, taken_here}
 
 abbrev no_links : List Rule
 no_links = []
-
-at_append : {X : Type 0} (xs ys : List X) (k : ℕ) (x : X) → slice_get xs k ≡ Some x → slice_get (xs ++ ys) k ≡ Some x
-at_append [] ys k x e = cc
-at_append (z ∷ xs) ys zero x e = e
-at_append (z ∷ xs) ys (suc k) x e = at_append xs ys k x e
 
 pub at_push : {X : Type 0} (xs : List X) (y : X) (k : ℕ) (x : X) → slice_get (xs ++ y ∷ []) k ≡ Some x →
     (slice_get xs k ≡ Some x) ⊎ ((k ≡ length xs) × (x ≡ y))
@@ -148,7 +144,7 @@ module _ (ground : ℕ) (rules more : List Rule) (rule : Rule) (only : (r : Rule
       within = let l = are.long in omega (arith, l, low)
 
       at_target : (q : ℕ) → q ≡ rule.target → get_or ends q 0 ≡ new
-      at_target q e = ap (λ (z : List ℕ). get_or z q 0) is ∙ ap (λ (n : ℕ). get_or (set last rule.target new) n 0) e ∙ set_here last rule.target new 0 within
+      at_target q e = ap (λ (z : List ℕ). get_or z q 0) is ∙ ap (λ (n : ℕ). get_or (set last rule.target new) n 0) e ∙ get_or-set_same last rule.target new 0 within
 
       at_other : (q : ℕ) → (q ≡ rule.target → ⊥) → get_or ends q 0 ≡ get_or last q 0
       at_other q d = ap (λ (z : List ℕ). get_or z q 0) is ∙ set_there last rule.target q new 0 d
@@ -156,7 +152,7 @@ module _ (ground : ℕ) (rules more : List Rule) (rule : Rule) (only : (r : Rule
       ends_now : (q : ℕ) → q < ground → get_or ends q 0 < suc ground + length longer
       ends_now q inside =
           let a = long_half in let b = long_longer in
-          elim (same_or_not q rule.target) [
+          elim (cases_eq q rule.target) [
             | inl e ↦ let h = at_target q e in let w = second.new_is in omega (arith, a, b, h, w)
             | inr d ↦ let h = at_other q d in let w = are.ends q inside in omega (arith, a, b, h, w)
           ]
@@ -203,7 +199,7 @@ module _ (ground : ℕ) (rules more : List Rule) (rule : Rule) (only : (r : Rule
 
       needs_now : (q : ℕ) → q < ground → NeedsAll longer ground (get_or ends q 0) (IsSource more q)
       needs_now q inside =
-          elim (same_or_not q rule.target) [
+          elim (cases_eq q rule.target) [
             | inl e ↦
                 subst (λ (n : ℕ). NeedsAll longer ground n (IsSource more q)) (sym (at_target q e))
                 (subst (λ (n : ℕ). NeedsAll longer ground new (IsSource more n)) (sym e) target_needs)
@@ -219,13 +215,13 @@ links_none ground rules links last none is =
     (record {
       long = ap length is ∙ length-replicate ground ground;
       targets = λ j r e. absurd (no_link j r e);
-      fits = λ r c. absurd (nothing r c);
+      fits = λ r c. absurd (none_in_nil r c);
       ends = λ q low. let e = at_first q low in omega (arith, e);
       needs = λ q low. record {
         needs = [];
         chain = table.empty (get_or last q 0) (at_first q low);
-        all = λ p s. absurd (nothing s.rule s.among);
-        only = λ p c. absurd (nothing p c);
+        all = λ p s. absurd (none_in_nil s.rule s.among);
+        only = λ p c. absurd (none_in_nil p c);
       };
     })
   where
@@ -251,7 +247,7 @@ module _ (t : Table) (fits : FitsTable t) (parts : t.parts ≡ suc t.ground) (rs
       AreLinks t.ground t.rules.items links last
   links_all n links last past are =
       let l = ap length same in
-      subst (λ (z : List Rule). AreLinks t.ground z links last) (taken_whole t.rules.items n (omega (arith, past, l))) are
+      subst (λ (z : List Rule). AreLinks t.ground z links last) (take_all n t.rules.items (omega (arith, past, l))) are
 
 module _ (ground : ℕ) (links : List Rule) (last : List ℕ) where
   abbrev final : ℕ → Rule
@@ -271,7 +267,7 @@ module _ (ground : ℕ) (links : List Rule) (last : List ℕ) where
   lasts_next whole more q m next are is =
       record {
         long = (let l = are.long in let n = ap length is ∙ long_push whole (final q) in omega (arith, l, n, next));
-        before = λ j r e. ap (λ (z : List Rule). slice_get z j) is ∙ at_append whole (final q ∷ []) j r (are.before j r e);
+        before = λ j r e. ap (λ (z : List Rule). slice_get z j) is ∙ left_at whole (final q ∷ []) j r (are.before j r e);
         lasts = lasts_now;
         here = here_now;
       }
@@ -289,7 +285,7 @@ module _ (ground : ℕ) (links : List Rule) (last : List ℕ) where
 
       here_now : (p : ℕ) → p < m → Contains more (record { target = p; left = get_or last p 0; right = ground })
       here_now p low =
-          elim (same_or_not p q) [
+          elim (cases_eq p q) [
             | inl e ↦ subst (λ (n : ℕ). Contains more (final n)) (sym e) (subst (λ (z : List Rule). Contains z (final q)) (sym is) (Contains-push whole (final q)))
             | inr d ↦ subst (λ (z : List Rule). Contains z (final p)) (sym is)
                 (Contains-append_left whole (final q ∷ []) (final p) (are.here p (below d)))

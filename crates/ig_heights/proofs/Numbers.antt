@@ -3,19 +3,6 @@ use Rattle.std.proofs.Common.{◌≡◌, ◌⊎◌, inl, inr, ℕ, zero, suc, �
 use Rattle.ig_heights.specs.Rules.{rise, height_at}
 use Rattle.ig_heights.specs.Work.{unset}
 
-pub le_or_lt : (a b : ℕ) → (a ≤ b) ⊎ (b < a)
-le_or_lt zero b = inl (omega arith)
-le_or_lt (suc a) zero = inr (omega arith)
-le_or_lt (suc a) (suc b) =
-    elim (le_or_lt a b) [ inl h ↦ inl (omega (arith, h)) | inr h ↦ inr (omega (arith, h)) ]
-
-pub same_or_not : (a b : ℕ) → (a ≡ b) ⊎ (a ≡ b → ⊥)
-same_or_not zero zero = inl refl
-same_or_not zero (suc b) = inr (λ e. omega (arith, e))
-same_or_not (suc a) zero = inr (λ e. omega (arith, e))
-same_or_not (suc a) (suc b) =
-    elim (same_or_not a b) [ inl e ↦ inl (ap suc e) | inr d ↦ inr (λ e. d (omega (arith, e))) ]
-
 pub rise_cases : (n p : ℕ) → ((p < n) × (rise n p ≡ 1)) ⊎ ((n ≤ p) × (rise n p ≡ 0))
 rise_cases zero p = inr (omega arith, refl)
 rise_cases (suc n) zero = inl (omega arith, refl)
@@ -36,11 +23,6 @@ pub rise_none : (n p : ℕ) → n ≤ p → rise n p ≡ 0
 rise_none n p less = elim (rise_cases n p) [ inl h ↦ let l = h.0 in omega (arith, l, less) | inr h ↦ h.1 ]
 
 module _ {X : Type 0} where
-  pub set_here : (xs : List X) (k : ℕ) (x d : X) → k < length xs → get_or (set xs k x) k d ≡ x
-  set_here [] k x d less = absurd (omega (arith, less))
-  set_here (y ∷ xs) zero x d less = refl
-  set_here (y ∷ xs) (suc k) x d less = set_here xs k x d (omega (arith, less))
-
   pub set_there : (xs : List X) (k m : ℕ) (x d : X) → (m ≡ k → ⊥) → get_or (set xs k x) m d ≡ get_or xs m d
   set_there [] k m x d other = refl
   set_there (y ∷ xs) zero zero x d other = absurd (other refl)

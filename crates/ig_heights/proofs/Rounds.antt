@@ -1,7 +1,8 @@
 -- What a look at a rule, and the taking of a part, do to the work list.
-use Rattle.std.proofs.Common.{◌≡◌, ◌⊎◌, inl, inr, ℕ, zero, suc, ◌+◌, ◌*◌, ◌<◌, ◌≤◌, List, [], ◌∷◌, ◌++◌, length, get_or, set, drop, Contains, refl, sym, ap, ◌∙◌, subst, arith}
+use Rattle.std.proofs.Common.{◌≡◌, ◌⊎◌, inl, inr, ℕ, suc, ◌+◌, ◌*◌, ◌<◌, ◌≤◌, List, [], ◌∷◌, ◌++◌, length, get_or, set, drop, Contains, sym, ap, ◌∙◌, subst, arith}
 use Rattle.std.proofs.lemmas.List.Elements.{Contains-append_left, Contains-push, Contains-push_cases}
 use Rattle.std.proofs.lemmas.Option.{slice_get-get_or, get_or_from_slice_get}
+use Rattle.std.proofs.lemmas.List.{drop_all, drop_more}
 use Rattle.ig_heights.specs.Rules.{rise, height_at, FitsRule, FitsTable}
 use Rattle.ig_heights.specs.Work.{unset, IsWork, Works, Fires, Looks, UseAll, weight}
 use Rattle.ig_heights.specs.Work as work
@@ -16,19 +17,6 @@ pub record Visits (t : Table) (part : ℕ) (before after : Work) (rest : List Ru
   pub works : Works t after rest
   pub round : height_at after.heights.items part ≡ after.height
   pub less : weight t after ≤ weight t before
-
-drop_split : {X : Type 0} (xs : List X) (i : ℕ) (d : X) → i < length xs → drop i xs ≡ get_or xs i d ∷ drop (i + 1) xs
-drop_split [] i d less = absurd (omega (arith, less))
-drop_split (x ∷ xs) zero d less = refl
-drop_split (x ∷ xs) (suc i) d less =
-    let n : suc (i + 1) ≡ suc i + 1 = omega arith in
-    drop_split xs i d (omega (arith, less)) ∙ ap (λ (m : ℕ). get_or xs i d ∷ drop m (x ∷ xs)) n
-
-drop_past : {X : Type 0} (xs : List X) (i : ℕ) → length xs ≤ i → drop i xs ≡ []
-drop_past [] zero past = refl
-drop_past [] (suc i) past = refl
-drop_past (x ∷ xs) zero past = absurd (omega (arith, past))
-drop_past (x ∷ xs) (suc i) past = drop_past xs i (omega (arith, past))
 
 pushed : {X : Type 0} (xs ys : List X) (x : X) → ys ≡ xs ++ x ∷ [] → Contains ys x
 pushed xs ys x e = subst (λ (z : List _). Contains z x) (sym e) (Contains-push xs x)
@@ -144,11 +132,11 @@ module _ (t : Table) (part : ℕ) (uses : List Rule) (fits : FitsTable t) (all :
       Looks t.nodes (get_or uses i d) b a → Visits t part start a (drop (i + 1) uses)
   visit_next start b a i d less visits looks =
       let rule : Rule = get_or uses i d in
-      let e : drop i uses ≡ rule ∷ drop (i + 1) uses = drop_split uses i d less in
+      let e : drop i uses ≡ rule ∷ drop (i + 1) uses = drop_more uses i d less in
       let among = all rule (i, less, read i d less) in
       looked t part start b a rule (drop (i + 1) uses) (subst (λ (z : List Rule). Visits t part start b z) e visits) among.1 among.0
       (fits.rules rule among.0) looks
 
   pub visit_end : (start b : Work) (i : ℕ) → length uses ≤ i → Visits t part start b (drop i uses) →
       Visits t part start b []
-  visit_end start b i past visits = subst (λ (z : List Rule). Visits t part start b z) (drop_past uses i past) visits
+  visit_end start b i past visits = subst (λ (z : List Rule). Visits t part start b z) (drop_all i uses past) visits

@@ -2,6 +2,9 @@
 use Rattle.std.proofs.Common.{◌≡◌, ◌⊎◌, inl, inr, ℕ, suc, ◌+◌, ◌<◌, ◌≤◌, List, [], ◌∷◌, ◌++◌, Some, length, get_or, take, slice_get, Contains, sym, ap, ◌∙◌, subst, arith}
 use Rattle.std.proofs.lemmas.Option.{slice_get_within}
 use Rattle.std.proofs.lemmas.List.Elements.{Contains-append_left, Contains-push, Contains-push_cases}
+use Rattle.std.proofs.lemmas.List.{take_all}
+use Rattle.ig_text.proofs.Lists.{get_within, none_in_nil}
+use Rattle.ig_text.proofs.Orders.{le_or_lt}
 use Rattle.ig_forest.specs.Forest.{Forest, ItemNode, IsForest, IsPrevious}
 use Rattle.ig_forest.specs.declared.entry.Choice.{Choice}
 use Rattle.ig_forest.specs.declared.entry.Entry.{Entry}
@@ -12,10 +15,7 @@ use Rattle.ig_heights.specs.Table.{ground_of, entry_rule, choice_rule, choices_i
 use Rattle.ig_heights.specs.Table as table
 use Rattle.ig_heights.specs.declared.rule.Rule.{Rule}
 use Rattle.ig_heights.specs.declared.rule.Table.{Table}
-use Rattle.ig_heights.proofs.Numbers.{le_or_lt}
-use Rattle.ig_heights.proofs.Turns.{nothing}
-use Rattle.ig_heights.proofs.Exact.{at_within}
-use Rattle.ig_heights.proofs.Using.{taken_only, taken_all, taken_here, taken_whole}
+use Rattle.ig_heights.proofs.Using.{taken_only, taken_all, taken_here}
 
 pub adds_none : (xs : List Rule) (P : Rule → Type 0) → ((r : Rule) → P r → ⊥) → Adds xs xs P
 adds_none xs P never r = (λ c. inl c, λ s. elim s [ inl old ↦ old | inr p ↦ absurd (never r p) ])
@@ -44,7 +44,7 @@ adds_push a b x is r = (
 
 module _ {X : Type 0} (make : X → Rule) (xs : List X) where
   pub made_none : (a : List Rule) → Adds a a (IsRuleBy make (take 0 xs))
-  made_none a = adds_none a (IsRuleBy make (take 0 xs)) (λ r p. nothing p.one p.among)
+  made_none a = adds_none a (IsRuleBy make (take 0 xs)) (λ r p. none_in_nil p.one p.among)
 
   pub made_next : (a b c : List Rule) (i : ℕ) (d : X) (rule : Rule) → i < length xs → Adds a b (IsRuleBy make (take i xs)) →
       c ≡ b ++ rule ∷ [] → rule ≡ make (get_or xs i d) → Adds a c (IsRuleBy make (take (i + 1) xs))
@@ -58,10 +58,10 @@ module _ {X : Type 0} (make : X → Rule) (xs : List X) where
       (λ r e. record { one = get_or xs i d; among = taken_here xs i d less; is = e ∙ rule_is })
 
   pub made_all : (a b : List Rule) (n : ℕ) → length xs ≤ n → Adds a b (IsRuleBy make (take n xs)) → Adds a b (IsRuleBy make xs)
-  made_all a b n past adds = subst (λ (z : List X). Adds a b (IsRuleBy make z)) (taken_whole xs n past) adds
+  made_all a b n past adds = subst (λ (z : List X). Adds a b (IsRuleBy make z)) (take_all n xs past) adds
 
   pub made_nil : (a : List Rule) → [] ≡ xs → Adds a a (IsRuleBy make xs)
-  made_nil a is = subst (λ (z : List X). Adds a a (IsRuleBy make z)) is (adds_none a (IsRuleBy make []) (λ r p. nothing p.one p.among))
+  made_nil a is = subst (λ (z : List X). Adds a a (IsRuleBy make z)) is (adds_none a (IsRuleBy make []) (λ r p. none_in_nil p.one p.among))
 
 module _ (f : Forest) where
   abbrev N : ℕ
@@ -104,7 +104,7 @@ module _ (f : Forest) where
 
       right : (r : Rule) → IsRuleBy (choice_rule nodes ground v) (choices_at f v) r → IsRuleOf f (v + 1) 0 r
       right r p =
-          let n = at_within f.nodes v inside in
+          let n = get_within f.nodes v inside in
           table.choice v n.0 p.one (omega arith) n.1 (subst (λ (z : List Choice). Contains z p.one) (ap choices_in n.1) p.among)
           (p.is ∙ make_is p.one)
 
@@ -138,7 +138,7 @@ module _ (f : Forest) where
 
       right : (r : Rule) → IsRuleBy (entry_rule nodes ground k) (entries_at f k) r → IsRuleOf f 0 (k + 1) r
       right r p =
-          let n = at_within f.items k inside in
+          let n = get_within f.items k inside in
           table.entry k n.0 p.one (omega arith) n.1 (subst (λ (z : List Entry). Contains z p.one) (ap entries_in n.1) p.among)
           (p.is ∙ make_is p.one)
 
@@ -217,7 +217,7 @@ module _ (f : Forest) where
         sound_now r c =
             elim ((second r).0 c) [
               | inl in_b ↦ elim ((first r).0 in_b) [
-                | inl in_a ↦ absurd (nothing r (subst (λ (z : List Rule). Contains z r) none in_a))
+                | inl in_a ↦ absurd (none_in_nil r (subst (λ (z : List Rule). Contains z r) none in_a))
                 | inr p ↦ widen_nodes r p
               ]
               | inr p ↦ widen_items r p

@@ -1,23 +1,21 @@
 -- How the work list begins, goes on from part to part, and ends.
 use Rattle.std.proofs.Common.{◌≡◌, ◌⊎◌, inl, inr, ℕ, zero, suc, ◌+◌, ◌<◌, ◌≤◌, List, [], ◌∷◌, ◌++◌, Option, Some, None, length, get_or, set, replicate, Contains, refl, sym, ap, ◌∙◌, subst, arith, length-set}
-use Rattle.std.proofs.lemmas.List.{get_or-replicate, length-replicate}
+use Rattle.std.proofs.lemmas.List.{get_or-replicate, length-replicate, get_or-set_same}
 use Rattle.std.proofs.lemmas.List.Elements.{Contains-append_left, Contains-push, Contains-push_cases}
 use Rattle.std.proofs.lemmas.Option.{same_Some}
+use Rattle.std.proofs.lemmas.Bool.{cases_eq}
 use Rattle.std.specs.Prelude.{MatchOption}
 use Rattle.std.specs.Option.{option_to_list}
+use Rattle.ig_text.proofs.Emptiness.{emptied}
+use Rattle.ig_text.proofs.Lists.{none_in_nil}
+use Rattle.ig_text.proofs.Orders.{le_or_lt}
 use Rattle.ig_heights.specs.Rules.{height_at, need, FitsTable, AreLeast}
 use Rattle.ig_heights.specs.Work.{unset, Waits, IsWork, Works, AreUses, UseAll, Takes, Pops, weight}
 use Rattle.ig_heights.specs.Work as work
 use Rattle.ig_heights.specs.declared.rule.Rule.{Rule}
 use Rattle.ig_heights.specs.declared.rule.Table.{Table}
 use Rattle.ig_heights.specs.declared.work.Work.{Work}
-use Rattle.ig_heights.proofs.Numbers.{le_or_lt, same_or_not, rise_cases, rise_low, set_here, set_there, unset_low, unset_some, long_push}
-
-pub nothing : {X : Type 0} (x : X) → Contains [] x → ⊥
-nothing x c = let l = c.1 in omega (arith, l)
-
-same_part : (a b : ℕ) → Some a ≡ Some b → a ≡ b
-same_part a b e = same_Some a b e
+use Rattle.ig_heights.proofs.Numbers.{rise_cases, rise_low, set_there, unset_low, unset_some, long_push}
 
 none_some : {n : ℕ} → None ≡ Some n → ⊥
 none_some e = cc
@@ -29,7 +27,7 @@ module _ (t : Table) (fits : FitsTable t) where
     within = let l = length-replicate t.parts (suc t.nodes) in let g = fits.ground in omega (arith, l, g)
 
     at_ground : height_at hs t.ground ≡ 0
-    at_ground = ap (λ (z : List ℕ). height_at z t.ground) is ∙ set_here (replicate t.parts (suc t.nodes)) t.ground 0 0 within
+    at_ground = ap (λ (z : List ℕ). height_at z t.ground) is ∙ get_or-set_same (replicate t.parts (suc t.nodes)) t.ground 0 0 within
 
     elsewhere : (p : ℕ) → (p ≡ t.ground → ⊥) → p < t.parts → height_at hs p ≡ suc t.nodes
     elsewhere p other inside =
@@ -53,7 +51,7 @@ module _ (t : Table) (fits : FitsTable t) where
 
     kind : (p : ℕ) → Kind p
     kind p =
-        elim (same_or_not p t.ground) [
+        elim (cases_eq p t.ground) [
           | inl e ↦ is_ground e (ap (height_at hs) e ∙ at_ground)
           | inr d ↦ elim (le_or_lt t.parts p) [
             | inl past ↦ let l = long_first in is_absent past (beyond hs p (omega (arith, past, l)))
@@ -91,7 +89,7 @@ module _ (t : Table) (fits : FitsTable t) where
           low = λ p low. let e = low_first p low in omega (arith, e);
           ahead = λ p low high. let e = low_first p low in absurd (omega (arith, e, high));
           in_round = λ p c. in_ground p c;
-          in_next = λ p c. absurd (nothing p c);
+          in_next = λ p c. absurd (none_in_nil p c);
           room = (let u = unset_low t.nodes t.nodes hs in omega (arith, u));
         }
       where
@@ -111,16 +109,16 @@ module _ (t : Table) (fits : FitsTable t) where
         low = λ p known. let l = law.low p known in omega (arith, l);
         ahead = λ p known high. let l = law.low p known in let r = rise_low t.nodes p in absurd (omega (arith, l, r, high));
         in_round = λ p c. law.in_next p c;
-        in_next = λ p c. absurd (nothing p c);
+        in_next = λ p c. absurd (none_in_nil p c);
         room = (let r = law.room in omega (arith, r, some));
       }
     where
       moved : (r : Rule) → Waits [] ns [] r → Waits ns [] [] r
-      moved r (work.left_current c) = absurd (nothing r.left c)
-      moved r (work.right_current c) = absurd (nothing r.right c)
+      moved r (work.left_current c) = absurd (none_in_nil r.left c)
+      moved r (work.right_current c) = absurd (none_in_nil r.right c)
       moved r (work.left_next c) = work.left_current c
       moved r (work.right_next c) = work.right_current c
-      moved r (work.itself c) = absurd (nothing r c)
+      moved r (work.itself c) = absurd (none_in_nil r c)
 
   -- a part is taken, and the rules that use it are looked at next
   takes : (hs cs ns : List ℕ) (h part : ℕ) (uses : List Rule) → IsWork t hs (cs ++ part ∷ []) ns h [] →
@@ -147,7 +145,7 @@ module _ (t : Table) (fits : FitsTable t) where
           elim (Contains-push_cases cs part r.right c) [ inl old ↦ work.right_current old | inr e ↦ work.itself (rights r a (sym e)) ]
       moved r a (work.left_next c) = work.left_next c
       moved r a (work.right_next c) = work.right_next c
-      moved r a (work.itself c) = absurd (nothing r c)
+      moved r a (work.itself c) = absurd (none_in_nil r c)
 
   -- where nothing waits the heights are the least ones
   ends : (hs : List ℕ) (h : ℕ) → IsWork t hs [] [] h [] → AreLeast t hs
@@ -175,18 +173,18 @@ module _ (t : Table) (fits : FitsTable t) where
       }
     where
       no_wait : (r : Rule) → Waits [] [] [] r → ⊥
-      no_wait r (work.left_current c) = nothing r.left c
-      no_wait r (work.right_current c) = nothing r.right c
-      no_wait r (work.left_next c) = nothing r.left c
-      no_wait r (work.right_next c) = nothing r.right c
-      no_wait r (work.itself c) = nothing r c
+      no_wait r (work.left_current c) = none_in_nil r.left c
+      no_wait r (work.right_current c) = none_in_nil r.right c
+      no_wait r (work.left_next c) = none_in_nil r.left c
+      no_wait r (work.right_next c) = none_in_nil r.right c
+      no_wait r (work.itself c) = none_in_nil r c
 
       obeyed_now : (r : Rule) → Contains t.rules.items r → height_at hs r.target ≤ need t.nodes hs r
       obeyed_now r c = elim (law.obeyed r c) [ inl low ↦ low | inr waits ↦ absurd (no_wait r waits) ]
 
       low_now : (p : ℕ) → height_at hs p ≤ t.nodes → height_at hs p ≤ h
       low_now p known =
-          elim (le_or_lt (height_at hs p) h) [ inl low ↦ low | inr high ↦ absurd (nothing p (law.ahead p known high)) ]
+          elim (le_or_lt (height_at hs p) h) [ inl low ↦ low | inr high ↦ absurd (none_in_nil p (law.ahead p known high)) ]
 
   -- what the taking of a part hands on
   pub record Taken (b a : Work) (part : ℕ) (uses : List Rule) : Type 0 where
@@ -219,7 +217,7 @@ module _ (t : Table) (fits : FitsTable t) where
     pub taken : (b a : Work) (part : ℕ) (some : Option ℕ) → some ≡ Some part → Works t b [] → Takes b a some →
         Taken b a part (get_or rows part [])
     taken b a part _ is law (work.here other current heights next same) =
-        let p : other ≡ part = same_part other part is in
+        let p : other ≡ part = same_Some other part is in
         let cur : b.current.items ≡ a.current.items ++ part ∷ [] = current ∙ ap (λ (n : ℕ). a.current.items ++ n ∷ []) p in
         let len = ap length cur ∙ long_push a.current.items part in
         let u = ap (unset t.nodes t.parts) heights in let n = ap length next in
@@ -230,7 +228,7 @@ module _ (t : Table) (fits : FitsTable t) where
         (subst (λ (z : List ℕ). IsWork t b.heights.items z b.next.items b.height []) cur law))))
         (omega (arith, len, u, n))
     taken b a part _ is law (work.turn other current next heights empty same) =
-        let p : other ≡ part = same_part other part is in
+        let p : other ≡ part = same_Some other part is in
         let cur : b.next.items ≡ a.current.items ++ part ∷ [] = next ∙ ap (λ (n : ℕ). a.current.items ++ n ∷ []) p in
         let len = ap length cur ∙ long_push a.current.items part in
         let u = ap (unset t.nodes t.parts) heights in let n = ap length empty in
@@ -270,10 +268,6 @@ module _ (t : Table) (fits : FitsTable t) where
   begun_code heights current next heights_are current_is next_is =
       subst (λ (z : List ℕ). IsWork t heights current z 0 []) (sym next_is)
       (subst (λ (z : List ℕ). IsWork t heights z [] 0 []) (sym current_is) (begins heights heights_are))
-
-pub emptied : {X : Type 0} (xs : List X) (n : ℕ) → n ≡ length xs → n ≡ 0 → xs ≡ []
-emptied [] n e z = refl
-emptied (x ∷ xs) n e z = absurd (omega (arith, e, z))
 
 pub pops : (xs ys : List ℕ) (r : Option ℕ) (n m : ℕ) → n ≡ length xs → m ≡ length ys → xs ≡ ys ++ option_to_list r →
     MatchOption r ((n ≡ 0) × (m ≡ 0)) (λ _. m + 1 ≡ n) → Pops xs ys r

@@ -2,12 +2,14 @@
 use Rattle.std.proofs.Common.{◌≡◌, ◌⊎◌, inl, inr, ℕ, zero, suc, ◌+◌, ◌<◌, ◌≤◌, List, [], ◌∷◌, ◌++◌, length, get_or, set, take, Contains, refl, sym, ap, ◌∙◌, subst, arith, length-set}
 use Rattle.std.proofs.lemmas.List.Elements.{Contains-append_left, Contains-push, Contains-push_cases}
 use Rattle.std.proofs.lemmas.Option.{slice_get-get_or, get_or_from_slice_get}
+use Rattle.std.proofs.lemmas.List.{take_all, take_more, get_or-set_same}
+use Rattle.std.proofs.lemmas.Bool.{cases_eq}
+use Rattle.ig_text.proofs.Lists.{none_in_nil}
 use Rattle.ig_heights.specs.Rules.{FitsRule, FitsTable}
 use Rattle.ig_heights.specs.Work.{AreUses, AreNoRows}
 use Rattle.ig_heights.specs.declared.rule.Rule.{Rule}
 use Rattle.ig_heights.specs.declared.rule.Table.{Table}
-use Rattle.ig_heights.proofs.Numbers.{same_or_not, set_here, set_there, long_push}
-use Rattle.ig_heights.proofs.Turns.{nothing}
+use Rattle.ig_heights.proofs.Numbers.{set_there, long_push}
 
 abbrev no_rules : List Rule
 no_rules = []
@@ -37,9 +39,9 @@ pub uses_none : (rules : List Rule) (n : ℕ) (rows : List (List Rule)) → AreN
 uses_none rules n rows are =
     record {
       long = are.long;
-      sound = λ p r c. absurd (nothing r (subst (λ (z : List Rule). Contains z r) (are.none p) c));
-      left = λ r c. absurd (nothing r c);
-      right = λ r c. absurd (nothing r c);
+      sound = λ p r c. absurd (none_in_nil r (subst (λ (z : List Rule). Contains z r) (are.none p) c));
+      left = λ r c. absurd (none_in_nil r c);
+      right = λ r c. absurd (none_in_nil r c);
     }
 
 -- a row got one more rule
@@ -54,14 +56,14 @@ module _ (rows more : List (List Rule)) (part : ℕ) (rule : Rule) (within : par
   at_part : (p : ℕ) → p ≡ part → new p ≡ row part ++ rule ∷ []
   at_part p e =
       ap (λ (z : List (List Rule)). get_or z p []) is ∙ ap (λ (n : ℕ). get_or (set rows part (row part ++ rule ∷ [])) n []) e
-      ∙ set_here rows part (row part ++ rule ∷ []) [] within
+      ∙ get_or-set_same rows part (row part ++ rule ∷ []) [] within
 
   at_other : (p : ℕ) → (p ≡ part → ⊥) → new p ≡ row p
   at_other p d = ap (λ (z : List (List Rule)). get_or z p []) is ∙ set_there rows part p (row part ++ rule ∷ []) [] d
 
   pub row_more : (p : ℕ) (r : Rule) → Contains (get_or rows p []) r → Contains (get_or more p []) r
   row_more p r c =
-      elim (same_or_not p part) [
+      elim (cases_eq p part) [
         | inl e ↦ subst (λ (z : List Rule). Contains z r) (sym (at_part p e))
             (Contains-append_left (row part) (rule ∷ []) r (subst (λ (n : ℕ). Contains (row n) r) e c))
         | inr d ↦ subst (λ (z : List Rule). Contains z r) (sym (at_other p d)) c
@@ -72,7 +74,7 @@ module _ (rows more : List (List Rule)) (part : ℕ) (rule : Rule) (within : par
 
   pub row_only : (p : ℕ) (r : Rule) → Contains (get_or more p []) r → Contains (get_or rows p []) r ⊎ ((p ≡ part) × (r ≡ rule))
   row_only p r c =
-      elim (same_or_not p part) [
+      elim (cases_eq p part) [
         | inl e ↦ elim (Contains-push_cases (row part) rule r (subst (λ (z : List Rule). Contains z r) (at_part p e) c)) [
           | inl old ↦ inl (subst (λ (n : ℕ). Contains (row n) r) (sym e) old)
           | inr same ↦ inr (e, sym same)
@@ -136,39 +138,23 @@ uses_more rules parts i rows half more rule fits only all here are first second 
           | inr e ↦ subst (λ (z : Rule). Contains (get_or more z.right []) z) (sym e) (row_new half more rule.right rule in_half second)
         ]
 
-take_split : {X : Type 0} (xs : List X) (i : ℕ) (d : X) → i < length xs → take (i + 1) xs ≡ take i xs ++ get_or xs i d ∷ []
-take_split [] i d less = absurd (omega (arith, less))
-take_split (x ∷ xs) zero d less = refl
-take_split (x ∷ xs) (suc i) d less =
-    let n : suc i + 1 ≡ suc (i + 1) = omega arith in
-    ap (λ (m : ℕ). take m (x ∷ xs)) n ∙ ap (λ (z : List _). x ∷ z) (take_split xs i d (omega (arith, less)))
-
 pub read_at : {X : Type 0} (xs : List X) (i : ℕ) (d : X) → i < length xs → get_or xs i (get_or xs i d) ≡ get_or xs i d
 read_at xs i d less = get_or_from_slice_get xs i (get_or xs i d) (get_or xs i d) (slice_get-get_or xs i d less)
 
 module _ {X : Type 0} (xs : List X) (i : ℕ) (d : X) (less : i < length xs) where
   pub taken_only : (y : X) → Contains (take (i + 1) xs) y → Contains (take i xs) y ⊎ (y ≡ get_or xs i d)
   taken_only y c =
-      elim (Contains-push_cases (take i xs) (get_or xs i d) y (subst (λ (z : List X). Contains z y) (take_split xs i d less) c)) [
+      elim (Contains-push_cases (take i xs) (get_or xs i d) y (subst (λ (z : List X). Contains z y) (take_more xs i d less) c)) [
         | inl old ↦ inl old
         | inr same ↦ inr (sym same)
       ]
 
   pub taken_all : (y : X) → Contains (take i xs) y → Contains (take (i + 1) xs) y
   taken_all y c =
-      subst (λ (z : List X). Contains z y) (sym (take_split xs i d less)) (Contains-append_left (take i xs) (get_or xs i d ∷ []) y c)
+      subst (λ (z : List X). Contains z y) (sym (take_more xs i d less)) (Contains-append_left (take i xs) (get_or xs i d ∷ []) y c)
 
   pub taken_here : Contains (take (i + 1) xs) (get_or xs i d)
-  taken_here = subst (λ (z : List X). Contains z (get_or xs i d)) (sym (take_split xs i d less)) (Contains-push (take i xs) (get_or xs i d))
-
-take_whole : {X : Type 0} (xs : List X) (i : ℕ) → length xs ≤ i → take i xs ≡ xs
-take_whole [] zero past = refl
-take_whole [] (suc i) past = refl
-take_whole (x ∷ xs) zero past = absurd (omega (arith, past))
-take_whole (x ∷ xs) (suc i) past = ap (λ (z : List _). x ∷ z) (take_whole xs i (omega (arith, past)))
-
-pub taken_whole : {X : Type 0} (xs : List X) (i : ℕ) → length xs ≤ i → take i xs ≡ xs
-taken_whole xs i past = take_whole xs i past
+  taken_here = subst (λ (z : List X). Contains z (get_or xs i d)) (sym (take_more xs i d less)) (Contains-push (take i xs) (get_or xs i d))
 
 module _ (t : Table) (fits : FitsTable t) (rs : List Rule) (same : rs ≡ t.rules.items) (i : ℕ) (d : Rule) (less : i < length rs) where
   pub fits_at : FitsRule t.parts (get_or rs i d)
@@ -195,4 +181,4 @@ module _ (t : Table) (fits : FitsTable t) (rs : List Rule) (same : rs ≡ t.rule
   pub used_all : (rows : List (List Rule)) (n : ℕ) → length rs ≤ n → AreUses (take n t.rules.items) t.parts rows → AreUses t.rules.items t.parts rows
   used_all rows n past are =
       let l = ap length same in
-      subst (λ (z : List Rule). AreUses z t.parts rows) (take_whole t.rules.items n (omega (arith, past, l))) are
+      subst (λ (z : List Rule). AreUses z t.parts rows) (take_all n t.rules.items (omega (arith, past, l))) are

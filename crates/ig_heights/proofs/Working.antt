@@ -1,11 +1,14 @@
 -- One look at a rule keeps the work list lawful.
 use Rattle.std.proofs.Common.{◌≡◌, ◌⊎◌, inl, inr, ℕ, zero, suc, ◌+◌, ◌*◌, ◌<◌, ◌≤◌, List, ◌∷◌, length, set, Contains, sym, ap, ◌∙◌, subst, arith, length-set}
+use Rattle.std.proofs.lemmas.List.{get_or-set_same}
+use Rattle.std.proofs.lemmas.Bool.{cases_eq}
+use Rattle.ig_text.proofs.Orders.{le_or_lt}
 use Rattle.ig_heights.specs.Rules.{rise, height_at, need, FitsRule, IsGiven}
-use Rattle.ig_heights.specs.Work.{unset, Waits, IsWork, Works, Fires, Looks, weight}
+use Rattle.ig_heights.specs.Work.{unset, Waits, IsWork}
 use Rattle.ig_heights.specs.Work as work
 use Rattle.ig_heights.specs.declared.rule.Rule.{Rule}
 use Rattle.ig_heights.specs.declared.rule.Table.{Table}
-use Rattle.ig_heights.proofs.Numbers.{le_or_lt, same_or_not, rise_cases, rise_low, rise_one, set_here, set_there, unset_set, unset_some}
+use Rattle.ig_heights.proofs.Numbers.{rise_cases, rise_low, rise_one, set_there, unset_set, unset_some}
 
 pub among_more : {X : Type 0} (xs : List X) (x y : X) → Contains (x ∷ xs) y → (y ≡ x) ⊎ Contains xs y
 among_more xs x y (zero, within, is) = inl (sym is)
@@ -110,7 +113,7 @@ module _ (t : Table) (hs cs ns : List ℕ) (h part : ℕ) (rule : Rule) (rest : 
         ]
 
     here : height_at new rule.target ≡ h + w
-    here = set_here hs rule.target (h + w) 0 within
+    here = get_or-set_same hs rule.target (h + w) 0 within
 
     there : (p : ℕ) → (p ≡ rule.target → ⊥) → height_at new p ≡ height_at hs p
     there p other = set_there hs rule.target p (h + w) 0 other
@@ -127,7 +130,7 @@ module _ (t : Table) (hs cs ns : List ℕ) (h part : ℕ) (rule : Rule) (rest : 
 
     falls : (p : ℕ) → height_at new p ≤ height_at hs p
     falls p =
-        elim (same_or_not p rule.target) [
+        elim (cases_eq p rule.target) [
           | inl e ↦ let a = at_target p e in let b = ap (height_at hs) e in let r = room_one in omega (arith, a, b, r, none)
           | inr d ↦ let a = there p d in omega (arith, a)
         ]
@@ -151,9 +154,9 @@ module _ (t : Table) (hs cs ns : List ℕ) (h part : ℕ) (rule : Rule) (rest : 
 
     still : (r : Rule) → (need t.nodes new r ≡ need t.nodes hs r) ⊎ Waits us ms rest r
     still r =
-        elim (same_or_not r.left rule.target) [
+        elim (cases_eq r.left rule.target) [
           | inl e ↦ inr (left_waits r e)
-          | inr d ↦ elim (same_or_not r.right rule.target) [
+          | inr d ↦ elim (cases_eq r.right rule.target) [
             | inl e ↦ inr (right_waits r e)
             | inr o ↦ let a = there r.left d in let b = there r.right o in inl (omega (arith, a, b))
           ]
@@ -191,7 +194,7 @@ module _ (t : Table) (hs cs ns : List ℕ) (h part : ℕ) (rule : Rule) (rest : 
 
     given_now : (p : ℕ) → p < t.parts → height_at new p ≤ t.nodes → (p ≡ t.ground) ⊎ IsGiven t.nodes t.rules.items new p
     given_now p inside known =
-        elim (same_or_not p rule.target) [
+        elim (cases_eq p rule.target) [
           | inl e ↦
               let a = at_target p e in let l = falls rule.left in let r = falls rule.right in
               inr (record { rule = rule; among = among; target = sym e; needs = omega (arith, a, l, r, low_left, low_right) })
@@ -207,14 +210,14 @@ module _ (t : Table) (hs cs ns : List ℕ) (h part : ℕ) (rule : Rule) (rest : 
 
     low_now : (p : ℕ) → height_at new p ≤ t.nodes → height_at new p ≤ h + rise t.nodes p
     low_now p known =
-        elim (same_or_not p rule.target) [
+        elim (cases_eq p rule.target) [
           | inl e ↦ let a = at_target p e in let b = ap (rise t.nodes) e in omega (arith, a, b)
           | inr d ↦ let a = there p d in let l = law.low p (omega (arith, a, known)) in omega (arith, a, l)
         ]
 
     ahead_now : (p : ℕ) → height_at new p ≤ t.nodes → h < height_at new p → Contains ms p
     ahead_now p known high =
-        elim (same_or_not p rule.target) [
+        elim (cases_eq p rule.target) [
           | inl e ↦
               let a = at_target p e in let b = rise_low t.nodes rule.target in
               subst (Contains ms) (sym e) (to_next (omega (arith, a, b, high)))

@@ -1,5 +1,6 @@
 -- Rules between numbered parts, and the heights that they give.
 use Rattle.std.specs.Prelude.{◌≡◌, ◌⊎◌, ℕ, zero, suc, ◌+◌, ◌<◌, ◌≤◌, max, List, length, get_or, slice_get, Some, Contains}
+use Rattle.ig_item.specs.Limits.{numbers_end}
 use Rattle.ig_heights.specs.declared.rule.Rule.{Rule}
 use Rattle.ig_heights.specs.declared.rule.Table.{Table}
 
@@ -26,7 +27,7 @@ pub record FitsRule (parts : ℕ) (rule : Rule) : Type 0 where
 pub record FitsTable (table : Table) : Type 0 where
   pub nodes : table.nodes ≤ table.ground
   pub ground : table.ground < table.parts
-  pub few : table.nodes < 4294967296
+  pub few : table.nodes < numbers_end
   pub small : table.ground < 8589934592
   pub rules : (rule : Rule) → Contains table.rules.items rule → FitsRule table.parts rule
 

@@ -1,5 +1,6 @@
 //! The heights of a forest.
 ghost use Rattle.std.specs.Prelude.{◌≡◌, ◌↔◌, ◌<◌, ◌≤◌, ◌+◌, ℕ, IfOk, IsTrue, length, slice_get};
+ghost use Rattle.ig_item.specs.Limits.{numbers_end};
 ghost use Rattle.ig_heights.specs.Heights.{AreHeights};
 ghost use Rattle.ig_heights.specs.Rules.{IsPart, height_at};
 
@@ -88,9 +89,9 @@ fn part_of(
     from: usize,
     count: u32,
 ) -> Result<Vec<u32>, AllocError>
-    requires from { from < 4294967296 }
+    requires from { from < numbers_end }
     requires there { from + count ≤ length heights.now }
-    requires small { (k : ℕ) → k < count → height_at heights.now (from + k) < 4294967296 }
+    requires small { (k : ℕ) → k < count → height_at heights.now (from + k) < numbers_end }
     ensures { IfOk result (λ list. IsPart heights.now from count list.items) }
 {
     let mut list = Vec::with_capacity(alloc, count as usize)?;

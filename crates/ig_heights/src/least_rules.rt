@@ -1,5 +1,6 @@
 //! The rules of a forest: one for each entry and each alternative.
 ghost use Rattle.std.specs.Prelude.{◌≡◌, ◌<◌, IfOk, OnOk, length};
+ghost use Rattle.ig_item.specs.Limits.{numbers_end};
 ghost use Rattle.ig_heights.specs.Table.{Adds, IsLeastTable, IsRuleBy, IsRuleOf};
 ghost use Rattle.ig_heights.specs.Table.{choice_rule, choices_at, entries_at, entry_rule};
 ghost use Rattle.ig_heights.specs.Table.{ground_of};
@@ -47,7 +48,7 @@ fn add_node(
     nodes: usize,
     ground: usize,
 ) -> Result<(), AllocError>
-    requires nodes { nodes < 4294967296 }
+    requires nodes { nodes < numbers_end }
     ensures { OnOk result (Adds rules.old.items rules.new.items
         (IsRuleBy (choice_rule nodes ground v) (choices_at forest.now v))) }
 {
@@ -65,7 +66,7 @@ fn add_choices(
     nodes: usize,
     ground: usize,
 ) -> Result<(), AllocError>
-    requires nodes { nodes < 4294967296 }
+    requires nodes { nodes < numbers_end }
     ensures { OnOk result (Adds rules.old.items rules.new.items
         (IsRuleBy (choice_rule nodes ground v) choices.now)) }
 {
@@ -83,7 +84,7 @@ fn add_items(
     ground: usize,
 ) -> Result<(), AllocError>
     requires nodes { nodes ≡ length forest.now.nodes }
-    requires few { nodes < 4294967296 }
+    requires few { nodes < numbers_end }
     requires ground { ground ≡ ground_of forest.now }
     ensures { OnOk result (Adds rules.old.items rules.new.items
         (IsRuleOf forest.now 0 (length forest.now.items))) }
@@ -102,7 +103,7 @@ fn add_item(
     nodes: usize,
     ground: usize,
 ) -> Result<(), AllocError>
-    requires nodes { nodes < 4294967296 }
+    requires nodes { nodes < numbers_end }
     ensures { OnOk result (Adds rules.old.items rules.new.items
         (IsRuleBy (entry_rule nodes ground k) (entries_at forest.now k))) }
 {
@@ -120,7 +121,7 @@ fn add_entries(
     nodes: usize,
     ground: usize,
 ) -> Result<(), AllocError>
-    requires nodes { nodes < 4294967296 }
+    requires nodes { nodes < numbers_end }
     ensures { OnOk result (Adds rules.old.items rules.new.items
         (IsRuleBy (entry_rule nodes ground k) entries.now)) }
 {
@@ -132,7 +133,7 @@ fn add_entries(
 
 /// The rule of an alternative.
 fn choice_rule(nodes: usize, ground: usize, v: u32, choice: Choice) -> Rule
-    requires nodes { nodes < 4294967296 }
+    requires nodes { nodes < numbers_end }
     ensures { result ≡ choice_rule nodes ground v choice }
 {
     Rule {
@@ -144,7 +145,7 @@ fn choice_rule(nodes: usize, ground: usize, v: u32, choice: Choice) -> Rule
 
 /// The rule of an entry.
 fn entry_rule(nodes: usize, ground: usize, k: u32, entry: Entry) -> Rule
-    requires nodes { nodes < 4294967296 }
+    requires nodes { nodes < numbers_end }
     ensures { result ≡ entry_rule nodes ground k entry }
 {
     let target = nodes + k as usize;

@@ -1,5 +1,6 @@
 //! Least heights by a work list.
 ghost use Rattle.std.specs.Prelude.{◌≡◌, ◌<◌, ◌≤◌, ◌↔◌, [], suc, IfOk, IsTrue, OnOk, length};
+ghost use Rattle.ig_item.specs.Limits.{numbers_end};
 ghost use Rattle.ig_heights.specs.Rules.{AreLeast, FitsRule, FitsTable, height_at};
 ghost use Rattle.ig_heights.specs.Work.{Fires, Looks, Pops, Takes, UseAll, Works, weight};
 
@@ -60,7 +61,7 @@ fn pop(numbers: &mut Vec<usize>) -> Option<usize>
 impl Work {
     /// Takes a part that waits; those of the next round come once none of this one waits.
     fn take(&mut self) -> Option<usize>
-        requires few { self.old.height < 4294967296 }
+        requires few { self.old.height < numbers_end }
         ensures { Takes self.old self.new result }
     {
         if let Some(part) = pop(&mut self.current) {
@@ -72,7 +73,7 @@ impl Work {
 
     /// Begins the next round.
     fn turn(&mut self)
-        requires few { self.old.height < 4294967296 }
+        requires few { self.old.height < numbers_end }
         ensures heights { self.new.heights.items ≡ self.old.heights.items }
         ensures current { self.new.current.items ≡ self.old.next.items }
         ensures next { self.new.next.items ≡ self.old.current.items }
@@ -101,7 +102,7 @@ impl Work {
     /// both sources have heights up to this and it has none.
     fn look(&mut self, nodes: usize, rule: Rule) -> Result<(), AllocError>
         requires fits { FitsRule (length self.old.heights.items) rule }
-        requires few { self.old.height < 4294967296 }
+        requires few { self.old.height < numbers_end }
         ensures { OnOk result (Looks nodes rule self.old self.new) }
     {
         if !self.fires(nodes, rule) {

@@ -5,6 +5,7 @@ use Rattle.std.proofs.lemmas.List.{append-nil}
 use Rattle.std.proofs.lemmas.Option.{same_Some}
 use Rattle.ig_text.specs.Tree as plain
 use Rattle.ig_text.proofs.Trees.{join-none, parted}
+use Rattle.ig_text.proofs.Lists.{take_step}
 use Rattle.ig_expr.specs.ValuedTree as valued
 use Rattle.ig_expr.specs.ValuedTree.{bare_tree, bare_trees}
 use Rattle.ig_expr.specs.Evaluation.{value_of}
@@ -24,7 +25,6 @@ use Rattle.ig_item.specs.declared.core_grammar.Nonterminal.{Nonterminal}
 use Rattle.ig_item.specs.declared.core_grammar.CoreAlt.{CoreAlt}
 use Rattle.ig_item.specs.declared.items.Instance.{Instance}
 use Rattle.ig_item.proofs.Dots.{same_alternative}
-use Rattle.ig_item.proofs.Lists.{take_step}
 
 module _ (core : List Nonterminal) (text : List ℕ) where
   -- one step alone

@@ -19,11 +19,11 @@ use Rattle.ig_item.specs.declared.core_grammar.Nonterminal.{Nonterminal}
 use Rattle.ig_item.specs.declared.core_grammar.CoreAlt.{CoreAlt}
 use Rattle.ig_item.specs.declared.items.Instance.{Instance}
 use Rattle.ig_item.proofs.Dots.{names_step, alone}
-use Rattle.ig_item.proofs.Lists.{stands, at_end}
 use Rattle.ig_item.specs.Induction.{kept}
 use Rattle.ig_item.proofs.Reachability.{reach}
 use Rattle.ig_item.proofs.ItemTrees.{item_at, comes_tree}
 use Rattle.ig_text.proofs.Trees.{join_join, join-none}
+use Rattle.ig_text.proofs.Lists.{stands, at_end}
 
 module _ (core : List Nonterminal) (text : List ℕ) where
   -- a reachable complete item of the instance at j

@@ -5,6 +5,7 @@ use Rattle.std.specs.List.{flat_map}
 use Rattle.std.proofs.lemmas.Option.{same_Some}
 use Rattle.std.proofs.lemmas.List.{append-nil}
 use Rattle.std.proofs.lemmas.Grind.{flat_map-append}
+use Rattle.ig_text.proofs.Lists.{take_step}
 use Rattle.ig_expr.specs.declared.kind.Kind.{Kind}
 use Rattle.ig_item.specs.Step.{Step, names_of}
 use Rattle.ig_item.specs.Core.{numbered}
@@ -12,7 +13,6 @@ use Rattle.ig_item.specs.Visible.{names_at, kinds_of, kinds_behind}
 use Rattle.ig_item.specs.Laws.{AlternativesAreOne, NamesGrow, StandsBeforeOne}
 use Rattle.ig_item.specs.declared.core_grammar.Nonterminal.{Nonterminal}
 use Rattle.ig_item.specs.declared.core_grammar.CoreAlt.{CoreAlt}
-use Rattle.ig_item.proofs.Lists.{take_step}
 
 -- the names that are visible behind a step
 pub names_step : NamesGrow

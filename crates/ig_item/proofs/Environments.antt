@@ -3,6 +3,7 @@ use Rattle.std.proofs.Common.{◌≡◌, ℕ, ◌+◌, ◌<◌, List, [], ◌∷
 use Rattle.std.specs.Prelude.{slice_get, option_map}
 use Rattle.std.proofs.lemmas.Option.{same_Some, slice_get_within}
 use Rattle.std.proofs.lemmas.List.{length-map, map-append, append-nil}
+use Rattle.ig_text.proofs.Lists.{contains_from_at}
 use Rattle.ig_expr.specs.Expression.{Expression}
 use Rattle.ig_expr.specs.Kinds.{kind_in, kind_of_value}
 use Rattle.ig_expr.specs.Evaluation.{value_of}
@@ -20,7 +21,6 @@ use Rattle.ig_item.specs.declared.core_grammar.Nonterminal.{Nonterminal}
 use Rattle.ig_item.specs.declared.core_grammar.CoreAlt.{CoreAlt}
 use Rattle.ig_item.specs.declared.items.Instance.{Instance}
 use Rattle.ig_item.proofs.Dots.{names_step, kinds_step, same_alternative}
-use Rattle.ig_item.proofs.Lists.{contains_from_at}
 use Rattle.ig_item.specs.Induction.{kept}
 
 -- values of these kinds, as many as the names

@@ -5,6 +5,7 @@ use Rattle.std.specs.List.{flat_map}
 use Rattle.std.proofs.lemmas.Option.{same_Some}
 use Rattle.std.proofs.lemmas.List.{append-nil}
 use Rattle.std.proofs.lemmas.Grind.{flat_map-append}
+use Rattle.ig_text.proofs.Lists.{at_from_contains, left_at, split_at}
 use Rattle.ig_expr.specs.declared.kind.Kind.{Kind}
 use Rattle.ig_item.specs.Step.{Step, names_of}
 use Rattle.ig_item.specs.Core.{numbered}
@@ -14,7 +15,6 @@ use Rattle.ig_item.specs.Laws.{StepsFit, NamesDiffer}
 use Rattle.ig_item.specs.WellKinded.{NoneTwice, OfEach, ExpressionsFit, CallFits}
 use Rattle.ig_item.specs.declared.core_grammar.Nonterminal.{Nonterminal}
 use Rattle.ig_item.specs.declared.core_grammar.CoreAlt.{CoreAlt}
-use Rattle.ig_item.proofs.Lists.{at_from_contains, left_at}
 
 -- what is visible behind some steps, and that the step there fits it
 pub record FitsBehind (core : List Nonterminal) (names : List (List ℕ)) (kinds : List Kind) (before : List Step)
@@ -59,11 +59,6 @@ pub each_fits : StepsFit
 each_fits core nonterminal alternative fit dot step at =
     let h = fits_behind core fit dot step at in
     record { kinds = h.here; visible = h.visible; expressions = h.expressions; call = h.call }
-
-split_at : {X : Type 0} (n : ℕ) (xs : List X) → xs ≡ take n xs ++ drop n xs
-split_at zero xs = refl
-split_at (suc n) [] = refl
-split_at (suc n) (x ∷ xs) = ap (λ (ys : List _). x ∷ ys) (split_at n xs)
 
 -- where the names that are visible behind the last step differ, so do those at each dot
 pub differ_at : NamesDiffer

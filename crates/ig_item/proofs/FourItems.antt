@@ -1,12 +1,13 @@
 -- Which items of one letter are reachable.
 use Rattle.std.proofs.Common.{◌≡◌, ℕ, zero, suc, ◌≤◌, List, [], ◌∷◌, Option, Some, None, Contains, length, take, map, refl, sym, ap, ◌∙◌, subst, arith, lit≤}
 use Rattle.std.specs.Prelude.{slice_get, option_and_then, codes}
-use Rattle.std.specs.List.{All}
 use Rattle.std.proofs.lemmas.Option.{same_Some}
+use Rattle.std.proofs.lemmas.List.Elements.{All-nil}
 use Rattle.ig_text.specs.Pattern.{Matches}
 use Rattle.ig_text.specs.Place.{Spells}
 use Rattle.ig_text.specs.declared.pattern.Pattern.{Pattern}
 use Rattle.ig_text.specs.declared.pattern.Pattern.TheVariants.{Literal}
+use Rattle.ig_text.proofs.Lists.{at_from_contains, contains_from_at}
 use Rattle.ig_expr.specs.Expression.{Expression}
 use Rattle.ig_expr.specs.declared.value.Value.{Value}
 use Rattle.ig_item.specs.Step.{Step, Test, Bind, Term, Call}
@@ -17,7 +18,6 @@ use Rattle.ig_item.specs.Examples.{one_letter, root, start, letter, root_alterna
 use Rattle.ig_item.specs.declared.core_grammar.Nonterminal.{Nonterminal}
 use Rattle.ig_item.specs.declared.core_grammar.CoreAlt.{CoreAlt}
 use Rattle.ig_item.specs.declared.items.Instance.{Instance}
-use Rattle.ig_item.proofs.Lists.{at_from_contains, contains_from_at}
 use Rattle.ig_item.specs.Induction.{kept}
 use Rattle.ig_item.proofs.Dots.{alone}
 
@@ -213,9 +213,6 @@ rule _ (items.call it callee label excluded nonterminal a alternative x k calls 
 rule _ (items.return it done label excluded x k l calls complete free e) =
     after_return it done label excluded x k (known done l) calls complete e
 
-pub none_of : {X : Type 0} (P : X → Type 0) → All P []
-none_of P k d lt = absurd (omega arith)
-
 pub calls_start : Calls one_letter (codes "a") (plain_item 0 0 0) (plain_item 1 0 0).instance None []
 calls_start =
     record {
@@ -250,13 +247,13 @@ in_turn (suc (suc zero)) x e =
       next = refl;
       visible = refl;
     })
-    (record { onward = lit≤ tt; within = lit≤ tt; letters = refl }) (none_of _) (sym (same_Some (plain_item 1 1 1) x e))
+    (record { onward = lit≤ tt; within = lit≤ tt; letters = refl }) (All-nil _) (sym (same_Some (plain_item 1 1 1) x e))
 in_turn (suc (suc (suc zero))) x e =
     items.return (plain_item 0 0 0) (plain_item 1 1 1) None [] x
     (contains_from_at (take 3 four_items) 0 (plain_item 0 0 0) refl)
     (contains_from_at (take 3 four_items) 2 (plain_item 1 1 1) refl) calls_start
     (record { nonterminal = start letter; alternative = letter; has = record { there = refl; has = refl }; last = refl })
-    (none_of _) (sym (same_Some (plain_item 0 1 1) x e))
+    (All-nil _) (sym (same_Some (plain_item 0 1 1) x e))
 in_turn (suc (suc (suc (suc k)))) x e = cc
 
 pub four_items_are_reachable : FourItemsAreReachable

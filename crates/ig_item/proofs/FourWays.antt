@@ -1,11 +1,13 @@
 -- The ways in which the items of one letter come about.
-use Rattle.std.proofs.Common.{◌≡◌, ℕ, zero, suc, List, [], Some, None, Contains, refl, sym, ap, ◌∙◌, subst, subst₂, arith, lit≤, inl, inr, ◌⊎◌}
+use Rattle.std.proofs.Common.{◌≡◌, ℕ, zero, suc, List, [], Some, None, refl, sym, ap, ◌∙◌, subst, subst₂, arith, lit≤, inl, inr, ◌⊎◌}
 use Rattle.std.specs.Prelude.{slice_get, codes}
 use Rattle.std.proofs.lemmas.Option.{same_Some}
+use Rattle.std.proofs.lemmas.List.Elements.{All-nil}
 use Rattle.ig_text.specs.Pattern.{Matches}
 use Rattle.ig_text.specs.Place.{Spells}
 use Rattle.ig_text.specs.declared.pattern.Pattern.{Pattern}
 use Rattle.ig_text.specs.declared.pattern.Pattern.TheVariants.{Literal}
+use Rattle.ig_text.proofs.Lists.{contains_from_at, at_from_contains, none_in_nil}
 use Rattle.ig_item.specs.Items.{Item, IsComplete, Reachable, past, span_of}
 use Rattle.ig_item.specs.Gives as given
 use Rattle.ig_item.specs.Gives.{NodeKey, Taken, Completes, Gives, tree}
@@ -14,8 +16,7 @@ use Rattle.ig_item.specs.Ways.{WayTo, Says, IsEnd, IsFirstEnd, IsFurtherEnd, IsW
 use Rattle.ig_item.specs.Examples.{one_letter, start, letter, plain_item, four_items, four_ways, FourItemsHaveWays}
 use Rattle.ig_item.specs.declared.ways.Way.{Way}
 use Rattle.ig_item.specs.declared.ways.Way.TheVariants.{Begin, Leaf, Node}
-use Rattle.ig_item.proofs.Lists.{contains_from_at, at_from_contains}
-use Rattle.ig_item.proofs.FourItems.{Known, known, steps_of, ends, test_never, bind_never, terminal_at, call_at, letter_ends, none_of, calls_start, four_items_are_reachable}
+use Rattle.ig_item.proofs.FourItems.{Known, known, steps_of, ends, test_never, bind_never, terminal_at, call_at, letter_ends, calls_start, four_items_are_reachable}
 
 abbrev text : List ℕ
 text = codes "a"
@@ -100,12 +101,12 @@ by_letter =
       next = refl;
       visible = refl;
     })
-    (record { onward = lit≤ tt; within = lit≤ tt; letters = refl }) (none_of _) refl refl
+    (record { onward = lit≤ tt; within = lit≤ tt; letters = refl }) (All-nil _) refl refl
 
 by_node : Gives one_letter text reached (plain_item 0 0 0) (tree letter_key) (plain_item 0 1 1)
 by_node =
     given.return (plain_item 0 0 0) (plain_item 1 1 1) None [] letter_key _ (reach 0 _ refl) (reach 2 _ refl) calls_start
-    read_completes (none_of _) refl
+    read_completes (All-nil _) refl
 
 abbrev IsLetterWay : Item → Way → Type 0
 IsLetterWay x way = IsWay one_letter text reached four_items x way
@@ -121,12 +122,9 @@ first_way (suc (suc (suc zero))) x way at e =
     (ways.comes (Node 0 2) (plain_item 0 0 0) _ (ways.node 0 2 (plain_item 0 0 0) letter_key refl letter_first) by_node)
 first_way (suc (suc (suc (suc k)))) x way at e = cc
 
-nothing_in : {X : Type 0} {x : X} → Contains [] x → ⊥
-nothing_in {X} {x} c = let at = at_from_contains [] x c in cc
-
 sound : (k : ℕ) (x : Item) (way : Way) → slice_get four_items k ≡ Some x → WayTo four_ways k way → IsLetterWay x way
 sound k x way at (ways.found e) = first_way k x way at e
-sound k x way at (ways.again more c is e) = absurd (nothing_in c)
+sound k x way at (ways.again more c is e) = absurd (none_in_nil _ c)
 
 -- the number of an item is told by its dot and its nonterminal
 number_of : (k : ℕ) (x : Item) → slice_get four_items k ≡ Some x → (n : ℕ) → x ≡ plain_item n 1 1 → (n ≡ 1 → k ≡ 2) × (n ≡ 0 → k ≡ 3)
@@ -197,7 +195,7 @@ four_items_have_ways =
             number = refl;
             sound = sound;
             complete = complete;
-            there = λ more c. absurd (nothing_in c);
+            there = λ more c. absurd (none_in_nil _ c);
           };
       ends =
           record {
@@ -205,7 +203,7 @@ four_items_have_ways =
                 let at = at_from_contains four_items x ((four_items_are_reachable x).0 r) in
                 (at.0, first_of key at.0 (end_of at.0 x key at.1 c));
             exact = λ e. (
-              λ c. absurd (nothing_in c),
+              λ c. absurd (none_in_nil _ c),
               λ f. absurd (f.other (one_end f.key e.item e.first f.further f.first.end)),
             );
           };

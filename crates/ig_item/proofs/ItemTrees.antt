@@ -2,6 +2,7 @@
 use Rattle.std.proofs.Common.{◌≡◌, ℕ, suc, ◌≤◌, List, [], ◌∷◌, ◌++◌, Some, length, take, slice_get, refl, sym, ap, ◌∙◌, subst, take_all, le_of_eq, append_assoc}
 use Rattle.std.proofs.lemmas.List.{append-nil}
 use Rattle.ig_text.proofs.Trees.{join_join, join-none}
+use Rattle.ig_text.proofs.Lists.{take_step}
 use Rattle.ig_text.specs.Tree.{Trees, Leaf, Node, none, more, one, join}
 use Rattle.ig_expr.specs.declared.value.Value.{Value}
 use Rattle.ig_item.specs.Step.{Step, Test, Bind, Term, Call, names_of}
@@ -16,7 +17,6 @@ use Rattle.ig_item.specs.declared.core_grammar.Nonterminal.{Nonterminal}
 use Rattle.ig_item.specs.declared.core_grammar.CoreAlt.{CoreAlt}
 use Rattle.ig_item.specs.declared.items.Instance.{Instance}
 use Rattle.ig_item.proofs.Dots.{names_step, same_alternative}
-use Rattle.ig_item.proofs.Lists.{take_step}
 
 -- an item of an instance
 abbrev pub item_at : Instance → ℕ → ℕ → List Value → ℕ → Item

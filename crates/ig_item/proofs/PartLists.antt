@@ -1,41 +1,17 @@
 -- Lists that stand side by side in one list, which grows at its end.
-use Rattle.std.proofs.Common.{◌≡◌, ℕ, zero, suc, ◌+◌, ◌-◌, ◌≤◌, List, [], ◌∷◌, ◌++◌, Some, None, length, map, take, drop, Contains, slice_get, refl, ⊎_elim, sym, ap, ◌∙◌, subst, arith, length-append, length-drop}
+use Rattle.std.proofs.Common.{◌≡◌, ℕ, zero, suc, ◌+◌, List, [], ◌∷◌, ◌++◌, Some, None, length, map, Contains, slice_get, ⊎_elim, sym, ap, ◌∙◌, subst, arith, length-append}
 use Rattle.std.specs.Prelude.{slice_range, option_map, slice_index_or}
-use Rattle.std.proofs.lemmas.List.{take-append-le, drop-append-le, map-append}
+use Rattle.std.proofs.lemmas.List.{map-append}
 use Rattle.std.proofs.lemmas.Option.{slice_get-map, slice_get-get_or, get_or_from_slice_get}
-use Rattle.std.proofs.Math.Seq.{take-length, drop-append_seam}
+use Rattle.ig_text.proofs.Lists.{at_from_contains, contains_from_at, sides, range_left, range_right, same_map}
 use Rattle.ig_expr.specs.declared.value.Value.{Value}
 use Rattle.ig_item.specs.declared.environment_table.Part.{Part}
 use Rattle.ig_item.specs.declared.items.Instance.{Instance}
 use Rattle.ig_item.specs.declared.items.InstanceKey.{InstanceKey}
 use Rattle.ig_item.specs.Tables.{HaveValues, instance_by}
 use Rattle.ig_item.specs.Parts.{values_in, IsPartOf, ArePartsOf}
-use Rattle.ig_item.proofs.Lists.{at_from_contains, contains_from_at, sides}
-
-paired : {Y : Type 0} {a b : Y} {us vs : List Y} → a ≡ b → us ≡ vs → a ∷ us ≡ b ∷ vs
-paired e h = cc
 
 module _ {X : Type 0} where
-  -- a range of a list that grows stays
-  pub range_left : (xs ys : List X) (a b : ℕ) → a ≤ b → b ≤ length xs → slice_range (xs ++ ys) a b ≡ slice_range xs a b
-  range_left xs ys a b onward within =
-      let few : b - a ≤ length (drop a xs) = omega (arith, length-drop a xs, within) in
-      ap (take (b - a)) (drop-append-le a xs ys (omega (arith, onward, within))) ∙ take-append-le (b - a) (drop a xs) ys few
-
-  -- the range of what was added
-  pub range_right : (xs ys : List X) (a b : ℕ) → a ≡ length xs → b ≡ length xs + length ys → slice_range (xs ++ ys) a b ≡ ys
-  range_right xs ys a b a_is b_is =
-      let d : drop a (xs ++ ys) ≡ ys = ap (λ n. drop n (xs ++ ys)) a_is ∙ drop-append_seam xs ys in
-      let n : b - a ≡ length ys = omega (arith, a_is, b_is) in
-      ap (take (b - a)) d ∙ ap (λ m. take m ys) n ∙ take-length ys
-
-  pub equal_from_each : {Y : Type 0} (f g : X → Y) (xs : List X) → ((x : X) → Contains xs x → f x ≡ g x) → map f xs ≡ map g xs
-  equal_from_each f g [] same = refl
-  equal_from_each f g (x ∷ xs) same =
-      paired (same x (contains_from_at (x ∷ xs) 0 x refl))
-      (equal_from_each f g xs
-      (λ y c. let at = at_from_contains xs y c in same y (contains_from_at (x ∷ xs) (suc at.0) y at.1)))
-
   in_one : (y x : X) (k : ℕ) → slice_get (y ∷ []) k ≡ Some x → y ≡ x
   in_one y x zero e = cc
   in_one y x (suc k) e = cc
@@ -71,7 +47,7 @@ parts_pushed values more parts b e are b_is e_is part c =
 pub lists_left : (values more : List Value) (parts : List Part) → ArePartsOf values parts →
     map (values_in (values ++ more)) parts ≡ map (values_in values) parts
 lists_left values more parts are =
-    equal_from_each (values_in (values ++ more)) (values_in values) parts
+    same_map (values_in (values ++ more)) (values_in values) parts
     (λ part c. let p = are part c in range_left values more part.begin part.end p.onward p.within)
 
 -- a list is added

@@ -2,12 +2,13 @@
 use Rattle.std.proofs.Common.{◌≡◌, ℕ, zero, suc, ◌+◌, List, [], ◌∷◌, ◌++◌, Some, length, Contains, slice_get, refl, ⊎_elim, subst}
 use Rattle.std.specs.Prelude.{IsTrue}
 use Rattle.std.proofs.lemmas.Option.{same_Some}
+use Rattle.std.proofs.lemmas.List.Elements.{Contains-append_left, Contains-append_right}
+use Rattle.ig_text.proofs.Lists.{contains_from_at, sides, left_before, right_before, all_before}
 use Rattle.ig_item.specs.Items as items
 use Rattle.ig_item.specs.Items.{Item, Follows, IsDerivation, Reachable}
 use Rattle.ig_item.specs.Induction.{follows_more, kept}
 use Rattle.ig_item.specs.Laws.{ReachableIsClosed, ReachableFollows, ReachableIsLeast, MoreGivesNoLess}
 use Rattle.ig_item.specs.declared.core_grammar.Nonterminal.{Nonterminal}
-use Rattle.ig_item.proofs.Lists.{contains_from_at, sides, left_before, right_before, all_before, left_contains, right_contains}
 
 module _ (core : List Nonterminal) (text : List ℕ) where
   pub joined : (xs ys : List Item) → IsDerivation core text xs → IsDerivation core text ys →
@@ -38,7 +39,7 @@ module _ (core : List Nonterminal) (text : List ℕ) where
       record {
         items = xs ++ x ∷ [];
         derivation = pushed xs x d f;
-        among = right_contains xs (x ∷ []) x (contains_from_at (x ∷ []) 0 x refl);
+        among = Contains-append_right xs (x ∷ []) x (contains_from_at (x ∷ []) 0 x refl);
       }
 
   -- what follows from reachable items is reachable
@@ -54,8 +55,8 @@ module _ (core : List Nonterminal) (text : List ℕ) where
       push k.items x k.derivation (items.call it callee label excluded nonterminal a alternative x k.among calls at e)
   reach (items.return it done label excluded x k l calls complete free e) =
       push (k.items ++ l.items) x (joined k.items l.items k.derivation l.derivation)
-      (items.return it done label excluded x (left_contains k.items l.items it k.among)
-      (right_contains k.items l.items done l.among) calls complete free e)
+      (items.return it done label excluded x (Contains-append_left k.items l.items it k.among)
+      (Contains-append_right k.items l.items done l.among) calls complete free e)
 
   -- each reachable item follows from reachable ones
   pub follows_reachable : (x : Item) → Reachable core text x → Follows core text (Reachable core text) x

@@ -2,7 +2,7 @@
 use Rattle.std.proofs.Common.{◌≡◌, ℕ, suc, List, [], ◌∷◌, ◌++◌, Some, length, take, refl, sym, ap, ◌∙◌, subst, arith, take_all, le_of_eq, slice_get}
 use Rattle.std.specs.List.{flat_map}
 use Rattle.std.proofs.lemmas.Option.{same_Some}
-use Rattle.ig_expr.specs.declared.value.Value.{Value}
+use Rattle.std.proofs.lemmas.List.{nil_from_length}
 use Rattle.ig_item.specs.Step.{names_of}
 use Rattle.ig_item.specs.Core.{IsAlternative, numbered}
 use Rattle.ig_item.specs.Visible.{names_at}
@@ -52,10 +52,6 @@ record IsLast (core : List Nonterminal) (root : HasRoot core) (x : Item) : Type 
   dot : x.dot ≡ length root.alternative.steps
   env : x.env ≡ []
 
-no_values : (vs : List Value) → length vs ≡ 0 → vs ≡ []
-no_values [] e = refl
-no_values (v ∷ vs) e = absurd (omega (arith, e))
-
 last_of_root : (core : List Nonterminal) (root : HasRoot core) (x : Item) → EnvironmentFits core x →
     x.instance.nonterminal ≡ 0 → IsComplete core x → IsLast core root x
 last_of_root core root x fits zero_is complete =
@@ -76,7 +72,7 @@ last_of_root core root x fits zero_is complete =
     let none : names_at root.nonterminal root.alternative x.dot ≡ [] =
     ap (λ (ps : List (List ℕ)). ps ++ flat_map names_of (take x.dot root.alternative.steps)) root.plain ∙
     ap (flat_map names_of) (take_all x.dot root.alternative.steps (le_of_eq (sym last))) ∙ root.unbound in
-    record { alternative = one; dot = last; env = no_values x.env (fits.names ∙ ap length (names ∙ none)) }
+    record { alternative = one; dot = last; env = nil_from_length x.env (fits.names ∙ ap length (names ∙ none)) }
 
 pub complete_roots_are_one : EnvironmentsFit → CompleteRootsAreOne
 complete_roots_are_one fit core text x y w rx ry zero_is same_instance same_position cx cy =

@@ -3,12 +3,12 @@ use Rattle.std.proofs.Common.{◌≡◌, ℕ, zero, suc, ◌+◌, ◌≤◌, ◌
 use Rattle.std.specs.List.{flat_map}
 use Rattle.std.proofs.lemmas.Option.{same_Some}
 use Rattle.std.proofs.lemmas.List.{append-nil, map-append, drop_more, drop_all}
+use Rattle.ig_text.proofs.Lists.{sides}
 use Rattle.ig_item.specs.Step.{Step, names_of}
 use Rattle.ig_item.specs.View.{step_of}
 use Rattle.ig_item.specs.declared.step.Step as program
 use Rattle.ig_item.specs.Visible.{names_at_dots, AreSeen}
 use Rattle.ig_item.specs.Laws.{NamesAreAtDots}
-use Rattle.ig_item.proofs.Lists.{sides}
 
 one_more : (names : List (List ℕ)) (steps : List Step) → length (names_at_dots names steps) ≡ length steps + 1
 one_more names [] = refl

@@ -21,3 +21,5 @@ pub mod Report
 pub mod Induction
 pub mod Laws
 pub mod Examples
+pub mod CodingStep
+pub mod CodingRecorded

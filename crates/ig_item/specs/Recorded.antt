@@ -1,6 +1,5 @@
 -- What a run records: the items that are reachable, and how they came about.
-use Rattle.std.specs.Prelude.{◌↔◌, ℕ, List, Contains, refl}
-use Rattle.std.specs.Coded.{Coded, code_by, coded_ℕ, coded_list, coded×}
+use Rattle.std.specs.Prelude.{◌↔◌, ℕ, List, Contains}
 use Rattle.ig_item.specs.WellKinded.{NoneTwice}
 use Rattle.ig_item.specs.Items.{Item, Reachable}
 use Rattle.ig_item.specs.Tables.{Tables, items_of}
@@ -16,13 +15,6 @@ pub record Recording : Type 0 where
 
 abbrev pub recording : List Nonterminal → List ℕ → Tables → WayLists → Recording
 recording core text tables ways = record { core = core; text = text; tables = tables; ways = ways }
-
--- a recording is stored as its parts, from which it is read back
-abbrev pub recording_code : Coded (List Nonterminal) → Coded Tables → Coded WayLists → Coded Recording
-recording_code core tables ways =
-    code_by (List Nonterminal × (List ℕ × (Tables × WayLists)))
-    (coded× core (coded× (coded_list coded_ℕ) (coded× tables ways)))
-    (λ r. (r.core, (r.text, (r.tables, r.ways)))) (λ p. recording p.0 p.1.0 p.1.1.0 p.1.1.1) (λ _. refl)
 
 -- the items of the tables are exactly the reachable ones
 abbrev pub AreReachable : List Nonterminal → List ℕ → Tables → Type 0

@@ -6,6 +6,7 @@ use Rattle.ig_item.specs.declared.items.Instance.{Instance}
 use Rattle.ig_item.specs.declared.items.InstanceKey.{InstanceKey}
 use Rattle.ig_item.specs.declared.items.InstanceView.{InstanceView}
 use Rattle.ig_item.specs.declared.items.Item as stored
+use Rattle.ig_item.specs.Limits.{numbers_end}
 
 -- a table of instances, one of environments, and items that name them by number
 pub record Tables : Type 0 where
@@ -17,9 +18,9 @@ pub record Tables : Type 0 where
 pub record AreTables (tables : Tables) : Type 0 where
   pub instances_there : (x : stored.Item) → Contains tables.items x → x.instance < length tables.instances
   pub environments_there : (x : stored.Item) → Contains tables.items x → x.env < length tables.environments
-  pub few_instances : length tables.instances < 4294967296
-  pub few_environments : length tables.environments < 4294967296
-  pub few_items : length tables.items < 4294967296
+  pub few_instances : length tables.instances < numbers_end
+  pub few_environments : length tables.environments < numbers_end
+  pub few_items : length tables.items < numbers_end
 
 -- the item, with its instance and environment out of the tables
 abbrev pub item_of : Tables → stored.Item → Item

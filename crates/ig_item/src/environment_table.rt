@@ -2,6 +2,7 @@
 ghost use Rattle.std.specs.Prelude.{◌≡◌, ◌<◌, [], ◌∷◌, ◌++◌, IfOk, OnOk, OnErr, length, slice_get};
 ghost use Rattle.std.specs.Option.{option_copied};
 ghost use Rattle.ig_item.specs.Parts.{IsPartOf, values_in};
+ghost use Rattle.ig_item.specs.Limits.{numbers_end};
 
 use ig_expr::Value;
 use std::alloc::{AllocError, Global};
@@ -92,7 +93,7 @@ fn part_at(parts: &[Part], k: u32) -> Option<Part>
 
 /// A place in the vector of all values.
 fn place(k: usize) -> Result<u32, AllocError>
-    ensures { IfOk result (λ p. (p ≡ k) × (k < 4294967296)) }
+    ensures { IfOk result (λ p. (p ≡ k) × (k < numbers_end)) }
 {
     match u32::try_from(k) {
         Ok(p) => Ok(p),

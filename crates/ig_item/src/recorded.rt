@@ -24,7 +24,7 @@ impl<'a> Model for Recorded<'a> {
 
     ghost Value = { Recording };
 
-    ghost use Rattle.ig_item.specs.Recorded.{recording_code};
+    ghost use Rattle.ig_item.specs.CodingRecorded.{recording_code};
     ghost use Rattle.ig_item.specs.contracts.core_grammar.Core as grammar;
     ghost use Rattle.ig_item.specs.contracts.items.Items as tables;
     ghost use Rattle.ig_item.specs.contracts.ways.Ways as lists;

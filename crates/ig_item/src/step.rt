@@ -57,7 +57,7 @@ impl Model for Steps {
     ghost use Rattle.std.specs.Prelude.{List, map};
     ghost use Rattle.std.specs.Coded.{coded_list};
     ghost use Rattle.ig_item.specs.Step as tree;
-    ghost use Rattle.ig_item.specs.Step.{step_code};
+    ghost use Rattle.ig_item.specs.CodingStep.{step_code};
 
     ghost Value = { List tree.Step };
 

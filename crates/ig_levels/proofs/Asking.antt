@@ -1,26 +1,20 @@
 -- What a symbol of the source gets, what is made of it gets, too.
-use Rattle.std.proofs.Common.{◌≡◌, ◌⊎◌, inl, inr, ℕ, suc, zero, ◌+◌, ◌<◌, Bool, true, false, List, [], ◌∷◌, ◌++◌, map, sym, ◌∙◌, ap, subst, Some, arith, length}
+use Rattle.std.proofs.Common.{◌≡◌, ◌⊎◌, inl, inr, ℕ, Bool, true, false, List, [], ◌∷◌, ◌++◌, map, sym, ◌∙◌, ap, subst, Some}
 use Rattle.std.specs.Prelude.{Contains, option_map}
 use Rattle.ig_expr.specs.Expression.{Expression}
-use Rattle.ig_expr.specs.declared.kind.Kind.TheVariants as kind
 use Rattle.ig_grammar.specs.Binding.{Binding}
 use Rattle.ig_grammar.specs.Symbol.{Symbol, Call, Label, Guard, Let, Star, Plus, SepStar, SepPlus, Offside, Ignore, Align, Filtered, Entry}
 use Rattle.ig_grammar.specs.Visible.{Visible}
 use Rattle.ig_grammar.specs.Condition.{IsListed, declaration_of}
-use Rattle.ig_grammar.specs.Condition as met
 use Rattle.ig_grammar.specs.declared.declaration.DeclKind.{DeclKind}
 use Rattle.ig_grammar.specs.declared.declaration.Decl.{Decl}
 use Rattle.ig_levels.specs.Levels.{Pair, no_pair, with_pair, pair_arguments, lowered_declaration, added_parameters, is_levelled}
 use Rattle.ig_levels.proofs.Bounds.{IsSource, OfSource, AllOfSource, BindingsOfSource}
 use Rattle.ig_levels.proofs.Kinded.{InsertedKinds, PairFits}
 use Rattle.ig_levels.proofs.Bounds.{Clear}
-use Rattle.ig_text.proofs.Lists.{none_in_nil}
+use Rattle.ig_text.proofs.Lists.{none_in_nil, in_rest}
 use Rattle.ig_rewrite.specs.Asked.{IsNew, IsKinded, Fit, Calls, Asks, AsksElsewhere}
 use Rattle.ig_levels.proofs.Kinding.{same_found, same_kind}
-
-pub in_rest : {X : Type 0} (y : X) (ys : List X) (x : X) → Contains (y ∷ ys) x → (y ≡ x) ⊎ Contains ys x
-in_rest y ys x (zero, l, e) = inl e
-in_rest y ys x (suc k, l, e) = inr (k, (let h : suc k < suc (length ys) = l in omega (arith, h)), e)
 
 each_of_source : (es : List Expression) (e : Expression) → AllOfSource es → Contains es e → OfSource e
 each_of_source [] e s h = absurd (none_in_nil e h)

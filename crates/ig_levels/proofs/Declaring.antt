@@ -1,8 +1,8 @@
 -- The pass's grammar has what the induction uses.
-use Rattle.std.proofs.Common.{◌≡◌, ℕ, suc, ◌+◌, Bool, true, false, List, [], ◌∷◌, ◌++◌, map, length, refl, sym, ◌∙◌, ap, Some, inl, inr, arith, cond}
-use Rattle.std.specs.Prelude.{◌⊎◌, slice_get, option_map}
+use Rattle.std.proofs.Common.{◌≡◌, ℕ, suc, Bool, true, false, List, [], ◌∷◌, map, refl, sym, ◌∙◌, ap, Some, arith, cond}
+use Rattle.std.specs.Prelude.{slice_get, option_map}
 use Rattle.std.specs.Cmp.Lexicographic.{bytes_decides}
-use Rattle.std.proofs.lemmas.Option.{slice_get-map}
+use Rattle.std.proofs.lemmas.Option.{slice_get-map, same_Some}
 use Rattle.ig_text.specs.Words.{is_word}
 use Rattle.ig_grammar.specs.Names.{names, AreDistinct}
 use Rattle.ig_grammar.specs.Numbering.{Declares, layout_among, name_of_layout}
@@ -14,34 +14,18 @@ use Rattle.ig_grammar.specs.declared.place.Shape.{Shape}
 use Rattle.ig_levels.specs.Levels.{names_levelled, is_levelled, lowered_declaration, lowered_grammar}
 use Rattle.ig_levels.proofs.Premises.{Lowerable}
 use Rattle.ig_text.proofs.Options.{mapped}
+use Rattle.ig_text.proofs.Lists.{mapped_at}
 use Rattle.ig_levels.proofs.Takes.{Takes, DeclaredAs}
-
-some_same : {X : Type 0} (x y : X) → Some x ≡ Some y → x ≡ y
-some_same x y e = cc
-
-pub either_place : {X : Type 0} (xs ys : List X) (k : ℕ) (a : X) → slice_get (xs ++ ys) k ≡ Some a →
-    (slice_get xs k ≡ Some a) ⊎ ((m : ℕ) × (slice_get ys m ≡ Some a) × (k ≡ length xs + m))
-either_place [] ys k a h = inr (k, h, omega arith)
-either_place (x ∷ xs) ys ℕ.zero a h = inl h
-either_place (x ∷ xs) ys (suc k) a h = go (either_place xs ys k a h)
-  where
-    go : (slice_get xs k ≡ Some a) ⊎ ((m : ℕ) × (slice_get ys m ≡ Some a) × (k ≡ length xs + m)) →
-        (slice_get (x ∷ xs) (suc k) ≡ Some a) ⊎ ((m : ℕ) × (slice_get ys m ≡ Some a) × (suc k ≡ length (x ∷ xs) + m))
-    go (inl e) = inl e
-    go (inr e) = let f = e.2 in inr (e.0, e.1, omega (arith, f))
 
 rest_distinct : (d : Decl) (ds : List Decl) → AreDistinct (names (d ∷ ds)) → AreDistinct (names ds)
 rest_distinct d ds distinct i j name p q = let e : suc i ≡ suc j = distinct (suc i) (suc j) name p q in omega (arith, e)
-
-named_at : (ds : List Decl) (k : ℕ) (decl : Decl) → slice_get ds k ≡ Some decl → slice_get (names ds) k ≡ Some decl.name
-named_at ds k decl h = slice_get-map (λ (d : Decl). d.name) ds k ∙ ap (option_map (λ (d : Decl). d.name)) h
 
 -- a name is levelled where its declaration is
 pub known_at : (ds : List Decl) → AreDistinct (names ds) → (k : ℕ) (decl : Decl) → slice_get ds k ≡ Some decl →
     names_levelled ds decl.name ≡ is_levelled decl.levels
 known_at [] distinct k decl h = absurd (cc)
 known_at (d ∷ ds) distinct ℕ.zero decl h =
-    let same : d ≡ decl = some_same d decl h in
+    let same : d ≡ decl = same_Some d decl h in
     let own : is_word d.name decl.name ≡ true = (bytes_decides d.name decl.name).1 (ap (λ (z : Decl). z.name) same) in
     ap (λ z. cond z (is_levelled d.levels) (names_levelled ds decl.name)) own ∙ ap (λ (z : Decl). is_levelled z.levels) same
 known_at (d ∷ ds) distinct (suc k) decl h =
@@ -50,7 +34,7 @@ known_at (d ∷ ds) distinct (suc k) decl h =
     other : (b : Bool) → is_word d.name decl.name ≡ b → is_word d.name decl.name ≡ false
     other true e =
         let same : d.name ≡ decl.name = (bytes_decides d.name decl.name).0 e in
-        let places : ℕ.zero ≡ suc k = distinct 0 (suc k) decl.name (ap Some same) (named_at (d ∷ ds) (suc k) decl h) in
+        let places : ℕ.zero ≡ suc k = distinct 0 (suc k) decl.name (ap Some same) (mapped_at (λ (z : Decl). z.name) (d ∷ ds) (suc k) decl h) in
         absurd (let f : ⊥ = omega (arith, places) in f)
     other false e = e
 
@@ -70,7 +54,7 @@ layout_at (d ∷ ds) name h = go d.kind refl h (layout_at ds name)
 
     go : (kind : DeclKind) → d.kind ≡ kind → name_of_layout kind d.name (layout_among ds) ≡ Some name → (layout_among ds ≡ Some name → LayoutAt ds name) →
         LayoutAt (d ∷ ds) name
-    go Layout is e below = record { place = 0; decl = d; there = refl; kind = is; named = some_same d.name name e }
+    go Layout is e below = record { place = 0; decl = d; there = refl; kind = is; named = same_Some d.name name e }
     go Syntax is e below = further (below e)
     go Lexical is e below = further (below e)
     go Plain is e below = further (below e)
@@ -116,9 +100,9 @@ module _ (g : Grammar) (shapes : List Shape) (may : Lowerable g shapes) where
       Declares g shapes name e other form → decl ≡ other
   once name d e decl other shape form a b =
       let places : a.numbered.0 ≡ b.numbered.0 =
-      may.distinct a.numbered.0 b.numbered.0 name (named_at g.decls a.numbered.0 decl a.numbered.2 ∙ ap Some a.named)
-      (named_at g.decls b.numbered.0 other b.numbered.2 ∙ ap Some b.named) in
-      some_same decl other (sym a.numbered.2 ∙ ap (slice_get g.decls) places ∙ b.numbered.2)
+      may.distinct a.numbered.0 b.numbered.0 name (mapped_at (λ (z : Decl). z.name) g.decls a.numbered.0 decl a.numbered.2 ∙ ap Some a.named)
+      (mapped_at (λ (z : Decl). z.name) g.decls b.numbered.0 other b.numbered.2 ∙ ap Some b.named) in
+      same_Some decl other (sym a.numbered.2 ∙ ap (slice_get g.decls) places ∙ b.numbered.2)
 
   plain_layout : (name : List ℕ) → layout_among g.decls ≡ Some name → levelled name ≡ false
   plain_layout name h =

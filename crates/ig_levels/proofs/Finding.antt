@@ -1,29 +1,14 @@
 -- The computed operands are the operands.
 use Rattle.std.proofs.Common.{◌≡◌, ℕ, Bool, true, false, List, [], ◌∷◌, ◌++◌, refl, sym, ◌∙◌, ap, subst}
+use Rattle.std.proofs.lemmas.Bool.{not-true, and_from}
+use Rattle.std.proofs.Math.Bool.{or-false}
 use Rattle.std.specs.Prelude.{◌≢◌, ◌&&◌, ◌||◌, not}
 use Rattle.std.specs.Cmp.Lexicographic.{bytes_decides}
-use Rattle.ig_text.specs.Words.{is_word}
+use Rattle.ig_text.proofs.Booleans.{first_true, rest_true}
+use Rattle.ig_text.proofs.Characters.{itself}
 use Rattle.ig_grammar.specs.Symbol.{Symbol, Call, Label, Guard, Let}
 use Rattle.ig_meaning.specs.Operands.{without_tests, Calls, plain, labelled, HasLeftOperand}
 use Rattle.ig_levels.specs.Levels.{is_test, only_tests, is_operand, Place, is_left, is_right, has_left, has_right}
-
-pub left_true : (a b : Bool) → (a && b) ≡ true → a ≡ true
-left_true true b h = refl
-left_true false b h = h
-
-pub right_true : (a b : Bool) → (a && b) ≡ true → b ≡ true
-right_true true b h = h
-right_true false b h = absurd (cc)
-
-pub both_true : (a b : Bool) → a ≡ true → b ≡ true → (a && b) ≡ true
-both_true a b h k = rw (h, k) refl
-
-pub true_of_not : (a : Bool) → not a ≡ true → a ≡ false
-true_of_not true h = sym h
-true_of_not false h = refl
-
-is_own : (name : List ℕ) → is_word name name ≡ true
-is_own name = (bytes_decides name name).1 refl
 
 pub operand_calls : (own : List ℕ) (x : Symbol) → is_operand own x ≡ true → Calls own x
 operand_calls own (Call n arguments) h =
@@ -33,8 +18,8 @@ operand_calls own (Label label (Call n arguments)) h =
 operand_calls own x h = absurd (cc)
 
 pub calls_operand : (own : List ℕ) {x : Symbol} → Calls own x → is_operand own x ≡ true
-calls_operand own (plain arguments) = is_own own
-calls_operand own (labelled label arguments) = is_own own
+calls_operand own (plain arguments) = itself own
+calls_operand own (labelled label arguments) = itself own
 
 pub calls_no_test : (own : List ℕ) {x : Symbol} → Calls own x → is_test x ≡ false
 calls_no_test own (plain arguments) = refl
@@ -57,14 +42,14 @@ kept x xs h = refl
 
 only_none : (xs : List Symbol) → only_tests xs ≡ true → without_tests xs ≡ []
 only_none [] h = refl
-only_none (x ∷ xs) h = skipped x xs (left_true (is_test x) (only_tests xs) h) ∙ only_none xs (right_true (is_test x) (only_tests xs) h)
+only_none (x ∷ xs) h = skipped x xs (first_true (is_test x) (only_tests xs) h) ∙ only_none xs (rest_true (is_test x) (only_tests xs) h)
 
 none_only : (xs : List Symbol) → without_tests xs ≡ [] → only_tests xs ≡ true
 none_only [] h = refl
 none_only (x ∷ xs) h = go (is_test x) refl (none_only xs)
   where
     go : (b : Bool) → is_test x ≡ b → (without_tests xs ≡ [] → only_tests xs ≡ true) → (is_test x && only_tests xs) ≡ true
-    go true e below = both_true (is_test x) (only_tests xs) e (below (sym (skipped x xs e) ∙ h))
+    go true e below = and_from (is_test x) (only_tests xs) e (below (sym (skipped x xs e) ∙ h))
     go false e below = let f : x ∷ without_tests xs ≡ [] = sym (kept x xs e) ∙ h in absurd (cc)
 
 more_than : (xs : List Symbol) → only_tests xs ≡ false → (y : Symbol) × (ys : List Symbol) × (without_tests xs ≡ y ∷ ys)
@@ -104,15 +89,11 @@ ended : (first : Bool) (b : Bool) → b ≡ false → (first && b) ≡ false
 ended true b e = e
 ended false b e = refl
 
-or_false : (a : Bool) → (a || false) ≡ a
-or_false true = refl
-or_false false = refl
-
 pub at_symbol : (p : Place) (first : Bool) (x : Symbol) (xs : List Symbol) → is_test x ≡ false → has_left p first (x ∷ xs) ≡ is_left p first x xs
 at_symbol p first x xs e =
     let no : has_left p false xs ≡ false = no_later_left p xs in
     let ends : (first && is_test x) ≡ false = ended first (is_test x) e in
-    rw (ends, no) (or_false (is_left p first x xs))
+    rw (ends, no) (or-false (is_left p first x xs))
 
 pub right_at_symbol : (p : Place) (first : Bool) (x : Symbol) (xs : List Symbol) → is_test x ≡ false →
     has_right p first (x ∷ xs) ≡ (is_right p first x xs || has_right p false xs)
@@ -133,11 +114,11 @@ left_before_test p x xs e found =
 
 left_at : (p : Place) (x : Symbol) (xs : List Symbol) → is_test x ≡ false → is_left p true x xs ≡ true → LeftFound p (x ∷ xs)
 left_at p x xs e h =
-    let operand : is_operand p.own x ≡ true = left_true (is_operand p.own x) (p.active && not (only_tests xs)) h in
-    let rest : (p.active && not (only_tests xs)) ≡ true = right_true (is_operand p.own x) (p.active && not (only_tests xs)) h in
-    let more = more_than xs (true_of_not (only_tests xs) (right_true p.active (not (only_tests xs)) rest)) in
+    let operand : is_operand p.own x ≡ true = first_true (is_operand p.own x) (p.active && not (only_tests xs)) h in
+    let rest : (p.active && not (only_tests xs)) ≡ true = rest_true (is_operand p.own x) (p.active && not (only_tests xs)) h in
+    let more = more_than xs (not-true (only_tests xs) (rest_true p.active (not (only_tests xs)) rest)) in
     record {
-      active = left_true p.active (not (only_tests xs)) rest;
+      active = first_true p.active (not (only_tests xs)) rest;
       has = record { first = x; second = more.0; others = more.1; split = kept x xs e ∙ ap (λ z. x ∷ z) more.2; calls = operand_calls p.own x operand };
     }
 
@@ -189,15 +170,15 @@ either false b h not_a = h
 
 right_at : (p : Place) (first : Bool) (x : Symbol) (xs : List Symbol) → is_test x ≡ false → is_right p first x xs ≡ true → EndsWith p first (x ∷ xs)
 right_at p first x xs e h =
-    let operand : is_operand p.own x ≡ true = left_true (is_operand p.own x) (p.active && (not first && only_tests xs)) h in
-    let rest : (p.active && (not first && only_tests xs)) ≡ true = right_true (is_operand p.own x) (p.active && (not first && only_tests xs)) h in
-    let both : (not first && only_tests xs) ≡ true = right_true p.active (not first && only_tests xs) rest in
-    let later : first ≡ false = true_of_not first (left_true (not first) (only_tests xs) both) in
+    let operand : is_operand p.own x ≡ true = first_true (is_operand p.own x) (p.active && (not first && only_tests xs)) h in
+    let rest : (p.active && (not first && only_tests xs)) ≡ true = rest_true (is_operand p.own x) (p.active && (not first && only_tests xs)) h in
+    let both : (not first && only_tests xs) ≡ true = rest_true p.active (not first && only_tests xs) rest in
+    let later : first ≡ false = not-true first (first_true (not first) (only_tests xs) both) in
     record {
-      active = left_true p.active (not first && only_tests xs) rest;
+      active = first_true p.active (not first && only_tests xs) rest;
       before = [];
       last = x;
-      split = kept x xs e ∙ ap (λ z. x ∷ z) (only_none xs (right_true (not first) (only_tests xs) both));
+      split = kept x xs e ∙ ap (λ z. x ∷ z) (only_none xs (rest_true (not first) (only_tests xs) both));
       calls = operand_calls p.own x operand;
       more = λ is. absurd (cc);
     }

@@ -1,5 +1,6 @@
 -- An alternative without levels has no operands and no tests.
 use Rattle.std.proofs.Common.{◌≡◌, ℕ, Bool, true, false, List, [], ◌∷◌, ◌++◌, refl, ◌∙◌, ap}
+use Rattle.std.proofs.Math.Bool.{and-false}
 use Rattle.std.specs.Prelude.{◌&&◌, ◌||◌, not}
 use Rattle.ig_text.specs.Tree.{Trees}
 use Rattle.ig_grammar.specs.Symbol.{Symbol}
@@ -9,22 +10,18 @@ use Rattle.ig_levels.specs.Levels.{lowered, symbols_in, test_of, Place, has_left
 use Rattle.ig_levels.proofs.Bounds.{Bounds}
 use Rattle.ig_levels.proofs.Takes.{Wanted}
 
-pub and_false : (a : Bool) → (a && false) ≡ false
-and_false true = refl
-and_false false = refl
-
 -- in an alternative without levels there are no operands
 pub idle_left : (p : Place) → p.active ≡ false → (first : Bool) (xs : List Symbol) → has_left p first xs ≡ false
 idle_left p idle first [] = refl
 idle_left p idle first (x ∷ xs) =
-    (let here : (is_operand p.own x && (p.active && (first && not (only_tests xs)))) ≡ false = rw idle (and_false (is_operand p.own x)) in
+    (let here : (is_operand p.own x && (p.active && (first && not (only_tests xs)))) ≡ false = rw idle (and-false (is_operand p.own x)) in
     ap (λ z. z || has_left p (first && is_test x) xs) here) ∙
     idle_left p idle (first && is_test x) xs
 
 pub idle_right : (p : Place) → p.active ≡ false → (first : Bool) (xs : List Symbol) → has_right p first xs ≡ false
 idle_right p idle first [] = refl
 idle_right p idle first (x ∷ xs) =
-    (let here : (is_operand p.own x && (p.active && (not first && only_tests xs))) ≡ false = rw idle (and_false (is_operand p.own x)) in
+    (let here : (is_operand p.own x && (p.active && (not first && only_tests xs))) ≡ false = rw idle (and-false (is_operand p.own x)) in
     ap (λ z. z || has_right p (first && is_test x) xs) here) ∙
     idle_right p idle (first && is_test x) xs
 

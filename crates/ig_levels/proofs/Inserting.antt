@@ -1,13 +1,13 @@
 -- Expressions of the source have the same values beside bounds.
 use Rattle.std.proofs.Common.{◌≡◌, ℕ, suc, ◌+◌, ◌≤◌, Bool, true, false, List, [], ◌∷◌, ◌++◌, refl, sym, ◌∙◌, ap, subst, length, length-append, cond, Option, Some, append_assoc, arith}
 use Rattle.std.specs.Prelude.{◌≢◌, option_and_then, pos, int_le}
-use Rattle.std.specs.Cmp.Lexicographic.{bytes_decides}
 use Rattle.std.proofs.lemmas.Bool.Decides.{nat_tests}
 use Rattle.std.proofs.lemmas.List.{append-nil}
 use Rattle.ig_expr.specs.Expression.{Expression, Integer, Truth, Here, Variable, Not, Negative, Binary, Of, Same, Spells, Outer, Inside, FreeBefore, FreeAfter}
 use Rattle.ig_expr.specs.Names.{look_up}
 use Rattle.ig_text.specs.Words.{is_word}
 use Rattle.ig_text.proofs.Positions.{beside-cons}
+use Rattle.ig_text.proofs.Characters.{differs}
 use Rattle.ig_expr.specs.Evaluation.{value_of, with_two}
 use Rattle.ig_expr.specs.Operations.{negation, opposite, operation}
 use Rattle.ig_expr.specs.Reading.{applied, same, spells}
@@ -29,13 +29,6 @@ find env x = look_up (names env) (values env) x
 find_cons : (n : List ℕ) (v : Value) (rest : Environment) (x : List ℕ) → find ((n, v) ∷ rest) x ≡ cond (is_word n x) (Some v) (find rest x)
 find_cons n v rest x =
     beside-cons (λ z. is_word z x) n (names rest) v (values rest)
-
-pub differs : (a b : List ℕ) → a ≢ b → is_word a b ≡ false
-differs a b other = go (is_word a b) refl
-  where
-    go : (t : Bool) → is_word a b ≡ t → t ≡ false
-    go true e = absurd (other ((bytes_decides a b).0 e))
-    go false e = refl
 
 find_next : (n : List ℕ) (v : Value) (rest : Environment) (x : List ℕ) → n ≢ x → find ((n, v) ∷ rest) x ≡ find rest x
 find_next n v rest x other = find_cons n v rest x ∙ ap (λ b. cond b (Some v) (find rest x)) (differs n x other)

@@ -1,10 +1,11 @@
 -- Each occurrence has its partner.
-use Rattle.std.proofs.Common.{◌≡◌, ℕ, ◌+◌, Bool, true, false, List, [], ◌∷◌, ◌++◌, refl, sym, ◌∙◌, ap, subst, cond, Option, Some, None, append_assoc}
+use Rattle.std.proofs.Common.{◌≡◌, ℕ, Bool, true, false, List, [], ◌∷◌, ◌++◌, refl, sym, ◌∙◌, ap, subst, cond, Option, Some, None, append_assoc}
 use Rattle.std.specs.Prelude.{◌≢◌}
 use Rattle.ig_expr.specs.Expression.{Expression, Integer, Truth, Here, Variable, Not, Negative, Binary, Of, Same, Spells, Outer, Inside, FreeBefore, FreeAfter}
 use Rattle.ig_expr.specs.Names.{look_up}
 use Rattle.ig_text.specs.Words.{is_word}
 use Rattle.ig_text.proofs.Positions.{beside-cons}
+use Rattle.ig_text.proofs.Characters.{differs}
 use Rattle.ig_expr.specs.Kinds.{of_one, of_two, kind_of_operation, argument_of}
 use Rattle.ig_expr.specs.declared.kind.Kind.{Kind}
 use Rattle.ig_expr.specs.declared.kind.Kind.TheVariants as kind
@@ -18,7 +19,6 @@ use Rattle.ig_levels.proofs.Bounds.{IsSource, OfSource, BindingsOfSource}
 use Rattle.ig_levels.proofs.Keeping.{no_pair_added}
 use Rattle.ig_levels.proofs.Kinded.{bound_kinds, InsertedKinds, here, behind, PairFits, Paired, no_pairs, next_pair}
 use Rattle.ig_levels.proofs.Bounds.{Clear, SymbolsClear, AlternativesClear}
-use Rattle.ig_levels.proofs.Inserting.{differs}
 
 abbrev pub find : Visible → List ℕ → Option Kind
 find v x = look_up (names v) (kinds v) x

@@ -3,6 +3,7 @@ use Rattle.std.proofs.Common.{◌≡◌, ℕ, suc, Bool, true, false, List, [], 
 use Rattle.std.specs.Prelude.{◌&&◌, not, slice_get, option_map, pos}
 use Rattle.std.proofs.lemmas.Option.{slice_get-map}
 use Rattle.std.proofs.lemmas.List.{append-nil}
+use Rattle.std.proofs.Math.Bool.{and-false}
 use Rattle.ig_text.specs.Tree.{Trees, none, more, join}
 use Rattle.ig_expr.specs.Expression.{Expression}
 use Rattle.ig_expr.specs.declared.value.Value.TheVariants as value
@@ -21,15 +22,16 @@ use Rattle.ig_rewrite.specs.Added.{left_name, right_name}
 use Rattle.ig_levels.proofs.Bounds.{Bounds, bounded, Inserted, PairHas, SymbolsClear, AlternativesClear, AllClear, BindingsOfSource, AllOfSource}
 use Rattle.ig_levels.proofs.Takes.{Fits, left_of, right_of, Wanted}
 use Rattle.ig_text.proofs.Options.{mapped}
-use Rattle.ig_levels.proofs.Idle.{and_false, idle_wanted}
-use Rattle.ig_levels.proofs.Finding.{left_true, right_true}
+use Rattle.ig_text.proofs.Lists.{map_twice}
+use Rattle.ig_text.proofs.Booleans.{first_true, rest_true}
+use Rattle.ig_levels.proofs.Idle.{idle_wanted}
 use Rattle.ig_levels.proofs.Inserting.{left_found, right_found, find}
 
 pub nothing_wanted : (g : Grammar) (b : Bounds) (first : Bool) (xs : List Symbol) (vs : Trees) → Wanted g elsewhere b first xs vs
 nothing_wanted g b first xs vs = idle_wanted g elsewhere refl b first xs vs
 
 no_pair_elsewhere : (first : Bool) (x : Symbol) (xs : List Symbol) → pair_at elsewhere first x xs ≡ no_pair
-no_pair_elsewhere first x xs = rw (and_false (is_operand [] x)) refl
+no_pair_elsewhere first x xs = rw (and-false (is_operand [] x)) refl
 
 module _ (levelled : List ℕ → Bool) where
   pub listed_lowered : (first : Bool) (xs : Symbols) → lowered levelled elsewhere first (listed xs) ≡ listed (in_symbols levelled xs)
@@ -48,10 +50,6 @@ module _ (levelled : List ℕ → Bool) where
   abbrev pub flat : Decl → Levelled → Levelled
   flat decl a = record { alternative = lowered_alternative levelled decl a; level = 1; assoc = Free }
 
-  map_after : {X Y Z : Type 0} (f : X → Y) (h : Y → Z) (xs : List X) → map h (map f xs) ≡ map (λ x. h (f x)) xs
-  map_after f h [] = refl
-  map_after f h (x ∷ xs) = ap (λ z. h (f x) ∷ z) (map_after f h xs)
-
   abbrev free_alternative : Alt → Levelled
   free_alternative alt = record { alternative = alt; level = 1; assoc = Free }
 
@@ -59,7 +57,7 @@ module _ (levelled : List ℕ → Bool) where
       by_level (one_level levels alts) ≡ map (λ a. record { alternative = f a; level = 1; assoc = Free }) (by_level levels)
   in_one_level [] alts f same = refl
   in_one_level (level ∷ levels) alts f same =
-      append-nil (map free_alternative alts) ∙ ap (map free_alternative) same ∙ map_after f free_alternative (by_level (level ∷ levels))
+      append-nil (map free_alternative alts) ∙ ap (map free_alternative) same ∙ map_twice f free_alternative (by_level (level ∷ levels))
 
   pub alternative_to : (decl : Decl) (k : ℕ) (a : Levelled) → IsAlternative decl k a → IsAlternative (lowered_declaration levelled decl) k (flat decl a)
   alternative_to decl k a numbered = (
@@ -136,11 +134,11 @@ pair_has text {b = b} {env = env} {env' = env'} ins p fits first x others i g = 
         (cond n (record { left = Rattle.ig_expr.specs.Expression.Integer (pos p.right); right = Rattle.ig_expr.specs.Expression.Variable right_name }) no_pair))
         (cond m (left_of b) (cond n p.right 0)) (cond m p.left (cond n (right_of b) 0))
     go true l n r =
-        let active = left_true p.active (first && not (only_tests others)) (right_true (is_operand p.own x) (p.active && (first && not (only_tests others))) l) in
+        let active = first_true p.active (first && not (only_tests others)) (rest_true (is_operand p.own x) (p.active && (first && not (only_tests others))) l) in
         let at = fits active in
         record { left = left_there at.0 at.1 at.2; right = refl }
     go false l true r =
-        let active = left_true p.active (not first && only_tests others) (right_true (is_operand p.own x) (p.active && (not first && only_tests others)) r) in
+        let active = first_true p.active (not first && only_tests others) (rest_true (is_operand p.own x) (p.active && (not first && only_tests others)) r) in
         let at = fits active in
         record { left = refl; right = right_there at.0 at.1 at.2 }
     go false l false r = record { left = refl; right = refl }

@@ -1,11 +1,14 @@
 -- What a node of an alternative keeps to.
-use Rattle.std.proofs.Common.{◌≡◌, ℕ, suc, ◌+◌, ◌≤◌, Bool, true, false, List, [], ◌∷◌, ◌++◌, map, length, refl, sym, ◌∙◌, ap, subst, Option, Some, None, inl, inr, arith, cond}
-use Rattle.std.specs.Prelude.{◌⊎◌, ◌&&◌, ◌||◌, not, slice_get, option_map, ◌==◌}
-use Rattle.std.proofs.lemmas.Option.{slice_get-map}
+use Rattle.std.proofs.Common.{◌≡◌, ℕ, suc, ◌+◌, ◌≤◌, Bool, true, false, List, [], ◌∷◌, ◌++◌, map, length, refl, sym, ◌∙◌, ap, subst, Some, inl, inr, arith, cond}
+use Rattle.std.specs.Prelude.{◌⊎◌, ◌&&◌, ◌||◌, not, slice_get, ◌==◌}
+use Rattle.std.proofs.lemmas.Option.{slice_get-map, same_Some}
 use Rattle.std.proofs.lemmas.List.{append-nil}
 use Rattle.ig_text.specs.declared.tag.Tag.{Tag}
 use Rattle.ig_text.specs.declared.tag.Tag.TheVariants as tag
 use Rattle.ig_text.specs.Tree.{Tree, Trees, none, more, one, join}
+use Rattle.ig_text.proofs.Trees.{join_join, more_parts}
+use Rattle.ig_text.proofs.Options.{mapped}
+use Rattle.ig_text.proofs.Booleans.{first_true, rest_true}
 use Rattle.ig_grammar.specs.Symbol.{Symbol}
 use Rattle.ig_meaning.specs.Environment.{Environment}
 use Rattle.ig_grammar.specs.Numbering.{Levelled, Declares, IsAlternative, by_level, tag_of}
@@ -25,8 +28,8 @@ use Rattle.ig_levels.specs.Spines.{AtLeast, Asks}
 use Rattle.ig_levels.specs.Levels.{is_levelled, is_free, is_test, is_operand, is_left, is_right, only_tests, has_left, has_right, Place, place_in}
 use Rattle.ig_levels.proofs.Bounds.{Bounds}
 use Rattle.ig_levels.proofs.Takes.{OwnKind, Wanted, Handed, left_of, right_of}
-use Rattle.ig_levels.proofs.Finding.{left_true, right_true, operand_calls, left_sought, right_sought, no_later_left}
-use Rattle.ig_levels.proofs.Operating.{join_assoc, last_same, test_bare, tests_bare, operand_alone, right_tree, low_at, high_at}
+use Rattle.ig_levels.proofs.Finding.{operand_calls, left_sought, right_sought, no_later_left}
+use Rattle.ig_levels.proofs.Operating.{last_same, test_bare, tests_bare, operand_alone, right_tree, low_at, high_at}
 
 same_rule : (d k e l : ℕ) → tag.Rule d k ≡ tag.Rule e l → (d ≡ e) × (k ≡ l)
 same_rule d k e l h = (cc, cc)
@@ -45,21 +48,14 @@ rule_of SepStar d k e l h = absurd (not_among tag.Absent tag.Present (k == 1) e 
 rule_of Group d k e l h = absurd (cc)
 rule_of Root d k e l h = absurd (cc)
 
-some_same : {X : Type 0} (x y : X) → Some x ≡ Some y → x ≡ y
-some_same x y e = cc
-
 at_either : {X : Type 0} (xs ys : List X) (k : ℕ) (a : X) → slice_get (xs ++ ys) k ≡ Some a →
     (slice_get xs k ≡ Some a) ⊎ ((m : ℕ) × (slice_get ys m ≡ Some a))
 at_either [] ys k a h = inr (k, h)
 at_either (x ∷ xs) ys ℕ.zero a h = inl h
 at_either (x ∷ xs) ys (suc k) a h = at_either xs ys k a h
 
-mapped : {X Y : Type 0} (f : X → Y) (o : Option X) (y : Y) → option_map f o ≡ Some y → (x : X) × (y ≡ f x)
-mapped f None y h = absurd (cc)
-mapped f (Some x) y h = (x, cc)
-
 mapped_at : {X Y : Type 0} (f : X → Y) (xs : List X) (k : ℕ) (y : Y) → slice_get (map f xs) k ≡ Some y → (x : X) × (y ≡ f x)
-mapped_at f xs k y h = mapped f (slice_get xs k) y (sym (slice_get-map f xs k) ∙ h)
+mapped_at f xs k y h = let m = mapped f (slice_get xs k) y (sym (slice_get-map f xs k) ∙ h) in (m.0, m.2)
 
 abbrev leveled_by : ℕ → Assoc → Alt → Levelled
 leveled_by n assoc alt = record { alternative = alt; level = n; assoc = assoc }
@@ -104,12 +100,12 @@ module _ (g : Grammar) (shapes : List Shape) (text : List ℕ) where
       let same = rule_of shape d k applies.d applies.k applies.tagged in
       let place : applies.declaration.0 ≡ declares.numbered.0 =
       (let e : suc applies.declaration.0 ≡ suc declares.numbered.0 = sym applies.declaration.1 ∙ sym same.0 ∙ declares.numbered.1 in omega (arith, e)) in
-      let declaration : decl1 ≡ decl = some_same decl1 decl (sym applies.declaration.2 ∙ ap (slice_get g.decls) place ∙ declares.numbered.2) in
+      let declaration : decl1 ≡ decl = same_Some decl1 decl (sym applies.declaration.2 ∙ ap (slice_get g.decls) place ∙ declares.numbered.2) in
       let number : applies.numbered.0 ≡ numbered.0 =
       (let e : suc applies.numbered.0 ≡ suc numbered.0 = sym applies.numbered.1 ∙ sym same.1 ∙ numbered.1 in omega (arith, e)) in
       record {
         declaration = declaration;
-        alternative = some_same a1 a (sym applies.numbered.2 ∙ (λ z. slice_get (by_level (declaration z).levels) (number z)) ∙ numbered.2);
+        alternative = same_Some a1 a (sym applies.numbered.2 ∙ (λ z. slice_get (by_level (declaration z).levels) (number z)) ∙ numbered.2);
       }
 
   right_before : {own : List ℕ} {xs : List Symbol} → (has : HasRightOperand own xs) → has.first ∷ has.others ≡ [] → ⊥
@@ -167,9 +163,6 @@ module _ (g : Grammar) (shapes : List Shape) (text : List ℕ) where
         right = λ a b operand operand1 low us ends on begins. absurd (other ends.applies.d ends.applies.k ends.applies.tagged);
       }
 
-  one_first : (t u : Tree) (us vs : Trees) → more t us ≡ more u vs → (t ≡ u) × (us ≡ vs)
-  one_first t u us vs e = (cc, cc)
-
   -- what the symbol and the others keep to, all of them keep to
   pub wanted_join : {c : DeclKind} {x : Symbol} {others : List Symbol} {env between after : Environment} {i e h j : ℕ} {ts us : Trees} {ks ls : List ℕ} →
       Derives g shapes text c x env i e h ts between ks → Covers g shapes text c others between h j us after ls →
@@ -195,14 +188,14 @@ module _ (g : Grammar) (shapes : List Shape) (text : List ℕ) where
       on_left : (m : Bool) → is_left p first x others ≡ m → (m || has_left p (first && is_test x) others) ≡ true → (t : Tree) (rs : Trees) → vs ≡ more t rs →
           AtLeast g (left_of b) p.left t
       on_left true is has t rs split =
-          let operand = left_true (is_operand p.own x) (p.active && (first && not (only_tests others))) is in
-          let active = left_true p.active (first && not (only_tests others)) (right_true (is_operand p.own x) (p.active && (first && not (only_tests others))) is) in
+          let operand = first_true (is_operand p.own x) (p.active && (first && not (only_tests others))) is in
+          let active = first_true p.active (first && not (only_tests others)) (rest_true (is_operand p.own x) (p.active && (first && not (only_tests others))) is) in
           let alone = operand_alone g shapes text p.own (operand_calls p.own x operand) head (own active) in
           let same : more t rs ≡ more alone.tree us = sym split ∙ trees ∙ ap (λ z. join z us) alone.alone in
           let given : AtLeast g (cond true (left_of b) (cond (is_right p first x others) p.right 0)) (cond true p.left (cond (is_right p first x others) (right_of b) 0)) alone.tree =
           subst (λ z. AtLeast g (cond z (left_of b) (cond (is_right p first x others) p.right 0)) (cond z p.left (cond (is_right p first x others) (right_of b) 0)) alone.tree) is
           ((handed operand active).first alone.tree none alone.alone) in
-          subst (AtLeast g (left_of b) p.left) (sym (one_first t alone.tree rs us same).0) given
+          subst (AtLeast g (left_of b) p.left) (sym (more_parts t alone.tree rs us same).0) given
       on_left false is has t rs split =
           wanted.left has t rs (skip (is_test x) refl has t rs split)
 
@@ -211,18 +204,18 @@ module _ (g : Grammar) (shapes : List Shape) (text : List ℕ) where
       on_right m not_left false is has rs t split =
           let last = right_tree g shapes text rest p (first && is_test x) own has in
           let same : t ≡ last.tree =
-          last_same rs (join ts last.before) t last.tree (sym split ∙ trees ∙ ap (join ts) last.split ∙ sym (join_assoc ts last.before (one last.tree))) in
+          last_same rs (join ts last.before) t last.tree (sym split ∙ trees ∙ ap (join ts) last.split ∙ sym (join_join ts last.before (one last.tree))) in
           subst (AtLeast g p.right (right_of b)) (sym same) (wanted.right has last.before last.tree last.split)
       on_right m not_left true is has rs t split =
-          let operand = left_true (is_operand p.own x) (p.active && (not first && only_tests others)) is in
-          let more_true = right_true (is_operand p.own x) (p.active && (not first && only_tests others)) is in
-          let active = left_true p.active (not first && only_tests others) more_true in
-          let both = right_true p.active (not first && only_tests others) more_true in
-          let only = right_true (not first) (only_tests others) both in
+          let operand = first_true (is_operand p.own x) (p.active && (not first && only_tests others)) is in
+          let more_true = rest_true (is_operand p.own x) (p.active && (not first && only_tests others)) is in
+          let active = first_true p.active (not first && only_tests others) more_true in
+          let both = rest_true p.active (not first && only_tests others) more_true in
+          let only = rest_true (not first) (only_tests others) both in
           let alone = operand_alone g shapes text p.own (operand_calls p.own x operand) head (own active) in
           let bare : us ≡ none = tests_bare g shapes text rest only in
           let same : t ≡ alone.tree = last_same rs none t alone.tree (sym split ∙ trees ∙ (λ z. join (alone.alone z) (bare z))) in
-          let no_left : is_left p first x others ≡ false = never_both first (left_true (not first) (only_tests others) both) in
+          let no_left : is_left p first x others ≡ false = never_both first (first_true (not first) (only_tests others) both) in
           let given : AtLeast g p.right (right_of b) alone.tree =
           subst (λ z. AtLeast g (cond z p.right 0) (cond z (right_of b) 0) alone.tree) is
           (subst (λ z. AtLeast g (cond z (left_of b) (cond (is_right p first x others) p.right 0)) (cond z p.left (cond (is_right p first x others) (right_of b) 0)) alone.tree) no_left

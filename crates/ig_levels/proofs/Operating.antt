@@ -2,6 +2,8 @@
 use Rattle.std.proofs.Common.{◌≡◌, ℕ, Bool, true, false, List, ◌∷◌, refl, sym, ◌∙◌, ap, subst, cond}
 use Rattle.std.specs.Prelude.{◌&&◌, ◌||◌, not}
 use Rattle.ig_text.specs.Tree.{Tree, Trees, none, more, one, join}
+use Rattle.ig_text.proofs.Trees.{join_join}
+use Rattle.ig_text.proofs.Booleans.{first_true, rest_true}
 use Rattle.ig_expr.specs.declared.value.Value.{Value}
 use Rattle.ig_grammar.specs.Symbol.{Symbol, Guard, Let}
 use Rattle.ig_meaning.specs.Environment.{Environment}
@@ -19,16 +21,8 @@ use Rattle.ig_levels.specs.Levels.{is_test, only_tests, is_operand, Place, is_le
 use Rattle.ig_levels.proofs.Bounds.{Bounds}
 use Rattle.ig_levels.proofs.Takes.{OwnKind, Wanted, Handed, left_of, right_of}
 use Rattle.ig_levels.specs.Spines.{AtLeast}
-use Rattle.ig_levels.proofs.Finding.{left_true, right_true, operand_calls, no_later_left, behind_test, at_symbol, or_true}
+use Rattle.ig_levels.proofs.Finding.{operand_calls, no_later_left, behind_test, at_symbol, or_true}
 use Rattle.ig_levels.proofs.SpineFacts.{no_bounds}
-
-pub join_assoc : (ts us vs : Trees) → join (join ts us) vs ≡ join ts (join us vs)
-join_assoc none us vs = refl
-join_assoc (more t ts) us vs = ap (more t) (join_assoc ts us vs)
-
-pub join_none : (ts : Trees) → join ts none ≡ ts
-join_none none = refl
-join_none (more t ts) = ap (more t) (join_none ts)
 
 pub last_same : (ts us : Trees) (t u : Tree) → join ts (one t) ≡ join us (one u) → t ≡ u
 last_same none none t u e = cc
@@ -49,8 +43,8 @@ module _ (g : Grammar) (shapes : List Shape) (text : List ℕ) where
       Covers g shapes text c xs env i j vs after starts → only_tests xs ≡ true → vs ≡ none
   tests_bare (empty c env i) h = refl
   tests_bare (symbol c x others env between after i e h j ts us vs ks ls starts first rest trees exposes) only =
-      let a : ts ≡ none = test_bare x (left_true (is_test x) (only_tests others) only) first in
-      let b : us ≡ none = tests_bare rest (right_true (is_test x) (only_tests others) only) in
+      let a : ts ≡ none = test_bare x (first_true (is_test x) (only_tests others) only) first in
+      let b : us ≡ none = tests_bare rest (rest_true (is_test x) (only_tests others) only) in
       trees ∙ (λ z. join (a z) (b z))
 
   pub record Alone (ts : Trees) : Type 0 where
@@ -101,8 +95,8 @@ module _ (g : Grammar) (shapes : List Shape) (text : List ℕ) where
           record { tree = under.tree; others = under.others; split = trees ∙ (λ z. join (bare z) (under.split z)) }
       go false is below =
           let here : is_left p first x others ≡ true = sym (at_symbol p first x others is) ∙ has in
-          let operand = left_true (is_operand p.own x) (p.active && (first && not (only_tests others))) here in
-          let active = left_true p.active (first && not (only_tests others)) (right_true (is_operand p.own x) (p.active && (first && not (only_tests others))) here) in
+          let operand = first_true (is_operand p.own x) (p.active && (first && not (only_tests others))) here in
+          let active = first_true p.active (first && not (only_tests others)) (rest_true (is_operand p.own x) (p.active && (first && not (only_tests others))) here) in
           let alone = operand_alone p.own (operand_calls p.own x operand) head (own active) in
           record { tree = alone.tree; others = us; split = trees ∙ ap (λ z. join z us) alone.alone }
 
@@ -115,16 +109,16 @@ module _ (g : Grammar) (shapes : List Shape) (text : List ℕ) where
       go : (b : Bool) → is_right p first x others ≡ b → (b || has_right p (first && is_test x) others) ≡ true →
           (has_right p (first && is_test x) others ≡ true → LastOf us) → LastOf vs
       go true here has below =
-          let operand = left_true (is_operand p.own x) (p.active && (not first && only_tests others)) here in
-          let more_true = right_true (is_operand p.own x) (p.active && (not first && only_tests others)) here in
-          let active = left_true p.active (not first && only_tests others) more_true in
-          let only = right_true (not first) (only_tests others) (right_true p.active (not first && only_tests others) more_true) in
+          let operand = first_true (is_operand p.own x) (p.active && (not first && only_tests others)) here in
+          let more_true = rest_true (is_operand p.own x) (p.active && (not first && only_tests others)) here in
+          let active = first_true p.active (not first && only_tests others) more_true in
+          let only = rest_true (not first) (only_tests others) (rest_true p.active (not first && only_tests others) more_true) in
           let alone = operand_alone p.own (operand_calls p.own x operand) head (own active) in
           let bare : us ≡ none = tests_bare rest only in
           record { before = none; tree = alone.tree; split = trees ∙ (λ z. join (alone.alone z) (bare z)) }
       go false here has below =
           let under = below has in
-          record { before = join ts under.before; tree = under.tree; split = trees ∙ ap (join ts) under.split ∙ sym (join_assoc ts under.before (one under.tree)) }
+          record { before = join ts under.before; tree = under.tree; split = trees ∙ ap (join ts) under.split ∙ sym (join_join ts under.before (one under.tree)) }
 
   abbrev pub low_at : Place → Bounds → Bool → Symbol → List Symbol → ℕ
   low_at p b first x others = cond (is_left p first x others) (left_of b) (cond (is_right p first x others) p.right 0)
@@ -148,10 +142,10 @@ module _ (g : Grammar) (shapes : List Shape) (text : List ℕ) where
       go t rs split true l n r =
           wanted.left (ap (λ z. z || has_left p (first && is_test x) others) l) t (join rs us) (trees ∙ ap (λ z. join z us) split)
       go t rs split false l true r =
-          let operand = left_true (is_operand p.own x) (p.active && (not first && only_tests others)) r in
-          let more_true = right_true (is_operand p.own x) (p.active && (not first && only_tests others)) r in
-          let active = left_true p.active (not first && only_tests others) more_true in
-          let only = right_true (not first) (only_tests others) (right_true p.active (not first && only_tests others) more_true) in
+          let operand = first_true (is_operand p.own x) (p.active && (not first && only_tests others)) r in
+          let more_true = rest_true (is_operand p.own x) (p.active && (not first && only_tests others)) r in
+          let active = first_true p.active (not first && only_tests others) more_true in
+          let only = rest_true (not first) (only_tests others) (rest_true p.active (not first && only_tests others) more_true) in
           let alone = operand_alone p.own (operand_calls p.own x operand) head (own active) in
           let bare : us ≡ none = tests_bare rest only in
           let ends : rs ≡ none = one_alone t alone.tree rs (sym split ∙ alone.alone) in
@@ -167,7 +161,7 @@ module _ (g : Grammar) (shapes : List Shape) (text : List ℕ) where
         left = λ has t rs split. go t rs split has (is_test x) refl;
         right = λ has rs t split.
             wanted.right (ap (λ z. is_right p first x others || z) has ∙ or_true (is_right p first x others)) (join ts rs) t
-            (trees ∙ ap (join ts) split ∙ sym (join_assoc ts rs (one t)));
+            (trees ∙ ap (join ts) split ∙ sym (join_join ts rs (one t)));
       }
     where
       go : (t : Tree) (rs : Trees) → us ≡ more t rs → has_left p (first && is_test x) others ≡ true → (m : Bool) → is_test x ≡ m → AtLeast g (left_of b) p.left t

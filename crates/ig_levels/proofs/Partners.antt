@@ -15,10 +15,9 @@ use Rattle.ig_levels.specs.Levels.{Pair, with_pair, added_parameters, is_levelle
 use Rattle.ig_levels.proofs.Bounds.{AllClear, Clear, ParametersOfSource}
 use Rattle.ig_levels.proofs.Finding.{left_found, right_found}
 use Rattle.ig_levels.proofs.Keeping.{test}
-use Rattle.ig_text.proofs.Lists.{contains_first, contains_later}
+use Rattle.ig_text.proofs.Lists.{contains_first, contains_later, in_rest}
 use Rattle.ig_levels.proofs.Kinded.{bound_kinds, InsertedKinds, here, behind, PairFits, Paired, no_pairs, next_pair}
 use Rattle.ig_levels.proofs.Sequences.{lowered_paired}
-use Rattle.ig_levels.proofs.Asking.{in_rest}
 use Rattle.ig_text.proofs.Lists.{none_in_nil}
 
 -- the occurrence of the source that stands beside one of the lowered alternative

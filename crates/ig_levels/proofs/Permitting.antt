@@ -23,7 +23,7 @@ use Rattle.ig_grammar.specs.declared.symbol.Alt.{Alt}
 use Rattle.ig_rewrite.specs.KeptByRoot.{RootAt}
 use Rattle.ig_rewrite.specs.Sound.{IsFree}
 use Rattle.ig_text.proofs.Options.{mapped}
-use Rattle.std.proofs.lemmas.Option.{slice_get-map}
+use Rattle.std.proofs.lemmas.Option.{slice_get-map, same_Some}
 use Rattle.ig_levels.specs.Levels.{names_levelled, is_levelled, lowered_declaration, lowered_grammar, one_level, symbols_in, place_in}
 use Rattle.ig_levels.proofs.Bounds.{unbounded, Inserted, here}
 use Rattle.ig_levels.proofs.Premises.{Lowerable}
@@ -35,9 +35,6 @@ use Rattle.ig_levels.proofs.Back.{covers_from}
 use Rattle.ig_levels.proofs.Nodes.{clean_other}
 use Rattle.ig_levels.proofs.Idle.{idle_wanted, no_tests}
 use Rattle.ig_levels.proofs.Values.{bind_to}
-
-some_same : {X : Type 0} (x y : X) → Some x ≡ Some y → x ≡ y
-some_same x y e = cc
 
 one_free : (levels : List Level) (alts : List Alt) → HasNoOperators (one_level levels alts)
 one_free [] alts = tt
@@ -76,7 +73,7 @@ module _ (g : Grammar) (shapes : List Shape) (text : List ℕ) (cleans : TreesWi
         declares = record {
           numbered = (root.before, refl, root.declared);
           shaped = (root.before, refl, root.shaped);
-          named = some_same root.decl.name start (sym root.start ∙ starts);
+          named = same_Some root.decl.name start (sym root.start ∙ starts);
         };
       }
 

@@ -1,6 +1,7 @@
 -- The occurrences of an alternative, and its tests.
 use Rattle.std.proofs.Common.{◌≡◌, ℕ, Bool, true, false, List, [], ◌∷◌, ◌++◌, refl, sym, ◌∙◌, ap, subst, cond, Some}
 use Rattle.std.specs.Prelude.{◌&&◌, not, pos}
+use Rattle.ig_text.proofs.Booleans.{first_true, rest_true}
 use Rattle.ig_expr.specs.Expression.{Integer, Variable, Binary}
 use Rattle.ig_expr.specs.Kinds.{of_two}
 use Rattle.ig_expr.specs.declared.operator.Op.TheVariants.{GreaterEqual}
@@ -11,7 +12,6 @@ use Rattle.ig_levels.specs.Levels.{no_pair, with_pair, lowered, Place, is_left, 
 use Rattle.ig_rewrite.specs.Added.{left_name, right_name}
 use Rattle.ig_levels.proofs.Kinded.{bound_kinds, InsertedKinds, here, behind, PairFits, Paired, no_pairs, next_pair}
 use Rattle.ig_levels.proofs.Bounds.{AllClear}
-use Rattle.ig_levels.proofs.Finding.{left_true, right_true}
 use Rattle.ig_levels.proofs.Kinding.{find, find_cons, find_next, appended, same_binds, inside_paired, paired_append, no_pair_fits}
 use Rattle.ig_levels.proofs.Keeping.{left_variable, right_variable, number}
 
@@ -32,10 +32,10 @@ pair_fits {w = w} ins p active_is first x others = go (is_left p first x others)
     go : (l : Bool) → is_left p first x others ≡ l → (r : Bool) → is_right p first x others ≡ r →
         PairFits w (cond l (record { left = Variable left_name; right = Integer (pos p.left) }) (cond r (record { left = Integer (pos p.right); right = Variable right_name }) no_pair))
     go true is r ris =
-        let m = active_is (left_true p.active (first && not (only_tests others)) (right_true (is_operand p.own x) (p.active && (first && not (only_tests others))) is)) in
+        let m = active_is (first_true p.active (first && not (only_tests others)) (rest_true (is_operand p.own x) (p.active && (first && not (only_tests others))) is)) in
         record { left_kind = left_kind ins m; right_kind = refl; own = record { left = left_variable; right = number p.left } }
     go false is true ris =
-        let m = active_is (left_true p.active (not first && only_tests others) (right_true (is_operand p.own x) (p.active && (not first && only_tests others)) ris)) in
+        let m = active_is (first_true p.active (not first && only_tests others) (rest_true (is_operand p.own x) (p.active && (not first && only_tests others)) ris)) in
         record { left_kind = refl; right_kind = right_kind ins m; own = record { left = number p.right; right = right_variable } }
     go false is false ris = no_pair_fits w
 

@@ -1,6 +1,6 @@
 -- A table of levelled declarations, with one declaration more before the others.
 use Rattle.std.proofs.Common.{◌≡◌, ◌∙◌, ℕ, ◌+◌, ◌<◌, Bool, true, false, List, [], ◌∷◌, Some, None, cond, drop, get_or, length, refl, sym, ap, subst}
-use Rattle.std.specs.Prelude.{bytes_eq, chars, encode_utf8_all, IsUtf8}
+use Rattle.std.specs.Prelude.{bytes_eq, encode_utf8_all}
 use Rattle.std.specs.Cmp.Lexicographic.{slice_cmp, bytes_decides}
 use Rattle.std.specs.Ordering.{nat_cmp}
 use Rattle.std.specs.BTreeMap as tree
@@ -8,15 +8,12 @@ use Rattle.std.specs.BTreeMap.{BTreeMap}
 use denote.Ref.{Bor}
 use Rattle.std.proofs.lemmas.List.{drop_more}
 use Rattle.std.proofs.lemmas.Slice.Eq.{bytes_eq-Decides}
-use Rattle.std.proofs.lemmas.Str.{encodes-chars, encodes_same}
+use Rattle.std.proofs.lemmas.Str.{encodes_same}
 use Rattle.std.proofs.lemmas.Map.Text.{btree_map_updates_str}
 use Rattle.ig_text.specs.Words.{is_word}
 use Rattle.ig_grammar.specs.declared.declaration.Decl.{Decl}
 use Rattle.ig_levels.specs.Levels.{is_levelled, names_levelled}
 use Rattle.ig_levels.specs.Tables.{lookup, or_false, levelled_by, Tells}
-
-pub word_bytes : (bytes name : List ℕ) → IsUtf8 bytes → chars bytes ≡ name → bytes ≡ encode_utf8_all name
-word_bytes bytes name u e = sym (encodes-chars bytes u) ∙ ap encode_utf8_all e
 
 -- nothing is levelled where there is no declaration
 pub tells_none : (m : BTreeMap (Bor (List ℕ)) Bool) → ((name : List ℕ) → lookup m name ≡ None) → Tells m []

@@ -4,6 +4,7 @@ use Rattle.std.proofs.Common.{◌≡◌, ◌∙◌, ℕ, List, [], ◌∷◌, �
 use Rattle.std.specs.Prelude.{All, ◌||◌}
 use Rattle.std.proofs.lemmas.List.{append-nil}
 use Rattle.std.proofs.lemmas.List.Elements.{All-nil, All-cons, All-head, All-tail}
+use Rattle.std.proofs.Math.Bool.{or-false}
 use Rattle.ig_text.specs.declared.pattern.Pattern.{Pattern}
 use Rattle.ig_expr.specs.Expression.{Expression, FreeBefore, FreeAfter}
 use Rattle.ig_grammar.specs.Symbol.{Symbol, Literal, OneOf, Call, Label, Guard, Let, Opt, Star, Plus, SepStar, SepPlus, Group, Offside, Ignore, Align, Filtered, Seq, Entry, gathered}
@@ -19,7 +20,7 @@ use Rattle.ig_rewrite.specs.Sound.{ExcludesOnly}
 use Rattle.ig_lexical.specs.Filters.{befores, afters, exclusions, with_filters, guarded, attached}
 use Rattle.ig_lexical.proofs.Traversal.{Throughout, ThroughoutSymbols, ThroughoutChoices}
 use Rattle.ig_lexical.proofs.Everywhere.{throughout_choices, of_throughout_choices, choices_kept}
-use Rattle.ig_lexical.proofs.LaidKept.{or_nothing, unmarked_head}
+use Rattle.ig_lexical.proofs.LaidKept.{unmarked_head}
 use Rattle.ig_lexical.proofs.StandingWell.{label_within, filters_within, entry_within, placed_within, entered_within}
 
 -- what may have filters may have a label, and may be separated
@@ -84,7 +85,7 @@ module _ (n : List ℕ) where
     where
       all : (bs cs : List Expression) → ((xs : List Symbol) → symbols_need n (gathered (map Guard bs ++ xs)) ≡ symbols_need n (gathered xs)) →
           symbols_need n (gathered (map Guard cs)) ≡ false → symbols_need n (gathered (map Guard bs ++ y ∷ map Guard cs)) ≡ needs n y
-      all bs cs before behind = before (y ∷ map Guard cs) ∙ ap (λ b. needs n y || b) behind ∙ or_nothing (needs n y)
+      all bs cs before behind = before (y ∷ map Guard cs) ∙ ap (λ b. needs n y || b) behind ∙ or-false (needs n y)
 
       go : (bs cs : List Expression) → ((xs : List Symbol) → symbols_need n (gathered (map Guard bs ++ xs)) ≡ symbols_need n (gathered xs)) →
           symbols_need n (gathered (map Guard cs)) ≡ false → needs n (guarded bs cs y) ≡ needs n y

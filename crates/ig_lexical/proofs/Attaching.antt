@@ -3,9 +3,10 @@ use Rattle.std.proofs.Common.{◌≡◌, ◌∙◌, ℕ, List, [], ◌∷◌, �
 use Rattle.std.specs.Prelude.{◌↔◌}
 use Rattle.std.proofs.lemmas.List.{append-nil}
 use Rattle.std.proofs.lemmas.List.Elements.{All-nil, All-cons, All-head, All-tail}
-use Rattle.ig_text.specs.Tree.{Trees, none, more, join}
+use Rattle.ig_text.specs.Tree.{Trees, none, join}
 use Rattle.ig_text.specs.declared.pattern.Pattern.{Pattern}
 use Rattle.ig_text.specs.Pattern.{Matches}
+use Rattle.ig_text.proofs.Trees.{join-none}
 use Rattle.ig_expr.specs.Expression.{Expression, FreeBefore, FreeAfter}
 use Rattle.ig_expr.specs.declared.value.Value.TheVariants as value
 use Rattle.ig_expr.specs.Laws.{TestsLookFor}
@@ -146,17 +147,13 @@ module _ (looks : TestsLookFor) (g : Grammar) (shapes : List Shape) (text : List
       let r = guard_first covers in let s = guards_ended es env after i j ts starts r.1 in
       record { hold = (r.0, s.hold); same = s.same; trees = s.trees; env_same = s.env_same; exposes = s.exposes }
 
-  join_none : (ts : Trees) → join ts none ≡ ts
-  join_none none = refl
-  join_none (more t ts) = ap (more t) (join_none ts)
-
   sequence_of : (bs cs : List Expression) (y : Symbol) (env after : Environment) (i e j : ℕ) (ts : Trees) (starts : List ℕ) →
       Hold text env i bs → Hold text after j cs → Derives g shapes text c y env i e j ts after starts →
       Derives g shapes text c (Seq (gathered (map Guard bs ++ y ∷ map Guard cs))) env i j j ts after starts
   sequence_of bs cs y env after i e j ts starts before behind derived =
       let all : Covers g shapes text c (map Guard bs ++ y ∷ map Guard cs) env i j ts after starts =
       guards_cover bs (y ∷ map Guard cs) env after i j ts starts before
-      (symbol c y (map Guard cs) env after after i e j j ts none ts starts [] starts derived (guards_end cs after j behind) (sym (join_none ts)) (sym (append-nil starts))) in
+      (symbol c y (map Guard cs) env after after i e j j ts none ts starts [] starts derived (guards_end cs after j behind) (sym (join-none ts)) (sym (append-nil starts))) in
       sequence c (gathered (map Guard bs ++ y ∷ map Guard cs)) env after i j ts starts
       (subst (λ xs. Covers g shapes text c xs env i j ts after starts) (sym (listed_gathered (map Guard bs ++ y ∷ map Guard cs))) all)
 
@@ -176,7 +173,7 @@ module _ (looks : TestsLookFor) (g : Grammar) (shapes : List Shape) (text : List
         before = before;
         behind = subst (λ p. Hold text after p cs) s.same (subst (λ v. Hold text v h cs) (sym s.env_same) s.hold);
         derives = subst (λ p. Derives g shapes text c y env i e p vs after starts) s.same (subst (λ v. Derives g shapes text c y env i e h vs v starts) (sym s.env_same)
-            (subst (λ us. Derives g shapes text c y env i e h us between starts) (sym (join_none ts) ∙ ap (join ts) (sym s.trees) ∙ sym trees)
+            (subst (λ us. Derives g shapes text c y env i e h us between starts) (sym (join-none ts) ∙ ap (join ts) (sym s.trees) ∙ sym trees)
             (subst (λ ms. Derives g shapes text c y env i e h ts between ms) (sym (append-nil ks) ∙ ap (λ ms. ks ++ ms) (sym s.exposes) ∙ sym exposes) first)));
       }
 

@@ -2,7 +2,7 @@
 use Rattle.std.proofs.Common.{◌≡◌, List, [], ◌∷◌, ◌++◌, map, refl, sym, subst}
 use Rattle.std.specs.Prelude.{All, Contains}
 use Rattle.std.proofs.lemmas.List.Elements.{All-nil, All-cons, All-head, All-tail, All-append}
-use Rattle.ig_text.proofs.Lists.{contains_from_at, at_from_contains}
+use Rattle.ig_text.proofs.Lists.{contains_from_at, at_from_contains, from_map}
 use Rattle.ig_grammar.specs.Symbol.{Symbol, Literal, OneOf, Call, Label, Guard, Let, Opt, Star, Plus, SepStar, SepPlus, Group, Offside, Ignore, Align, Filtered, Seq, Entry}
 use Rattle.ig_grammar.specs.Symbol.{Symbols, no_symbols, next_symbol, Alternatives, no_alternatives, next_alternative}
 use Rattle.ig_grammar.specs.Alternative.{gathered_alternatives}
@@ -14,7 +14,7 @@ use Rattle.ig_grammar.specs.declared.declaration.Level.{Level}
 use Rattle.ig_grammar.specs.declared.declaration.Decl.{Decl}
 use Rattle.ig_grammar.specs.declared.grammar.Grammar.{Grammar}
 use Rattle.ig_rewrite.specs.Rewriting.{within, rewritten_symbols, rewritten_choices, rewritten_alternative, rewritten_level}
-use Rattle.ig_lexical.proofs.Pass.{taken_back, gathered_rewritten}
+use Rattle.ig_lexical.proofs.Pass.{gathered_rewritten}
 use Rattle.ig_lexical.proofs.RewrittenScoped.{turned, turned_grammar}
 use Rattle.ig_lexical.proofs.Traversal.{Throughout, ThroughoutSymbols, ThroughoutChoices}
 
@@ -140,9 +140,9 @@ module _ (becomes : DeclKind → DeclKind) (own : Decl → Symbol → Symbol) (g
       OfEachLevel P g → OfEachLevel Q (turned_grammar becomes own g)
   each_level P Q f all decl level m l =
       let d = at_from_contains (turned_grammar becomes own g).decls decl m in
-      let r = taken_back (turned becomes own) g.decls d.0 decl d.1 in
+      let r = from_map (turned becomes own) g.decls d.0 decl d.1 in
       let k = at_from_contains (turned becomes own r.0).levels level (subst (λ (z : Decl). Contains z.levels level) r.2 l) in
-      let s = taken_back (rewritten_level (own r.0)) r.0.levels k.0 level k.1 in
+      let s = from_map (rewritten_level (own r.0)) r.0.levels k.0 level k.1 in
       subst (λ (z : Level). Q (gathered_alternatives z.alts)) (sym s.2)
       (subst Q (sym (choices_gathered (own r.0) s.0.alts))
       (f r.0 (gathered_alternatives s.0.alts) (all r.0 s.0 (contains_from_at g.decls d.0 r.0 r.1) (contains_from_at r.0.levels k.0 s.0 s.1))))

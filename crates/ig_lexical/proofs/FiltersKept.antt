@@ -17,7 +17,7 @@ use Rattle.ig_rewrite.specs.Rooted.{rooted}
 use Rattle.ig_rewrite.specs.Sound.{ExcludesOnly, RootHasCallsAlone}
 use Rattle.ig_lexical.specs.Filters.{attached, attached_of}
 use Rattle.ig_lexical.specs.Laws.{FiltersKeep}
-use Rattle.ig_text.proofs.Lists.{contains_from_at, at_from_contains}
+use Rattle.ig_text.proofs.Lists.{contains_from_at, at_from_contains, from_map}
 use Rattle.ig_lexical.proofs.AttachedKept.{attached_well, attached_unmarked, attached_entered, attached_excludes}
 use Rattle.ig_lexical.proofs.Everywhere.{each_level}
 use Rattle.ig_lexical.proofs.FiltersSame.{Given, filters_same, root_start}
@@ -25,7 +25,7 @@ use Rattle.ig_lexical.proofs.FiltersScoped.{attached_is_well_scoped}
 use Rattle.ig_lexical.proofs.FiltersShaped.{attached_call, attached_fits}
 use Rattle.ig_lexical.proofs.KeptSound.{made_free, made_is_sound}
 use Rattle.ig_rewrite.specs.EachLevel.{alternative_at}
-use Rattle.ig_lexical.proofs.Pass.{taken_back, layout_rewritten}
+use Rattle.ig_lexical.proofs.Pass.{layout_rewritten}
 use Rattle.ig_lexical.proofs.RewrittenScoped.{turned, alternative_before}
 use Rattle.ig_lexical.proofs.ValuedPass.{filters_keep_values}
 
@@ -37,7 +37,7 @@ own decl = attached
 
 calls_kept : (c : CheckedGrammar) → RootHasCallsAlone c → RootHasCallsAlone (attached_of c)
 calls_kept c alone before decl a at shaped syntactic has =
-    let r = taken_back (turned kinds own) c.grammar.decls before decl at in
+    let r = from_map (turned kinds own) c.grammar.decls before decl at in
     let k = at_from_contains (alternatives decl.levels) a has in
     let s = alternative_before attached r.0.levels k.0 a (subst (λ (z : Decl). slice_get (alternatives z.levels) k.0 ≡ Some a) r.2 k.1) in
     let m = contains_from_at (alternatives r.0.levels) k.0 s.0.alternative (alternative_at r.0.levels k.0 s.0 s.1) in

@@ -14,8 +14,6 @@ use Rattle.ig_lexical.specs.Filters.{befores, afters, exclusions, with_filters, 
 use Rattle.ig_lexical.proofs.AttachingPlaced.{attached_placed}
 use Rattle.ig_rewrite.specs.Asked.{Asks}
 use Rattle.ig_rewrite.specs.Passing.{ResultsAreReady}
-use Rattle.ig_expr.specs.declared.kind.Kind.TheVariants as kind
-use Rattle.ig_grammar.specs.Condition as meets
 use Rattle.ig_rewrite.specs.Binders.{one_if, binders, binders_of_symbols}
 use Rattle.ig_lexical.proofs.RewrittenScoped.{KeepsKinds, turned_is_well_scoped}
 

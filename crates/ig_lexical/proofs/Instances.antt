@@ -1,7 +1,8 @@
 -- What instances of one grammar cover those of the other cover too, by induction on the height of their trees.
-use Rattle.std.proofs.Common.{◌≡◌, ℕ, zero, suc, ◌+◌, ◌≤◌, max, List, ◌++◌, refl, sym, subst, arith}
+use Rattle.std.proofs.Common.{◌≡◌, ℕ, zero, suc, ◌+◌, ◌≤◌, List, ◌++◌, refl, sym, subst, arith}
 use Rattle.ig_text.specs.declared.tag.Tag.{Tag}
-use Rattle.ig_text.specs.Tree.{Tree, Trees, Node, none, more, one, join, height, greatest_height}
+use Rattle.ig_text.specs.Tree.{Tree, Trees, Node, one, join, height, greatest_height}
+use Rattle.ig_text.proofs.Trees.{joined_height}
 use Rattle.ig_expr.specs.declared.value.Value.{Value}
 use Rattle.ig_meaning.specs.Environment.{Environment, AreBound}
 use Rattle.ig_grammar.specs.Numbering.{Levelled, Declares, IsAlternative, tag_of}
@@ -16,12 +17,6 @@ use Rattle.ig_lexical.proofs.Simulation as sim
 -- trees no higher than n
 abbrev pub Low : ℕ → List ℕ → Trees → Type 0
 Low n starts ts = greatest_height ts ≤ n
-
-pub joined_height : (ts us : Trees) → greatest_height (join ts us) ≡ max (greatest_height ts) (greatest_height us)
-joined_height none us = let h : greatest_height us ≡ max 0 (greatest_height us) = omega arith in h
-joined_height (more t ts) us =
-    let h = joined_height ts us in
-    let i : max (height t) (greatest_height (join ts us)) ≡ max (max (height t) (greatest_height ts)) (greatest_height us) = omega (arith, h) in i
 
 pub low_first : (n : ℕ) (ks ls : List ℕ) (ts us : Trees) → Low n (ks ++ ls) (join ts us) → Low n ks ts
 low_first n ks ls ts us l = let h = joined_height ts us in omega (arith, h, l)

@@ -3,6 +3,7 @@ use Rattle.std.proofs.Common.{◌≡◌, ℕ, List, [], ◌∷◌, ◌++◌, Opt
 use Rattle.std.specs.Prelude.{not, ◌&&◌, ◌||◌, if◌then◌else◌}
 use Rattle.std.proofs.lemmas.List.{append-nil}
 use Rattle.std.proofs.lemmas.List.Elements.{All-nil}
+use Rattle.std.proofs.Math.Bool.{or-false}
 use Rattle.ig_grammar.specs.Binding.{Binding}
 use Rattle.ig_grammar.specs.declared.filter.Filter.{Filter}
 use Rattle.ig_grammar.specs.Symbol.{Symbol, Call, Offside, Ignore, Align, Opt, Star, Plus, SepStar, SepPlus, Group, Label, Filtered, Seq, Entry, no_symbols, next_symbol}
@@ -18,11 +19,6 @@ use Rattle.ig_lexical.specs.Layout.{is_token, then_layout, laid_inside, laid, la
 use Rattle.ig_lexical.proofs.Traversal.{Throughout}
 use Rattle.ig_lexical.proofs.Everywhere.{choices_kept}
 use Rattle.ig_lexical.proofs.StandingWell.{separated_within, placed_within, entered_within}
-
--- what a symbol wants and a symbol that wants nothing
-pub or_nothing : (b : Bool) → (b || false) ≡ b
-or_nothing true = refl
-or_nothing false = refl
 
 module _ (decls : List Decl) (w : List ℕ) where
   -- what holds of both results holds of the rule's
@@ -83,7 +79,7 @@ module _ (decls : List Decl) (w : List ℕ) where
   names_laid x = chosen (λ y. bound_names y ≡ bound_names x) x (append-nil (bound_names x)) (names_inside x)
 
   wants_chosen : (n : List ℕ) (x : Symbol) → needs n (laid_inside decls w x) ≡ needs n x → needs n (laid decls w x) ≡ needs n x
-  wants_chosen n x e = chosen (λ y. needs n y ≡ needs n x) x (or_nothing (needs n x)) e
+  wants_chosen n x e = chosen (λ y. needs n y ≡ needs n x) x (or-false (needs n x)) e
 
   wants_inside : (n : List ℕ) (x : Symbol) → needs n (laid_inside decls w x) ≡ needs n x
   wants_inside n (Label name x) = wants_inside n x

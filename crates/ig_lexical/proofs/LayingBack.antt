@@ -2,6 +2,7 @@
 use Rattle.std.proofs.Common.{◌≡◌, ◌∙◌, ℕ, ◌≤◌, List, [], ◌∷◌, ◌++◌, Bool, true, false, refl, sym, ap, subst, arith}
 use Rattle.std.specs.Prelude.{◌≢◌, Some, if◌then◌else◌}
 use Rattle.ig_text.specs.Tree.{Tree, Trees, Leaf, none, more, one, join, greatest_height}
+use Rattle.ig_text.proofs.Trees.{joined_height, join-none}
 use Rattle.ig_expr.specs.declared.value.Value.{Value}
 use Rattle.ig_expr.specs.declared.value.Value.TheVariants as value
 use Rattle.ig_grammar.specs.Symbol.{Symbol, Literal, OneOf, Call, Label, Guard, Let, Filtered, Seq, no_symbols, next_symbol}
@@ -16,7 +17,7 @@ use Rattle.ig_grammar.specs.declared.place.Shape.{Shape}
 use Rattle.ig_lexical.proofs.Simulation as sim
 use Rattle.ig_lexical.proofs.Alike.{IsLeaf, Alike, alike_follows, leaf, label_alike, opt_alike, star_alike, plus_alike, sep_star_alike, sep_plus_alike, group_alike, offside_alike, ignore_alike, align_alike, filtered_alike, seq_alike, entry_alike}
 use Rattle.ig_lexical.proofs.Traversal.{AtLeaf, releafed, turned}
-use Rattle.ig_lexical.proofs.Instances.{Low, LowInstances, joined_height}
+use Rattle.ig_lexical.proofs.Instances.{Low, LowInstances}
 use Rattle.ig_lexical.proofs.Leaves.{SameEnv, AnyStarts, fits_any}
 use Rattle.ig_lexical.proofs.LayoutChain.{IsToken, literal_token, class_token, call_token, label_token, filtered_token}
 use Rattle.ig_lexical.specs.Layout.{is_token, then_layout, laid_inside, laid}
@@ -33,10 +34,6 @@ AllPlain h forms text = (name : List ℕ) (vs : List Value) (kind : DeclKind) (i
 
 lexical_is_other : Lexical ≢ Plain
 lexical_is_other e = cc
-
-join_none : (ts : Trees) → join ts none ≡ ts
-join_none none = refl
-join_none (more t ts) = ap (more t) (join_none ts)
 
 -- two symbols in place
 record Two (h : Grammar) (forms : List Shape) (text : List ℕ) (x y : Symbol) (env : Environment) (i j : ℕ) (ts : Trees) (after : Environment) : Type 0 where
@@ -55,7 +52,7 @@ record Two (h : Grammar) (forms : List Shape) (text : List ℕ) (x y : Symbol) (
 two_then : (h : Grammar) (forms : List Shape) (text : List ℕ) (x y : Symbol) (env between after : Environment) (i e p j : ℕ) (ts us vs : Trees) (ks ls : List ℕ) →
     Derives h forms text Plain x env i e p us between ks → ts ≡ join us vs → Covers h forms text Plain (y ∷ []) between p j vs after ls → Two h forms text x y env i j ts after
 two_then h forms text x y env between after i e p j ts us vs ks ls first split (symbol _ _ _ _ _ _ _ f _ _ ws _ _ ms _ _ second (empty _ _ _) trees exposes) =
-    record { between = between; own = e; middle = p; later = f; us = us; vs = ws; ks = ks; ls = ms; first = first; second = second; split = split ∙ ap (join us) (trees ∙ join_none ws) }
+    record { between = between; own = e; middle = p; later = f; us = us; vs = ws; ks = ks; ls = ms; first = first; second = second; split = split ∙ ap (join us) (trees ∙ join-none ws) }
 
 two : (h : Grammar) (forms : List Shape) (text : List ℕ) (x y : Symbol) (env after : Environment) (i j : ℕ) (ts : Trees) (starts : List ℕ) →
     Covers h forms text Plain (x ∷ y ∷ []) env i j ts after starts → Two h forms text x y env i j ts after

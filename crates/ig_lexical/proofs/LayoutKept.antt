@@ -1,6 +1,6 @@
 -- What the layout pass keeps.
 use Rattle.std.proofs.Common.{◌≡◌, ◌∙◌, List, [], ◌∷◌, None, map, refl, sym, ap}
-use Rattle.ig_text.proofs.Lists.{at_from_contains}
+use Rattle.ig_text.proofs.Lists.{at_from_contains, from_map}
 use Rattle.ig_grammar.specs.Symbol.{Symbol}
 use Rattle.ig_grammar.specs.Numbering.{layout_among}
 use Rattle.ig_grammar.specs.Regular.{AlternativesStandWell, AlternativesHaveNoMark}
@@ -20,7 +20,6 @@ use Rattle.ig_lexical.proofs.LaidKept.{well_in, entered_in, unmarked_in}
 use Rattle.ig_lexical.proofs.LayoutSame.{Given, layout_same}
 use Rattle.ig_lexical.proofs.LayoutScoped.{laid_is_well_scoped}
 use Rattle.ig_lexical.proofs.LayoutShaped.{laid_fits}
-use Rattle.ig_lexical.proofs.Pass.{taken_back}
 use Rattle.ig_lexical.proofs.ValuedPass.{layout_keeps_values}
 
 none_declared : (all decls : List Decl) → layout_among (map (laid_declaration all) decls) ≡ None
@@ -30,7 +29,7 @@ none_declared all (d ∷ ds) = none_declared all ds
 each_plain : (c : CheckedGrammar) → IsPlain (LayoutOf c).grammar
 each_plain c decl m =
     let at = at_from_contains (LayoutOf c).grammar.decls decl m in
-    let r = taken_back (laid_declaration (rooted Syntax c).grammar.decls) (rooted Syntax c).grammar.decls at.0 decl at.1 in
+    let r = from_map (laid_declaration (rooted Syntax c).grammar.decls) (rooted Syntax c).grammar.decls at.0 decl at.1 in
     ap (λ (z : Decl). z.kind) r.2
 
 pub layout_kept : Given → LayoutKeeps
@@ -54,7 +53,7 @@ layout_kept given c sound free none =
       sound = made_is_sound to own d from kept.has (laid_is_well_scoped given.passes given.forms given.found d.grammar from.scoped unmarked)
           (laid_fits given.forms given.found d.grammar d.shapes from.scoped unmarked from.fit from.root_calls) well entered
           (λ before decl a at shaped syntactic m.
-          let r = taken_back (laid_declaration d.grammar.decls) d.grammar.decls before decl at in
+          let r = from_map (laid_declaration d.grammar.decls) d.grammar.decls before decl at in
           let k : Plain ≡ Syntax = ap (λ (z : Decl). z.kind) (sym r.2) ∙ syntactic in absurd (cc));
       free = made_free to own d (kept.free free);
       unmarked = each_level to own d.grammar AlternativesHaveNoMark AlternativesHaveNoMark

@@ -24,8 +24,8 @@ use Rattle.ig_rewrite.specs.Sound.{IsSound, IsFree, IsUnmarked}
 use Rattle.ig_lexical.proofs.Instances.{LowInstances, AlternativeToo}
 use Rattle.ig_lexical.proofs.Leaves.{SameEnv, AnyStarts}
 use Rattle.ig_lexical.proofs.LayoutChain.{BecomesPlain}
-use Rattle.ig_text.proofs.Lists.{contains_from_at, at_from_contains}
-use Rattle.ig_lexical.proofs.Pass.{taken_back, taken_along, rewritten_by_level, levels_rewritten, free_rewritten}
+use Rattle.ig_text.proofs.Lists.{contains_from_at, at_from_contains, mapped_at, from_map}
+use Rattle.ig_lexical.proofs.Pass.{rewritten_by_level, levels_rewritten, free_rewritten}
 use Rattle.ig_lexical.proofs.Permitting.{HasRoot, permitted_along}
 use Rattle.ig_lexical.proofs.FiltersSame.{root_start}
 use Rattle.ig_lexical.specs.Layout.{laid_in, laid_declaration, laid_grammar, laid_of, LayoutOf}
@@ -53,15 +53,15 @@ module _ (given : Given) (g : Grammar) (shapes : List Shape) (scoped : IsWellSco
 
   there : (name : List ℕ) (d : ℕ) (decl : Decl) (s : Shape) → Declares g shapes name d decl s → Declares h shapes name d (laid_declaration g.decls decl) s
   there name d decl s a =
-      record { numbered = (a.numbered.0, a.numbered.1, taken_along (laid_declaration g.decls) g.decls a.numbered.0 decl a.numbered.2); shaped = a.shaped; named = a.named }
+      record { numbered = (a.numbered.0, a.numbered.1, mapped_at (laid_declaration g.decls) g.decls a.numbered.0 decl a.numbered.2); shaped = a.shaped; named = a.named }
 
   numbered_there : (decl : Decl) (k : ℕ) (a : Levelled) → IsAlternative decl k a → IsAlternative (laid_declaration g.decls decl) k (rewritten_by_level (own decl) a)
   numbered_there decl k a n =
-      (n.0, n.1, ap (λ xs. slice_get xs n.0) (levels_rewritten (own decl) decl.levels) ∙ taken_along (rewritten_by_level (own decl)) (by_level decl.levels) n.0 a n.2)
+      (n.0, n.1, ap (λ xs. slice_get xs n.0) (levels_rewritten (own decl) decl.levels) ∙ mapped_at (rewritten_by_level (own decl)) (by_level decl.levels) n.0 a n.2)
 
   numbered_here : (decl : Decl) (k : ℕ) (b : Levelled) → IsAlternative (laid_declaration g.decls decl) k b → (a : Levelled) × IsAlternative decl k a × (b ≡ rewritten_by_level (own decl) a)
   numbered_here decl k b n =
-      let r = taken_back (rewritten_by_level (own decl)) (by_level decl.levels) n.0 b (ap (λ xs. slice_get xs n.0) (sym (levels_rewritten (own decl) decl.levels)) ∙ n.2) in
+      let r = from_map (rewritten_by_level (own decl)) (by_level decl.levels) n.0 b (ap (λ xs. slice_get xs n.0) (sym (levels_rewritten (own decl) decl.levels)) ∙ n.2) in
       (r.0, (n.0, n.1, r.1), r.2)
 
   forward_one : (n : ℕ) → LowInstances g shapes h shapes text SameEnv AnyStarts BecomesPlain AnyName n →
@@ -84,7 +84,7 @@ module _ (given : Given) (g : Grammar) (shapes : List Shape) (scoped : IsWellSco
       (name : List ℕ) (d : ℕ) (other : Decl) (s : Shape) (k : ℕ) (b : Levelled) → AnyName name → Declares h shapes name d other s → IsAlternative other k b →
       AlternativeToo h shapes g shapes text SameEnv AnyStarts AnyKind AnyName n name d other s k b
   backward_one n known name d other s k b named declares numbered =
-      let r = taken_back (laid_declaration g.decls) g.decls declares.numbered.0 other declares.numbered.2 in
+      let r = from_map (laid_declaration g.decls) g.decls declares.numbered.0 other declares.numbered.2 in
       let among = contains_from_at g.decls declares.numbered.0 r.0 r.1 in
       let p = numbered_here r.0 k b (subst (λ z. IsAlternative z k b) r.2 numbered) in
       subst (λ z. AlternativeToo h shapes g shapes text SameEnv AnyStarts AnyKind AnyName n name d z s k b) (sym r.2)
@@ -103,7 +103,7 @@ module _ (given : Given) (g : Grammar) (shapes : List Shape) (scoped : IsWellSco
   module _ (free : (decl : Decl) → Contains g.decls decl → HasNoOperators decl.levels) (root : HasRoot g shapes) where
     free_there : (other : Decl) → Contains h.decls other → HasNoOperators other.levels
     free_there other m =
-        let at = at_from_contains h.decls other m in let r = taken_back (laid_declaration g.decls) g.decls at.0 other at.1 in
+        let at = at_from_contains h.decls other m in let r = from_map (laid_declaration g.decls) g.decls at.0 other at.1 in
         subst (λ z. HasNoOperators z.levels) (sym r.2) (free_rewritten (own r.0) r.0.levels (free r.0 (contains_from_at g.decls at.0 r.0 r.1)))
 
     pub laid_permits : (t : Tree) → Permitted g shapes text t ↔ Permitted h shapes text t

@@ -1,7 +1,6 @@
 -- Where layout is declared.
 use Rattle.std.proofs.Common.{◌≡◌, ℕ, zero, suc, List, [], ◌∷◌, refl, subst, Some}
 use Rattle.std.specs.Prelude.{◌≢◌, slice_get}
-use Rattle.ig_grammar.specs.Condition as meets
 use Rattle.ig_grammar.specs.Numbering.{layout_among, name_of_layout}
 use Rattle.ig_grammar.specs.declared.declaration.DeclKind.{DeclKind}
 use Rattle.ig_grammar.specs.declared.declaration.DeclKind.TheVariants.{Syntax, Lexical, Layout, Plain}

@@ -1,9 +1,8 @@
 -- A pass that rewrites symbols, and keeps kinds, parameters, levels and environments, permits the same trees, where its own
 -- rule derives the same within one grammar.
-use Rattle.std.proofs.Common.{◌≡◌, ◌∙◌, ℕ, zero, suc, ◌+◌, ◌≤◌, List, [], ◌∷◌, ◌++◌, Some, refl, sym, ap, subst, arith, length, map}
-use Rattle.std.specs.Prelude.{◌↔◌, slice_get, option_map, Contains}
-use Rattle.std.proofs.lemmas.Option.{slice_get-map}
-use Rattle.std.proofs.lemmas.List.{length-map}
+use Rattle.std.proofs.Common.{◌≡◌, ◌∙◌, ℕ, ◌+◌, ◌≤◌, List, [], ◌∷◌, Some, refl, sym, ap, subst, arith, length, map}
+use Rattle.std.specs.Prelude.{◌↔◌, slice_get, Contains}
+use Rattle.std.proofs.lemmas.List.{length-map, map-append}
 use Rattle.ig_text.specs.Tree.{Tree, Trees, greatest_height}
 use Rattle.ig_grammar.specs.Symbol.{Symbol, Call, gathered, listed}
 use Rattle.ig_meaning.specs.Environment.{Environment}
@@ -24,20 +23,8 @@ use Rattle.ig_lexical.proofs.Alike.{IsLeaf, each_too, alike_follows}
 use Rattle.ig_lexical.proofs.Traversal.{Throughout, ThroughoutSymbols, Admits, symbols_alike, turned, turned_each}
 use Rattle.ig_lexical.proofs.Instances.{Low, LowInstances, AlternativeToo, low_instances}
 use Rattle.ig_lexical.proofs.Leaves.{SameEnv, SameStarts, SameKind, IsCallOf, fits_same, leaf_follows}
-use Rattle.ig_text.proofs.Lists.{contains_from_at, at_from_contains}
+use Rattle.ig_text.proofs.Lists.{contains_from_at, at_from_contains, mapped_at, from_map}
 use Rattle.ig_lexical.proofs.Listing.{listed_gathered}
-
-pub taken_back : {X Y : Type 0} (f : X → Y) (xs : List X) (k : ℕ) (y : Y) → slice_get (map f xs) k ≡ Some y → (x : X) × (slice_get xs k ≡ Some x) × (y ≡ f x)
-taken_back f [] k y h = absurd (cc)
-taken_back f (x ∷ xs) zero y h = (x, refl, cc)
-taken_back f (x ∷ xs) (suc k) y h = taken_back f xs k y h
-
-pub taken_along : {X Y : Type 0} (f : X → Y) (xs : List X) (k : ℕ) (x : X) → slice_get xs k ≡ Some x → slice_get (map f xs) k ≡ Some (f x)
-taken_along f xs k x h = slice_get-map f xs k ∙ ap (option_map f) h
-
-map_joined : {X Y : Type 0} (f : X → Y) (xs ys : List X) → map f (xs ++ ys) ≡ map f xs ++ map f ys
-map_joined f [] ys = refl
-map_joined f (x ∷ xs) ys = ap (λ zs. f x ∷ zs) (map_joined f xs ys)
 
 map_crossed : {X Y V W : Type 0} (f : X → Y) (r : Y → W) (s : X → V) (t : V → W) → ((x : X) → r (f x) ≡ t (s x)) → (xs : List X) → map r (map f xs) ≡ map t (map s xs)
 map_crossed f r s t e [] = refl
@@ -60,7 +47,7 @@ module _ (own : Symbol → Symbol) where
         levels_rewritten others,
         map_crossed (rewritten_alternative own) f f rewritten_by_level (λ a. refl) level.alts,
       ) refl) ∙
-      sym (map_joined rewritten_by_level (map f level.alts) (by_level others))
+      sym (map-append rewritten_by_level (map f level.alts) (by_level others))
 
   pub free_rewritten : (levels : List Level) → HasNoOperators levels → HasNoOperators (map (rewritten_level own) levels)
   free_rewritten [] f = tt
@@ -153,15 +140,15 @@ module _ (own : Decl → Symbol → Symbol) (g : Grammar) (shapes : List Shape) 
 
     there : (name : List ℕ) (d : ℕ) (decl : Decl) (s : Shape) → Declares g shapes name d decl s → Declares h shapes name d (rewritten_declaration own decl) s
     there name d decl s a =
-        record { numbered = (a.numbered.0, a.numbered.1, taken_along (rewritten_declaration own) g.decls a.numbered.0 decl a.numbered.2); shaped = a.shaped; named = a.named }
+        record { numbered = (a.numbered.0, a.numbered.1, mapped_at (rewritten_declaration own) g.decls a.numbered.0 decl a.numbered.2); shaped = a.shaped; named = a.named }
 
     numbered_there : (decl : Decl) (k : ℕ) (a : Levelled) → IsAlternative decl k a → IsAlternative (rewritten_declaration own decl) k (rewritten_by_level (own decl) a)
     numbered_there decl k a n =
-        (n.0, n.1, ap (λ xs. slice_get xs n.0) (levels_rewritten (own decl) decl.levels) ∙ taken_along (rewritten_by_level (own decl)) (by_level decl.levels) n.0 a n.2)
+        (n.0, n.1, ap (λ xs. slice_get xs n.0) (levels_rewritten (own decl) decl.levels) ∙ mapped_at (rewritten_by_level (own decl)) (by_level decl.levels) n.0 a n.2)
 
     numbered_here : (decl : Decl) (k : ℕ) (b : Levelled) → IsAlternative (rewritten_declaration own decl) k b → (a : Levelled) × IsAlternative decl k a × (b ≡ rewritten_by_level (own decl) a)
     numbered_here decl k b n =
-        let r = taken_back (rewritten_by_level (own decl)) (by_level decl.levels) n.0 b (ap (λ xs. slice_get xs n.0) (sym (levels_rewritten (own decl) decl.levels)) ∙ n.2) in
+        let r = from_map (rewritten_by_level (own decl)) (by_level decl.levels) n.0 b (ap (λ xs. slice_get xs n.0) (sym (levels_rewritten (own decl) decl.levels)) ∙ n.2) in
         (r.0, (n.0, n.1, r.1), r.2)
 
     forward : (n : ℕ) → LowInstances g shapes h shapes text SameEnv SameStarts SameKind (λ name. Unit {0}) n
@@ -183,7 +170,7 @@ module _ (own : Decl → Symbol → Symbol) (g : Grammar) (shapes : List Shape) 
         (name : List ℕ) (d : ℕ) (other : Decl) (s : Shape) (k : ℕ) (b : Levelled) → Declares h shapes name d other s → IsAlternative other k b →
         AlternativeToo h shapes g shapes text SameEnv SameStarts SameKind (λ name. Unit {0}) n name d other s k b
     backward_one n known name d other s k b declares numbered =
-        let r = taken_back (rewritten_declaration own) g.decls declares.numbered.0 other declares.numbered.2 in
+        let r = from_map (rewritten_declaration own) g.decls declares.numbered.0 other declares.numbered.2 in
         let among = contains_from_at g.decls declares.numbered.0 r.0 r.1 in
         let p = numbered_here r.0 k b (subst (λ z. IsAlternative z k b) r.2 numbered) in
         subst (λ z. AlternativeToo h shapes g shapes text SameEnv SameStarts SameKind (λ name. Unit {0}) n name d z s k b) (sym r.2)
@@ -207,7 +194,7 @@ module _ (own : Decl → Symbol → Symbol) (g : Grammar) (shapes : List Shape) 
         (root : (start : List ℕ) → g.start ≡ Some start → (d : ℕ) × (decl : Decl) × Declares g shapes start d decl shape.Root) where
       free_there : (other : Decl) → Contains h.decls other → HasNoOperators other.levels
       free_there other m =
-          let at = at_from_contains h.decls other m in let r = taken_back (rewritten_declaration own) g.decls at.0 other at.1 in
+          let at = at_from_contains h.decls other m in let r = from_map (rewritten_declaration own) g.decls at.0 other at.1 in
           subst (λ z. HasNoOperators z.levels) (sym r.2) (free_rewritten (own r.0) r.0.levels (free r.0 (contains_from_at g.decls at.0 r.0 r.1)))
 
       permitted_there : (t : Tree) → Permitted g shapes text t → Permitted h shapes text t

@@ -3,15 +3,13 @@
 use Rattle.std.proofs.Common.{◌≡◌, ◌∙◌, ℕ, suc, List, [], Some, map, refl, sym, ap, subst, inr, arith}
 use Rattle.std.specs.Prelude.{◌⊎◌, Contains, slice_get, option_map}
 use Rattle.std.proofs.lemmas.List.{length-map, append-nil}
-use Rattle.ig_text.proofs.Lists.{contains_from_at, at_from_contains, none_in_nil}
+use Rattle.ig_text.proofs.Lists.{contains_from_at, at_from_contains, none_in_nil, from_map}
 use Rattle.std.proofs.lemmas.Option.{same_Some, slice_get-map}
 use Rattle.ig_grammar.specs.Symbol.{Symbol, Call, Label, Guard, Let, Offside, Ignore, Align, Entry, gathered}
-use Rattle.ig_grammar.specs.Names.{names}
 use Rattle.ig_grammar.specs.Visible.{Visible, parameters}
 use Rattle.ig_grammar.specs.Laws.{RegularityByForm}
 use Rattle.ig_grammar.specs.Regular.{AlternativesHaveNoMark, OfEachLevel}
 use Rattle.ig_grammar.specs.Condition.{IsInLexical}
-use Rattle.ig_grammar.specs.Condition as meets
 use Rattle.ig_grammar.specs.Numbering.{Levelled, by_level, IsAlternative, alternatives}
 use Rattle.ig_grammar.specs.WellScoped.{IsWellScoped}
 use Rattle.ig_grammar.specs.declared.symbol.Alt.{Alt}
@@ -26,7 +24,7 @@ use Rattle.ig_rewrite.specs.Asked.{Asks}
 use Rattle.ig_rewrite.specs.EachLevel.{alternatives_by_level, alternative_at}
 use Rattle.ig_rewrite.specs.Passing.{GetAll, IsRemade, IsGivenFrom, Gives, ResultsAreReady}
 use Rattle.ig_rewrite.specs.Throughout.{placed_symbols, of_placed_symbols}
-use Rattle.ig_lexical.proofs.Pass.{taken_back, rewritten_by_level, levels_rewritten}
+use Rattle.ig_lexical.proofs.Pass.{rewritten_by_level, levels_rewritten}
 use Rattle.ig_lexical.proofs.Placing.{SameHead, label_head, opt_head, star_head, plus_head, sep_star_head, sep_plus_head, group_head, offside_head, ignore_head, filtered_head, seq_head, entry_head}
 use Rattle.ig_lexical.proofs.Unmarked.{everywhere}
 use Rattle.ig_lexical.proofs.Keeping.{Keeps, symbols_kept}
@@ -37,8 +35,8 @@ use Rattle.ig_lexical.proofs.Counting.{same_binders}
 pub alternative_before : (own : Symbol → Symbol) (levels : List Level) (k : ℕ) (b : Alt) → slice_get (alternatives (map (rewritten_level own) levels)) k ≡ Some b →
     (a : Levelled) × (slice_get (by_level levels) k ≡ Some a) × (b ≡ rewritten_alternative own a.alternative)
 alternative_before own levels k b e =
-    let r = taken_back (λ a. a.alternative) (by_level (map (rewritten_level own) levels)) k b (ap (λ xs. slice_get xs k) (alternatives_by_level (map (rewritten_level own) levels)) ∙ e) in
-    let s = taken_back (rewritten_by_level own) (by_level levels) k r.0 (ap (λ xs. slice_get xs k) (sym (levels_rewritten own levels)) ∙ r.1) in
+    let r = from_map (λ a. a.alternative) (by_level (map (rewritten_level own) levels)) k b (ap (λ xs. slice_get xs k) (alternatives_by_level (map (rewritten_level own) levels)) ∙ e) in
+    let s = from_map (rewritten_by_level own) (by_level levels) k r.0 (ap (λ xs. slice_get xs k) (sym (levels_rewritten own levels)) ∙ r.1) in
     (s.0, s.1, r.2 ∙ ap (λ z. z.alternative) s.2)
 
 -- what a pass makes of kinds: each stays, or becomes plain
@@ -112,7 +110,7 @@ module _ (passes : ResultsAreReady) (found : DeclarationsAreFound) (becomes : De
         levels = (let same = length-map d.levels (rewritten_level (own d)) in omega (arith, same));
         associated = λ level m.
             let at = at_from_contains (turn d).levels level m in
-            let r = taken_back (rewritten_level (own d)) d.levels at.0 level at.1 in
+            let r = from_map (rewritten_level (own d)) d.levels at.0 level at.1 in
             inr (r.0, contains_from_at d.levels at.0 r.0 r.1, ap (λ (z : Level). z.assoc) (sym r.2));
       }
 

@@ -18,10 +18,9 @@ use Rattle.ig_grammar.specs.declared.grammar.Grammar.{Grammar}
 use Rattle.ig_grammar.specs.declared.place.Shape.{Shape}
 use Rattle.ig_grammar.specs.declared.place.Shape.TheVariants as shape
 use Rattle.ig_rewrite.specs.Rewriting.{rewritten, rewritten_symbols, rewritten_alternative, rewritten_level}
-use Rattle.ig_text.proofs.Lists.{contains_from_at, at_from_contains}
+use Rattle.ig_text.proofs.Lists.{contains_from_at, at_from_contains, from_map}
 use Rattle.ig_rewrite.specs.EachLevel.{alternative_at}
 use Rattle.ig_rewrite.specs.Throughout.{placed_symbols, of_placed_symbols}
-use Rattle.ig_lexical.proofs.Pass.{taken_back}
 use Rattle.ig_lexical.proofs.Placing.{SameHead, label_head, opt_head, star_head, plus_head, sep_star_head, sep_plus_head, group_head, offside_head, ignore_head, filtered_head, seq_head, entry_head}
 use Rattle.ig_grammar.specs.Laws.{RegularityByForm}
 use Rattle.ig_lexical.proofs.Unmarked.{everywhere}
@@ -90,7 +89,7 @@ module _ (becomes : DeclKind → DeclKind) (own : Decl → Symbol → Symbol) (k
         Contains (symbols_of other a) o → o.symbol ≢ Call decl.name arguments
     uncalled other a o arguments among has occurs =
         let b = at_from_contains h.decls other among in
-        let r = taken_back turn g.decls b.0 other b.1 in
+        let r = from_map turn g.decls b.0 other b.1 in
         let k = at_from_contains (alternatives other.levels) a has in
         let s = alternative_before (own r.0) r.0.levels k.0 a (subst (λ z. slice_get (alternatives z.levels) k.0 ≡ Some a) r.2 k.1) in
         uncalled_there r.0 b.0 k.0 s.0 r.1 s.1 o
@@ -110,7 +109,7 @@ module _ (becomes : DeclKind → DeclKind) (own : Decl → Symbol → Symbol) (k
       IsRoot g shapes before decl → KeepsRoot before decl) where
     each : (before : ℕ) (other : Decl) (s : Shape) → slice_get h.decls before ≡ Some other → slice_get shapes before ≡ Some s → FitsShape h shapes before other s
     each before other s e f =
-        let r = taken_back turn g.decls before other e in
+        let r = from_map turn g.decls before other e in
         let q = fit.each before r.0 s r.1 f in
         let counted : length (alternatives (turn r.0).levels) ≡ length (alternatives r.0.levels) =
         ap length (alternatives_rewritten (own r.0) r.0.levels) ∙ length-map (alternatives r.0.levels) (rewritten_alternative (own r.0)) in

@@ -2,6 +2,7 @@
 use Rattle.std.proofs.Common.{◌≡◌, ◌∙◌, ℕ, List, true, false, Option, Some, None, refl, sym, ap, subst}
 use Rattle.std.specs.Prelude.{◌≢◌}
 use Rattle.ig_text.specs.Tree.{Tree, Trees, none}
+use Rattle.ig_text.proofs.Lists.{from_map}
 use Rattle.ig_expr.specs.declared.value.Value.{Value}
 use Rattle.ig_grammar.specs.Symbol.{Symbol}
 use Rattle.ig_grammar.specs.Numbering.{layout_among}
@@ -12,7 +13,6 @@ use Rattle.ig_grammar.specs.declared.declaration.DeclKind.{DeclKind}
 use Rattle.ig_grammar.specs.declared.declaration.DeclKind.TheVariants.{Syntax, Lexical, Layout, Plain}
 use Rattle.ig_grammar.specs.declared.grammar.Grammar.{Grammar}
 use Rattle.ig_grammar.specs.declared.place.Shape.{Shape}
-use Rattle.ig_lexical.proofs.Pass.{taken_back}
 use Rattle.ig_rewrite.specs.Found.{DeclarationsAreFound}
 use Rattle.ig_lexical.specs.Layout.{is_lexical, declares_lexical, laid, laid_in, laid_declaration, laid_grammar}
 use Rattle.ig_lexical.proofs.Tight.{IsTight}
@@ -46,7 +46,7 @@ module _ (found : DeclarationsAreFound) (g : Grammar) (scoped : IsWellScoped g) 
 
 pub all_plain : (g : Grammar) (forms : List Shape) (text : List ℕ) → AllPlain (laid_grammar g) forms text
 all_plain g forms text name vs kind i e t ks (alternative _ _ _ d k decl shape a env after _ _ ts _ _ declares numbered bound same covers tree) =
-    let r = taken_back (laid_declaration g.decls) g.decls declares.numbered.0 decl declares.numbered.2 in
+    let r = from_map (laid_declaration g.decls) g.decls declares.numbered.0 decl declares.numbered.2 in
     same ∙ ap (λ z. z.kind) r.2
 
 outside_tight : (g : Grammar) (shapes : List Shape) (text : List ℕ) (c : DeclKind) → c ≢ Syntax → IsTight g shapes text c

@@ -2,8 +2,8 @@
 use Rattle.std.proofs.Common.{◌≡◌, ◌∙◌, ℕ, List, [], Option, Some, None, inl, inr, length, map, refl, sym, ap, subst}
 use Rattle.std.specs.Prelude.{Contains, slice_get}
 use Rattle.ig_text.specs.Tree as plain
-use Rattle.ig_text.proofs.Lists.{contains_from_at}
-use Rattle.ig_expr.specs.ValuedTree.{Tree, Trees}
+use Rattle.ig_text.proofs.Lists.{contains_from_at, mapped_at}
+use Rattle.ig_expr.specs.ValuedTree.{Tree}
 use Rattle.ig_expr.specs.declared.value.Value.{Value}
 use Rattle.ig_grammar.specs.Checked.{CheckedGrammar}
 use Rattle.ig_grammar.specs.Condition.{declaration_of}
@@ -19,12 +19,11 @@ use Rattle.ig_grammar.specs.declared.grammar.Grammar.{Grammar}
 use Rattle.ig_grammar.specs.declared.place.Shape.{Shape}
 use Rattle.ig_meaning.specs.Annotated as a
 use Rattle.ig_meaning.specs.Annotated.{Bind, Within, Annotates}
-use Rattle.ig_meaning.specs.Environment.{Environment}
 use Rattle.ig_meaning.specs.Permitted.{IsRootAlternative, written, declared}
 use Rattle.ig_rewrite.specs.Found.{DeclarationsAreFound}
 use Rattle.ig_rewrite.specs.Rewriting.{rewritten}
 use Rattle.ig_rewrite.specs.SameValues.{KeepsValues}
-use Rattle.ig_lexical.proofs.Pass.{taken_along, rewritten_by_level, levels_rewritten, layout_rewritten}
+use Rattle.ig_lexical.proofs.Pass.{rewritten_by_level, levels_rewritten, layout_rewritten}
 use Rattle.ig_lexical.proofs.Permitting.{HasRoot}
 use Rattle.ig_lexical.proofs.RewrittenScoped.{turned, turned_grammar}
 use Rattle.ig_lexical.proofs.Unmarked.{everywhere}
@@ -68,7 +67,7 @@ module _ (found : DeclarationsAreFound) (c : CheckedGrammar) (scoped : IsWellSco
             to = rewritten_by_level (own decl) by;
             declares =
                 record {
-                  numbered = (at.0, at.1, taken_along (turned kinds own) g.decls at.0 decl at.2);
+                  numbered = (at.0, at.1, mapped_at (turned kinds own) g.decls at.0 decl at.2);
                   shaped = declares.shaped;
                   named = declares.named;
                 };
@@ -76,7 +75,7 @@ module _ (found : DeclarationsAreFound) (c : CheckedGrammar) (scoped : IsWellSco
               numbered.0,
               numbered.1,
               ap (λ xs. slice_get xs numbered.0) (levels_rewritten (own decl) decl.levels) ∙
-                  taken_along (rewritten_by_level (own decl)) (by_level decl.levels) numbered.0 by numbered.2,
+                  mapped_at (rewritten_by_level (own decl)) (by_level decl.levels) numbered.0 by numbered.2,
             );
             params = refl;
             becomes = becomes decl k by (contains_from_at g.decls at.0 decl at.2) numbered;

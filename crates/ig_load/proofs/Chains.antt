@@ -1,8 +1,9 @@
 -- Chains as trees of operators, in which each operator binds tighter than those above it.
-use Rattle.std.proofs.Common.{◌≡◌, ℕ, ◌+◌, ◌<◌, ◌≤◌, ◌⊎◌, inl, inr, List, [], ◌∷◌, ◌++◌, All, refl, sym, ◌∙◌, ap, arith, append_assoc}
+use Rattle.std.proofs.Common.{◌≡◌, ℕ, ◌+◌, ◌<◌, ◌≤◌, inl, inr, List, [], ◌∷◌, ◌++◌, All, refl, sym, ◌∙◌, ap, arith, append_assoc}
 use Rattle.std.specs.Prelude.{flat_map}
 use Rattle.std.proofs.lemmas.List.{append-nil}
 use Rattle.std.proofs.lemmas.List.Elements.{All-head, All-tail}
+use Rattle.std.proofs.lemmas.Bool.{cases_lt}
 use Rattle.ig_load.specs.Operators.{Operator, power, times, plus, minus, sign, letter, letters, Step, step_text, chain, HasLetter}
 
 -- a letter, or an operator between two of these
@@ -42,10 +43,6 @@ at_least_less p q (operation o left right) h a =
     let first = a.0 in
     (omega arith, at_least_less p q left h a.1, at_least_less p q right h a.2)
 
--- whether the second operator binds tighter
-tighter : (p q : ℕ) → (p < q) ⊎ (q ≤ p)
-tighter p q = grind arith
-
 -- a term with the text of another one and then an operator and a letter
 pub record Added (o : Operator) (n : ℕ) (t : Term) : Type 0 where
   pub term : Term
@@ -84,7 +81,7 @@ module _ (o : Operator) (n : ℕ) (fits : n < letters) where
   pub add : (t : Term) → IsOrdered t → HasLetters t → Added o n t
   add (operand m) ordered lettered = above (operand m) tt ordered lettered
   add (operation p left right) ordered lettered =
-      elim (tighter (level_of p) (level_of o)) as (λ z. Added o n (operation p left right)) [
+      elim (cases_lt (level_of p) (level_of o)) as (λ z. Added o n (operation p left right)) [
         | inl tight ↦ below p left right tight ordered lettered (add right ordered.3 lettered.1)
         | inr loose ↦
             above (operation p left right)

@@ -1,13 +1,14 @@
 -- The text of the grammar reads as the grammar.
-use Rattle.std.proofs.Common.{◌≡◌, ℕ, zero, suc, ◌+◌, ◌<◌, ◌≤◌, List, [], ◌∷◌, ◌++◌, Bool, true, false, length, refl, sym, ◌∙◌, ap, subst, arith, lit<, lit≤}
-use Rattle.std.specs.Prelude.{◌&&◌, codes, nat_lt}
+use Rattle.std.proofs.Common.{◌≡◌, ℕ, ◌+◌, ◌<◌, ◌≤◌, List, [], ◌∷◌, ◌++◌, Bool, true, false, length, refl, sym, ◌∙◌, ap, subst, arith, lit<, lit≤}
+use Rattle.std.specs.Prelude.{codes}
 use Rattle.std.specs.List.{list_all}
 use Rattle.std.specs.Str.{IsAscii}
-use Rattle.std.proofs.lemmas.Bool.Decides.{nat_tests}
 use Rattle.std.proofs.lemmas.List.Elements.{All-nil, All-cons}
 use Rattle.std.proofs.lemmas.Str.{chars-IsAscii, IsUtf8-from_ascii}
+use Rattle.std.proofs.lemmas.Bool.{and_parts}
 use Rattle.unicode_ident.proofs.IdentLemmas.{is_xid_start-ascii, is_xid_continue-ascii}
 use Rattle.ig_text.specs.declared.class.Class.TheVariants.{Ranges}
+use Rattle.ig_text.proofs.Characters.{ascii_at}
 use Rattle.ig_grammar.specs.Symbol.{Symbol, Symbols, no_symbols, next_symbol, no_alternatives, next_alternative, Literal}
 use Rattle.ig_grammar.specs.Symbol as tree
 use Rattle.ig_grammar.specs.declared.declaration.Assoc.{Assoc}
@@ -20,6 +21,7 @@ use Rattle.ig_syntax.specs.Spelling as spelling
 use Rattle.ig_syntax.specs.Lexing.{Lexes, bytes, nothing, a_separator, a_token}
 use Rattle.ig_syntax.specs.Rules.{FollowsRules, ReadsSymbol, ReadsAlternative, ReadsLevel, ReadsLevels}
 use Rattle.ig_syntax.specs.Rules as rules
+use Rattle.ig_syntax.specs.Notation.{most_bytes}
 use Rattle.ig_tokens.specs.Laws.{EndedTokensAreLongest, ends}
 use Rattle.ig_notation.specs.Limits.{NumberFits, NumbersFit, IsShallow, opened, open_behind}
 use Rattle.ig_notation.specs.Outcome.{IsRead, unplaced}
@@ -250,10 +252,6 @@ plain token.OpenBrace = false
 plain token.CloseBrace = false
 plain t = true
 
-both : (a b : Bool) → (a && b) ≡ true → (a ≡ true) × (b ≡ true)
-both true b e = (refl, e)
-both false b e = cc
-
 number_fits : (t : Token) → plain t ≡ true → NumberFits t
 number_fits (token.Number n) e = cc
 number_fits t e = tt
@@ -261,7 +259,7 @@ number_fits t e = tt
 numbers_fit : (ts : List Token) → list_all plain ts ≡ true → NumbersFit ts
 numbers_fit [] e = All-nil NumberFits
 numbers_fit (t ∷ ts) e =
-    let parts = both (plain t) (list_all plain ts) e in
+    let parts = and_parts (plain t) (list_all plain ts) e in
     All-cons NumberFits t ts (number_fits t parts.0) (numbers_fit ts parts.1)
 
 stays : (n : ℕ) (t : Token) → plain t ≡ true → opened n t ≡ n
@@ -275,28 +273,18 @@ stays n t e = refl
 open_stays : (front rest : List Token) (n : ℕ) → list_all plain (front ++ rest) ≡ true → open_behind n front ≡ n
 open_stays [] rest n e = refl
 open_stays (t ∷ front) rest n e =
-    let parts = both (plain t) (list_all plain (front ++ rest)) e in
+    let parts = and_parts (plain t) (list_all plain (front ++ rest)) e in
     ap (λ (k : ℕ). open_behind k front) (stays n t parts.0) ∙ open_stays front rest n parts.1
 
 shallow : (ts : List Token) → list_all plain ts ≡ true → IsShallow ts
 shallow ts e front rest parts =
     let none = open_stays front rest 0 (ap (list_all plain) (sym parts) ∙ e) in omega arith
 
--- only ASCII characters
-abbrev ascii : List ℕ → Bool
-ascii [] = true
-ascii (b ∷ bs) = nat_lt b 128 && ascii bs
-
-ascii_at : (bs : List ℕ) → ascii bs ≡ true → IsAscii bs
-ascii_at [] e i = lit< tt
-ascii_at (b ∷ bs) e zero = let t = (both (nat_lt b 128) (ascii bs) e).0 in grind (arith, nat_tests)
-ascii_at (b ∷ bs) e (suc i) = ascii_at bs (both (nat_lt b 128) (ascii bs) e).1 i
-
 text_is_ascii : IsAscii load_text
 unfolding load_text
 text_is_ascii = ascii_at load_text refl
 
-text_is_short : length load_text ≤ 262144
+text_is_short : length load_text ≤ most_bytes
 unfolding load_text
 text_is_short = lit≤ tt
 

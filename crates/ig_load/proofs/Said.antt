@@ -12,10 +12,11 @@ use Rattle.ig_grammar.specs.Symbol.{Symbol, Literal, OneOf, Call}
 use Rattle.ig_grammar.specs.declared.declaration.Decl.{Decl}
 use Rattle.ig_grammar.specs.declared.declaration.DeclKind.TheVariants.{Plain}
 use Rattle.ig_grammar.specs.declared.declaration.Level.{Level}
+use Rattle.ig_grammar.specs.Name.{IsName}
 use Rattle.ig_expr.specs.Expression.{Expression}
 use Rattle.ig_core.specs.Lowered.{IsBuildable}
 use Rattle.ig_core.specs.Laws.{NotationIsBuildable}
-use Rattle.ig_core.specs.Notation.{IsName, IsSaid, IsOfNotation, unchanged}
+use Rattle.ig_core.specs.Notation.{IsSaid, IsOfNotation, unchanged}
 use Rattle.ig_notation.specs.Outcome.{ReadGrammarsAreRegular}
 use Rattle.ig_load.specs.Grammar.{LoadGrammar, expressions, levels}
 use Rattle.ig_load.specs.Laws.{LoadTextReads}

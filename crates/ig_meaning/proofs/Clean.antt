@@ -1,10 +1,12 @@
 -- A grammar without operators asks nothing of its trees.
-use Rattle.std.proofs.Common.{◌≡◌, ℕ, ◌≤◌, List, [], ◌∷◌, map, refl, sym, ◌∙◌, ap, subst, arith, Option, Some, None}
+use Rattle.std.proofs.Common.{◌≡◌, ℕ, ◌≤◌, List, [], ◌∷◌, map, refl, sym, ◌∙◌, ap, subst, arith, Some}
 use Rattle.std.specs.Prelude.{slice_get, Contains, option_map}
-use Rattle.std.proofs.lemmas.Option.{slice_get-map, slice_get_within, get_or_from_slice_get}
+use Rattle.std.proofs.lemmas.Option.{slice_get-map}
 use Rattle.std.proofs.lemmas.List.{append-nil}
 use Rattle.ig_text.specs.declared.tag.Tag.{Tag}
 use Rattle.ig_text.specs.Tree.{Tree, Trees, Leaf, Node, none, more}
+use Rattle.ig_text.proofs.Lists.{contains_from_at}
+use Rattle.ig_text.proofs.Options.{mapped}
 use Rattle.ig_grammar.specs.Numbering.{Levelled, by_level}
 use Rattle.ig_meaning.specs.Operands.{left_bound, right_bound}
 use Rattle.ig_meaning.specs.Clean.{Applies, IsClean, Clean, AllClean}
@@ -19,13 +21,6 @@ use Rattle.ig_grammar.specs.declared.grammar.Grammar.{Grammar}
 abbrev pub IsPlain : Levelled → Type 0
 IsPlain a = (a.level ≡ 1) × (a.assoc ≡ Free)
 
-pub contains_at : {X : Type 0} (xs : List X) (k : ℕ) (x : X) → slice_get xs k ≡ Some x → Contains xs x
-contains_at xs k x h = (k, slice_get_within xs k x h, get_or_from_slice_get xs k x x h)
-
-pub mapped : {X Y : Type 0} (f : X → Y) (o : Option X) (y : Y) → option_map f o ≡ Some y → (x : X) × (y ≡ f x)
-mapped f None y h = absurd (cc)
-mapped f (Some x) y h = (x, cc)
-
 plain_at : (levels : List Level) → HasNoOperators levels → (k : ℕ) (a : Levelled) → slice_get (by_level levels) k ≡ Some a → IsPlain a
 plain_at [] free k a h = absurd (cc)
 plain_at (level ∷ next ∷ others) free k a h = absurd free
@@ -34,12 +29,12 @@ plain_at (level ∷ []) free k a h =
     let found : option_map f (slice_get level.alts k) ≡ Some a =
     sym (slice_get-map f level.alts k) ∙ ap (λ xs. slice_get xs k) (sym (append-nil (map f level.alts))) ∙ h in
     let from = mapped f (slice_get level.alts k) a found in
-    subst IsPlain (sym from.1) (refl, free)
+    subst IsPlain (sym from.2) (refl, free)
 
 module _ (g : Grammar) (free : (decl : Decl) → Contains g.decls decl → HasNoOperators decl.levels) where
   plain_alternative : (tag : Tag) (decl : Decl) (a : Levelled) → Applies g tag decl a → IsPlain a
   plain_alternative tag decl a applies =
-      plain_at decl.levels (free decl (contains_at g.decls applies.declaration.0 decl applies.declaration.2)) applies.numbered.0 a applies.numbered.2
+      plain_at decl.levels (free decl (contains_from_at g.decls applies.declaration.0 decl applies.declaration.2)) applies.numbered.0 a applies.numbered.2
 
   no_left_bound : (a b : Levelled) → IsPlain a → IsPlain b → left_bound a ≤ b.level
   no_left_bound a b p q = rw (p.0, p.1, q.0) (omega arith)

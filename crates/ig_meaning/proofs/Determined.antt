@@ -1,8 +1,10 @@
 -- A tree has one annotation: what symbols cover, leave and bind is determined by where they begin and by their trees.
 use Rattle.std.proofs.Common.{◌≡◌, ℕ, List, [], ◌∷◌, ◌++◌, map, refl, sym, ◌∙◌, ap, subst, inl, inr, Option, Some, None}
+use Rattle.std.proofs.lemmas.Option.{same_Some}
 use Rattle.ig_text.specs.declared.tag.Tag.{Tag}
 use Rattle.ig_text.specs.Tree as plain
 use Rattle.ig_text.specs.TagNumber.{number_of}
+use Rattle.ig_text.proofs.Trees.{join_join}
 use Rattle.ig_expr.specs.Expression.{Expression}
 use Rattle.ig_expr.specs.Evaluation.{value_of}
 use Rattle.ig_expr.specs.declared.value.Value.{Value}
@@ -22,11 +24,8 @@ use Rattle.ig_grammar.specs.declared.grammar.Grammar.{Grammar}
 use Rattle.ig_grammar.specs.declared.place.Shape.{Shape}
 use Rattle.ig_meaning.proofs.Tags.{TagsTellAlternatives}
 use Rattle.ig_meaning.proofs.Annotation.{bare_join}
-use Rattle.ig_meaning.proofs.Telling.{join_assoc, declared_once, alternative_once}
+use Rattle.ig_meaning.proofs.Telling.{declared_once, alternative_once}
 use Rattle.ig_meaning.proofs.BindingInversion.{parts_once, NodeBy, BehindBy, bind_by, binds_by, by_node, by_round, apart_by, within_by, behind_by}
-
-same_value : {A : Type 0} (x y : A) → Some x ≡ Some y → x ≡ y
-same_value x y e = cc
 
 abbrev with_first : Option Value → Option (List Value) → Option (List Value)
 with_first (Some v) (Some vs) = Some (v ∷ vs)
@@ -42,7 +41,7 @@ module _ (text : List ℕ) (env : Environment) (here : ℕ) where
   have_values (next_value e es v vs has others) = λ k. with_first (has k) (have_values others k)
 
   values_once : (es : List Expression) (vs ws : List Value) → HaveValues text env here es vs → HaveValues text env here es ws → vs ≡ ws
-  values_once es vs ws p q = same_value vs ws (sym (have_values p) ∙ have_values q)
+  values_once es vs ws p q = same_Some vs ws (sym (have_values p) ∙ have_values q)
 
 abbrev bound_by : List Param → List Value → Environment
 bound_by (p ∷ ps) (v ∷ vs) = (p.name, v) ∷ bound_by ps vs
@@ -59,7 +58,7 @@ ahead ts rest = plain.join (bare_trees ts) rest
 -- of joined trees the second ones stand behind the first ones
 parted : (ts us vs : Trees) (rest : plain.Trees) → vs ≡ join ts us → ahead vs rest ≡ ahead ts (ahead us rest)
 parted ts us vs rest trees =
-    ap (λ z. ahead z rest) trees ∙ ap (λ z. plain.join z rest) (bare_join ts us) ∙ join_assoc (bare_trees ts) (bare_trees us) rest
+    ap (λ z. ahead z rest) trees ∙ ap (λ z. plain.join z rest) (bare_join ts us) ∙ join_join (bare_trees ts) (bare_trees us) rest
 
 first_of : (t u : plain.Tree) (ts us : plain.Trees) → plain.more t ts ≡ plain.more u us → t ≡ u
 first_of t u ts us e = cc
@@ -179,7 +178,7 @@ module _ (g : Grammar) (shapes : List Shape) (text : List ℕ) (distinct : decla
       plain.more (bare_tree t) rest ≡ ahead us others → AreOneBehind j k (one t) us rest others
   layout_once name kind e j k t us rest others declared once (inl (syntax, lexical, other, form, u, declared', within, shown)) same =
       let both : plain.more (bare_tree t) rest ≡ plain.more (bare_tree u) others = same ∙ ap (λ z. ahead z others) shown in
-      let named : name ≡ other = same_value name other (sym declared ∙ declared') in
+      let named : name ≡ other = same_Some name other (sym declared ∙ declared') in
       let p = once form k u (subst (λ z. Within g shapes text z [] form e k u) (sym named) within) (first_of (bare_tree t) (bare_tree u) rest others both) in
       (p.1, ap one p.2 ∙ sym shown, others_of (bare_tree t) (bare_tree u) rest others both)
   layout_once name kind e j k t us rest others declared once (inr (undeclared, ends, shown)) same =
@@ -226,7 +225,7 @@ module _ (g : Grammar) (shapes : List Shape) (text : List ℕ) (distinct : decla
         let b = binds_by g shapes text second in (b.0, b.1, sym b.3, sym b.2, same ∙ ap (λ z. ahead z others) b.2)
     binds_once (a.let_be c name expression v env after i has bound) f k ws later rest others second same =
         let b = binds_by g shapes text second in
-        let valued : v ≡ b.0 = same_value v b.0 (sym has ∙ b.1) in
+        let valued : v ≡ b.0 = same_Some v b.0 (sym has ∙ b.1) in
         (b.3, b.4, bound ∙ (λ z. env ++ (name, valued z) ∷ []) ∙ sym b.2, sym b.5, same ∙ ap (λ z. ahead z others) b.5)
     binds_once (a.node c x form parts env i j ts bound has inner) f k ws later rest others second same =
         node_once c x form parts env later i j f k ts ws bound rest others has (apart_once inner) (by_node g shapes text has (binds_by g shapes text second)) same

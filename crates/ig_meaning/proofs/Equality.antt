@@ -1,8 +1,8 @@
 -- Permitted trees that don't differ are equal, and have one annotation.
-use Rattle.std.proofs.Common.{◌≡◌, ℕ, List, [], ◌∷◌, length, refl, sym, ◌∙◌, ap, subst, arith, Some}
+use Rattle.std.proofs.Common.{◌≡◌, ℕ, List, [], ◌∷◌, length, refl, sym, ◌∙◌, ap, subst, arith}
 use Rattle.std.proofs.lemmas.Bool.Decides.{nat_tests}
-use Rattle.std.specs.declared.cmp.Ordering.{Ordering}
-use Rattle.std.specs.declared.cmp.Ordering.TheVariants.{Less, Equal, Greater}
+use Rattle.std.proofs.lemmas.Option.{same_Some}
+use Rattle.std.specs.declared.cmp.Ordering.TheVariants.{Equal}
 use Rattle.std.specs.Ordering.{ordering_then, nat_cmp}
 use Rattle.std.specs.Cmp.Lexicographic.{slice_cmp}
 use Rattle.ig_text.specs.declared.tag.Tag.TheVariants.{Root}
@@ -18,6 +18,7 @@ use Rattle.ig_meaning.specs.AnnotatedLaws.{AnnotationsAreUnique}
 use Rattle.ig_meaning.specs.Environment.{Environment}
 use Rattle.ig_meaning.specs.Laws as laws
 use Rattle.ig_text.specs.TagNumber.{number_of}
+use Rattle.ig_text.proofs.Options.{equal_parts}
 use Rattle.ig_expr.specs.ValueOrder.{value_cmp}
 use Rattle.ig_expr.specs.TreeOrder.{begin_of, starts_cmp, tree_cmp, trees_cmp, children_cmp}
 use Rattle.ig_meaning.specs.Order.{UndifferingTreesAreEqual}
@@ -32,11 +33,6 @@ use Rattle.ig_meaning.proofs.Tiling.{AreClose, AllClose, AllSameTags, same_tree,
 use Rattle.ig_meaning.proofs.Telling.{declared_once, alternative_once, covers_told, derives_told, instance_told, told_whole}
 use Rattle.ig_meaning.proofs.Determined.{bind_once, binds_once, within_once}
 
-then_parts : (a b : Ordering) → ordering_then a b ≡ Equal → (a ≡ Equal) × (b ≡ Equal)
-then_parts Less b e = absurd (cc)
-then_parts Equal b e = (refl, e)
-then_parts Greater b e = absurd (cc)
-
 same_number : (a b : ℕ) → nat_cmp a b ≡ Equal → a ≡ b
 same_number a b e = grind (arith, nat_tests)
 
@@ -50,9 +46,9 @@ mutual
   close_tree (Leaf i j) (Node tag bound k l us) e = absurd (cc)
   close_tree (Node tag bound i j ts) (Leaf k l) e = absurd (cc)
   close_tree (Node tag bound i j ts) (Node other values k l us) e =
-      let a = then_parts (nat_cmp (number_of tag) (number_of other)) (ordering_then (slice_cmp value_cmp bound values) (ordering_then (starts_cmp ts us) (trees_cmp ts us))) e in
-      let b = then_parts (slice_cmp value_cmp bound values) (ordering_then (starts_cmp ts us) (trees_cmp ts us)) a.1 in
-      let c = then_parts (starts_cmp ts us) (trees_cmp ts us) b.1 in
+      let a = equal_parts (nat_cmp (number_of tag) (number_of other)) (ordering_then (slice_cmp value_cmp bound values) (ordering_then (starts_cmp ts us) (trees_cmp ts us))) e in
+      let b = equal_parts (slice_cmp value_cmp bound values) (ordering_then (starts_cmp ts us) (trees_cmp ts us)) a.1 in
+      let c = equal_parts (starts_cmp ts us) (trees_cmp ts us) b.1 in
       (same_number (number_of tag) (number_of other) a.0, close_trees ts us c.0 c.1)
 
   close_trees : (ts us : Trees) → starts_cmp ts us ≡ Equal → trees_cmp ts us ≡ Equal → AllClose (bare_trees ts) (bare_trees us)
@@ -60,16 +56,13 @@ mutual
   close_trees none (more u us) s e = absurd (cc)
   close_trees (more t ts) none s e = absurd (cc)
   close_trees (more t ts) (more u us) s e =
-      let a = then_parts (starts_cmp ts us) (nat_cmp (begin_of t) (begin_of u)) s in
-      let b = then_parts (tree_cmp t u) (trees_cmp ts us) e in
+      let a = equal_parts (starts_cmp ts us) (nat_cmp (begin_of t) (begin_of u)) s in
+      let b = equal_parts (tree_cmp t u) (trees_cmp ts us) e in
       (same_begin t ∙ same_number (begin_of t) (begin_of u) a.1 ∙ sym (same_begin u), close_tree t u b.0, close_trees ts us a.0 b.1)
 
 close_children : (ts us : Trees) → children_cmp ts us ≡ Equal → AllClose (bare_trees ts) (bare_trees us)
 close_children ts us e =
-    let parts = then_parts (starts_cmp ts us) (trees_cmp ts us) e in close_trees ts us parts.0 parts.1
-
-same_some : {A : Type 0} (x y : A) → Some x ≡ Some y → x ≡ y
-same_some x y e = cc
+    let parts = equal_parts (starts_cmp ts us) (trees_cmp ts us) e in close_trees ts us parts.0 parts.1
 
 module _ (g : Grammar) (shapes : List Shape) (text : List ℕ) (distinct : AreDistinct (names g.decls)) (tells : TagsTellAlternatives g shapes) where
   abbrev pub AreOneRoot : DeclKind → DeclKind → List Symbol → List Symbol → Type 0
@@ -78,16 +71,16 @@ module _ (g : Grammar) (shapes : List Shape) (text : List ℕ) (distinct : AreDi
   pub one_root : {kind other : DeclKind} {xs ys : List Symbol} → IsRootAlternative g shapes kind xs → IsRootAlternative g shapes other ys →
       AreOneRoot kind other xs ys
   one_root (written start xs named free same) (written begin ys named' free' same') =
-      let starts : start ≡ begin = same_some start begin (sym named ∙ named') in
+      let starts : start ≡ begin = same_Some start begin (sym named ∙ named') in
       (refl, same ∙ ap (λ n. behind_layout (layout_among g.decls) (Call n [] ∷ [])) starts ∙ sym same')
   one_root (written start xs named free same) (declared begin d decl a kind ys named' declares numbered read same') =
-      let starts : begin ≡ start = same_some begin start (sym named' ∙ named) in
+      let starts : begin ≡ start = same_Some begin start (sym named' ∙ named) in
       absurd (free d decl (subst (λ n. Declares g shapes n d decl shape.Root) starts declares))
   one_root (declared start d decl a kind xs named declares numbered read same) (written begin ys named' free same') =
-      let starts : start ≡ begin = same_some start begin (sym named ∙ named') in
+      let starts : start ≡ begin = same_Some start begin (sym named ∙ named') in
       absurd (free d decl (subst (λ n. Declares g shapes n d decl shape.Root) starts declares))
   one_root (declared start d decl a kind xs named declares numbered read same) (declared begin e other b kind' ys named' declares' numbered' read' same') =
-      let starts : begin ≡ start = same_some begin start (sym named' ∙ named) in
+      let starts : begin ≡ start = same_Some begin start (sym named' ∙ named) in
       let once = declared_once g shapes text distinct tells start d e decl other shape.Root shape.Root declares (subst (λ n. Declares g shapes n e other shape.Root) starts declares') in
       let alike : a ≡ b = alternative_once g shapes text distinct tells decl other 1 1 a b once.declaration refl numbered numbered' in
       (read ∙ ap (λ (q : Decl). q.kind) once.declaration ∙ sym read', same ∙ ap (λ (q : Levelled). q.alternative.symbols) alike ∙ sym same')

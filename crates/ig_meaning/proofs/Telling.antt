@@ -2,7 +2,7 @@
 -- once and the numbers of tags tell alternatives apart.
 use Rattle.std.proofs.Common.{◌≡◌, ℕ, suc, List, [], refl, sym, ◌∙◌, ap, subst, arith, inl, inr, Some, None}
 use Rattle.std.specs.Prelude.{◌≢◌, slice_get, option_map}
-use Rattle.std.proofs.lemmas.Option.{slice_get-map}
+use Rattle.std.proofs.lemmas.Option.{slice_get-map, same_Some}
 use Rattle.ig_text.specs.declared.tag.Tag.{Tag}
 use Rattle.ig_text.specs.declared.tag.Tag.TheVariants as tag
 use Rattle.ig_text.specs.Tree.{Tree, Trees, Leaf, Node, none, more, one, join}
@@ -16,6 +16,7 @@ use Rattle.ig_meaning.specs.Derivation.{Covers, Derives, Lists, Items, Instance,
 use Rattle.ig_meaning.specs.Derivation.{empty, symbol, literal, one_of, token, call, label, guard, let_be, absent, present, star, plus, sep_star, sep_plus, group, offside, ignore, align, filtered, sequence, entry}
 use Rattle.ig_meaning.specs.Derivation.{nil, snoc, one_item, more_items, first_item, further_item, no_item, some_items, bare, with_filters, alternative, layout, no_layout, outside}
 use Rattle.ig_text.specs.TagNumber.{number_of}
+use Rattle.ig_text.proofs.Trees.{join-none, join_join}
 use Rattle.ig_meaning.proofs.Tags.{TagsTellAlternatives}
 use Rattle.ig_grammar.specs.declared.declaration.DeclKind.{DeclKind}
 use Rattle.ig_grammar.specs.declared.declaration.DeclKind.TheVariants.{Syntax, Lexical}
@@ -25,14 +26,6 @@ use Rattle.ig_grammar.specs.declared.place.Shape.{Shape}
 use Rattle.ig_meaning.specs.Inversion.{Called, Chosen, Listed, Lengthened, OfOneItem, ListsBy, ItemsBy, TrailsBy}
 use Rattle.ig_meaning.proofs.Inversion.{covers_by, derives_by, lists_by, items_by, instance_by, trails_by}
 use Rattle.ig_meaning.proofs.Tiling.{AreClose, AllClose, HaveSameTags, AllSameTags}
-
-pub join_assoc : (ts us vs : Trees) → join (join ts us) vs ≡ join ts (join us vs)
-join_assoc none us vs = refl
-join_assoc (more t ts) us vs = ap (more t) (join_assoc ts us vs)
-
-join_none : (ts : Trees) → join ts none ≡ ts
-join_none none = refl
-join_none (more t ts) = ap (more t) (join_none ts)
 
 tags_join : (ts us vs ws : Trees) → AllSameTags ts us → AllSameTags vs ws → AllSameTags (join ts vs) (join us ws)
 tags_join none none vs ws a b = b
@@ -69,13 +62,13 @@ told_single t u us same first = told_as (one t) (one u) (one t) us refl same (to
 told_join : (ts us vs ws : Trees) → IsTold ts us → IsTold vs ws → IsTold (join ts vs) (join us ws)
 told_join ts us vs ws first second rest others close =
     let apart : AllClose (join ts (join vs rest)) (join us (join ws others)) =
-    subst (AllClose (join ts (join vs rest))) (join_assoc us ws others) (subst (λ z. AllClose z (join (join us ws) others)) (join_assoc ts vs rest) close) in
+    subst (AllClose (join ts (join vs rest))) (join_join us ws others) (subst (λ z. AllClose z (join (join us ws) others)) (join_join ts vs rest) close) in
     let a = first (join vs rest) (join ws others) apart in
     let b = second rest others a.1 in (tags_join ts us vs ws a.0 b.0, b.1)
 
 pub told_whole : (ts us : Trees) → IsTold ts us → AllClose ts us → AllSameTags ts us
 told_whole ts us told close =
-    (told none none (subst (AllClose (join ts none)) (sym (join_none us)) (subst (λ z. AllClose z us) (sym (join_none ts)) close))).0
+    (told none none (subst (AllClose (join ts none)) (sym (join-none us)) (subst (λ z. AllClose z us) (sym (join-none ts)) close))).0
 
 told_node : (t : Tag) (i j k l : ℕ) (ts us : Trees) (u : Tree) → u ≡ Node t k l us → IsTold ts us → IsToldTree (Node t i j ts) u
 told_node t i j k l ts us u same told =
@@ -93,13 +86,10 @@ one_or_two e = omega (arith, e)
 two_or_one : ◌≡◌ {A = ℕ} 2 1 → ⊥
 two_or_one e = omega (arith, e)
 
-same_some : {A : Type 0} (x y : A) → Some x ≡ Some y → x ≡ y
-same_some x y e = cc
-
 pub choice_once : (choices : Alternatives) (k : ℕ) (xs ys : Symbols) → IsChoice choices k xs → IsChoice choices k ys → xs ≡ ys
 choice_once choices k xs ys p q =
     let places : p.0 ≡ q.0 = let both : suc p.0 ≡ suc q.0 = sym p.1 ∙ q.1 in omega (arith, both) in
-    same_some xs ys (sym p.2 ∙ ap (choice choices) places ∙ q.2)
+    same_Some xs ys (sym p.2 ∙ ap (choice choices) places ∙ q.2)
 
 module _ (g : Grammar) (shapes : List Shape) (text : List ℕ) (distinct : AreDistinct (names g.decls)) (tells : TagsTellAlternatives g shapes) where
   pub record AreOne (d e : ℕ) (decl other : Decl) (shape form : Shape) : Type 0 where
@@ -122,15 +112,15 @@ module _ (g : Grammar) (shapes : List Shape) (text : List ℕ) (distinct : AreDi
       let shaped : a.shaped.0 ≡ b.shaped.0 = let both : suc a.shaped.0 ≡ suc b.shaped.0 = sym a.shaped.1 ∙ number ∙ b.shaped.1 in omega (arith, both) in
       record {
         number = number;
-        declaration = same_some decl other (sym a.numbered.2 ∙ ap (slice_get g.decls) places ∙ b.numbered.2);
-        form_of = same_some shape form (sym a.shaped.2 ∙ ap (slice_get shapes) shaped ∙ b.shaped.2);
+        declaration = same_Some decl other (sym a.numbered.2 ∙ ap (slice_get g.decls) places ∙ b.numbered.2);
+        form_of = same_Some shape form (sym a.shaped.2 ∙ ap (slice_get shapes) shaped ∙ b.shaped.2);
       }
 
   pub alternative_once : (decl other : Decl) (k l : ℕ) (a b : Levelled) → decl ≡ other → k ≡ l → IsAlternative decl k a →
       IsAlternative other l b → a ≡ b
   alternative_once decl other k l a b same number p q =
       let places : p.0 ≡ q.0 = let both : suc p.0 ≡ suc q.0 = sym p.1 ∙ number ∙ q.1 in omega (arith, both) in
-      same_some a b (sym p.2 ∙ (λ z. slice_get (by_level (same z).levels) (places z)) ∙ q.2)
+      same_Some a b (sym p.2 ∙ (λ z. slice_get (by_level (same z).levels) (places z)) ∙ q.2)
 
   pub same_kind : {name : List ℕ} {vs ws : List Value} {kind other : DeclKind} {i e k f : ℕ} {t u : Tree} {starts ls : List ℕ} →
       Instance g shapes text name vs kind i e t starts → Instance g shapes text name ws other k f u ls → kind ≡ other
@@ -315,7 +305,7 @@ module _ (g : Grammar) (shapes : List Shape) (text : List ℕ) (distinct : AreDi
   layout_told : (name : List ℕ) (t : Tree) → layout_among g.decls ≡ Some name → InstanceTold name t →
       (c : DeclKind) (e j : ℕ) (us : Trees) → c ≡ Syntax → TrailsBy g shapes text c e j us → IsTold (one t) us
   layout_told name t declared told c e j us same (inl (is, other, kind, u, starts, found, instance, trees)) =
-      let named : other ≡ name = same_some other name (sym found ∙ declared) in
+      let named : other ≡ name = same_Some other name (sym found ∙ declared) in
       told_single t u us trees (told [] kind e j u starts (subst (λ (n : List ℕ). Instance g shapes text n [] kind e j u starts) named instance))
   layout_told name t declared told c e j us same (inr (undeclared, ends, trees)) =
       let both : None ≡ Some name = sym (undeclared same) ∙ declared in absurd (cc)

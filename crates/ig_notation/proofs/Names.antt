@@ -1,6 +1,6 @@
 -- The names of functions.
-use Rattle.std.proofs.Common.{◌≡◌, ℕ, zero, suc, List, [], ◌∷◌, Bool, true, false, refl, sym, ap, subst, ◌∙◌, lit<, arith}
-use Rattle.std.proofs.lemmas.Bool.{and_parts}
+use Rattle.std.proofs.Common.{◌≡◌, ℕ, zero, suc, List, [], ◌∷◌, true, false, refl, sym, ap, subst, ◌∙◌, lit<, arith}
+use Rattle.std.proofs.lemmas.Bool.{and_parts, false_from_ne_true}
 use Rattle.std.specs.Str.{chars, IsAscii}
 use Rattle.std.specs.Prelude.{Some, None, codes, IsUtf8, encode_utf8_all, nat_lt, ◌&&◌}
 use Rattle.std.specs.Cmp.Lexicographic.{bytes_decides}
@@ -17,14 +17,10 @@ use Rattle.ig_notation.specs.declared.expressions.Named.{Named}
 use Rattle.ig_notation.specs.declared.expressions.Named.TheVariants as named
 use Rattle.ig_notation.specs.Readers.{IsNamed, named_wants}
 
-decided : (b : Bool) → (b ≡ true → ⊥) → b ≡ false
-decided true f = absurd (f refl)
-decided false f = refl
-
 -- a text that isn't an ASCII word has other characters
 other : (text word : List ℕ) → IsUtf8 text → ascii word ≡ true → chars word ≡ word → (text ≡ word → ⊥) → is_word (chars text) word ≡ false
 other text word u a e f =
-    decided (is_word (chars text) word) (λ h.
+    false_from_ne_true (is_word (chars text) word) (λ h.
     f (sym (encodes-chars text u) ∙ ap encode_utf8_all ((bytes_decides (chars text) word).0 h ∙ sym e) ∙ encodes-chars word (IsUtf8-from_ascii word (ascii_at word a))))
 
 none_of : (x : List ℕ) → is_word x (codes "begin") ≡ false → is_word x (codes "end") ≡ false → is_word x (codes "size") ≡ false →

@@ -1,8 +1,6 @@
 -- In which order a node of a forest has its alternatives.
-use Rattle.std.proofs.Common.{◌≡◌, ◌⊎◌, inl, inr, ℕ, zero, suc, ◌<◌, List, [], ◌∷◌, Some, length, slice_get, refl, sym, ap, ◌∙◌, subst, arith}
+use Rattle.std.proofs.Common.{◌≡◌, ◌⊎◌, inl, inr, ℕ, ◌<◌, List, [], ◌∷◌, length, refl, sym, ap, ◌∙◌, subst, arith}
 use Rattle.std.specs.Cmp.{bool_cmp_total}
-use Rattle.std.specs.List.{AllByRecursion}
-use Rattle.std.specs.List.Sorted.{IsStrictlySortedBy}
 use Rattle.std.specs.Ordering.{nat_cmp, ordering_then}
 use Rattle.std.specs.declared.cmp.Ordering.{Ordering}
 use Rattle.std.specs.declared.cmp.Ordering.TheVariants.{Less, Equal, Greater}
@@ -12,6 +10,8 @@ use Rattle.std.proofs.lemmas.Cmp.{nat_cmp_total, int_cmp_total, tied_itself}
 use Rattle.std.proofs.lemmas.Option.{same_Some}
 use Rattle.ig_text.specs.TagNumber.{number_of}
 use Rattle.ig_text.proofs.Lists.{contains_from_at}
+use Rattle.ig_text.proofs.Pairwise.{partner, key_at}
+use Rattle.ig_text.proofs.Rising.{rises}
 use Rattle.ig_expr.specs.ValueOrder.{value_cmp, values_cmp}
 use Rattle.ig_expr.specs.declared.value.Value.{Value}
 use Rattle.ig_expr.specs.declared.value.Value.TheVariants as value
@@ -26,38 +26,9 @@ use Rattle.ig_core.specs.Laws.{TagsRiseInCores}
 use Rattle.ig_core.specs.Lowered.{CoreOf}
 use Rattle.ig_forest.specs.Forest.{Forest, ItemNode}
 use Rattle.ig_forest.specs.Orders.{choice_cmp, item_cmp}
-use Rattle.ig_forest.specs.Reduced as reduced
-use Rattle.ig_forest.specs.Reduced.{Each, IsChoice, IsItemNode, IsReduced}
+use Rattle.ig_forest.specs.Reduced.{IsChoice, IsItemNode, IsReduced}
 use Rattle.ig_forest.specs.declared.entry.Choice.{Choice}
 use Rattle.ig_parse.specs.Laws.{AlternativesRiseByTags, HasLessEnvironment}
-
--- what belongs to a member of the first list, and of the second one
-partner : {X Y : Type 0} {P : X → Y → Type 0} {xs : List X} {ys : List Y} → Each P xs ys → (k : ℕ) (x : X) →
-    slice_get xs k ≡ Some x → (y : Y) × (slice_get ys k ≡ Some y) × P x y
-partner reduced.none k x at = cc
-partner {P = P} (reduced.more a b xs ys p each) zero x at = (b, refl, subst (λ z. P z b) (same_Some a x at) p)
-partner (reduced.more a b xs ys p each) (suc k) x at = partner each k x at
-
-beside : {X Y : Type 0} {P : X → Y → Type 0} {xs : List X} {ys : List Y} → Each P xs ys → (k : ℕ) (y : Y) →
-    slice_get ys k ≡ Some y → (x : X) × P x y
-beside reduced.none k y at = absurd (cc)
-beside {P = P} (reduced.more a b xs ys p each) zero y at = (a, subst (λ z. P a z) (same_Some b y at) p)
-beside (reduced.more a b xs ys p each) (suc k) y at = beside each k y at
-
--- in a strictly sorted list what stands before is less
-all_at : {X : Type 0} (P : X → Type 0) (xs : List X) (k : ℕ) (x : X) → AllByRecursion P xs → slice_get xs k ≡ Some x → P x
-all_at P [] k x all e = cc
-all_at P (y ∷ xs) zero x all e = subst P (same_Some y x e) all.0
-all_at P (y ∷ xs) (suc k) x all e = all_at P xs k x all.1 e
-
-rises : {X : Type 0} (cmp : X → X → Ordering) (xs : List X) (i j : ℕ) (x y : X) → IsStrictlySortedBy cmp xs →
-    slice_get xs i ≡ Some x → slice_get xs j ≡ Some y → i < j → cmp x y ≡ Less
-unfolding IsStrictlySortedBy
-rises cmp [] i j x y sorted at_x at_y less = cc
-rises cmp (z ∷ xs) i zero x y sorted at_x at_y less = absurd (omega arith)
-rises {X} cmp (z ∷ xs) zero (suc j) x y sorted at_x at_y less =
-    subst (λ (a : X). cmp a y ≡ Less) (same_Some z x at_x) (all_at (λ (w : X). cmp z w ≡ Less) xs j y sorted.0 at_y)
-rises cmp (z ∷ xs) (suc i) (suc j) x y sorted at_x at_y less = rises cmp xs i j x y sorted.1 at_x at_y (omega arith)
 
 -- lists of values are tied with themselves
 value_tied : (v : Value) → value_cmp v v ≡ Equal
@@ -178,10 +149,10 @@ module _ (core : List Nonterminal) (text : List ℕ) (f : Forest) (rise : TagsRi
 pub alternatives_rise_by_tags : TagsRiseInCores → AlternativesRiseByTags
 alternatives_rise_by_tags law c text f buildable few is v i j node first second there at_first at_second less =
     let r = is.reduced in
-    let of = beside r.nodes v node there in
-    let p = (of.1.choices first).0 (contains_from_at node.alternatives i first at_first) in
-    let q = (of.1.choices second).0 (contains_from_at node.alternatives j second at_second) in
-    let ordered = rises choice_cmp node.alternatives i j first second of.1.order at_first at_second less in
+    let of = key_at r.nodes v node there in
+    let p = (of.2.choices first).0 (contains_from_at node.alternatives i first at_first) in
+    let q = (of.2.choices second).0 (contains_from_at node.alternatives j second at_second) in
+    let ordered = rises choice_cmp node.alternatives i j first second of.2.order at_first at_second less in
     elim (cases_order (number_of first.tag) (number_of second.tag)) [
       | inl same ↦
           let items : first.item < second.item =

@@ -1,9 +1,10 @@
 -- The spans of a name's nodes are those of the declaration of that name.
-use Rattle.std.proofs.Common.{◌≡◌, ◌∙◌, ℕ, zero, suc, List, Some, slice_get, refl, sym, ap, subst, arith}
+use Rattle.std.proofs.Common.{◌∙◌, ℕ, List, Some, sym, ap, arith}
 use Rattle.std.proofs.lemmas.Option.{same_Some}
 use Rattle.ig_text.specs.Tree.{height}
 use Rattle.ig_text.specs.declared.tag.Tag.TheVariants.{Rule}
 use Rattle.ig_text.specs.declared.text.Span.{Span}
+use Rattle.ig_text.proofs.Pairwise.{key_at}
 use Rattle.ig_grammar.specs.declared.grammar.Grammar.{Grammar}
 use Rattle.ig_item.specs.WellKinded.{IsWellKinded}
 use Rattle.ig_core.specs.Laws.{DeclarationsKeepNumbers}
@@ -11,8 +12,6 @@ use Rattle.ig_core.specs.Lowered.{CoreOf}
 use Rattle.ig_core.specs.Notation.{unchanged}
 use Rattle.ig_forest.specs.Forest.{Forest}
 use Rattle.ig_forest.specs.Laws.{ReducedIsTrim}
-use Rattle.ig_forest.specs.Reduced as reduced
-use Rattle.ig_forest.specs.Reduced.{Each}
 use Rattle.ig_query.specs.Laws.{NodesAreThoseOfTrees}
 use Rattle.ig_parse.specs.Laws.{DeclaresSpan, PermitsSpan, SpansAreOfDeclarations, SpansArePermitted}
 use Rattle.ig_parse.specs.Parses.{IsForestOf}
@@ -22,13 +21,6 @@ pub record Given : Type 0 where
   pub nodes : NodesAreThoseOfTrees
   pub trim : ReducedIsTrim
   pub spans : SpansArePermitted
-
--- what belongs to a member of the second list
-beside : {X Y : Type 0} {P : X → Y → Type 0} {xs : List X} {ys : List Y} → Each P xs ys → (k : ℕ) (y : Y) →
-    slice_get ys k ≡ Some y → (x : X) × P x y
-beside reduced.none k y at = absurd (cc)
-beside {P = P} (reduced.more a b xs ys p each) zero y at = (a, subst (λ z. P a z) (same_Some b y at) p)
-beside (reduced.more a b xs ys p each) (suc k) y at = beside each k y at
 
 module _ (given : Given) (g : Grammar) (text : List ℕ) (f : Forest) (kinded : IsWellKinded (CoreOf (unchanged g)))
     (is : IsForestOf (unchanged g) text f) (name : List ℕ) (span : Span) where
@@ -43,8 +35,8 @@ module _ (given : Given) (g : Grammar) (text : List ℕ) (f : Forest) (kinded : 
         unfolds = (is.unfolds (height p.tree) p.tree).1 (p.permitted, omega arith);
         has = p.has;
       }) in
-      let key = beside is.reduced.nodes node.number node.node node.there in
-      let choice = (key.1.choices node.choice).0 node.among in
+      let key = key_at is.reduced.nodes node.number node.node node.there in
+      let choice = (key.2.choices node.choice).0 node.among in
       let done = choice.completes.complete in
       let found =
       (given.numbers g).only choice.item.instance.nonterminal choice.item.alternative p.nonterminal p.alternative

@@ -4,10 +4,12 @@ use Rattle.std.proofs.Common.{◌≡◌, ◌⊎◌, ⊎_elim, ℕ, zero, suc, �
 use Rattle.std.specs.Prelude.{Result, Ok, Err, OnOk, IfErr}
 use Rattle.std.specs.Result.{IsErrAnd}
 use Rattle.std.proofs.lemmas.Result.{err_from_is_err_and}
+use Rattle.std.proofs.lemmas.List.Elements.{Contains-append_left, Contains-append_right}
 use Rattle.std.specs.Prelude.{Option}
 use Rattle.ig_expr.specs.declared.value.Value.{Value}
 use Rattle.ig_item.specs.declared.items.Item as stored
 use Rattle.std.specs.Prelude.{IsTrue, Some, None, true, false, Bool, ◌↔◌}
+use Rattle.ig_text.proofs.Lists.{mapped_in}
 use Rattle.ig_expr.specs.Expression.{Expression}
 use Rattle.ig_expr.specs.Evaluation.{value_of}
 use Rattle.ig_expr.specs.declared.value.Value.TheVariants.{Bool as truth}
@@ -18,7 +20,6 @@ use Rattle.ig_item.specs.declared.items.InstanceKey.{InstanceKey}
 use Rattle.ig_plain.specs.Tables.{item_by}
 use Rattle.ig_plain.specs.declared.found.Found.{Found}
 use Rattle.ig_plain.specs.Found.{means, found_in, later_in, count, AreNamed, Grows, GrowsLater, Has, Adds, AddsLater}
-use Rattle.ig_plain.proofs.Lists.{left_contains, right_contains, mapped_in}
 use Rattle.ig_plain.proofs.Growth.{grows_not, grows_weaker, grows_then, all_kept, named_all}
 use Rattle.ig_plain.proofs.Sets.{extends_itself}
 
@@ -102,9 +103,9 @@ module _ (p : ℕ) where
       record {
         grows = g;
         has = λ y e.
-            left_contains (found_in b) (later_in b) y
+            Contains-append_left (found_in b) (later_in b) y
             (subst (Contains (found_in b)) (same_means a b x envs keys ∙ sym e)
-            (mapped_in (means b) (b.done.items ++ b.here.items) x (right_contains b.done.items b.here.items x c)));
+            (mapped_in (means b) (b.done.items ++ b.here.items) x (Contains-append_right b.done.items b.here.items x c)));
         within = λ h. within;
         fault = tt;
       }
@@ -159,9 +160,6 @@ value_at text names here env values e r o same told is =
 
 pub value_only : (o : Option Value) (v w : Value) → o ≡ Some v → o ≡ Some w → w ≡ v
 value_only o v w a b = let e : Some w ≡ Some v = sym b ∙ a in cc
-
-pub value_none : (o : Option Value) (w : Value) → o ≡ None → o ≡ Some w → ⊥
-value_none o w a b = let e : None ≡ Some w = sym a ∙ b in cc
 
 -- where one of the expressions has no value, they have no values
 pub no_values : {A B : Type 0} (g : A → B) (f : B → Option Value) (xs : List A) (vs : List Value) (i : ℕ) (x : A) → slice_get xs i ≡ Some x →

@@ -1,8 +1,10 @@
 -- An item before a test, a binding or a terminal is taken.
 use Rattle.std.proofs.Common.{◌≡◌, inl, ℕ, zero, suc, ◌+◌, ◌<◌, ◌≤◌, List, [], ◌∷◌, Some, None, Option, length, map, Contains, refl, sym, ap, ◌∙◌, subst, arith, slice_get, true}
+use Rattle.std.proofs.lemmas.List.Elements.{Contains-append_left}
 use Rattle.std.specs.Prelude.{Result, Ok, Err, option_and_then, MatchResult}
 use Rattle.ig_text.specs.Pattern.{Matches}
 use Rattle.ig_text.specs.declared.pattern.Pattern.{Pattern}
+use Rattle.ig_text.proofs.Lists.{same_map}
 use Rattle.ig_expr.specs.Expression.{Expression}
 use Rattle.ig_expr.specs.declared.value.Value.{Value}
 use Rattle.ig_expr.specs.declared.value.Value.TheVariants.{Bool as truth}
@@ -28,7 +30,6 @@ use Rattle.ig_plain.specs.Found.{means, instances_in, found_in, later_in, taken_
 use Rattle.ig_plain.specs.Rules as rules
 use Rattle.ig_plain.specs.Rules.{After, IsBehind, IsCaller, IsPastTerminal, Stands, step_at}
 use Rattle.ig_plain.specs.Run.{IsWaiting, IsRun, IsTaken, Refuses}
-use Rattle.ig_plain.proofs.Lists.{left_contains, same_map}
 use Rattle.ig_plain.proofs.Following.{one_step, not_both}
 use Rattle.ig_plain.proofs.Running.{takes_found, taken_now, refuses, takes_later, taken_later, exceeds_later, named_still, means_still, all_later, item_found}
 use Rattle.ig_plain.proofs.Waiters.{Keeps, waits_alone}
@@ -166,7 +167,7 @@ module _ (core : List Nonterminal) (text : List ℕ) (budget p k : ℕ) (s : Fou
   pub fits : EnvironmentsFit → IsWellKinded core → EnvironmentFits core (means s item)
   fits law2 kinded =
       law2 core text (means s item) kinded
-      (r.taking.reachable (means s item) (left_contains (found_in s) (later_in s) (means s item) (item_found s k item at)))
+      (r.taking.reachable (means s item) (Contains-append_left (found_in s) (later_in s) (means s item) (item_found s k item at)))
 
 -- what stands behind the dot of an item in an alternative
 pub stands_at : (core : List Nonterminal) (it : Item) (n : ℕ) (step : Step) → EnvironmentFits core it → n ≡ it.instance.nonterminal →

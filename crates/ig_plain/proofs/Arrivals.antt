@@ -4,6 +4,8 @@ use Rattle.std.proofs.lemmas.List.{append-nil}
 use Rattle.std.proofs.lemmas.Option.{slice_get_within}
 use Rattle.std.proofs.Math.Seq.{take-length}
 use Rattle.std.proofs.lemmas.Bool.{cases_lt}
+use Rattle.std.proofs.lemmas.List.Elements.{Contains-append_left, Contains-append_right, Contains-append_cases}
+use Rattle.ig_text.proofs.Lists.{at_from_contains, left_at, right_at, contains_one, none_in_nil, mapped_in, unmapped_in, same_map}
 use Rattle.ig_plain.specs.Rules.{IsCaller}
 use Rattle.ig_item.specs.Items.{Item, Follows, first}
 use Rattle.ig_item.specs.Tables.{instance_by, HaveValues}
@@ -18,7 +20,6 @@ use Rattle.ig_plain.specs.Tables.{IsNamed, item_by}
 use Rattle.ig_plain.specs.Found.{means, instances_in, found_in, later_in, taken_in, Named, AreNamed, IsStored}
 use Rattle.ig_plain.specs.Run.{IsWaiting, IsTaking, IsRun}
 use Rattle.ig_plain.specs.Arrival.{IsParted, ArrivesWith}
-use Rattle.ig_plain.proofs.Lists.{at_from_contains, left_at, right_at, left_contains, right_contains, contains_sides, one_in, none_in, mapped_in, unmapped_in, same_map}
 use Rattle.ig_plain.proofs.Distinct.{once_both, once_single}
 
 pub once_left : {X : Type 0} (xs ys : List X) → NoneTwice (xs ++ ys) → NoneTwice xs
@@ -35,8 +36,8 @@ parts_none position here =
     record {
       here_now = λ x c. inl c;
       here_still = λ x c. c;
-      moved = λ x c. absurd (none_in x c);
-      rest_now = λ x c. absurd (none_in x c);
+      moved = λ x c. absurd (none_in_nil x c);
+      rest_now = λ x c. absurd (none_in_nil x c);
       here_once = λ n. once_left here [] n;
       rest_once = λ n. n;
       count = omega arith;
@@ -49,56 +50,56 @@ parts_here position xs h0 h r item p at =
     record {
       here_now = λ x c.
           ⊎_elim
-          (λ (k : Contains h x). ⊎_elim (λ q. inl q) (λ q. inr (left_contains xs (item ∷ []) x q.0, q.1)) (p.here_now x k))
+          (λ (k : Contains h x). ⊎_elim (λ q. inl q) (λ q. inr (Contains-append_left xs (item ∷ []) x q.0, q.1)) (p.here_now x k))
           (λ (k : Contains (item ∷ []) x).
-          inr (right_contains xs (item ∷ []) x k, ap (λ (z : stored.Item). z.position) (one_in item x k) ∙ at))
-          (contains_sides h (item ∷ []) x c);
-      here_still = λ x c. left_contains h (item ∷ []) x (p.here_still x c);
+          inr (Contains-append_right xs (item ∷ []) x k, ap (λ (z : stored.Item). z.position) (contains_one item x k) ∙ at))
+          (Contains-append_cases h (item ∷ []) x c);
+      here_still = λ x c. Contains-append_left h (item ∷ []) x (p.here_still x c);
       moved = λ x c.
           ⊎_elim
-          (λ (k : Contains xs x). ⊎_elim (λ q. inl (left_contains h (item ∷ []) x q)) (λ q. inr q) (p.moved x k))
-          (λ (k : Contains (item ∷ []) x). inl (right_contains h (item ∷ []) x k))
-          (contains_sides xs (item ∷ []) x c);
-      rest_now = λ x c. let q = p.rest_now x c in (left_contains xs (item ∷ []) x q.0, q.1);
+          (λ (k : Contains xs x). ⊎_elim (λ q. inl (Contains-append_left h (item ∷ []) x q)) (λ q. inr q) (p.moved x k))
+          (λ (k : Contains (item ∷ []) x). inl (Contains-append_right h (item ∷ []) x k))
+          (Contains-append_cases xs (item ∷ []) x c);
+      rest_now = λ x c. let q = p.rest_now x c in (Contains-append_left xs (item ∷ []) x q.0, q.1);
       here_once = λ n.
           let all : NoneTwice ((h0 ++ xs) ++ item ∷ []) = subst NoneTwice (sym (append_assoc h0 xs (item ∷ []))) n in
           once_both h (item ∷ []) (p.here_once (once_left (h0 ++ xs) (item ∷ []) all)) (once_single item)
-          (λ x c d. once_apart (h0 ++ xs) item all (subst (Contains (h0 ++ xs)) (one_in item x d) (was x c)));
+          (λ x c d. once_apart (h0 ++ xs) item all (subst (Contains (h0 ++ xs)) (contains_one item x d) (was x c)));
       rest_once = λ n. p.rest_once (once_left xs (item ∷ []) n);
       count = let a = length-append xs (item ∷ []) in let b = length-append h (item ∷ []) in let l = p.count in omega (arith, a, b, l);
     }
   where
     was : (x : stored.Item) → Contains h x → Contains (h0 ++ xs) x
-    was x c = ⊎_elim (λ k. left_contains h0 xs x k) (λ k. right_contains h0 xs x k.0) (p.here_now x c)
+    was x c = ⊎_elim (λ k. Contains-append_left h0 xs x k) (λ k. Contains-append_right h0 xs x k.0) (p.here_now x c)
 
 -- one more of the later items stays
 pub parts_kept : (position : ℕ) (xs h0 h r : List stored.Item) (item : stored.Item) → IsParted position xs h0 h r → (item.position ≡ position → ⊥) →
     IsParted position (xs ++ item ∷ []) h0 h (r ++ item ∷ [])
 parts_kept position xs h0 h r item p away =
     record {
-      here_now = λ x c. ⊎_elim (λ q. inl q) (λ q. inr (left_contains xs (item ∷ []) x q.0, q.1)) (p.here_now x c);
+      here_now = λ x c. ⊎_elim (λ q. inl q) (λ q. inr (Contains-append_left xs (item ∷ []) x q.0, q.1)) (p.here_now x c);
       here_still = p.here_still;
       moved = λ x c.
           ⊎_elim
-          (λ (k : Contains xs x). ⊎_elim (λ q. inl q) (λ q. inr (left_contains r (item ∷ []) x q)) (p.moved x k))
-          (λ (k : Contains (item ∷ []) x). inr (right_contains r (item ∷ []) x k))
-          (contains_sides xs (item ∷ []) x c);
+          (λ (k : Contains xs x). ⊎_elim (λ q. inl q) (λ q. inr (Contains-append_left r (item ∷ []) x q)) (p.moved x k))
+          (λ (k : Contains (item ∷ []) x). inr (Contains-append_right r (item ∷ []) x k))
+          (Contains-append_cases xs (item ∷ []) x c);
       rest_now = λ x c.
-          ⊎_elim (λ (k : Contains r x). let q = p.rest_now x k in (left_contains xs (item ∷ []) x q.0, q.1))
+          ⊎_elim (λ (k : Contains r x). let q = p.rest_now x k in (Contains-append_left xs (item ∷ []) x q.0, q.1))
           (λ (k : Contains (item ∷ []) x).
-          (right_contains xs (item ∷ []) x k, λ e. away (ap (λ (z : stored.Item). z.position) (sym (one_in item x k)) ∙ e)))
-          (contains_sides r (item ∷ []) x c);
+          (Contains-append_right xs (item ∷ []) x k, λ e. away (ap (λ (z : stored.Item). z.position) (sym (contains_one item x k)) ∙ e)))
+          (Contains-append_cases r (item ∷ []) x c);
       here_once = λ n. p.here_once (once_left (h0 ++ xs) (item ∷ []) (subst NoneTwice (sym (append_assoc h0 xs (item ∷ []))) n));
       rest_once = λ n.
           once_both r (item ∷ []) (p.rest_once (once_left xs (item ∷ []) n)) (once_single item)
-          (λ x c d. once_apart xs item n (subst (Contains xs) (one_in item x d) (p.rest_now x c).0));
+          (λ x c d. once_apart xs item n (subst (Contains xs) (contains_one item x d) (p.rest_now x c).0));
       count = let a = length-append r (item ∷ []) in let b = length-append xs (item ∷ []) in let l = p.count in omega (arith, a, b, l);
     }
 
 pub arrives_with : (position : ℕ) (a b : Found) (empty : List stored.Item) → empty ≡ [] → b.envs.keys ≡ a.envs.keys → b.keys ≡ a.keys →
     b.done.items ≡ a.done.items ++ a.here.items → IsParted position a.later.items empty b.here.items b.later.items → ArrivesWith position a b
 arrives_with position a b empty none envs keys done p =
-    let never : (x : stored.Item) → Contains empty x → ⊥ = λ x c. none_in x (subst (λ (z : List stored.Item). Contains z x) none c) in
+    let never : (x : stored.Item) → Contains empty x → ⊥ = λ x c. none_in_nil x (subst (λ (z : List stored.Item). Contains z x) none c) in
     record {
       envs = envs;
       keys = keys;
@@ -136,18 +137,18 @@ module _ (core : List Nonterminal) (text : List ℕ) (budget p : ℕ) (a b : Fou
       ⊎_elim
       (λ (h : Contains (found_in a) x).
       let u = unmapped_in (means a) (a.done.items ++ a.here.items) x h in
-      left_contains (found_in b) (later_in b) x
+      Contains-append_left (found_in b) (later_in b) x
       (subst (Contains (found_in b)) (same u.0 ∙ u.2)
-      (mapped_in (means b) (b.done.items ++ b.here.items) u.0 (left_contains b.done.items b.here.items u.0 (subst (λ (z : List stored.Item). Contains z u.0) (sym m.done) u.1)))))
+      (mapped_in (means b) (b.done.items ++ b.here.items) u.0 (Contains-append_left b.done.items b.here.items u.0 (subst (λ (z : List stored.Item). Contains z u.0) (sym m.done) u.1)))))
       (λ (h : Contains (later_in a) x).
       let u = unmapped_in (means a) a.later.items x h in
       ⊎_elim
       (λ (k : Contains b.here.items u.0).
-      left_contains (found_in b) (later_in b) x
-      (subst (Contains (found_in b)) (same u.0 ∙ u.2) (mapped_in (means b) (b.done.items ++ b.here.items) u.0 (right_contains b.done.items b.here.items u.0 k))))
+      Contains-append_left (found_in b) (later_in b) x
+      (subst (Contains (found_in b)) (same u.0 ∙ u.2) (mapped_in (means b) (b.done.items ++ b.here.items) u.0 (Contains-append_right b.done.items b.here.items u.0 k))))
       (λ (k : Contains b.later.items u.0).
-      right_contains (found_in b) (later_in b) x (subst (Contains (later_in b)) (same u.0 ∙ u.2) (mapped_in (means b) b.later.items u.0 k))) (m.moved u.0 u.1))
-      (contains_sides (found_in a) (later_in a) x c)
+      Contains-append_right (found_in b) (later_in b) x (subst (Contains (later_in b)) (same u.0 ∙ u.2) (mapped_in (means b) b.later.items u.0 k))) (m.moved u.0 u.1))
+      (Contains-append_cases (found_in a) (later_in a) x c)
 
   later_was : (x : Item) → Contains (later_in b) x → Contains (later_in a) x
   later_was x c =
@@ -161,14 +162,14 @@ module _ (core : List Nonterminal) (text : List ℕ) (budget p : ℕ) (a b : Fou
       let u = unmapped_in (means b) (b.done.items ++ b.here.items) x h in
       ⊎_elim
       (λ (k : Contains b.done.items u.0).
-      left_contains (found_in a) (later_in a) x
+      Contains-append_left (found_in a) (later_in a) x
       (subst (Contains (found_in a)) (sym (same u.0) ∙ u.2) (mapped_in (means a) (a.done.items ++ a.here.items) u.0 (subst (λ (z : List stored.Item). Contains z u.0) m.done k))))
       (λ (k : Contains b.here.items u.0).
-      right_contains (found_in a) (later_in a) x
+      Contains-append_right (found_in a) (later_in a) x
       (subst (Contains (later_in a)) (sym (same u.0) ∙ u.2) (mapped_in (means a) a.later.items u.0 (m.here u.0 k).0)))
-      (contains_sides b.done.items b.here.items u.0 u.1))
-      (λ (h : Contains (later_in b) x). right_contains (found_in a) (later_in a) x (later_was x h))
-      (contains_sides (found_in b) (later_in b) x c)
+      (Contains-append_cases b.done.items b.here.items u.0 u.1))
+      (λ (h : Contains (later_in b) x). Contains-append_right (found_in a) (later_in a) x (later_was x h))
+      (Contains-append_cases (found_in b) (later_in b) x c)
 
   pub stored_next : IsStored (p + 1) b
   stored_next =
@@ -181,14 +182,14 @@ module _ (core : List Nonterminal) (text : List ℕ) (budget p : ℕ) (a b : Fou
           values = subst (λ (z : List InstanceKey). HaveValues b.envs.keys z) (sym m.keys) (subst (λ z. HaveValues z a.keys) (sym m.envs) n.values);
           done = λ x c.
               named x
-              (⊎_elim (n.done x) (n.here x) (contains_sides a.done.items a.here.items x (subst (λ (z : List stored.Item). Contains z x) m.done c)));
+              (⊎_elim (n.done x) (n.here x) (Contains-append_cases a.done.items a.here.items x (subst (λ (z : List stored.Item). Contains z x) m.done c)));
           here = λ x c. named x (n.later x (m.here x c).0);
           later = λ x c. named x (n.later x (m.later x c).0);
         };
         before = λ x c.
             ⊎_elim (λ (h : Contains a.done.items x). let l = r.taking.stored.before x h in omega (arith, l))
             (λ (h : Contains a.here.items x). let e = r.taking.stored.at x h in omega (arith, e))
-            (contains_sides a.done.items a.here.items x (subst (λ (z : List stored.Item). Contains z x) m.done c));
+            (Contains-append_cases a.done.items a.here.items x (subst (λ (z : List stored.Item). Contains z x) m.done c));
         at = λ x c. (m.here x c).1;
         behind = λ x c. further x.position (r.taking.stored.behind x (m.later x c).0) (m.later x c).1;
         done_once = subst NoneTwice (sym m.done)
@@ -221,7 +222,7 @@ module _ (core : List Nonterminal) (text : List ℕ) (budget p : ℕ) (a b : Fou
       let e : u.0.position ≡ x.position = ap (λ (z : Item). z.position) u.2 in
       ⊎_elim (λ (h : Contains a.done.items u.0). let l = r.taking.stored.before u.0 h in omega (arith, l, e))
       (λ (h : Contains a.here.items u.0). let l = r.taking.stored.at u.0 h in omega (arith, l, e))
-      (contains_sides a.done.items a.here.items u.0 u.1)
+      (Contains-append_cases a.done.items a.here.items u.0 u.1)
 
   instances_same : instances_in b ≡ instances_in a
   instances_same = ap (λ z. map (instance_by z) b.keys) m.envs ∙ ap (map (instance_by a.envs.keys)) m.keys

@@ -2,6 +2,7 @@
 use Rattle.std.proofs.Common.{◌≡◌, ⊎_elim, inl, inr, ℕ, suc, ◌+◌, ◌<◌, ◌≤◌, List, [], ◌∷◌, ◌++◌, Some, length, map, take, Contains, refl, sym, ap, ◌∙◌, subst, arith, slice_get, length-append, append_assoc, set}
 use Rattle.std.proofs.lemmas.List.{append-nil, map-append, length-map, length-take-le, take_all, take_more_set}
 use Rattle.std.proofs.lemmas.Option.{slice_get_within}
+use Rattle.ig_text.proofs.Lists.{at_from_contains, right_at, sides, take_step, same_map, unmapped_at, mapped_at}
 use Rattle.ig_item.specs.Items.{Item}
 use Rattle.ig_item.specs.Ways as ways
 use Rattle.ig_item.specs.Ways.{WayLists, WayTo, AreEnds}
@@ -20,10 +21,9 @@ use Rattle.ig_plain.specs.Run.{IsRun}
 use Rattle.ig_plain.specs.Arrival.{IsParted, ArrivesWith}
 use Rattle.ig_plain.specs.Trail as trail
 use Rattle.ig_plain.specs.Trail.{Pairs, IsRecorded, FollowTrail, HasTrail, PartsTrail, ArrivesOn}
-use Rattle.ig_plain.proofs.Lists.{at_from_contains, right_at, sides, take_step, same_map, unmapped_at}
 use Rattle.ig_plain.proofs.Growth.{longer, extends_at}
 use Rattle.ig_plain.proofs.Distinct.{different}
-use Rattle.ig_plain.proofs.Pairing.{IsSameFrom, all_same, same_more, same_set, front_at, behind_at, mapped_at, pairs_left, pairs_right, pairs_sides, pairs_mapped, pairs_unmapped}
+use Rattle.ig_plain.proofs.Pairing.{IsSameFrom, all_same, same_more, same_set, front_at, behind_at, pairs_left, pairs_right, pairs_sides, pairs_mapped, pairs_unmapped}
 use Rattle.ig_plain.proofs.Sets.{extends_same}
 use Rattle.ig_plain.proofs.Recording.{way_more}
 use Rattle.ig_plain.proofs.Trails.{RecordsMore, follow, ends_found, ends_none}

@@ -2,7 +2,9 @@
 use Rattle.std.proofs.Common.{◌≡◌, ℕ, suc, ◌<◌, ◌≤◌, List, [], Some, Option, length, map, set, refl, sym, ap, ◌∙◌, subst, arith, slice_get}
 use Rattle.std.specs.Prelude.{Bool, Result, Ok, Err, slice_index_or, option_map}
 use Rattle.std.proofs.lemmas.Option.{slice_get_within, get_or_from_slice_get, slice_get-map}
+use Rattle.std.proofs.lemmas.List.{length-set}
 use Rattle.ig_text.specs.declared.pattern.Pattern.{Pattern}
+use Rattle.ig_text.proofs.Lists.{contains_from_at}
 use Rattle.ig_expr.specs.Expression.{Expression}
 use Rattle.ig_expr.specs.Evaluation.{value_of}
 use Rattle.ig_expr.specs.declared.value.Value.{Value}
@@ -25,12 +27,11 @@ use Rattle.ig_plain.specs.Rules as rules
 use Rattle.ig_plain.specs.Rules.{After, IsFirstOf, IsCaller}
 use Rattle.ig_plain.specs.Waiting.{called_at, not_called, lengthened, with_caller}
 use Rattle.ig_plain.specs.Run.{IsRun, IsWaiting, IsTaken, IsEntered, EntersInstance, Refuses}
-use Rattle.ig_plain.proofs.Lists.{contains_from_at}
 use Rattle.ig_plain.proofs.Sets.{extends_same, extends_itself}
 use Rattle.ig_plain.proofs.Growth.{extends_at, instance_kept, values_more, grows_not}
 use Rattle.ig_plain.proofs.Following.{one_step, not_both}
 use Rattle.ig_plain.proofs.Running.{takes_found, taken_now, follows_reachable}
-use Rattle.ig_plain.proofs.Waiters.{waits_alone, set_length}
+use Rattle.ig_plain.proofs.Waiters.{waits_alone}
 use Rattle.ig_plain.proofs.Completes.{item_named, keeps_grown, set_at}
 use Rattle.ig_plain.proofs.Moving.{Moved, moved_named, moved_means}
 use Rattle.ig_plain.proofs.Instances.{run_moved}
@@ -183,7 +184,7 @@ module _ (core : List Nonterminal) (text : List ℕ) (law : ReachableIsClosed) (
 
         pub still_there : i < length u.called.items
         still_there =
-            let e = ap length called ∙ set_length v.called.items i (with_caller (called_at v i) (suc (length v.callers.items))) in
+            let e = ap length called ∙ length-set v.called.items i (with_caller (called_at v i) (suc (length v.callers.items))) in
             let l = callee_there in omega (arith, e, l)
 
         pub only_waits : ((called_at u i).last_end ≡ Some p → ⊥) → IsRun core text budget p (suc k) t u

@@ -2,9 +2,12 @@
 use Rattle.std.proofs.Common.{◌≡◌, ◌⊎◌, ⊎_elim, inl, inr, ℕ, suc, ◌<◌, ◌≤◌, List, [], ◌∷◌, ◌++◌, Some, Option, length, map, set, take, Contains, refl, sym, ap, ◌∙◌, subst, arith, slice_get}
 use Rattle.std.specs.Prelude.{Bool, Result, Ok, Err}
 use Rattle.std.proofs.lemmas.Option.{same_Some, slice_get_within, slice_get-get_or}
+use Rattle.std.proofs.lemmas.List.Elements.{Contains-append_left, Contains-append_right, Contains-append_cases}
+use Rattle.std.proofs.lemmas.List.{length-set}
 use Rattle.ig_text.specs.declared.pattern.Pattern.{Pattern}
+use Rattle.ig_text.proofs.Lists.{contains_from_at, it_is_in, contains_one, unmapped_in, among_all}
+use Rattle.ig_text.proofs.Equal.{same_listed}
 use Rattle.ig_expr.specs.Evaluation.{value_of}
-use Rattle.ig_expr.specs.declared.value.Value.{Value}
 use Rattle.ig_item.specs.Step.{Step, Call}
 use Rattle.ig_item.specs.Core.{IsAlternative}
 use Rattle.ig_item.specs.Visible.{names_at}
@@ -24,27 +27,13 @@ use Rattle.ig_plain.specs.Rules as rules
 use Rattle.ig_plain.specs.Rules.{After, IsCaller}
 use Rattle.ig_plain.specs.Waiting.{called_at, not_called, lengthened, first_or, with_caller}
 use Rattle.ig_plain.specs.Run.{Chains, ChainEnds, HasCallers, HasEnd, IsWaiting, IsRun, IsTaken}
-use Rattle.ig_plain.proofs.Lists.{contains_from_at, left_contains, right_contains, contains_sides, it_is_in, one_in, unmapped_in, front_in}
 use Rattle.ig_plain.proofs.Sets.{extends_itself}
 use Rattle.ig_plain.proofs.Growth.{grows_not}
 use Rattle.ig_plain.proofs.Following.{one_step, not_both, same_alternative}
 use Rattle.ig_plain.proofs.Running.{takes_found, taken_now, refuses, taken_found}
-use Rattle.ig_plain.proofs.Waiters.{Keeps, callers_still, end_still, end_more, set_cases, set_length}
+use Rattle.ig_plain.proofs.Waiters.{Keeps, callers_still, end_still, end_more, set_cases}
 use Rattle.ig_plain.proofs.Links.{chain_stays, end_stays, end_within, last_in, stays_at, chain_longer, end_longer}
 use Rattle.ig_plain.proofs.Completes.{keeps_grown, instances_once, item_named, firsts_kept}
-
-somes : (vs ws : List Value) → map Some vs ≡ map Some ws → vs ≡ ws
-somes [] [] e = refl
-somes [] (w ∷ ws) e = cc
-somes (v ∷ vs) [] e = cc
-somes (v ∷ vs) (w ∷ ws) e =
-    let a : Some v ≡ Some w = head e in let b : vs ≡ ws = somes vs ws (tail e) in let c : v ≡ w = same_Some v w a in cc
-  where
-    head : {A : Type 0} {a b : A} {us zs : List A} → a ∷ us ≡ b ∷ zs → a ≡ b
-    head e = cc
-
-    tail : {A : Type 0} {a b : A} {us zs : List A} → a ∷ us ≡ b ∷ zs → us ≡ zs
-    tail e = cc
 
 -- one list of names is visible at a dot
 pub visible_one : (core : List Nonterminal) (text : List ℕ) (it : Item) (names others : List (List ℕ)) (s t : Step) →
@@ -64,7 +53,7 @@ calls_one core text it a b l m e f p q =
     let names : p.names ≡ q.names = visible_one core text it p.names q.names (Call a.nonterminal p.arguments l e) (Call b.nonterminal q.arguments m f) p.before q.before in
     let vals : map (value_of text p.names it.env it.position) p.arguments ≡ map (value_of text q.names it.env it.position) q.arguments =
     ap (λ (z : List (List ℕ)). map (value_of text z it.env it.position) p.arguments) names ∙ ap (map (value_of text q.names it.env it.position)) args in
-    let v : a.values ≡ b.values = somes a.values b.values (sym p.values ∙ vals ∙ q.values) in
+    let v : a.values ≡ b.values = same_listed a.values b.values (sym p.values ∙ vals ∙ q.values) in
     let s : a.start ≡ b.start = p.here ∙ sym q.here in
     ((λ i. record { nonterminal = n i; values = v i; start = s i }), cc steps, cc steps)
 
@@ -119,26 +108,26 @@ module _ (core : List Nonterminal) (text : List ℕ) (p : ℕ) (s t : Found) (ta
             (end_longer v.callers.items item number is_bare before.first before.last old.ended);
         named = λ y c.
             ⊎_elim (λ (h : Contains old.chain y). keeps.named y (old.named y h))
-            (λ (h : Contains (item ∷ []) y). keeps.named y (subst (Named s) (sym (one_in item y h)) named))
-            (contains_sides old.chain (item ∷ []) y c);
+            (λ (h : Contains (item ∷ []) y). keeps.named y (subst (Named s) (sym (contains_one item y h)) named))
+            (Contains-append_cases old.chain (item ∷ []) y c);
         callers = λ y c.
             ⊎_elim
             (λ (h : Contains old.chain y).
             let q = old.callers y h in let e = sym (keeps.means_same y (old.named y h)) in
-            (subst (Contains (taken ++ it ∷ [])) e (left_contains taken (it ∷ []) (means s y) q.0), subst (λ (z : Item). IsCaller core text z callee) e q.1))
+            (subst (Contains (taken ++ it ∷ [])) e (Contains-append_left taken (it ∷ []) (means s y) q.0), subst (λ (z : Item). IsCaller core text z callee) e q.1))
             (λ (h : Contains (item ∷ []) y).
-            let e = ap (means t) (one_in item y h) ∙ keeps.means_same item named in (
-              subst (Contains (taken ++ it ∷ [])) (sym e) (right_contains taken (it ∷ []) it (it_is_in it)),
+            let e = ap (means t) (contains_one item y h) ∙ keeps.means_same item named in (
+              subst (Contains (taken ++ it ∷ [])) (sym e) (Contains-append_right taken (it ∷ []) it (it_is_in it)),
               subst (λ (z : Item). IsCaller core text z callee) (sym e) calls,
             ))
-            (contains_sides old.chain (item ∷ []) y c);
+            (Contains-append_cases old.chain (item ∷ []) y c);
         all = λ x c d.
             ⊎_elim
             (λ (h : Contains taken x).
-            let q = old.all x h d in (q.0, left_contains old.chain (item ∷ []) q.0 q.1, keeps.means_same q.0 (old.named q.0 q.1) ∙ q.2))
+            let q = old.all x h d in (q.0, Contains-append_left old.chain (item ∷ []) q.0 q.1, keeps.means_same q.0 (old.named q.0 q.1) ∙ q.2))
             (λ (h : Contains (it ∷ []) x).
-            (item, right_contains old.chain (item ∷ []) item (it_is_in item), keeps.means_same item named ∙ sym (one_in it x h)))
-            (contains_sides taken (it ∷ []) x c);
+            (item, Contains-append_right old.chain (item ∷ []) item (it_is_in item), keeps.means_same item named ∙ sym (contains_one it x h)))
+            (Contains-append_cases taken (it ∷ []) x c);
       }
 
   -- the last caller of the callee calls no other instance, so the chains of those stay
@@ -182,7 +171,7 @@ module _ (core : List Nonterminal) (text : List ℕ) (p : ℕ) (s t : Found) (ta
   pub waits_call : IsWaiting core text p t (taken ++ it ∷ []) u
   waits_call =
       record {
-        lengths = ap length called ∙ set_length v.called.items i (with_caller (called_at v i) (suc (length v.callers.items))) ∙ r.lengths ∙
+        lengths = ap length called ∙ length-set v.called.items i (with_caller (called_at v i) (suc (length v.callers.items))) ∙ r.lengths ∙
             ap length (sym keeps.instances);
         callers = λ j other after e known.
             ⊎_elim
@@ -203,8 +192,8 @@ module _ (core : List Nonterminal) (text : List ℕ) (p : ℕ) (s t : Found) (ta
             subst (λ (z : List Instance). Contains z other) (sym keeps.instances)
             (⊎_elim (λ (h : Contains taken x). r.known x other h d)
             (λ (h : Contains (it ∷ []) x).
-            contains_from_at (instances_in s) i other (at ∙ ap Some (sym (only other (subst (λ (z : Item). IsCaller core text z other) (one_in it x h) d)))))
-            (contains_sides taken (it ∷ []) x c));
+            contains_from_at (instances_in s) i other (at ∙ ap Some (sym (only other (subst (λ (z : Item). IsCaller core text z other) (contains_one it x h) d)))))
+            (Contains-append_cases taken (it ∷ []) x c));
         before = λ j after e known is.
             ⊎_elim
             (λ h. r.before i (called_at v i) e was (sym (ap (λ (z : Called). z.last_end) h.1) ∙ is))
@@ -224,14 +213,14 @@ module _ (core : List Nonterminal) (text : List ℕ) (law : ReachableIsClosed) (
       let a = unmapped_in (means s) (s.done.items ++ take k s.here.items) x c in
       let e : a.0.position ≡ x.position = ap (λ (z : Item). z.position) a.2 in
       ⊎_elim (λ (h : Contains s.done.items a.0). let l = r.taking.stored.before a.0 h in omega (arith, l, e))
-      (λ (h : Contains (take k s.here.items) a.0). let l = r.taking.stored.at a.0 (front_in s.here.items k a.0 h) in omega (arith, l, e))
-      (contains_sides s.done.items (take k s.here.items) a.0 a.1)
+      (λ (h : Contains (take k s.here.items) a.0). let l = r.taking.stored.at a.0 (among_all s.here.items k a.0 h) in omega (arith, l, e))
+      (Contains-append_cases s.done.items (take k s.here.items) a.0 a.1)
 
   -- a complete item of the callee ends here
   pub ends_here : (done : Item) → Contains (taken_in s k) done → done.instance ≡ callee → done.position ≡ p
   ends_here done c of =
       let l = taken_past done c in
-      let q = (inside core text done (r.taking.reachable done (left_contains (found_in s) (later_in s) done (taken_found s k done c)))).onward in
+      let q = (inside core text done (r.taking.reachable done (Contains-append_left (found_in s) (later_in s) done (taken_found s k done c)))).onward in
       let e : done.instance.start ≡ callee.start = ap (λ (z : Instance). z.start) of in
       let f : callee.start ≡ one.position = calls.here in
       omega (arith, l, q, e, f, here)

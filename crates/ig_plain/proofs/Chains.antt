@@ -1,7 +1,7 @@
 -- Items in chains of cells.
-use Rattle.std.proofs.Common.{◌≡◌, ℕ, zero, suc, ◌+◌, ◌-◌, ◌<◌, ◌≤◌, ◌≢◌, List, [], ◌∷◌, ◌++◌, length, refl, sym, ap, ◌∙◌, subst, arith, Bool, true, false, nat_eq, inl, inr, ◌⊎◌, ⊎_elim}
+use Rattle.std.proofs.Common.{◌≡◌, ℕ, zero, suc, ◌+◌, ◌-◌, ◌<◌, ◌≤◌, ◌≢◌, List, [], ◌∷◌, ◌++◌, length, refl, sym, ap, ◌∙◌, subst, arith, Bool, true, false, nat_eq, ⊎_elim}
 use Rattle.std.specs.Prelude.{slice_index_or, if◌then◌else◌, Some}
-use Rattle.std.proofs.lemmas.Bool.{eqb-true}
+use Rattle.std.proofs.lemmas.Bool.{eqb-true, cases_lt}
 use Rattle.std.proofs.lemmas.Nat.{and_le_r}
 use Rattle.std.proofs.Common.{set, eqb, eq-eqb}
 use Rattle.std.proofs.lemmas.List.{get_or_append_left, get_or_push, length_push, length-set, get_or-set_other}
@@ -9,11 +9,13 @@ use Rattle.std.proofs.lemmas.Grind.{get_or-set_at}
 use Rattle.std.proofs.lemmas.Bool.Decides.{eqb_tells}
 use Rattle.std.proofs.Common.{Contains}
 use Rattle.std.proofs.lemmas.Option.{slice_get_within, get_or_from_slice_get, slice_get-get_or}
+use Rattle.std.proofs.lemmas.List.Elements.{Contains-append_right}
+use Rattle.ig_text.proofs.Lists.{at_from_contains, contains_from_at, mapped_in, unmapped_in, contains_one, it_is_in}
+use Rattle.ig_text.proofs.Orders.{below_or_at}
 use Rattle.ig_item.specs.declared.items.Item.{Item}
 use Rattle.ig_item.specs.WellKinded.{NoneTwice}
 use Rattle.ig_plain.specs.Tables.{AddsOnly}
 use Rattle.ig_plain.specs.declared.returned.Cell.{Cell}
-use Rattle.ig_plain.proofs.Lists.{at_from_contains, contains_from_at, mapped_in, unmapped_in, one_in, it_is_in, right_contains}
 use Rattle.ig_plain.proofs.Distinct.{once_both, once_single}
 use Rattle.ig_plain.specs.Returned.{Entry, entry, nothing, last, bucket_of, hash_of, entries_of, AreChained, Walks}
 
@@ -23,17 +25,6 @@ last_below mask cells bucket zero = omega arith
 last_below mask cells bucket (suc n) =
     elim (nat_eq (bucket_of mask (slice_index_or cells n nothing).item) bucket) as (λ (b : Bool). (if b then suc n else last mask cells bucket n) ≤ suc n)
     [ true ↦ omega arith | false ↦ omega (arith, last_below mask cells bucket n) ]
-
-split : (k n : ℕ) → k < suc n → (k < n) ⊎ (k ≡ n)
-split zero zero lt = inr refl
-split zero (suc n) lt = inl (omega arith)
-split (suc k) zero lt = absurd (omega arith)
-split (suc k) (suc n) lt = ⊎_elim (λ (h : k < n). inl (omega arith)) (λ (e : k ≡ n). inr (ap suc e)) (split k n (omega arith))
-
-below_or : (m n : ℕ) → (m < n) ⊎ (n ≤ m)
-below_or m zero = inr (omega arith)
-below_or zero (suc n) = inl (omega arith)
-below_or (suc m) (suc n) = ⊎_elim (λ (h : m < n). inl (omega arith)) (λ (h : n ≤ m). inr (omega arith)) (below_or m n)
 
 -- behind the last one no cell is in the bucket
 pub none_behind : (mask : ℕ) (cells : List Cell) (bucket n k : ℕ) → k < n → last mask cells bucket n ≤ k →
@@ -45,7 +36,7 @@ none_behind mask cells bucket (suc n) k lt h =
     (if b then suc n else last mask cells bucket n) ≤ k → nat_eq (bucket_of mask (slice_index_or cells k nothing).item) bucket ≡ false) [
       | true ↦ λ e i. absurd (omega arith)
       | false ↦ λ e i. ⊎_elim (λ (l : k < n). none_behind mask cells bucket n k l i)
-          (λ (same : k ≡ n). ap (λ (z : ℕ). nat_eq (bucket_of mask (slice_index_or cells z nothing).item) bucket) same ∙ e) (split k n lt)
+          (λ (same : k ≡ n). ap (λ (z : ℕ). nat_eq (bucket_of mask (slice_index_or cells z nothing).item) bucket) same ∙ e) (below_or_at k n (omega arith))
     ]) refl h
 
 -- the last one is in the bucket
@@ -131,7 +122,7 @@ next_added mask base heads cells c b fits next_is k lt =
     (subst (λ (m : ℕ). c.next - base ≡ last mask (cells ++ c ∷ []) (bucket_of mask c.item) m) (sym e)
     (ap (λ (m : ℕ). m - base) next_is ∙ b.head (bucket_of mask c.item) fits ∙
     sym (last_more mask cells (c ∷ []) (bucket_of mask c.item) n (omega arith)))))
-    (split k n (let e = length_push cells c in omega (arith, e)))
+    (below_or_at k n (let e = length_push cells c in omega (arith, e)))
 
 within_added : (mask base : ℕ) (heads : List ℕ) (cells : List Cell) (c : Cell) → AreChained mask base heads cells →
     bucket_of mask c.item ≤ mask → (bucket : ℕ) → bucket ≤ mask →
@@ -232,9 +223,9 @@ walk_goes mask base heads cells item at cell b w lt cell_is not_here =
           (λ (e : m ≡ k).
           let here : cell ≡ slice_index_or cells m nothing = same ∙ ap (λ (z : ℕ). slice_index_or cells z nothing) (sym e) in
           not_here (ap (λ (c : Cell). c.item) here ∙ is))
-          (split m k h))
+          (below_or_at m k (omega arith)))
           (λ (h : suc k ≤ m). w.passed m (omega arith) m_lt is)
-          (below_or m (suc k));
+          (cases_lt m (suc k));
       within = omega (arith, small, within);
       bucket = λ j e.
           let last_is : last mask cells (bucket_of mask item) k ≡ suc j =
@@ -273,12 +264,12 @@ added_by mask base heads cells more item number next place b next_is more_is pla
 
 -- a list that got an item that it hadn't
 pub added_only : (xs ys : List Item) (x : Item) → ys ≡ xs ++ x ∷ [] → AddsOnly xs ys x
-added_only xs ys x is = record { extends = record { more = x ∷ []; is = is }; only = λ y c. one_in x y c }
+added_only xs ys x is = record { extends = record { more = x ∷ []; is = is }; only = λ y c. contains_one x y c }
 
 pub added_there : (xs ys : List Item) (x : Item) → ys ≡ xs ++ x ∷ [] → Contains ys x
-added_there xs ys x is = subst (λ (z : List Item). Contains z x) (sym is) (right_contains xs (x ∷ []) x (it_is_in x))
+added_there xs ys x is = subst (λ (z : List Item). Contains z x) (sym is) (Contains-append_right xs (x ∷ []) x (it_is_in x))
 
 pub added_once : (xs ys : List Item) (x : Item) → ys ≡ xs ++ x ∷ [] → (Contains xs x → ⊥) → NoneTwice xs → NoneTwice ys
 added_once xs ys x is none once =
     subst NoneTwice (sym is)
-    (once_both xs (x ∷ []) once (once_single x) (λ y c d. none (subst (Contains xs) (one_in x y d) c)))
+    (once_both xs (x ∷ []) once (once_single x) (λ y c d. none (subst (Contains xs) (contains_one x y d) c)))

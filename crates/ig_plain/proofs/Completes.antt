@@ -3,6 +3,7 @@ use Rattle.std.proofs.Common.{◌≡◌, inl, inr, ℕ, zero, suc, ◌<◌, List
 use Rattle.std.specs.Prelude.{Result, Ok, Err, slice_index_or, option_map}
 use Rattle.std.proofs.lemmas.Option.{slice_get_within, slice_get-get_or, slice_get-map}
 use Rattle.ig_text.specs.declared.pattern.Pattern.{Pattern}
+use Rattle.ig_text.proofs.Lists.{contains_from_at, same_map}
 use Rattle.ig_item.specs.Step.{Call}
 use Rattle.ig_item.specs.Core.{IsAlternative}
 use Rattle.ig_item.specs.Items as items
@@ -24,7 +25,6 @@ use Rattle.ig_plain.specs.Rules as rules
 use Rattle.ig_plain.specs.Rules.{After, IsCaller, StandsAtCall, IsReturn}
 use Rattle.ig_plain.specs.Waiting.{called_at, not_called, with_end}
 use Rattle.ig_plain.specs.Run.{HasCallers, IsWaiting, IsRun, IsTaken, Taking, IsChainOf, IsReturnToOne}
-use Rattle.ig_plain.proofs.Lists.{contains_from_at, same_map}
 use Rattle.ig_plain.proofs.Growth.{grows_not, means_grown, named_grown, all_kept, instance_kept}
 use Rattle.ig_plain.proofs.Sets.{extends_itself}
 use Rattle.ig_plain.proofs.Following.{one_step, not_both}

@@ -3,6 +3,8 @@ use Rattle.std.proofs.Common.{◌≡◌, ⊎_elim, ℕ, zero, suc, ◌+◌, ◌<
 use Rattle.std.specs.Prelude.{slice_index_or}
 use Rattle.std.proofs.lemmas.List.{map-append}
 use Rattle.std.proofs.lemmas.Option.{slice_get-get_or}
+use Rattle.std.proofs.lemmas.List.Elements.{Contains-append_cases}
+use Rattle.ig_text.proofs.Lists.{contains_from_at, sides, unmapped_at}
 use Rattle.ig_expr.specs.declared.value.Value.{Value}
 use Rattle.ig_item.specs.Items.{Item, Reachable, MoreThan}
 use Rattle.ig_item.specs.Tables.{instance_by, HaveValues}
@@ -14,7 +16,6 @@ use Rattle.ig_item.specs.declared.items.Item as stored
 use Rattle.ig_plain.specs.declared.found.Found.{Found}
 use Rattle.ig_plain.specs.Tables.{IsNamed, item_by, no_key}
 use Rattle.ig_plain.specs.Found.{means, found_in, later_in, count, Named, IsStored}
-use Rattle.ig_plain.proofs.Lists.{contains_from_at, sides, unmapped_at, contains_sides}
 
 module _ {X : Type 0} where
   -- equal members of a list without repeats have equal numbers
@@ -82,8 +83,8 @@ module _ (envs : List (List Value)) (keys : List InstanceKey) (envs_once : NoneT
 module _ (p : ℕ) (s : Found) (r : IsStored p s) where
   named : (x : stored.Item) → Contains ((s.done.items ++ s.here.items) ++ s.later.items) x → Named s x
   named x c =
-      ⊎_elim (λ (h : Contains (s.done.items ++ s.here.items) x). ⊎_elim (r.named.done x) (r.named.here x) (contains_sides s.done.items s.here.items x h))
-      (r.named.later x) (contains_sides (s.done.items ++ s.here.items) s.later.items x c)
+      ⊎_elim (λ (h : Contains (s.done.items ++ s.here.items) x). ⊎_elim (r.named.done x) (r.named.here x) (Contains-append_cases s.done.items s.here.items x h))
+      (r.named.later x) (Contains-append_cases (s.done.items ++ s.here.items) s.later.items x c)
 
   pub found_once : NoneTwice (s.done.items ++ s.here.items)
   found_once = once_both s.done.items s.here.items r.done_once r.here_once (λ x c d. let e = r.at x d in omega (arith, r.before x c, e))
@@ -93,7 +94,7 @@ module _ (p : ℕ) (s : Found) (r : IsStored p s) where
       once_both (s.done.items ++ s.here.items) s.later.items found_once r.later_once
       (λ x c d.
       ⊎_elim (λ (h : Contains s.done.items x). omega (arith, r.before x h, r.behind x d))
-      (λ (h : Contains s.here.items x). let e = r.at x h in omega (arith, e, r.behind x d)) (contains_sides s.done.items s.here.items x c))
+      (λ (h : Contains s.here.items x). let e = r.at x h in omega (arith, e, r.behind x d)) (Contains-append_cases s.done.items s.here.items x c))
 
   pub different : NoneTwice (found_in s ++ later_in s)
   different =

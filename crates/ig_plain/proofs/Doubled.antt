@@ -1,10 +1,11 @@
 -- For n letters at least n (n + 1) / 2 items of `S = S S | "a"` are reachable: those behind the first of the two calls.
 use Rattle.std.proofs.Common.{◌≡◌, ℕ, zero, suc, ◌+◌, ◌*◌, ◌-◌, ◌<◌, ◌≤◌, List, [], Some, None, map, take, drop, replicate, slice_get, sym, ap, ◌∙◌, refl, subst, arith}
 use Rattle.std.specs.Prelude.{codes}
-use Rattle.std.specs.List.{All}
 use Rattle.std.proofs.lemmas.List.{length-map, length-replicate, drop-replicate, take-replicate}
+use Rattle.std.proofs.lemmas.List.Elements.{All-nil}
 use Rattle.ig_text.specs.Place.{Spells}
 use Rattle.ig_text.specs.declared.pattern.Pattern.TheVariants.{Literal}
+use Rattle.ig_text.proofs.Lists.{unmapped_in, at_from_contains}
 use Rattle.ig_item.specs.Items as items
 use Rattle.ig_item.specs.Items.{Item, Reachable, Calls, IsComplete, StandsBefore, MoreThan}
 use Rattle.ig_item.specs.Visible.{names_at}
@@ -13,12 +14,8 @@ use Rattle.ig_item.specs.Examples.{plain_call, root, root_alternative}
 use Rattle.ig_item.specs.declared.items.Instance.{Instance}
 use Rattle.ig_plain.specs.Examples.{both, letter, start, doubled, DoubledNeedsBudgets}
 use Rattle.ig_plain.proofs.Distinct.{once_mapped}
-use Rattle.ig_plain.proofs.Lists.{unmapped_in, at_from_contains}
 use Rattle.ig_plain.proofs.PlainItems.{dot_at, plain_item}
 use Rattle.ig_plain.proofs.Triangle.{Stretch, stretch, stretches, length-stretches, within_stretches, once_stretches}
-
-none_of : {X : Type 0} (P : X → Type 0) → All P []
-none_of P k d lt = absurd (omega arith)
 
 -- an item of `S`, by its alternative and dot, its start and its position
 abbrev item : ℕ → ℕ → ℕ → ℕ → Item
@@ -103,13 +100,13 @@ module _ (closed : ReachableIsClosed) (n : ℕ) where
   behind_first i j h done =
       closed doubled text (item 1 1 i j)
       (items.return (item 1 0 i i) (item done.alternative done.dot i j) None [] (item 1 1 i j) h done.reached (call_in_both 0 i i refl)
-      done.complete (none_of _) refl)
+      done.complete (All-nil _) refl)
 
   behind_second : (i j k : ℕ) → Is (item 1 1 i j) → Done j k → Is (item 1 2 i k)
   behind_second i j k h done =
       closed doubled text (item 1 2 i k)
       (items.return (item 1 1 i j) (item done.alternative done.dot j k) None [] (item 1 2 i k) h done.reached (call_in_both 1 i j refl)
-      done.complete (none_of _) refl)
+      done.complete (All-nil _) refl)
 
   behind_letter : (i : ℕ) → i < n → Is (item 2 0 i i) → Done i (suc i)
   behind_letter i lt h =
@@ -126,7 +123,7 @@ module _ (closed : ReachableIsClosed) (n : ℕ) where
               next = refl;
               visible = refl;
             })
-            (one_letter n i lt) (none_of _) refl);
+            (one_letter n i lt) (All-nil _) refl);
         complete = record { nonterminal = start; alternative = letter; has = record { there = refl; has = refl }; last = refl };
       }
 

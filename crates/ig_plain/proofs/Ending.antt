@@ -1,6 +1,7 @@
 -- At the end of the text the ways are those that the rules give from reachable items.
 use Rattle.std.proofs.Common.{◌≡◌, inl, ℕ, List, [], ◌++◌, Some, length, map, Contains, refl, sym, ap, subst, slice_get}
 use Rattle.std.proofs.lemmas.Option.{slice_get_within}
+use Rattle.ig_text.proofs.Lists.{contains_from_at, none_in_nil}
 use Rattle.ig_item.specs.Items.{Item, Reachable}
 use Rattle.ig_item.specs.Gives.{Taken}
 use Rattle.ig_item.specs.Laws.{ItemsAreInText}
@@ -16,7 +17,6 @@ use Rattle.ig_plain.specs.Found.{means, found_in, later_in, taken_in}
 use Rattle.ig_plain.specs.Run.{IsRun}
 use Rattle.ig_plain.specs.Trail as trail
 use Rattle.ig_plain.specs.Trail.{IsRecorded, IsCame, HasTrail}
-use Rattle.ig_plain.proofs.Lists.{contains_from_at, none_in}
 use Rattle.ig_plain.proofs.Trails.{EndsGrow, says_on, way_on, gives_more, ends_none}
 use Rattle.ig_plain.proofs.Ends.{no_later, taken_all, sound, complete, once, items_same, exactly, none_twice, keys_once}
 
@@ -54,7 +54,7 @@ module _ (core : List Nonterminal) (text : List ℕ) (law : ItemsAreInText) (bud
   none_recorded : (x : Item) (n : ℕ) → trail.Pairs (later_in s) t.later.items x n → ⊥
   none_recorded x n p =
       let none : later_in s ≡ [] = ap (map (means s)) (no_later core text law budget s w r) in
-      none_in x (contains_from_at [] p.0 x (subst (λ (z : List Item). slice_get z p.0 ≡ Some x) none p.1))
+      none_in_nil x (contains_from_at [] p.0 x (subst (λ (z : List Item). slice_get z p.0 ≡ Some x) none p.1))
 
   came : (k : ℕ) (x prev : Item) (what : Taken) → slice_get (found_in s) k ≡ Some x →
       IsCame core s t (taken_in s (length s.here.items)) x prev what → CameBy core text reached (found_in s) t.ways k x prev what

@@ -1,9 +1,11 @@
 -- At the end of the text the items found are exactly the reachable ones.
-use Rattle.std.proofs.Common.{◌≡◌, ℕ, suc, ◌<◌, ◌≤◌, List, [], ◌∷◌, ◌++◌, Some, length, map, Contains, refl, sym, ap, ◌∙◌, subst, arith, slice_get, length-append}
+use Rattle.std.proofs.Common.{◌≡◌, ℕ, ◌<◌, ◌≤◌, List, [], ◌∷◌, ◌++◌, Some, length, map, Contains, refl, sym, ap, ◌∙◌, subst, arith, slice_get, length-append}
 use Rattle.std.specs.Prelude.{slice_index_or, option_map}
-use Rattle.std.proofs.lemmas.List.{append-nil}
+use Rattle.std.proofs.lemmas.List.{append-nil, length-map}
 use Rattle.std.proofs.lemmas.Option.{slice_get-map, slice_get-get_or, get_or_from_slice_get}
 use Rattle.std.proofs.Math.Seq.{take-length}
+use Rattle.std.proofs.lemmas.List.Elements.{Contains-append_left, Contains-append_right}
+use Rattle.ig_text.proofs.Lists.{contains_from_at, mapped_in, same_map}
 use Rattle.ig_expr.specs.declared.value.Value.{Value}
 use Rattle.ig_item.specs.Items.{Item, Follows, Reachable, MoreThan, root_instance}
 use Rattle.ig_item.specs.Laws.{ItemsAreInText}
@@ -19,7 +21,6 @@ use Rattle.ig_plain.specs.declared.waiting.Waiting.{Waiting}
 use Rattle.ig_plain.specs.Tables.{IsNamed, no_key}
 use Rattle.ig_plain.specs.Found.{means, found_in, later_in, taken_in, Named}
 use Rattle.ig_plain.specs.Run.{IsRun}
-use Rattle.ig_plain.proofs.Lists.{contains_from_at, mapped_in, same_map, left_contains, right_contains}
 use Rattle.ig_plain.proofs.Growth.{found_named}
 use Rattle.ig_plain.proofs.Following.{kept}
 use Rattle.ig_plain.proofs.Distinct.{different, counted}
@@ -34,7 +35,7 @@ module _ (core : List Nonterminal) (text : List ℕ) (law : ItemsAreInText) (bud
       never : (x : stored.Item) → Contains s.later.items x → ⊥
       never x c =
           let l = r.taking.stored.behind x c in
-          let q = (law core text (means s x) (r.taking.reachable (means s x) (right_contains (found_in s) (later_in s) (means s x) (mapped_in (means s) s.later.items x c)))).within in
+          let q = (law core text (means s x) (r.taking.reachable (means s x) (Contains-append_right (found_in s) (later_in s) (means s x) (mapped_in (means s) s.later.items x c)))).within in
           omega (arith, l, q)
 
       none : (xs : List stored.Item) → ((x : stored.Item) → Contains xs x → ⊥) → xs ≡ []
@@ -51,7 +52,7 @@ module _ (core : List Nonterminal) (text : List ℕ) (law : ItemsAreInText) (bud
   taken_all = ap (λ (z : List stored.Item). map (means s) (s.done.items ++ z)) (take-length s.here.items)
 
   pub sound : (x : Item) → Contains (found_in s) x → Reachable core text x
-  sound x c = r.taking.reachable x (left_contains (found_in s) (later_in s) x c)
+  sound x c = r.taking.reachable x (Contains-append_left (found_in s) (later_in s) x c)
 
   pub complete : (x : Item) → Reachable core text x → Contains (found_in s) x
   complete x q =
@@ -105,16 +106,12 @@ module _ (core : List Nonterminal) (text : List ℕ) (law : ItemsAreInText) (bud
   pub inside : (x : stored.Item) → Contains (s.done.items ++ s.here.items) x → Named s x
   inside x c = found_named s r.taking.stored.named x c
 
-mapped_length : {A B : Type 0} (f : A → B) (xs : List A) → length (map f xs) ≡ length xs
-mapped_length f [] = refl
-mapped_length f (x ∷ xs) = ap suc (mapped_length f xs)
-
 -- tables that are complete
 pub are_tables : (envs table : List (List Value)) (ks keys : List InstanceKey) (items all : List stored.Item) → table ≡ envs → keys ≡ ks → items ≡ all →
     ((x : stored.Item) → Contains all x → IsNamed envs ks x) → length envs < 4294967296 → length ks < 4294967296 → length all < 4294967296 →
     AreTables (tables_by keys table items)
 are_tables envs table ks keys items all table_is keys_are items_are named few_envs few_keys few_items =
-    let n = mapped_length (instance_by table) keys ∙ ap length keys_are in
+    let n = length-map keys (instance_by table) ∙ ap length keys_are in
     let m = ap length table_is in
     let i = ap length items_are in
     record {

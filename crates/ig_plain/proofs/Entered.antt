@@ -2,6 +2,8 @@
 use Rattle.std.proofs.Common.{◌≡◌, ⊎_elim, inl, ℕ, ◌+◌, ◌<◌, List, [], ◌∷◌, ◌++◌, Some, length, Contains, refl, sym, ap, ◌∙◌, subst, arith, slice_get, append_assoc}
 use Rattle.std.specs.Prelude.{Ok, slice_index_or}
 use Rattle.std.proofs.lemmas.Option.{slice_get_within, slice_get-get_or}
+use Rattle.std.proofs.lemmas.List.Elements.{Contains-append_right}
+use Rattle.ig_text.proofs.Lists.{contains_from_at, sides, contains_one, unmapped_in, it_is_in}
 use Rattle.ig_item.specs.Items.{Item}
 use Rattle.ig_item.specs.Tables.{instance_by}
 use Rattle.ig_item.specs.WellKinded.{NoneTwice}
@@ -23,7 +25,6 @@ use Rattle.ig_plain.specs.Rules.{IsFirstOf}
 use Rattle.ig_plain.specs.Waiting.{not_called}
 use Rattle.ig_plain.specs.Run.{IsRun}
 use Rattle.ig_plain.specs.Trail.{By, Records, FollowTrail, HasTrail, AreKnown, Unfound}
-use Rattle.ig_plain.proofs.Lists.{contains_from_at, sides, one_in, unmapped_in, right_contains, it_is_in}
 use Rattle.ig_plain.proofs.Sets.{extends_same}
 use Rattle.ig_plain.proofs.Growth.{extends_or, found_named, means_grown}
 use Rattle.ig_plain.proofs.Distinct.{one_instance}
@@ -106,7 +107,7 @@ module _ (core : List Nonterminal) (text : List ℕ) (p k : ℕ) (s t : Found) (
       let l = slice_get_within w.called.items i c q in absurd (omega (arith, l, e.1, lens)))
       (sides (instances_in s) (fresh ∷ []) i callee (subst (λ (z : List Instance). slice_get z i ≡ Some callee) all there)))
       (λ (q : (j : ℕ) × (i ≡ length w.called.items + j) × (slice_get (not_called ∷ []) j ≡ Some c)).
-      let e : not_called ≡ c = sym (one_in not_called c (contains_from_at (not_called ∷ []) q.0 c q.2)) in
+      let e : not_called ≡ c = sym (contains_one not_called c (contains_from_at (not_called ∷ []) q.0 c q.2)) in
       absurd (never p (ap (λ (z : Called). z.last_end) e ∙ last)))
       (sides w.called.items (not_called ∷ []) i c (subst (λ (z : List Called). slice_get z i ≡ Some c) called at)))
     where
@@ -170,7 +171,7 @@ new_firsts core s s1 key i n env envs_once once new envs done here later x m c =
     let its = slice_index_or s1.keys u.0.instance no_key in
     let its_there : Contains s1.keys its = contains_from_at s1.keys u.0.instance its (slice_get-get_or s1.keys u.0.instance no_key named1.instance) in
     let key_there : Contains s1.keys key =
-    subst (λ (z : List InstanceKey). Contains z key) (sym new.added) (right_contains s.keys (key ∷ []) key (it_is_in key)) in
+    subst (λ (z : List InstanceKey). Contains z key) (sym new.added) (Contains-append_right s.keys (key ∷ []) key (it_is_in key)) in
     let same : its ≡ key =
     one_instance s1.envs.keys s1.keys (subst NoneTwice (sym envs) envs_once) once n1.values its key its_there key_there
     (ap (λ (z : Item). z.instance) (u.2 ∙ m.4)) in

@@ -4,6 +4,7 @@ use Rattle.std.specs.Prelude.{slice_get}
 use Rattle.std.specs.List.{flat_map}
 use Rattle.std.proofs.lemmas.Option.{same_Some}
 use Rattle.ig_text.specs.declared.tag.Tag.TheVariants.{Rule}
+use Rattle.ig_text.proofs.Lists.{at_from_contains}
 use Rattle.ig_item.specs.Step.{Step, names_of}
 use Rattle.ig_item.specs.Core.{IsAlternative, numbered}
 use Rattle.ig_item.specs.WellKinded.{NoneTwice, OfEach, StepFits, IsWellKinded}
@@ -12,7 +13,6 @@ use Rattle.ig_item.specs.declared.core_grammar.Nonterminal.{Nonterminal}
 use Rattle.ig_item.specs.declared.core_grammar.CoreAlt.{CoreAlt}
 use Rattle.ig_plain.specs.Laws.{IsPlain}
 use Rattle.ig_plain.specs.Examples.{both, letter, start, doubled}
-use Rattle.ig_plain.proofs.Lists.{at_from_contains}
 use Rattle.ig_plain.proofs.PlainItems.{no_names}
 
 module _ (P : ℕ → ℕ → Nonterminal → CoreAlt → Type 0) where

@@ -2,6 +2,8 @@
 use Rattle.std.proofs.Common.{◌≡◌, ◌⊎◌, ⊎_elim, inl, inr, ℕ, zero, suc, ◌+◌, ◌<◌, ◌≤◌, List, [], ◌++◌, Some, Contains, None, Option, length, refl, sym, ap, ◌∙◌, arith, slice_get}
 use Rattle.std.specs.Prelude.{Result, Ok, Err, slice_index_or, option_map}
 use Rattle.std.proofs.lemmas.Option.{same_Some, slice_get_within, get_or_from_slice_get}
+use Rattle.std.proofs.lemmas.List.Elements.{Contains-append_right}
+use Rattle.ig_text.proofs.Lists.{get_within, contains_from_at, mapped_in}
 use Rattle.ig_item.specs.Core.{IsAlternative, numbered}
 use Rattle.ig_item.specs.Items.{Item, first}
 use Rattle.ig_item.specs.Tables.{instance_by}
@@ -18,7 +20,6 @@ use Rattle.ig_plain.specs.Tables.{no_key}
 use Rattle.ig_plain.specs.Found.{means, Named, AreNamed, Grows, Adds}
 use Rattle.ig_plain.specs.Rules.{IsFirst, IsFirstOf}
 use Rattle.ig_plain.specs.Trail.{By, Records, Unfound}
-use Rattle.ig_plain.proofs.Lists.{some_at, contains_from_at, mapped_in, right_contains}
 use Rattle.ig_plain.proofs.Growth.{grows_weaker, longer, instance_kept, extends_or, extends_cases, means_grown}
 use Rattle.ig_plain.proofs.Additions.{adds_nothing, adds_alike, adds_then}
 use Rattle.ig_plain.proofs.Recording.{records_nothing, records_same, records_then}
@@ -102,7 +103,7 @@ module _ (core : List Nonterminal) (instance : ℕ) (key : InstanceKey) (budget 
 
     is_first : (x : Item) → x ≡ means b next → IsFirst core callee (n + 1) x
     is_first x e =
-        let alt = some_at nonterminal.alternatives n lt in
+        let alt = get_within nonterminal.alternatives n lt in
         record {
           number = n + 1;
           nonterminal = nonterminal;
@@ -136,7 +137,7 @@ module _ (core : List Nonterminal) (instance : ℕ) (key : InstanceKey) (budget 
         (λ (h : Contains a.here.items next).
         let same : means b next ≡ means a next = means_grown key.start (IsFirst core callee n) a b next g named.values (named.here next h) in
         new (means a next) (first_of (n + 1) (means a next) (is_first (means a next) (sym same)))
-        (mapped_in (means a) (a.done.items ++ a.here.items) next (right_contains a.done.items a.here.items next h)))
+        (mapped_in (means a) (a.done.items ++ a.here.items) next (Contains-append_right a.done.items a.here.items next h)))
         (λ (h : Contains g.here.more next).
         let m = g.each next h in
         let numbers : m.number ≡ n + 1 = ap (λ (z : Item). z.alternative) (sym m.is ∙ first_means n b g) in

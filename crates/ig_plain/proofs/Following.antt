@@ -1,6 +1,8 @@
 -- What follows from the taken items and one more.
 use Rattle.std.proofs.Common.{◌≡◌, ◌⊎◌, ⊎_elim, inl, inr, ℕ, zero, suc, ◌<◌, List, [], ◌∷◌, ◌++◌, Some, length, Contains, sym, ap, ◌∙◌, subst, arith, slice_get, take}
 use Rattle.std.proofs.lemmas.Option.{same_Some, slice_get_within}
+use Rattle.std.proofs.lemmas.List.Elements.{Contains-append_cases}
+use Rattle.ig_text.proofs.Lists.{contains_one, at_from_contains, within_take}
 use Rattle.ig_item.specs.Step.{Step}
 use Rattle.ig_item.specs.Core.{IsAlternative, numbered}
 use Rattle.ig_item.specs.Items as items
@@ -10,7 +12,6 @@ use Rattle.ig_item.specs.declared.core_grammar.Nonterminal.{Nonterminal}
 use Rattle.ig_item.specs.declared.core_grammar.CoreAlt.{CoreAlt}
 use Rattle.ig_plain.specs.Rules as rules
 use Rattle.ig_plain.specs.Rules.{After}
-use Rattle.ig_plain.proofs.Lists.{contains_sides, one_in, at_from_contains, within_take}
 
 module _ (core : List Nonterminal) (text : List ℕ) where
   -- the rules give no less from more
@@ -61,7 +62,7 @@ module _ (core : List Nonterminal) (text : List ℕ) where
 
   -- a taken item, or the one that is taken now
   which : (taken : List Item) (it y : Item) → Contains (taken ++ it ∷ []) y → Contains taken y ⊎ (y ≡ it)
-  which taken it y c = ⊎_elim (λ (h : Contains taken y). inl h) (λ (h : Contains (it ∷ []) y). inr (one_in it y h)) (contains_sides taken (it ∷ []) y c)
+  which taken it y c = ⊎_elim (λ (h : Contains taken y). inl h) (λ (h : Contains (it ∷ []) y). inr (contains_one it y h)) (Contains-append_cases taken (it ∷ []) y c)
 
   -- what follows now followed before, or follows from the item that is taken now
   pub splits : (taken : List Item) (it x : Item) → Follows core text (Contains (taken ++ it ∷ [])) x →

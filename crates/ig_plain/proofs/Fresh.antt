@@ -5,6 +5,7 @@ use Rattle.std.proofs.lemmas.List.{append-nil, same_from_push}
 use Rattle.std.proofs.lemmas.Option.{slice_get_within}
 use Rattle.ig_text.specs.Pattern.{Matches}
 use Rattle.ig_text.specs.declared.pattern.Pattern.{Pattern}
+use Rattle.ig_text.proofs.Lists.{at_from_contains, get_within}
 use Rattle.ig_expr.specs.Expression.{Expression}
 use Rattle.ig_expr.specs.declared.value.Value.{Value}
 use Rattle.ig_expr.specs.declared.value.Value.TheVariants.{Bool as truth}
@@ -26,7 +27,6 @@ use Rattle.ig_plain.specs.Rules.{IsBehind}
 use Rattle.ig_plain.specs.Found.{found_in}
 use Rattle.ig_plain.specs.Trail as trails
 use Rattle.ig_plain.specs.Trail.{FollowTrail, IsNodeAt, Unfound, IsBehindTest, IsBehindBind}
-use Rattle.ig_plain.proofs.Lists.{at_from_contains, some_at}
 use Rattle.ig_plain.proofs.Following.{one_step, not_both}
 use Rattle.ig_plain.proofs.Terminals.{from_one, same_item}
 use Rattle.ig_plain.proofs.Calls.{visible_one, calls_one}
@@ -239,7 +239,7 @@ module _ (core : List Nonterminal) (text : List ℕ) (s : Found) (trail : Trail)
       x ≡ past it bound end → (k : ℕ) → slice_get (found_in s) k ≡ Some x → IsNodeAt trail.ways.firsts k
   found_by_node it names nonterminal arguments label excluded before x bound end is k at =
       let lt = slice_get_within (found_in s) k x at in
-      let way = some_at trail.ways.firsts k (let e = follows.numbered in omega (arith, lt, e)) in
+      let way = get_within trail.ways.firsts k (let e = follows.numbered in omega (arith, lt, e)) in
       let node =
       way_by_node core text (Contains taken) (found_in s) it names nonterminal arguments label excluded before x way.0
       (after_past core text (Contains taken) it x bound end is) (follows.sound way.0 x (trails.here k at (ways.found way.1))) in
@@ -254,7 +254,7 @@ module _ (core : List Nonterminal) (text : List ℕ) (s : Found) (trail : Trail)
   given_found x n dot c =
       let at = at_from_contains (found_in s) x c in
       let lt = slice_get_within (found_in s) at.0 x at.1 in
-      let way = some_at trail.ways.firsts at.0 (let e = follows.numbered in omega (arith, lt, e)) in
+      let way = get_within trail.ways.firsts at.0 (let e = follows.numbered in omega (arith, lt, e)) in
       ⊎_elim (λ (h : x.dot ≡ 0). absurd (omega (arith, h, dot)))
       (λ (h : (prev : Item) × (what : Taken) × Gives core text (Contains taken) prev what x). h)
       (given_by core text (Contains taken) (found_in s) x way.0 (follows.sound way.0 x (trails.here at.0 at.1 (ways.found way.1))))

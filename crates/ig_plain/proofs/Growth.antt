@@ -4,6 +4,8 @@ use Rattle.std.specs.Prelude.{slice_index_or, Option, None}
 use Rattle.std.specs.Option.{option_to_list}
 use Rattle.std.proofs.lemmas.List.{append-nil, map-append}
 use Rattle.std.proofs.lemmas.Option.{slice_get-get_or, slice_get_within, get_or_from_slice_get}
+use Rattle.std.proofs.lemmas.List.Elements.{Contains-append_left, Contains-append_right, Contains-append_cases}
+use Rattle.ig_text.proofs.Lists.{contains_from_at, left_at, none_in_nil, unmapped_in, same_map}
 use Rattle.ig_expr.specs.declared.value.Value.{Value}
 use Rattle.ig_item.specs.Items.{Item, past}
 use Rattle.ig_item.specs.Tables.{instance_by, HaveValues}
@@ -14,7 +16,6 @@ use Rattle.ig_item.specs.declared.items.Item as stored
 use Rattle.ig_plain.specs.declared.found.Found.{Found}
 use Rattle.ig_plain.specs.Tables.{Extends, IsNamed, IsPast, item_by, no_key}
 use Rattle.ig_plain.specs.Found.{means, found_in, later_in, Named, AreNamed, Grows}
-use Rattle.ig_plain.proofs.Lists.{contains_from_at, left_at, left_contains, right_contains, contains_sides, none_in, unmapped_in, same_map}
 
 module _ {X : Type 0} where
   pub longer : (xs ys : List X) → Extends xs ys → length xs ≤ length ys
@@ -28,14 +29,14 @@ module _ {X : Type 0} where
       get_or_from_slice_get ys k (slice_index_or xs k d) d (extends_at xs ys k (slice_index_or xs k d) e (slice_get-get_or xs k d lt))
 
   pub extends_in : (xs ys : List X) (x : X) → Extends xs ys → Contains xs x → Contains ys x
-  extends_in xs ys x e c = subst (λ (z : List X). Contains z x) (sym e.is) (left_contains xs e.more x c)
+  extends_in xs ys x e c = subst (λ (z : List X). Contains z x) (sym e.is) (Contains-append_left xs e.more x c)
 
   abbrev pub extends_then : (xs ys zs : List X) → Extends xs ys → Extends ys zs → Extends xs zs
   extends_then xs ys zs a b =
       record { more = a.more ++ b.more; is = b.is ∙ ap (λ (z : List X). z ++ b.more) a.is ∙ append_assoc xs a.more b.more }
 
   pub extends_cases : (xs ys : List X) (x : X) → (e : Extends xs ys) → Contains ys x → Contains xs x ⊎ Contains e.more x
-  extends_cases xs ys x e c = contains_sides xs e.more x (subst (λ (z : List X). Contains z x) e.is c)
+  extends_cases xs ys x e c = Contains-append_cases xs e.more x (subst (λ (z : List X). Contains z x) e.is c)
 
 pub values_more : (e f : List (List Value)) (keys : List InstanceKey) → Extends e f → HaveValues e keys → HaveValues f keys
 values_more e f keys x have key c = let l = longer e f x in omega (arith, l, have key c)
@@ -120,9 +121,9 @@ module _ (p : ℕ) where
         later = later;
         here = record { more = []; is = here ∙ sym (append-nil a.here.items) };
         here_once = λ n. subst NoneTwice (sym here) n;
-        named = λ x c. absurd (none_in x c);
-        at = λ x c. absurd (none_in x c);
-        each = λ x c. absurd (none_in x c);
+        named = λ x c. absurd (none_in_nil x c);
+        at = λ x c. absurd (none_in_nil x c);
+        each = λ x c. absurd (none_in_nil x c);
       }
 
   pub grows_weaker : (may other : Item → Type 0) (a b : Found) → ((x : Item) → may x → other x) → Grows p may a b → Grows p other a b
@@ -193,11 +194,11 @@ module _ (p : ℕ) where
         here_once = λ n. h.here_once (g.here_once n);
         named = λ x i.
             ⊎_elim (λ (k : Contains g.here.more x). named_grown may b c x h (g.named x k)) (λ (k : Contains h.here.more x). h.named x k)
-            (contains_sides g.here.more h.here.more x i);
-        at = λ x i. ⊎_elim (λ (k : Contains g.here.more x). g.at x k) (λ (k : Contains h.here.more x). h.at x k) (contains_sides g.here.more h.here.more x i);
+            (Contains-append_cases g.here.more h.here.more x i);
+        at = λ x i. ⊎_elim (λ (k : Contains g.here.more x). g.at x k) (λ (k : Contains h.here.more x). h.at x k) (Contains-append_cases g.here.more h.here.more x i);
         each = λ x i.
             ⊎_elim (λ (k : Contains g.here.more x). subst may (sym (means_grown may b c x h have_b (g.named x k))) (g.each x k))
-            (λ (k : Contains h.here.more x). h.each x k) (contains_sides g.here.more h.here.more x i);
+            (λ (k : Contains h.here.more x). h.each x k) (Contains-append_cases g.here.more h.here.more x i);
       }
 
 -- all of what is found stays
@@ -213,7 +214,7 @@ named_all p may a b n g =
     }
 
 pub found_named : (a : Found) → AreNamed a → (x : stored.Item) → Contains (a.done.items ++ a.here.items) x → Named a x
-found_named a n x c = ⊎_elim (n.done x) (n.here x) (contains_sides a.done.items a.here.items x c)
+found_named a n x c = ⊎_elim (n.done x) (n.here x) (Contains-append_cases a.done.items a.here.items x c)
 
 pub means_list : (p : ℕ) (may : Item → Type 0) (a b : Found) → AreNamed a → Grows p may a b → (xs : List stored.Item) →
     ((x : stored.Item) → Contains xs x → Named a x) → map (means b) xs ≡ map (means a) xs
@@ -236,7 +237,7 @@ found_grown p may a b n g =
 pub found_kept : (p : ℕ) (may : Item → Type 0) (a b : Found) → AreNamed a → Grows p may a b → (x : Item) → Contains (found_in a) x →
     Contains (found_in b) x
 found_kept p may a b n g x c =
-    subst (λ (z : List Item). Contains z x) (sym (found_grown p may a b n g)) (left_contains (found_in a) (map (means b) g.here.more) x c)
+    subst (λ (z : List Item). Contains z x) (sym (found_grown p may a b n g)) (Contains-append_left (found_in a) (map (means b) g.here.more) x c)
 
 pub later_kept : (p : ℕ) (may : Item → Type 0) (a b : Found) → AreNamed a → Grows p may a b → (x : Item) → Contains (later_in a) x →
     Contains (later_in b) x
@@ -245,9 +246,9 @@ later_kept p may a b n g x c = subst (λ (z : List Item). Contains z x) (sym (la
 pub all_kept : (p : ℕ) (may : Item → Type 0) (a b : Found) → AreNamed a → Grows p may a b → (x : Item) →
     Contains (found_in a ++ later_in a) x → Contains (found_in b ++ later_in b) x
 all_kept p may a b n g x c =
-    ⊎_elim (λ (h : Contains (found_in a) x). left_contains (found_in b) (later_in b) x (found_kept p may a b n g x h))
-    (λ (h : Contains (later_in a) x). right_contains (found_in b) (later_in b) x (later_kept p may a b n g x h))
-    (contains_sides (found_in a) (later_in a) x c)
+    ⊎_elim (λ (h : Contains (found_in a) x). Contains-append_left (found_in b) (later_in b) x (found_kept p may a b n g x h))
+    (λ (h : Contains (later_in a) x). Contains-append_right (found_in b) (later_in b) x (later_kept p may a b n g x h))
+    (Contains-append_cases (found_in a) (later_in a) x c)
 
 -- what is found now was found before, or is allowed
 pub found_from : (p : ℕ) (may : Item → Type 0) (a b : Found) → AreNamed a → Grows p may a b → (x : Item) → Contains (found_in b) x →
@@ -256,4 +257,4 @@ found_from p may a b n g x c =
     ⊎_elim (λ (h : Contains (found_in a) x). inl h)
     (λ (h : Contains (map (means b) g.here.more) x).
     let u = unmapped_in (means b) g.here.more x h in inr (subst may u.2 (g.each u.0 u.1)))
-    (contains_sides (found_in a) (map (means b) g.here.more) x (subst (λ (z : List Item). Contains z x) (found_grown p may a b n g) c))
+    (Contains-append_cases (found_in a) (map (means b) g.here.more) x (subst (λ (z : List Item). Contains z x) (found_grown p may a b n g) c))

@@ -2,12 +2,13 @@
 use Rattle.std.proofs.Common.{◌≡◌, ⊎_elim, ℕ, ◌+◌, ◌<◌, List, [], ◌∷◌, ◌++◌, Some, length, map, Contains, refl, sym, subst, arith, slice_get, length-append, append_assoc}
 use Rattle.std.proofs.lemmas.List.{append-nil, length-map}
 use Rattle.std.proofs.lemmas.Option.{slice_get_within}
+use Rattle.std.proofs.lemmas.List.Elements.{Contains-append_left, Contains-append_right, Contains-append_cases}
+use Rattle.ig_text.proofs.Lists.{left_at, right_at, sides, at_from_contains, contains_from_at, it_is_in, contains_one, none_in_nil, unmapped_at}
 use Rattle.ig_item.specs.declared.items.Item as stored
 use Rattle.ig_item.specs.declared.ways.Way.{Way}
 use Rattle.ig_item.specs.declared.ways.Way.TheVariants.{Leaf, Node}
 use Rattle.ig_plain.specs.Returned.{Entry, entry}
 use Rattle.ig_plain.specs.Trail.{ComesOnce, IsNodeAt, Indexes}
-use Rattle.ig_plain.proofs.Lists.{left_at, right_at, sides, left_contains, right_contains, contains_sides, at_from_contains, contains_from_at, it_is_in, one_in, none_in, unmapped_at}
 
 -- of the same lists
 pub indexed_same : (done done2 here here2 : List stored.Item) (firsts firsts2 : List Way) (returned returned2 : List Entry) → done2 ≡ done →
@@ -23,7 +24,7 @@ way_behind : (firsts : List Way) (way other : Way) (k : ℕ) → length firsts �
 way_behind firsts way other k long at =
     ⊎_elim (λ (h : slice_get firsts k ≡ Some other). let l = slice_get_within firsts k other h in absurd (omega (arith, l, long)))
     (λ (h : (m : ℕ) × (k ≡ length firsts + m) × (slice_get (way ∷ []) m ≡ Some other)).
-    one_in way other (contains_from_at (way ∷ []) h.0 other h.2)) (sides firsts (way ∷ []) k other at)
+    contains_one way other (contains_from_at (way ∷ []) h.0 other h.2)) (sides firsts (way ∷ []) k other at)
 
 way_before : (firsts : List Way) (way other : Way) (k : ℕ) → k < length firsts → slice_get (firsts ++ way ∷ []) k ≡ Some other →
     slice_get firsts k ≡ Some other
@@ -53,13 +54,13 @@ module _ (done here : List stored.Item) (firsts : List Way) (returned : List Ent
       ⊎_elim
       (λ (h : slice_get here k ≡ Some y).
       let l = slice_get_within here k y h in
-      left_contains returned more (entry y (length done + k))
+      Contains-append_left returned more (entry y (length done + k))
       (i.complete k y h (prev, callee, way_before firsts way (Node prev callee) (length done + k) (omega (arith, l, long, both)) node)))
       (λ (h : (m : ℕ) × (k ≡ length here + m) × (slice_get (x ∷ []) m ≡ Some y)).
       let l = slice_get_within (x ∷ []) h.0 y h.2 in
       let last : k ≡ length here = omega (arith, l, h.1) in
-      let same : x ≡ y = sym (one_in x y (contains_from_at (x ∷ []) h.0 y h.2)) in
-      right_contains returned more (entry y (length done + k))
+      let same : x ≡ y = sym (contains_one x y (contains_from_at (x ∷ []) h.0 y h.2)) in
+      Contains-append_right returned more (entry y (length done + k))
       (subst (λ (z : stored.Item). Contains more (entry z (length done + k))) same
       (subst (λ (n : ℕ). Contains more (entry x (length done + n))) (sym last)
       (new prev callee (way_behind firsts way (Node prev callee) (length done + k) (omega (arith, last, long, both)) node)))))
@@ -87,8 +88,8 @@ indexed_node done here firsts returned x way number is i =
       sound = λ e c.
           ⊎_elim (λ (h : Contains returned e). sound_one done here firsts returned x way i e (i.sound e h))
           (λ (h : Contains (entry x number ∷ []) e).
-          subst (λ (z : Entry). slice_get (done ++ (here ++ x ∷ [])) z.number ≡ Some z.item) (sym (one_in (entry x number) e h)) new_at)
-          (contains_sides returned (entry x number ∷ []) e c);
+          subst (λ (z : Entry). slice_get (done ++ (here ++ x ∷ [])) z.number ≡ Some z.item) (sym (contains_one (entry x number) e h)) new_at)
+          (Contains-append_cases returned (entry x number ∷ []) e c);
       complete = complete_one done here firsts returned x way i (entry x number ∷ [])
           (λ prev callee same.
           subst (λ (n : ℕ). Contains (entry x number ∷ []) (entry x n)) is (it_is_in (entry x number)));
@@ -107,7 +108,7 @@ indexed_next done here more firsts numbers returned long i =
       numbered =
           let a = length-append firsts (map Leaf numbers) in let b = length-map numbers Leaf in let c = length-append (done ++ here) more in
           let d = i.numbered in omega (arith, a, b, c, d, long);
-      sound = λ e c. absurd (none_in e c);
+      sound = λ e c. absurd (none_in_nil e c);
       complete = λ k x at node. absurd (never k node);
     }
   where
@@ -129,4 +130,4 @@ not_indexed done here firsts returned x i none nodes c =
 
 -- nothing is found
 pub indexed_none : Indexes [] [] [] []
-indexed_none = record { numbered = refl; sound = λ e c. absurd (none_in e c); complete = λ k x at node. cc at }
+indexed_none = record { numbered = refl; sound = λ e c. absurd (none_in_nil e c); complete = λ k x at node. cc at }

@@ -4,6 +4,8 @@ use Rattle.std.specs.Prelude.{Result, Ok, Err, MatchResult}
 use Rattle.std.specs.Result.{IsErrAnd}
 use Rattle.std.proofs.lemmas.Result.{err_from_is_err_and}
 use Rattle.std.proofs.lemmas.List.{map-append}
+use Rattle.std.proofs.lemmas.List.Elements.{Contains-append_cases}
+use Rattle.ig_text.proofs.Lists.{contains_from_at, right_at, contains_one, unmapped_in, same_map, among_all}
 use Rattle.ig_item.specs.Core.{IsAlternative}
 use Rattle.ig_item.specs.Items.{Item, Reachable, first}
 use Rattle.ig_item.specs.Tables.{instance_by, HaveValues}
@@ -21,7 +23,6 @@ use Rattle.ig_plain.specs.Found.{means, instances_in, taken_in, Named, AreNamed,
 use Rattle.ig_plain.specs.Rules.{IsFirstOf}
 use Rattle.ig_plain.specs.Waiting.{not_called}
 use Rattle.ig_plain.specs.Run.{IsWaiting, IsRun, IsEntered, Refuses}
-use Rattle.ig_plain.proofs.Lists.{contains_from_at, right_at, contains_sides, one_in, unmapped_in, same_map, front_in}
 use Rattle.ig_plain.proofs.Sets.{extends_same}
 use Rattle.ig_plain.proofs.Growth.{extends_then, extends_in, all_kept, instance_kept}
 use Rattle.ig_plain.proofs.Distinct.{one_instance}
@@ -68,8 +69,8 @@ module _ (core : List Nonterminal) (text : List ℕ) (budget p k : ℕ) (s t : F
   inside x c =
       let u = unmapped_in (means s) (s.done.items ++ take k s.here.items) x c in
       let n : Named s u.0 =
-      ⊎_elim (named.done u.0) (λ (h : Contains (take k s.here.items) u.0). named.here u.0 (front_in s.here.items k u.0 h))
-      (contains_sides s.done.items (take k s.here.items) u.0 u.1) in
+      ⊎_elim (named.done u.0) (λ (h : Contains (take k s.here.items) u.0). named.here u.0 (among_all s.here.items k u.0 h))
+      (Contains-append_cases s.done.items (take k s.here.items) u.0 u.1) in
       contains_from_at (instances_in s) u.0.instance x.instance (instance_at s u.0 n ∙ ap (λ (z : Item). Some z.instance) u.2)
 
 module _ (core : List Nonterminal) (text : List ℕ) (budget k : ℕ) (key : InstanceKey) (s : Found) (w : Waiting)
@@ -125,8 +126,8 @@ module _ (core : List Nonterminal) (text : List ℕ) (budget k : ℕ) (key : Ins
     values_now x c =
         subst (λ (z : List _). x.env < length z) (sym envs)
         (⊎_elim (λ (h : Contains s.keys x). named_s.values x h)
-        (λ (h : Contains (key ∷ []) x). subst (λ (z : InstanceKey). z.env < length s.envs.keys) (sym (one_in key x h)) env)
-        (contains_sides s.keys (key ∷ []) x (subst (λ (z : List InstanceKey). Contains z x) new.added c)))
+        (λ (h : Contains (key ∷ []) x). subst (λ (z : InstanceKey). z.env < length s.envs.keys) (sym (contains_one key x h)) env)
+        (Contains-append_cases s.keys (key ∷ []) x (subst (λ (z : List InstanceKey). Contains z x) new.added c)))
 
     pub moved : Moved s s1
     moved =
@@ -193,10 +194,10 @@ module _ (core : List Nonterminal) (text : List ℕ) (budget k : ℕ) (key : Ins
                   all_kept key.start may s1 t named_1 d.grows (first callee a)
                   (moved_back s s1 named_s moved (first callee a) (r.firsts callee h a nonterminal alternative has)))
                   (λ (h : Contains (fresh ∷ []) callee).
-                  let e : callee ≡ instance_by s1.envs.keys key = one_in fresh callee h ∙ sym fresh_same in
+                  let e : callee ≡ instance_by s1.envs.keys key = contains_one fresh callee h ∙ sym fresh_same in
                   d.has (first callee a)
                   (a, nonterminal, alternative, subst (λ (z : Instance). IsAlternative core z.nonterminal a nonterminal alternative) e has, ap (λ (z : Instance). first z a) e))
-                  (contains_sides (instances_in s) (fresh ∷ []) callee
+                  (Contains-append_cases (instances_in s) (fresh ∷ []) callee
                   (subst (λ (z : List Instance). Contains z callee) (keeps.instances ∙ all_instances) c));
               waiting = subst (λ (z : List Item). IsWaiting core text key.start t z v) (sym (taken2 ∙ taken1))
                   (waits_kept core text key.start s1 t (taken_in s k) v keeps waits1);
@@ -218,8 +219,8 @@ named_keys s t key i n env new envs done here later =
       values = λ x c.
           subst (λ (z : List _). x.env < length z) (sym envs)
           (⊎_elim (λ (h : Contains s.keys x). n.values x h)
-          (λ (h : Contains (key ∷ []) x). subst (λ (z : InstanceKey). z.env < length s.envs.keys) (sym (one_in key x h)) env)
-          (contains_sides s.keys (key ∷ []) x (subst (λ (z : List InstanceKey). Contains z x) new.added c)));
+          (λ (h : Contains (key ∷ []) x). subst (λ (z : InstanceKey). z.env < length s.envs.keys) (sym (contains_one key x h)) env)
+          (Contains-append_cases s.keys (key ∷ []) x (subst (λ (z : List InstanceKey). Contains z x) new.added c)));
       done = λ x c. more x (n.done x (subst (λ (z : List stored.Item). Contains z x) done c));
       here = λ x c. more x (n.here x (subst (λ (z : List stored.Item). Contains z x) here c));
       later = λ x c. more x (n.later x (subst (λ (z : List stored.Item). Contains z x) later c));

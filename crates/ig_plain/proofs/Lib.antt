@@ -1,4 +1,3 @@
-pub mod Lists
 pub mod Equality
 pub mod Sets
 pub mod Growth

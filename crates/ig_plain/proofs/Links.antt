@@ -2,12 +2,13 @@
 use Rattle.std.proofs.Common.{◌≡◌, ◌⊎◌, ⊎_elim, inl, inr, ℕ, zero, suc, ◌-◌, ◌<◌, ◌≤◌, List, [], ◌∷◌, ◌++◌, Some, length, set, Contains, refl, sym, ap, ◌∙◌, subst, arith, slice_get}
 use Rattle.std.specs.Prelude.{Bool, get_or}
 use Rattle.std.proofs.lemmas.Option.{same_Some, slice_get_within, slice_get_read}
+use Rattle.std.proofs.lemmas.List.Elements.{Contains-append_cases, Contains-append_left, Contains-append_right}
+use Rattle.ig_text.proofs.Lists.{left_at, right_at, it_is_in, contains_one}
 use Rattle.ig_item.specs.declared.items.Item as stored
 use Rattle.ig_plain.specs.declared.waiting.Caller.{Caller}
 use Rattle.ig_plain.specs.Waiting.{linked_at, linked, lengthened, first_or}
 use Rattle.ig_plain.specs.Run as run
 use Rattle.ig_plain.specs.Run.{Chains, ChainEnds}
-use Rattle.ig_plain.proofs.Lists.{left_at, right_at, contains_sides, left_contains, right_contains, it_is_in, one_in}
 use Rattle.ig_plain.proofs.Returns.{Heads, heads, empties}
 
 -- linking is writing the cell with another next one
@@ -62,20 +63,20 @@ linked_from cells (suc m) next cell c = from cells m c
     from (x ∷ cells) zero c =
         ⊎_elim
         (λ (h : Contains (record x { next = next } ∷ []) cell).
-        let e = one_in (record x { next = next }) cell h in (
+        let e = contains_one (record x { next = next }) cell h in (
           x,
-          left_contains (x ∷ []) cells x (it_is_in x),
+          Contains-append_left (x ∷ []) cells x (it_is_in x),
           ap (λ (z : Caller). z.item) e,
           ap (λ (z : Caller). z.number) e,
           ap (λ (z : Caller). z.is_bare) e,
         ))
-        (λ (h : Contains cells cell). (cell, right_contains (x ∷ []) cells cell h, refl, refl, refl))
-        (contains_sides (record x { next = next } ∷ []) cells cell c)
+        (λ (h : Contains cells cell). (cell, Contains-append_right (x ∷ []) cells cell h, refl, refl, refl))
+        (Contains-append_cases (record x { next = next } ∷ []) cells cell c)
     from (x ∷ cells) (suc m) c =
-        ⊎_elim (λ (h : Contains (x ∷ []) cell). (cell, left_contains (x ∷ []) cells cell h, refl, refl, refl))
+        ⊎_elim (λ (h : Contains (x ∷ []) cell). (cell, Contains-append_left (x ∷ []) cells cell h, refl, refl, refl))
         (λ (h : Contains (linked_at cells m next) cell).
-        let q = from cells m h in (q.0, right_contains (x ∷ []) cells q.0 q.1, q.2, q.3, q.4))
-        (contains_sides (x ∷ []) (linked_at cells m next) cell c)
+        let q = from cells m h in (q.0, Contains-append_right (x ∷ []) cells q.0 q.1, q.2, q.3, q.4))
+        (Contains-append_cases (x ∷ []) (linked_at cells m next) cell c)
 
 -- the first cell of a chain, read at its place
 module _ (cells : List Caller) (k : ℕ) (xs : List stored.Item) (cell : Caller) (at : slice_get cells k ≡ Some cell) (h : Heads cells k xs) where
@@ -87,10 +88,10 @@ module _ (cells : List Caller) (k : ℕ) (xs : List stored.Item) (cell : Caller)
 
   first_in : Contains xs cell.item
   first_in =
-      subst (λ (z : List stored.Item). Contains z cell.item) (sym whole_is) (left_contains (cell.item ∷ []) h.rest cell.item (it_is_in cell.item))
+      subst (λ (z : List stored.Item). Contains z cell.item) (sym whole_is) (Contains-append_left (cell.item ∷ []) h.rest cell.item (it_is_in cell.item))
 
   rest_in : (x : stored.Item) → Contains h.rest x → Contains xs x
-  rest_in x c = subst (λ (z : List stored.Item). Contains z x) (sym whole_is) (right_contains (cell.item ∷ []) h.rest x c)
+  rest_in x c = subst (λ (z : List stored.Item). Contains z x) (sym whole_is) (Contains-append_right (cell.item ∷ []) h.rest x c)
 
   rest_chained : Chains cells cell.next h.rest
   rest_chained = subst (λ (z : Caller). Chains cells z.next h.rest) (sym cell_is) h.chained
@@ -101,8 +102,8 @@ pub chain_stays : (cells others : List Caller) (head : ℕ) (xs : List stored.It
     Chains others head xs
 chain_stays cells others head xs run.none same = run.none
 chain_stays cells others head xs (run.more k cell ys at behind c) same =
-    run.more k cell ys (same k cell at (left_contains (cell.item ∷ []) ys cell.item (it_is_in cell.item))) behind
-    (chain_stays cells others cell.next ys c (λ j d e m. same j d e (right_contains (cell.item ∷ []) ys d.item m)))
+    run.more k cell ys (same k cell at (Contains-append_left (cell.item ∷ []) ys cell.item (it_is_in cell.item))) behind
+    (chain_stays cells others cell.next ys c (λ j d e m. same j d e (Contains-append_right (cell.item ∷ []) ys d.item m)))
 
 -- its end, too
 pub end_stays : (cells others : List Caller) (head last : ℕ) → ChainEnds cells head last → (xs : List stored.Item) → Chains cells head xs →
@@ -214,7 +215,7 @@ module _ (cells : List Caller) (item : stored.Item) (number : ℕ) (is_bare : Bo
   longer_from last one c =
       let q = linked_from more last (suc (length cells)) one c in (
         q.0,
-        ⊎_elim (λ (h : Contains cells q.0). inl h) (λ (h : Contains (cell ∷ []) q.0). inr (one_in cell q.0 h)) (contains_sides cells (cell ∷ []) q.0 q.1),
+        ⊎_elim (λ (h : Contains cells q.0). inl h) (λ (h : Contains (cell ∷ []) q.0). inr (contains_one cell q.0 h)) (Contains-append_cases cells (cell ∷ []) q.0 q.1),
         q.2,
         q.3,
         q.4,

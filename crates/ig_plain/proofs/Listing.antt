@@ -4,8 +4,9 @@ use Rattle.std.specs.List.{sum_by}
 use Rattle.std.proofs.lemmas.List.{length-map}
 use Rattle.std.proofs.lemmas.List.Sums.{sum_by-cons}
 use Rattle.std.proofs.lemmas.Option.{same_Some}
+use Rattle.std.proofs.lemmas.List.Elements.{Contains-append_left, Contains-append_right}
+use Rattle.ig_text.proofs.Lists.{at_from_contains, it_is_in, mapped_in}
 use Rattle.ig_item.specs.WellKinded.{NoneTwice}
-use Rattle.ig_plain.proofs.Lists.{at_from_contains, left_contains, right_contains, it_is_in, mapped_in}
 
 -- the last one, or one before
 pub order : (k n : ℕ) → k < suc n → (k ≡ n) ⊎ (k < n)
@@ -23,8 +24,8 @@ length-below f (suc n) = ap suc (length-below f n)
 pub in_below : {Y : Type 0} (f : ℕ → Y) (n k : ℕ) → k < n → Contains (below f n) (f k)
 in_below f zero k lt = absurd (omega arith)
 in_below f (suc n) k lt =
-    ⊎_elim (λ (e : k ≡ n). rw e (left_contains (f n ∷ []) (below f n) (f n) (it_is_in (f n))))
-    (λ (h : k < n). right_contains (f n ∷ []) (below f n) (f k) (in_below f n k h))
+    ⊎_elim (λ (e : k ≡ n). rw e (Contains-append_left (f n ∷ []) (below f n) (f n) (it_is_in (f n))))
+    (λ (h : k < n). Contains-append_right (f n ∷ []) (below f n) (f k) (in_below f n k h))
     (order k n lt)
 
 -- which of them stands where
@@ -61,9 +62,9 @@ in_each f n [] k m x y e m_is c = cc
 in_each f n (z ∷ xs) zero m x y e m_is c =
     let same : m ≡ n = omega arith in
     let moved : f m x ≡ f n z = cc (same_Some z x e) in
-    left_contains (f n z) (each f (suc n) xs) y (subst (λ ys. Contains ys y) moved c)
+    Contains-append_left (f n z) (each f (suc n) xs) y (subst (λ ys. Contains ys y) moved c)
 in_each f n (z ∷ xs) (suc k) m x y e m_is c =
-    right_contains (f n z) (each f (suc n) xs) y (in_each f (suc n) xs k m x y e (omega arith) c)
+    Contains-append_right (f n z) (each f (suc n) xs) y (in_each f (suc n) xs k m x y e (omega arith) c)
 
 -- what f gives for each member of the one list with each of the other
 abbrev pub crossed : {X Y Z : Type 0} → (X → Y → Z) → List X → List Y → List Z
@@ -85,6 +86,6 @@ in_crossed {X} {Y} {Z} f xs ys x y c d = let at = at_from_contains xs x c in by_
     by_place : (zs : List X) (k : ℕ) → slice_get zs k ≡ Some x → Contains (crossed f zs ys) (f x y)
     by_place [] k e = cc
     by_place (z ∷ zs) zero e =
-        left_contains (map (f z) ys) (crossed f zs ys) (f x y)
+        Contains-append_left (map (f z) ys) (crossed f zs ys) (f x y)
         (subst (λ (w : X). Contains (map (f w) ys) (f x y)) (sym (same_Some z x e)) (mapped_in (f x) ys y d))
-    by_place (z ∷ zs) (suc k) e = right_contains (map (f z) ys) (crossed f zs ys) (f x y) (by_place zs k e)
+    by_place (z ∷ zs) (suc k) e = Contains-append_right (map (f z) ys) (crossed f zs ys) (f x y) (by_place zs k e)

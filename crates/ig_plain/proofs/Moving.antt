@@ -1,6 +1,8 @@
 -- Tables grow while the items stay, and items are added that aren't taken.
 use Rattle.std.proofs.Common.{◌≡◌, ◌⊎◌, ⊎_elim, inl, inr, ℕ, zero, suc, ◌+◌, ◌<◌, ◌≤◌, List, [], ◌∷◌, ◌++◌, Some, None, length, map, take, Contains, refl, sym, ap, ◌∙◌, subst, arith, slice_get, length-append}
 use Rattle.std.proofs.lemmas.Option.{same_Some, slice_get_within}
+use Rattle.std.proofs.lemmas.List.Elements.{Contains-append_left, Contains-append_right, Contains-append_cases}
+use Rattle.ig_text.proofs.Lists.{among_all, sides, none_in_nil, same_map}
 use Rattle.ig_item.specs.Items.{Item, Follows, Reachable, MoreThan}
 use Rattle.ig_item.specs.Tables.{HaveValues}
 use Rattle.ig_item.specs.WellKinded.{NoneTwice}
@@ -17,7 +19,6 @@ use Rattle.ig_plain.specs.Rules.{IsCaller}
 use Rattle.ig_plain.specs.Waiting.{not_called}
 use Rattle.ig_plain.specs.Run as run
 use Rattle.ig_plain.specs.Run.{HasCallers, HasEnd, IsWaiting, IsTaking, IsRun}
-use Rattle.ig_plain.proofs.Lists.{front_in, left_contains, right_contains, contains_sides, sides, none_in, same_map}
 use Rattle.ig_plain.proofs.Growth.{means_kept, found_named, found_from, later_same, all_kept, longer}
 use Rattle.ig_plain.proofs.Distinct.{too_many}
 use Rattle.ig_plain.proofs.Running.{stored_grown, taken_grown}
@@ -59,7 +60,7 @@ module _ (s t : Found) (n : AreNamed s) (m : Moved s t) where
   moved_taken k =
       moved_map (s.done.items ++ take k s.here.items) (t.done.items ++ take k t.here.items)
       (ap (λ (z : List stored.Item). z ++ take k t.here.items) m.done ∙ ap (λ (z : List stored.Item). s.done.items ++ take k z) m.here)
-      (λ x c. ⊎_elim (n.done x) (λ (h : Contains (take k s.here.items) x). n.here x (front_in s.here.items k x h)) (contains_sides s.done.items (take k s.here.items) x c))
+      (λ x c. ⊎_elim (n.done x) (λ (h : Contains (take k s.here.items) x). n.here x (among_all s.here.items k x h)) (Contains-append_cases s.done.items (take k s.here.items) x c))
 
   pub moved_all : (x : Item) → Contains (found_in t ++ later_in t) x → Contains (found_in s ++ later_in s) x
   moved_all x c =
@@ -116,11 +117,11 @@ taking_grown core text budget p k may s t r g sound within =
       reachable = λ x c.
           ⊎_elim
           (λ (h : Contains (found_in t) x).
-          ⊎_elim (λ (i : Contains (found_in s) x). r.reachable x (left_contains (found_in s) (later_in s) x i)) (λ (i : may x). sound x i)
+          ⊎_elim (λ (i : Contains (found_in s) x). r.reachable x (Contains-append_left (found_in s) (later_in s) x i)) (λ (i : may x). sound x i)
           (found_from p may s t n g x h))
           (λ (h : Contains (later_in t) x).
-          r.reachable x (right_contains (found_in s) (later_in s) x (subst (λ (z : List Item). Contains z x) (later_same p may s t n g) h)))
-          (contains_sides (found_in t) (later_in t) x c);
+          r.reachable x (Contains-append_right (found_in s) (later_in s) x (subst (λ (z : List Item). Contains z x) (later_same p may s t n g) h)))
+          (Contains-append_cases (found_in t) (later_in t) x c);
       closed = λ x f. all_kept p may s t n g x (r.closed x (subst (λ (z : List Item). Follows core text (Contains z) x) same f));
       came = λ x c.
           let h = r.came x (subst (λ (z : List Item). Contains z x) (later_same p may s t n g) c) in
@@ -137,11 +138,11 @@ exceeds_grown core text budget p k may s t r g sound more =
     (λ x c.
     ⊎_elim
     (λ (h : Contains (found_in t) x).
-    ⊎_elim (λ (i : Contains (found_in s) x). r.reachable x (left_contains (found_in s) (later_in s) x i)) (λ (i : may x). sound x i)
+    ⊎_elim (λ (i : Contains (found_in s) x). r.reachable x (Contains-append_left (found_in s) (later_in s) x i)) (λ (i : may x). sound x i)
     (found_from p may s t n g x h))
     (λ (h : Contains (later_in t) x).
-    r.reachable x (right_contains (found_in s) (later_in s) x (subst (λ (z : List Item). Contains z x) (later_same p may s t n g) h)))
-    (contains_sides (found_in t) (later_in t) x c)) more
+    r.reachable x (Contains-append_right (found_in s) (later_in s) x (subst (λ (z : List Item). Contains z x) (later_same p may s t n g) h)))
+    (Contains-append_cases (found_in t) (later_in t) x c)) more
 
 module _ (core : List Nonterminal) (text : List ℕ) (p : ℕ) where
   callers_kept : (s t : Found) (taken : List Item) (cells : List Caller) (head last : ℕ) (callee : Instance) →
@@ -217,8 +218,8 @@ module _ (core : List Nonterminal) (text : List ℕ) (p : ℕ) where
               chain = [];
               chained = run.none;
               ended = run.nowhere;
-              named = λ y k. absurd (none_in y k);
-              callers = λ y k. absurd (none_in y k);
+              named = λ y k. absurd (none_in_nil y k);
+              callers = λ y k. absurd (none_in_nil y k);
               all = λ x k d. absurd (apart (subst (Contains (instances_in s)) h.0 (r.known x callee k d)));
             })) (old i callee c at known);
         ends = λ i callee c at known.
@@ -228,7 +229,7 @@ module _ (core : List Nonterminal) (text : List ℕ) (p : ℕ) where
               λ e. absurd (apart (subst (Contains (instances_in s)) (e.of ∙ h.0) (inside e.item e.among))),
             )) (old i callee c at known);
         known = λ x callee c d.
-            subst (λ (z : List Instance). Contains z callee) (sym all) (left_contains (instances_in s) (fresh ∷ []) callee (r.known x callee c d));
+            subst (λ (z : List Instance). Contains z callee) (sym all) (Contains-append_left (instances_in s) (fresh ∷ []) callee (r.known x callee c d));
         before = λ i c e known is.
             ⊎_elim (λ (q : slice_get w.called.items i ≡ Some c). r.before i c e q is)
             (λ (q : (m : ℕ) × (i ≡ length w.called.items + m) × (slice_get (not_called ∷ []) m ≡ Some c)).

@@ -2,6 +2,7 @@
 use Rattle.std.proofs.Common.{◌≡◌, ⊎_elim, ℕ, ◌++◌, Some, length, sym, ap, ◌∙◌, arith, slice_get}
 use Rattle.std.proofs.lemmas.List.{length-map}
 use Rattle.std.proofs.lemmas.Option.{slice_get_within}
+use Rattle.ig_text.proofs.Lists.{get_within}
 use Rattle.ig_item.specs.Items.{Item}
 use Rattle.ig_item.specs.Ways.{WayTo, found, again}
 use Rattle.ig_item.specs.declared.ways.Way.{Way}
@@ -10,7 +11,6 @@ use Rattle.ig_plain.specs.declared.found.Found.{Found}
 use Rattle.ig_plain.specs.declared.trail.Trail.{Trail}
 use Rattle.ig_plain.specs.Found.{means, found_in}
 use Rattle.ig_plain.specs.Trail.{ComeByNodes, IsIndexed, IsNodeAt, Records}
-use Rattle.ig_plain.proofs.Lists.{some_at}
 use Rattle.ig_plain.proofs.Growth.{extends_at}
 use Rattle.ig_plain.proofs.Pairing.{front_at}
 
@@ -34,7 +34,7 @@ module _ (may : Way → Item → Type 0) (which : Item → Type 0) (a b : Found)
   pub by_nodes_on : ComeByNodes b u which
   by_nodes_on x w k at =
       let lt = slice_get_within (found_in b) k x at in
-      let way = some_at u.ways.firsts k (let e = r.numbered n in omega (arith, lt, e)) in
+      let way = get_within u.ways.firsts k (let e = r.numbered n in omega (arith, lt, e)) in
       ⊎_elim (λ (h : WayTo t.ways k way.0). node_before x w k way.0 at way.1 h)
       (λ (h : may way.0 x). let node = nodes way.0 x h in (node.0, node.1, way.1 ∙ ap Some node.2))
       (r.each n k way.0 x at (found way.1))

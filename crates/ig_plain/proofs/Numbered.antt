@@ -1,17 +1,18 @@
 -- Instances by number.
 use Rattle.std.proofs.Common.{◌≡◌, ◌⊎◌, inl, ⊎_elim, ℕ, zero, suc, ◌+◌, ◌-◌, ◌<◌, ◌≤◌, List, [], ◌∷◌, ◌++◌, Some, length, take, drop, Contains, refl, sym, ap, ◌∙◌, subst, arith, slice_get, length-append, false}
-use Rattle.std.proofs.lemmas.List.{take-append-le, drop-append-le}
+use Rattle.std.proofs.lemmas.List.{take-append-le, drop-append-le, take_all}
 use Rattle.std.proofs.lemmas.List.Quantifiers.{position-Some}
 use Rattle.std.proofs.lemmas.Bool.{cases_lt}
 use Rattle.std.specs.List.{position}
 use Rattle.std.proofs.lemmas.Option.{slice_get-get_or, same_Some}
+use Rattle.std.proofs.lemmas.List.Elements.{Contains-append_cases}
 use Rattle.std.specs.List.{list_any}
+use Rattle.ig_text.proofs.Lists.{at_from_contains, contains_from_at, within_take, take_step, sides, contains_one}
 use Rattle.indexmap.specs.IndexSet.{insert_key}
 use Rattle.ig_item.specs.WellKinded.{NoneTwice}
 use Rattle.ig_item.specs.declared.items.InstanceKey.{InstanceKey}
 use Rattle.ig_plain.specs.InstanceSet.{AreInstances}
 use Rattle.ig_plain.proofs.Equality.{key_eq, key_eq-decides}
-use Rattle.ig_plain.proofs.Lists.{at_from_contains, contains_from_at, within_take, take_step, sides, contains_sides, one_in}
 use Rattle.ig_plain.proofs.Distinct.{once_both, once_single}
 use Rattle.ig_plain.proofs.Sets.{not_there, absent}
 
@@ -38,12 +39,6 @@ hashes_more here many more key place once at is more_is =
     let n : place + 1 ≡ suc place = omega arith in
     not_there key_eq-decides many more key more_is absent ∙ ap (λ (z : List InstanceKey). z ++ key ∷ []) is ∙
     sym (ap (λ (k : ℕ). take k here) n ∙ take_step here place key at)
-
-pub taken_whole : {X : Type 0} (xs : List X) (n : ℕ) → length xs ≤ n → take n xs ≡ xs
-taken_whole [] zero le = refl
-taken_whole [] (suc n) le = refl
-taken_whole (x ∷ xs) zero le = absurd (omega arith)
-taken_whole (x ∷ xs) (suc n) le = ap (λ zs. x ∷ zs) (taken_whole xs n (omega arith))
 
 -- places behind a number
 pub dropped_at : {X : Type 0} (xs : List X) (n m k : ℕ) (x : X) → k ≡ n + m → slice_get (drop n xs) m ≡ Some x → slice_get xs k ≡ Some x
@@ -106,7 +101,7 @@ arrived keys many none here first start are lt is =
 pub once_more : (keys more : List InstanceKey) (key : InstanceKey) → NoneTwice keys → (Contains keys key → ⊥) → more ≡ keys ++ key ∷ [] → NoneTwice more
 once_more keys more key once none is =
     subst NoneTwice (sym is)
-    (once_both keys (key ∷ []) once (once_single key) (λ x c d. none (subst (Contains keys) (one_in key x d) c)))
+    (once_both keys (key ∷ []) once (once_single key) (λ x c d. none (subst (Contains keys) (contains_one key x d) c)))
 
 -- an instance is added
 pub key_added : (keys more many most : List InstanceKey) (here first : ℕ) (key : InstanceKey) → AreInstances keys here first many →
@@ -117,8 +112,8 @@ key_added keys more many most here first key are le none is hashed =
       once = once_more keys more key are.once none is;
       late = λ x c.
           ⊎_elim (λ (h : Contains keys x). are.late x h)
-          (λ (h : Contains (key ∷ []) x). let e = ap (λ (z : InstanceKey). z.start) (one_in key x h) in omega (arith, e, le))
-          (contains_sides keys (key ∷ []) x (subst (λ (z : List InstanceKey). Contains z x) is c));
+          (λ (h : Contains (key ∷ []) x). let e = ap (λ (z : InstanceKey). z.start) (contains_one key x h) in omega (arith, e, le))
+          (Contains-append_cases keys (key ∷ []) x (subst (λ (z : List InstanceKey). Contains z x) is c));
       before = λ k x at lt.
           ⊎_elim (λ (h : slice_get keys k ≡ Some x). are.before k x h lt)
           (λ (h : (m : ℕ) × (k ≡ length keys + m) × (slice_get (key ∷ []) m ≡ Some x)). absurd (omega (arith, h.1, lt, are.within)))
@@ -138,5 +133,5 @@ hashes_first keys more many first key within is hashed =
     (ap (λ (z : List InstanceKey). take (length (drop first keys)) z)
     (ap (drop first) is ∙ drop-append-le first keys (key ∷ []) within) ∙
     take-append-le (length (drop first keys)) (drop first keys) (key ∷ []) (omega arith) ∙
-    taken_whole (drop first keys) (length (drop first keys)) (omega arith))))
+    take_all (length (drop first keys)) (drop first keys) (omega arith))))
     hashed

@@ -2,6 +2,8 @@
 use Rattle.std.proofs.Common.{◌≡◌, ◌⊎◌, ⊎_elim, inl, inr, ℕ, suc, ◌+◌, ◌<◌, List, [], ◌∷◌, ◌++◌, Some, length, map, take, Contains, refl, sym, ap, ◌∙◌, subst, arith, slice_get, append_assoc}
 use Rattle.std.specs.Prelude.{option_map, Result, Ok, Err, OnOk}
 use Rattle.std.proofs.lemmas.Option.{slice_get_within, slice_get-map}
+use Rattle.std.proofs.lemmas.List.Elements.{Contains-append_right, Contains-append_left}
+use Rattle.ig_text.proofs.Lists.{contains_from_at, left_at, right_at, sides, within_take, at_from_contains, unmapped_at, it_is_in}
 use Rattle.ig_item.specs.Items.{Item, IsComplete}
 use Rattle.ig_item.specs.WellKinded.{NoneTwice}
 use Rattle.ig_item.specs.Gives.{NodeKey, Taken, Completes, Gives}
@@ -20,7 +22,6 @@ use Rattle.ig_plain.specs.Tables.{Extends}
 use Rattle.ig_plain.specs.Found.{means, found_in, later_in, taken_in, instances_in, Named, AreNamed, IsStored, Grows}
 use Rattle.ig_plain.specs.Rules.{StandsAtBareCall}
 use Rattle.ig_plain.specs.Trail.{FollowTrail, HasTrail, AreKnown, IsNext}
-use Rattle.ig_plain.proofs.Lists.{contains_from_at, left_at, right_at, sides, within_take, at_from_contains, unmapped_at, it_is_in, right_contains, left_contains}
 use Rattle.ig_plain.proofs.Sets.{extends_itself}
 use Rattle.ig_plain.proofs.Growth.{extends_at, found_grown, found_named, means_grown}
 use Rattle.ig_plain.proofs.Distinct.{different}
@@ -134,10 +135,10 @@ module _ (core : List Nonterminal) (text : List ℕ) (p k : ℕ) (s : Found) (w 
   now = taken_in s k ++ it ∷ []
 
   pub known_now : Contains now it
-  known_now = right_contains (taken_in s k) (it ∷ []) it (it_is_in it)
+  known_now = Contains-append_right (taken_in s k) (it ∷ []) it (it_is_in it)
 
   pub known_still : (y : Item) → Contains (taken_in s k) y → Contains now y
-  known_still y c = left_contains (taken_in s k) (it ∷ []) y c
+  known_still y c = Contains-append_left (taken_in s k) (it ∷ []) y c
 
   module _ (t : Found) (g : Goes s t k it) where
     -- it keeps its number

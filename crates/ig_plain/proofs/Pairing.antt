@@ -1,11 +1,10 @@
 -- Two lists side by side, and lists that grow at their end.
-use Rattle.std.proofs.Common.{◌≡◌, ◌⊎◌, ⊎_elim, inl, inr, ℕ, zero, suc, ◌+◌, ◌<◌, ◌≤◌, List, [], ◌∷◌, ◌++◌, Some, length, map, refl, ap, ◌∙◌, subst, arith, slice_get, set}
-use Rattle.std.specs.Prelude.{option_map}
+use Rattle.std.proofs.Common.{◌≡◌, ◌⊎◌, ⊎_elim, inl, inr, ℕ, zero, suc, ◌+◌, ◌<◌, ◌≤◌, List, [], ◌∷◌, ◌++◌, Some, length, map, refl, ◌∙◌, subst, arith, slice_get, set}
 use Rattle.std.proofs.lemmas.List.{length-set}
-use Rattle.std.proofs.lemmas.Option.{slice_get-map, slice_get_within}
+use Rattle.std.proofs.lemmas.Option.{slice_get_within}
+use Rattle.ig_text.proofs.Lists.{left_at, right_at, sides, unmapped_at, mapped_at}
 use Rattle.ig_plain.specs.Tables.{Extends}
 use Rattle.ig_plain.specs.Trail.{Pairs}
-use Rattle.ig_plain.proofs.Lists.{left_at, right_at, sides, unmapped_at}
 
 module _ {X : Type 0} where
   -- a member of the longer list stands in the shorter one, or behind it
@@ -48,9 +47,6 @@ module _ {X Y : Type 0} where
       let e : k.0 ≡ h.0 = omega (arith, h.1, k.1, same) in inr (h.0, h.2, subst (λ (z : ℕ). slice_get numbers z ≡ Some n) e k.2))
       (sides ns numbers p.0 n p.2))
       (sides xs more p.0 x p.1)
-
-pub mapped_at : {X Z : Type 0} (f : X → Z) (xs : List X) (k : ℕ) (x : X) → slice_get xs k ≡ Some x → slice_get (map f xs) k ≡ Some (f x)
-mapped_at f xs k x at = slice_get-map f xs k ∙ ap (option_map f) at
 
 module _ {X Y Z : Type 0} (f : X → Z) where
   pub pairs_mapped : (xs : List X) (ns : List Y) (x : X) (n : Y) → Pairs xs ns x n → Pairs (map f xs) ns (f x) n

@@ -2,6 +2,7 @@
 use Rattle.std.proofs.Common.{◌≡◌, ℕ, zero, suc, ◌+◌, ◌*◌, ◌≤◌, List, [], ◌∷◌, ◌++◌, Some, length, take, Contains, slice_get, sym, ap, ◌∙◌, refl, subst, arith}
 use Rattle.std.specs.List.{flat_map}
 use Rattle.std.proofs.lemmas.List.{length-map, nil_from_length}
+use Rattle.ig_text.proofs.Lists.{contains_from_at, both_empty}
 use Rattle.ig_expr.specs.Kinds.{kind_of_value}
 use Rattle.ig_expr.specs.declared.value.Value.{Value}
 use Rattle.ig_item.specs.Step.{Step, names_of}
@@ -13,7 +14,6 @@ use Rattle.ig_item.specs.Laws.{EnvironmentsFit, EnvironmentFits, ItemsAreInText}
 use Rattle.ig_item.specs.declared.core_grammar.Nonterminal.{Nonterminal}
 use Rattle.ig_item.specs.declared.core_grammar.CoreAlt.{CoreAlt}
 use Rattle.ig_plain.specs.Laws.{IsPlain}
-use Rattle.ig_plain.proofs.Lists.{contains_from_at}
 use Rattle.ig_plain.proofs.Listing.{below, length-below, in_below, each, length-each, in_each, crossed, length-crossed, in_crossed}
 use Rattle.ig_plain.proofs.Triangle.{Stretch, stretch, stretches, in_stretches}
 
@@ -79,10 +79,6 @@ pub length-plain_items : (core : List Nonterminal) (n : ℕ) → length (plain_i
 length-plain_items core n =
     length-crossed plain_item (all_dots core) (stretches (n + 1)) ∙
     ap (λ (d : ℕ). d * length (stretches (n + 1))) (length-all_dots core)
-
-both_empty : {X : Type 0} (xs ys : List X) → xs ++ ys ≡ [] → (xs ≡ []) × (ys ≡ [])
-both_empty [] ys e = (refl, e)
-both_empty (x ∷ xs) ys e = cc
 
 -- the first of some steps bind nothing where none does
 front_binds_nothing : (steps : List Step) (dot : ℕ) → flat_map names_of steps ≡ [] → flat_map names_of (take dot steps) ≡ []

@@ -3,8 +3,10 @@ use Rattle.std.proofs.Common.{◌≡◌, ◌⊎◌, ⊎_elim, inl, inr, ℕ, zer
 use Rattle.std.specs.Prelude.{Result, Ok, Err, OnOk, Option, option_map}
 use Rattle.std.proofs.lemmas.List.{map-append}
 use Rattle.std.proofs.lemmas.Option.{same_Some, slice_get_within, slice_get-map}
+use Rattle.std.proofs.lemmas.List.Elements.{Contains-append_right, Contains-append_cases}
 use Rattle.ig_text.specs.Pattern.{Matches}
 use Rattle.ig_text.specs.declared.pattern.Pattern.{Pattern}
+use Rattle.ig_text.proofs.Lists.{sides, right_at, none_in_nil, contains_one, it_is_in, get_within, mapped_in, same_map, contains_from_at}
 use Rattle.ig_item.specs.Items.{Item, MatchesNone, past, span_of}
 use Rattle.ig_item.specs.Ways.{WayLists, WayTo, found, again}
 use Rattle.ig_expr.specs.declared.value.Value.{Value}
@@ -20,7 +22,6 @@ use Rattle.ig_plain.specs.Rules.{IsBehind}
 use Rattle.ig_plain.specs.Found.{means, found_in, later_in, Named, AreNamed}
 use Rattle.ig_plain.specs.Returned.{entry}
 use Rattle.ig_plain.specs.Trail.{IsRecorded, here, later, By, ComeByNodes, ComesOnce, IsIndexed, IsNodeAt, Pushes, Unfound, Records, RecordsLater, RecordsTerminal}
-use Rattle.ig_plain.proofs.Lists.{sides, right_at, right_contains, contains_sides, none_in, one_in, it_is_in, some_at, mapped_in, same_map, contains_from_at}
 use Rattle.ig_plain.proofs.Growth.{means_kept, found_named, longer, extends_at, extends_in, extends_then, extends_cases}
 use Rattle.ig_plain.proofs.Sets.{extends_itself, extends_by, extends_same}
 use Rattle.ig_plain.proofs.Terminals.{same_end, one_behind}
@@ -69,7 +70,7 @@ module _ (a b : Found) (named : AreNamed a) (envs : Extends a.envs.keys b.envs.k
   pub not_here : (x : stored.Item) (y : Item) → means b x ≡ y → Unfound a (λ z. z ≡ y) → Contains a.here.items x → ⊥
   not_here x y is new c =
       new (means a x) (sym (means_same x (named.here x c)) ∙ is)
-      (mapped_in (means a) (a.done.items ++ a.here.items) x (right_contains a.done.items a.here.items x c))
+      (mapped_in (means a) (a.done.items ++ a.here.items) x (Contains-append_right a.done.items a.here.items x c))
 
   -- an item that is among those at the position was found by a node, if all were that mean the same
   pub by_node_here : (t : Trail) (x : stored.Item) (y : Item) → means b x ≡ y → ComeByNodes a t (λ z. z ≡ y) → (k : ℕ) →
@@ -103,7 +104,7 @@ records_nothing may a t never =
       ends = refl;
       later = refl;
       numbered = λ e. e;
-      there = λ more c. absurd (none_in more c);
+      there = λ more c. absurd (none_in_nil more c);
       each = λ e k way x at to. inl to;
       has = λ e way x m. absurd (never way x m);
       indexed = λ i. i;
@@ -160,7 +161,7 @@ module _ (may first second : Way → Item → Type 0) (a b c : Found) (t u v : T
     where
       below : k < length (found_in b) → WayTo t.ways k way ⊎ first way x
       below lt =
-          let y = some_at (found_in b) k lt in
+          let y = get_within (found_in b) k lt in
           let same : y.0 ≡ x = same_Some y.0 x (sym (extends_at (found_in b) (found_in c) k y.0 e.found y.1) ∙ at) in
           d.each n k way x (y.1 ∙ ap Some same) to
 
@@ -182,7 +183,7 @@ module _ (may first second : Way → Item → Type 0) (a b c : Found) (t u v : T
         later = e.later ∙ d.later;
         numbered = λ n. e.numbered (d.numbered n);
         there = λ more m.
-            ⊎_elim (within more) (e.there more) (contains_sides d.further.more e.further.more more m);
+            ⊎_elim (within more) (e.there more) (Contains-append_cases d.further.more e.further.more more m);
         each = λ n k way x at to.
             ⊎_elim
             (λ (h : WayTo u.ways k way).
@@ -235,7 +236,7 @@ module _ (a b : Found) (t u : Trail) (x : Item) (way : Way) (more_found : found_
         numbered = λ n.
             let p = ap length firsts_are ∙ length-append t.ways.firsts (way ∷ []) in
             let q = ap length more_found ∙ length-append (found_in a) (x ∷ []) in omega (arith, n, p, q);
-        there = λ more c. absurd (none_in more c);
+        there = λ more c. absurd (none_in_nil more c);
         each = new_each;
         has = λ n w y m.
             here (length (found_in a))
@@ -296,10 +297,10 @@ module _ (a : Found) (t u : Trail) (x : Item) (number prev done : ℕ) (at : sli
   further_each k w y there (again more c item is) =
       ⊎_elim (λ (h : Contains t.ways.further more). inl (again more h item is))
       (λ (h : Contains (one_more ∷ []) more).
-      let same : more ≡ one_more = one_in one_more more h in
+      let same : more ≡ one_more = contains_one one_more more h in
       let k_is : number ≡ k = sym (ap (λ (z : FurtherWay). z.item) same) ∙ item in
       inr (is ∙ ap (λ (z : FurtherWay). Node z.prev z.done) same, same_Some y x (sym there ∙ ap (slice_get (found_in a)) (sym k_is) ∙ at)))
-      (contains_sides t.ways.further (one_more ∷ []) more (subst (λ (z : List FurtherWay). Contains z more) with_one c))
+      (Contains-append_cases t.ways.further (one_more ∷ []) more (subst (λ (z : List FurtherWay). Contains z more) with_one c))
 
   pub records_further : Records (By (Node prev done) (λ z. z ≡ x)) a a t u
   records_further =
@@ -312,14 +313,14 @@ module _ (a : Found) (t u : Trail) (x : Item) (number prev done : ℕ) (at : sli
         later = same_prevs;
         numbered = λ n. ap length same_firsts ∙ n;
         there = λ more c.
-            let i = ap (λ (z : FurtherWay). z.item) (one_in one_more more c) in
+            let i = ap (λ (z : FurtherWay). z.item) (contains_one one_more more c) in
             let l = slice_get_within (found_in a) number x at in omega (arith, i, l);
         each = λ n. further_each;
         has = λ n w y m.
             here number (at ∙ ap Some (sym m.1))
             (again one_more
             (subst (λ (z : List FurtherWay). Contains z one_more) (sym with_one)
-            (right_contains t.ways.further (one_more ∷ []) one_more (it_is_in one_more))) refl m.0);
+            (Contains-append_right t.ways.further (one_more ∷ []) one_more (it_is_in one_more))) refl m.0);
         indexed = indexed_same a.done.items a.done.items a.here.items a.here.items t.ways.firsts u.ways.firsts t.returned u.returned refl refl
             same_firsts same_index;
       }

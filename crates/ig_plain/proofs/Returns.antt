@@ -2,10 +2,11 @@
 use Rattle.std.proofs.Common.{◌≡◌, ◌⊎◌, ⊎_elim, inl, inr, ℕ, zero, suc, ◌-◌, ◌<◌, List, [], ◌∷◌, ◌++◌, Some, Option, length, Contains, refl, sym, ap, ◌∙◌, subst, arith, slice_get, append_assoc}
 use Rattle.std.specs.Prelude.{IsTrue, None, Result, Ok, Err, option_and_then, slice_index_or}
 use Rattle.std.proofs.lemmas.List.{append-nil}
-use Rattle.std.proofs.lemmas.List.Elements.{All-nil}
+use Rattle.std.proofs.lemmas.List.Elements.{All-nil, Contains-append_cases, Contains-append_left, Contains-append_right}
 use Rattle.std.proofs.lemmas.Option.{same_Some, slice_get_within, get_or_from_slice_get}
 use Rattle.ig_text.specs.Pattern.{Matches}
 use Rattle.ig_text.specs.declared.pattern.Pattern.{Pattern}
+use Rattle.ig_text.proofs.Lists.{contains_from_at, it_is_in, contains_one, none_in_nil}
 use Rattle.ig_expr.specs.Expression.{Expression}
 use Rattle.ig_item.specs.Step.{Step, Call}
 use Rattle.ig_item.specs.View.{step_of}
@@ -27,7 +28,6 @@ use Rattle.ig_plain.specs.Rules.{StandsAtBareCall, StandsAtCall, IsReturn, step_
 use Rattle.ig_plain.specs.Run as run
 use Rattle.ig_plain.specs.Run.{Chains, IsChainOf, IsReturnToOne}
 use Rattle.ig_plain.specs.Trail.{AreKnown, By, ComeByNodes, IsIndexed, IsReturnBy, Records}
-use Rattle.ig_plain.proofs.Lists.{contains_from_at, contains_sides, left_contains, right_contains, it_is_in, one_in, none_in}
 use Rattle.ig_plain.proofs.Growth.{means_grown, named_grown, named_all, grows_weaker}
 use Rattle.ig_plain.proofs.Additions.{adds_nothing, adds_alike, adds_then}
 use Rattle.ig_plain.proofs.Recording.{records_nothing, records_alike, records_same, records_then}
@@ -169,8 +169,8 @@ module _ (core : List Nonterminal) (text : List ℕ) (cells : List Caller) (head
         rest = chain.chain;
         whole = chain.chained;
         chained = chain.chained;
-        adds = adds_nothing end (Visited []) budget a (λ x m. absurd (none_in m.0 m.1));
-        ways = records_nothing (IsVisit core text done end a []) a t (λ w x m. none_in m.0 m.1);
+        adds = adds_nothing end (Visited []) budget a (λ x m. absurd (none_in_nil m.0 m.1));
+        ways = records_nothing (IsVisit core text done end a []) a t (λ w x m. none_in_nil m.0 m.1);
       }
 
   module _ (b : Found) (u : Trail) (at k : ℕ) (w : Walks core text cells head done end budget a b t u at) (is : at ≡ suc k) where
@@ -180,8 +180,8 @@ module _ (core : List Nonterminal) (text : List ℕ) (cells : List Caller) (head
     pub in_chain : Contains chain.chain here.cell.item
     in_chain =
         subst (λ (z : List stored.Item). Contains z here.cell.item) (one_chain cells head (w.visited ++ w.rest) w.whole chain.chain chain.chained)
-        (right_contains w.visited w.rest here.cell.item
-        (subst (λ (z : List stored.Item). Contains z here.cell.item) (sym here.is) (left_contains (here.cell.item ∷ []) here.rest here.cell.item (it_is_in here.cell.item))))
+        (Contains-append_right w.visited w.rest here.cell.item
+        (subst (λ (z : List stored.Item). Contains z here.cell.item) (sym here.is) (Contains-append_left (here.cell.item ∷ []) here.rest here.cell.item (it_is_in here.cell.item))))
 
     pub means_here : means b here.cell.item ≡ means a here.cell.item
     means_here = means_grown end (Visited w.visited) a b here.cell.item w.adds.grows named.values (chain.named here.cell.item in_chain)
@@ -217,17 +217,17 @@ module _ (core : List Nonterminal) (text : List ℕ) (cells : List Caller) (head
         Adds end (Visited (w.visited ++ here.cell.item ∷ [])) budget a c r
     walks_on c r d =
         adds_then end (Visited (w.visited ++ here.cell.item ∷ [])) (Visited w.visited) (IsReturn core text (means b here.cell.item) end) budget a b c r named
-        (λ x m. (m.0, left_contains w.visited (here.cell.item ∷ []) m.0 m.1, m.2))
+        (λ x m. (m.0, Contains-append_left w.visited (here.cell.item ∷ []) m.0 m.1, m.2))
         (λ x m. (
           here.cell.item,
-          right_contains w.visited (here.cell.item ∷ []) here.cell.item (it_is_in here.cell.item),
+          Contains-append_right w.visited (here.cell.item ∷ []) here.cell.item (it_is_in here.cell.item),
           subst (λ (z : Item). IsReturn core text z end x) means_here m,
         ))
         (λ x m.
         ⊎_elim (λ (h : Contains w.visited m.0). inl (m.0, h, m.2))
         (λ (h : Contains (here.cell.item ∷ []) m.0).
-        inr (subst (λ (z : Item). IsReturn core text z end x) (ap (means a) (one_in here.cell.item m.0 h) ∙ sym means_here) m.2))
-        (contains_sides w.visited (here.cell.item ∷ []) m.0 m.1)) w.adds d
+        inr (subst (λ (z : Item). IsReturn core text z end x) (ap (means a) (contains_one here.cell.item m.0 h) ∙ sym means_here) m.2))
+        (Contains-append_cases w.visited (here.cell.item ∷ []) m.0 m.1)) w.adds d
 
     -- its number is the one place at which it stands
     one_number : (m : ℕ) (y : stored.Item) → slice_get (a.done.items ++ a.here.items) m ≡ Some y → y ≡ here.cell.item → m ≡ here.cell.number
@@ -239,10 +239,10 @@ module _ (core : List Nonterminal) (text : List ℕ) (cells : List Caller) (head
     records_on c v r =
         records_then (IsVisit core text done end a (w.visited ++ here.cell.item ∷ [])) (IsVisit core text done end a w.visited)
         (By (Node here.cell.number done) (IsReturn core text (means b here.cell.item) end)) a b c t u v w.ways r
-        (λ way x m. (m.0, left_contains w.visited (here.cell.item ∷ []) m.0 m.1, m.2, m.3, m.4, m.5))
+        (λ way x m. (m.0, Contains-append_left w.visited (here.cell.item ∷ []) m.0 m.1, m.2, m.3, m.4, m.5))
         (λ way x m. (
           here.cell.item,
-          right_contains w.visited (here.cell.item ∷ []) here.cell.item (it_is_in here.cell.item),
+          Contains-append_right w.visited (here.cell.item ∷ []) here.cell.item (it_is_in here.cell.item),
           subst (λ (z : Item). IsReturn core text z end x) means_here m.1,
           here.cell.number,
           (known here.cell (contains_from_at cells k here.cell here.there)).numbered,
@@ -251,12 +251,12 @@ module _ (core : List Nonterminal) (text : List ℕ) (cells : List Caller) (head
         (λ way x m.
         ⊎_elim (λ (h : Contains w.visited m.0). inl (m.0, h, m.2, m.3, m.4, m.5))
         (λ (h : Contains (here.cell.item ∷ []) m.0).
-        let same : m.0 ≡ here.cell.item = one_in here.cell.item m.0 h in
+        let same : m.0 ≡ here.cell.item = contains_one here.cell.item m.0 h in
         inr (
           m.5 ∙ ap (λ (z : ℕ). Node z done) (one_number m.3 m.0 m.4 same),
           subst (λ (z : Item). IsReturn core text z end x) (ap (means a) same ∙ sym means_here) m.2,
         ))
-        (contains_sides w.visited (here.cell.item ∷ []) m.0 m.1))
+        (Contains-append_cases w.visited (here.cell.item ∷ []) m.0 m.1))
 
     pub walk_goes : (c : Found) (v : Trail) → Adds end (IsReturn core text (means b here.cell.item) end) budget b c (Ok tt) →
         Records (By (Node here.cell.number done) (IsReturn core text (means b here.cell.item) end)) b c u v →
@@ -288,9 +288,9 @@ module _ (core : List Nonterminal) (text : List ℕ) (cells : List Caller) (head
             ⊎_elim
             (λ (h : Contains w.visited y).
             subst (λ (z : List stored.Item). Contains z y) (one_chain cells head (w.visited ++ w.rest) w.whole chain.chain chain.chained)
-            (left_contains w.visited w.rest y h))
-            (λ (h : Contains (here.cell.item ∷ []) y). subst (Contains chain.chain) (sym (one_in here.cell.item y h)) in_chain)
-            (contains_sides w.visited (here.cell.item ∷ []) y c)
+            (Contains-append_left w.visited w.rest y h))
+            (λ (h : Contains (here.cell.item ∷ []) y). subst (Contains chain.chain) (sym (contains_one here.cell.item y h)) in_chain)
+            (Contains-append_cases w.visited (here.cell.item ∷ []) y c)
 
     -- the same of the cell that is read there
     module _ (d : Caller) where

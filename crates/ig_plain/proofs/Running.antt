@@ -3,6 +3,8 @@ use Rattle.std.proofs.Common.{◌≡◌, ◌⊎◌, ⊎_elim, inl, inr, ℕ, suc
 use Rattle.std.specs.Prelude.{Err}
 use Rattle.std.proofs.lemmas.List.{append-nil, map-append, take-append-le}
 use Rattle.std.proofs.lemmas.Option.{slice_get_within}
+use Rattle.std.proofs.lemmas.List.Elements.{Contains-append_left, Contains-append_right, Contains-append_cases}
+use Rattle.ig_text.proofs.Lists.{at_from_contains, contains_from_at, within_take, contains_one, among_all, it_is_in, mapped_in, unmapped_in, same_map, take_step}
 use Rattle.ig_item.specs.Items.{Item, Follows, Reachable, MoreThan}
 use Rattle.ig_item.specs.Laws.{ReachableIsClosed}
 use Rattle.ig_item.specs.Tables.{HaveValues}
@@ -16,7 +18,6 @@ use Rattle.ig_plain.specs.Tables.{Extends, IsNamed}
 use Rattle.ig_plain.specs.Found.{means, found_in, later_in, taken_in, count, Named, AreNamed, IsStored, Grows, GrowsLater, Has, Adds}
 use Rattle.ig_plain.specs.Rules.{After, IsPastTerminal}
 use Rattle.ig_plain.specs.Run.{IsTaking, Refuses}
-use Rattle.ig_plain.proofs.Lists.{at_from_contains, contains_from_at, within_take, one_in, front_in, left_contains, right_contains, contains_sides, it_is_in, mapped_in, unmapped_in, same_map, take_step}
 use Rattle.ig_plain.proofs.Growth.{extends_cases, named_all, means_list, all_kept, found_from, later_same, found_named, means_kept, named_more, values_more}
 use Rattle.ig_plain.proofs.Following.{splits, after_reachable}
 use Rattle.ig_plain.proofs.Distinct.{too_many, one_item, once_both, once_single}
@@ -39,20 +40,20 @@ stored_grown p may a b r g =
 -- the taken items, of those found
 taken_named : (s : Found) (k : ℕ) → AreNamed s → (x : stored.Item) → Contains (s.done.items ++ take k s.here.items) x → Named s x
 taken_named s k n x c =
-    ⊎_elim (n.done x) (λ (h : Contains (take k s.here.items) x). n.here x (front_in s.here.items k x h)) (contains_sides s.done.items (take k s.here.items) x c)
+    ⊎_elim (n.done x) (λ (h : Contains (take k s.here.items) x). n.here x (among_all s.here.items k x h)) (Contains-append_cases s.done.items (take k s.here.items) x c)
 
 pub taken_found : (s : Found) (k : ℕ) (x : Item) → Contains (taken_in s k) x → Contains (found_in s) x
 taken_found s k x c =
     let u = unmapped_in (means s) (s.done.items ++ take k s.here.items) x c in
     subst (Contains (found_in s)) u.2
     (mapped_in (means s) (s.done.items ++ s.here.items) u.0
-    (⊎_elim (λ (h : Contains s.done.items u.0). left_contains s.done.items s.here.items u.0 h)
-    (λ (h : Contains (take k s.here.items) u.0). right_contains s.done.items s.here.items u.0 (front_in s.here.items k u.0 h))
-    (contains_sides s.done.items (take k s.here.items) u.0 u.1)))
+    (⊎_elim (λ (h : Contains s.done.items u.0). Contains-append_left s.done.items s.here.items u.0 h)
+    (λ (h : Contains (take k s.here.items) u.0). Contains-append_right s.done.items s.here.items u.0 (among_all s.here.items k u.0 h))
+    (Contains-append_cases s.done.items (take k s.here.items) u.0 u.1)))
 
 pub item_found : (s : Found) (k : ℕ) (item : stored.Item) → slice_get s.here.items k ≡ Some item → Contains (found_in s) (means s item)
 item_found s k item at =
-    mapped_in (means s) (s.done.items ++ s.here.items) item (right_contains s.done.items s.here.items item (contains_from_at s.here.items k item at))
+    mapped_in (means s) (s.done.items ++ s.here.items) item (Contains-append_right s.done.items s.here.items item (contains_from_at s.here.items k item at))
 
 -- one more is taken
 pub taken_step : (s : Found) (k : ℕ) (item : stored.Item) → slice_get s.here.items k ≡ Some item →
@@ -72,10 +73,10 @@ taken_grown p may a b k n g few =
 module _ (core : List Nonterminal) (text : List ℕ) (law : ReachableIsClosed) (budget p k : ℕ) (s : Found) (item : stored.Item)
     (r : IsTaking core text budget p k s) (at : slice_get s.here.items k ≡ Some item) where
   it_reachable : Reachable core text (means s item)
-  it_reachable = r.reachable (means s item) (left_contains (found_in s) (later_in s) (means s item) (item_found s k item at))
+  it_reachable = r.reachable (means s item) (Contains-append_left (found_in s) (later_in s) (means s item) (item_found s k item at))
 
   taken_reachable : (y : Item) → Contains (taken_in s k) y → Reachable core text y
-  taken_reachable y c = r.reachable y (left_contains (found_in s) (later_in s) y (taken_found s k y c))
+  taken_reachable y c = r.reachable y (Contains-append_left (found_in s) (later_in s) y (taken_found s k y c))
 
   pub follows_reachable : (x : Item) → After core text (taken_in s k) (means s item) x → Reachable core text x
   follows_reachable x a = after_reachable core text law (taken_in s k) (means s item) x taken_reachable it_reachable a
@@ -88,11 +89,11 @@ module _ (core : List Nonterminal) (text : List ℕ) (law : ReachableIsClosed) (
     reachable_now x c =
         ⊎_elim
         (λ (h : Contains (found_in t) x).
-        ⊎_elim (λ (i : Contains (found_in s) x). r.reachable x (left_contains (found_in s) (later_in s) x i))
+        ⊎_elim (λ (i : Contains (found_in s) x). r.reachable x (Contains-append_left (found_in s) (later_in s) x i))
         (λ (i : may x). follows_reachable x (sound x i)) (found_from p may s t r.stored.named g x h))
         (λ (h : Contains (later_in t) x).
-        r.reachable x (right_contains (found_in s) (later_in s) x (subst (λ (z : List Item). Contains z x) (later_same p may s t r.stored.named g) h)))
-        (contains_sides (found_in t) (later_in t) x c)
+        r.reachable x (Contains-append_right (found_in s) (later_in s) x (subst (λ (z : List Item). Contains z x) (later_same p may s t r.stored.named g) h)))
+        (Contains-append_cases (found_in t) (later_in t) x c)
 
     pub exceeds : budget < count t → MoreThan core text budget
     exceeds more = too_many p t (stored_grown p may s t r.stored g) core text budget reachable_now more
@@ -115,7 +116,7 @@ module _ (core : List Nonterminal) (text : List ℕ) (law : ReachableIsClosed) (
               (subst (λ (z : List Item). Follows core text (Contains z) x) taken_now f));
           came = λ x c.
               let h = r.came x (subst (λ (z : List Item). Contains z x) (later_same p may s t r.stored.named g) c) in
-              (h.0, subst (λ (z : List Item). Contains z h.0) (sym taken_now) (left_contains (taken_in s k) (means s item ∷ []) h.0 h.1), h.2);
+              (h.0, subst (λ (z : List Item). Contains z h.0) (sym taken_now) (Contains-append_left (taken_in s k) (means s item ∷ []) h.0 h.1), h.2);
           few = let n = length-append s.here.items g.here.more in let e = ap length g.here.is in omega (arith, lt, n, e);
           within = within;
         }
@@ -173,7 +174,7 @@ module _ (core : List Nonterminal) (text : List ℕ) (law : ReachableIsClosed) (
         let a = at_from_contains (take k s.here.items) u.0 i in
         let b = within_take s.here.items k a.0 u.0 a.1 in
         let q = r.stored.here_once a.0 k item (b.1 ∙ ap Some same) at in omega (arith, q, b.0))
-        (contains_sides s.done.items (take k s.here.items) u.0 u.1)
+        (Contains-append_cases s.done.items (take k s.here.items) u.0 u.1)
 
     stored_new : Contains s.later.items g.item → ⊥
     stored_new c =
@@ -189,40 +190,40 @@ module _ (core : List Nonterminal) (text : List ℕ) (law : ReachableIsClosed) (
             here = λ y c. named_still y (r.stored.named.here y (subst (λ (z : List stored.Item). Contains z y) g.here c));
             later = λ y c.
                 ⊎_elim (λ (h : Contains s.later.items y). named_still y (r.stored.named.later y h))
-                (λ (h : Contains (g.item ∷ []) y). subst (Named t) (sym (one_in g.item y h)) g.named)
-                (contains_sides s.later.items (g.item ∷ []) y (subst (λ (z : List stored.Item). Contains z y) g.later c));
+                (λ (h : Contains (g.item ∷ []) y). subst (Named t) (sym (contains_one g.item y h)) g.named)
+                (Contains-append_cases s.later.items (g.item ∷ []) y (subst (λ (z : List stored.Item). Contains z y) g.later c));
           };
           before = λ y c. r.stored.before y (subst (λ (z : List stored.Item). Contains z y) g.done c);
           at = λ y c. r.stored.at y (subst (λ (z : List stored.Item). Contains z y) g.here c);
           behind = λ y c.
               ⊎_elim (λ (h : Contains s.later.items y). r.stored.behind y h)
-              (λ (h : Contains (g.item ∷ []) y). subst (λ (z : stored.Item). p < z.position) (sym (one_in g.item y h)) g.behind)
-              (contains_sides s.later.items (g.item ∷ []) y (subst (λ (z : List stored.Item). Contains z y) g.later c));
+              (λ (h : Contains (g.item ∷ []) y). subst (λ (z : stored.Item). p < z.position) (sym (contains_one g.item y h)) g.behind)
+              (Contains-append_cases s.later.items (g.item ∷ []) y (subst (λ (z : List stored.Item). Contains z y) g.later c));
           done_once = subst NoneTwice (sym g.done) r.stored.done_once;
           here_once = subst NoneTwice (sym g.here) r.stored.here_once;
           later_once = subst NoneTwice (sym g.later)
               (once_both s.later.items (g.item ∷ []) r.stored.later_once (once_single g.item)
-              (λ y c d. stored_new (subst (Contains s.later.items) (one_in g.item y d) c)));
+              (λ y c d. stored_new (subst (Contains s.later.items) (contains_one g.item y d) c)));
         }
 
     all_sides : (y : Item) → Contains (found_in t ++ later_in t) y → Contains (found_in s ++ later_in s) y ⊎ (y ≡ x)
     all_sides y c =
-        ⊎_elim (λ (h : Contains (found_in t) y). inl (left_contains (found_in s) (later_in s) y (subst (λ (z : List Item). Contains z y) found_still h)))
+        ⊎_elim (λ (h : Contains (found_in t) y). inl (Contains-append_left (found_in s) (later_in s) y (subst (λ (z : List Item). Contains z y) found_still h)))
         (λ (h : Contains (later_in t) y).
-        ⊎_elim (λ (i : Contains (later_in s) y). inl (right_contains (found_in s) (later_in s) y i)) (λ (i : Contains (x ∷ []) y). inr (one_in x y i))
-        (contains_sides (later_in s) (x ∷ []) y (subst (λ (z : List Item). Contains z y) later_now h)))
-        (contains_sides (found_in t) (later_in t) y c)
+        ⊎_elim (λ (i : Contains (later_in s) y). inl (Contains-append_right (found_in s) (later_in s) y i)) (λ (i : Contains (x ∷ []) y). inr (contains_one x y i))
+        (Contains-append_cases (later_in s) (x ∷ []) y (subst (λ (z : List Item). Contains z y) later_now h)))
+        (Contains-append_cases (found_in t) (later_in t) y c)
 
     pub all_later : (y : Item) → Contains (found_in s ++ later_in s) y → Contains (found_in t ++ later_in t) y
     all_later y c =
-        ⊎_elim (λ (h : Contains (found_in s) y). left_contains (found_in t) (later_in t) y (subst (λ (z : List Item). Contains z y) (sym found_still) h))
+        ⊎_elim (λ (h : Contains (found_in s) y). Contains-append_left (found_in t) (later_in t) y (subst (λ (z : List Item). Contains z y) (sym found_still) h))
         (λ (h : Contains (later_in s) y).
-        right_contains (found_in t) (later_in t) y (subst (λ (z : List Item). Contains z y) (sym later_now) (left_contains (later_in s) (x ∷ []) y h)))
-        (contains_sides (found_in s) (later_in s) y c)
+        Contains-append_right (found_in t) (later_in t) y (subst (λ (z : List Item). Contains z y) (sym later_now) (Contains-append_left (later_in s) (x ∷ []) y h)))
+        (Contains-append_cases (found_in s) (later_in s) y c)
 
     there_later : Contains (found_in t ++ later_in t) x
     there_later =
-        right_contains (found_in t) (later_in t) x (subst (λ (z : List Item). Contains z x) (sym later_now) (right_contains (later_in s) (x ∷ []) x (it_is_in x)))
+        Contains-append_right (found_in t) (later_in t) x (subst (λ (z : List Item). Contains z x) (sym later_now) (Contains-append_right (later_in s) (x ∷ []) x (it_is_in x)))
 
     reachable_later : (y : Item) → Contains (found_in t ++ later_in t) y → Reachable core text y
     reachable_later y c =
@@ -248,13 +249,13 @@ module _ (core : List Nonterminal) (text : List ℕ) (law : ReachableIsClosed) (
               ⊎_elim
               (λ (i : Contains (later_in s) y).
               let h = r.came y i in
-              (h.0, subst (λ (z : List Item). Contains z h.0) (sym taken_later) (left_contains (taken_in s k) (means s item ∷ []) h.0 h.1), h.2))
+              (h.0, subst (λ (z : List Item). Contains z h.0) (sym taken_later) (Contains-append_left (taken_in s k) (means s item ∷ []) h.0 h.1), h.2))
               (λ (i : Contains (x ∷ []) y). (
                 means s item,
-                subst (λ (z : List Item). Contains z (means s item)) (sym taken_later) (right_contains (taken_in s k) (means s item ∷ []) (means s item) (it_is_in (means s item))),
-                subst (IsPastTerminal core text (means s item)) (sym (one_in x y i)) past,
+                subst (λ (z : List Item). Contains z (means s item)) (sym taken_later) (Contains-append_right (taken_in s k) (means s item ∷ []) (means s item) (it_is_in (means s item))),
+                subst (IsPastTerminal core text (means s item)) (sym (contains_one x y i)) past,
               ))
-              (contains_sides (later_in s) (x ∷ []) y (subst (λ (z : List Item). Contains z y) later_now c));
+              (Contains-append_cases (later_in s) (x ∷ []) y (subst (λ (z : List Item). Contains z y) later_now c));
           few = let e = ap length g.here in omega (arith, lt, e);
           within = within;
         }

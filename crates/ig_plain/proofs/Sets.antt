@@ -9,10 +9,10 @@ use Rattle.std.proofs.lemmas.Option.{slice_get_within, get_or_from_slice_get, sl
 use Rattle.std.proofs.lemmas.Map.Made.{AllPairs-from_IsDistinct}
 use Rattle.std.proofs.lemmas.Map.Views.{Contains-from_any}
 use Rattle.std.proofs.lemmas.List.Folds.{list_any_at}
+use Rattle.ig_text.proofs.Lists.{right_at}
 use Rattle.indexmap.specs.IndexSet.{insert_key}
 use Rattle.ig_item.specs.WellKinded.{NoneTwice}
 use Rattle.ig_plain.specs.Tables.{Extends, Enters, IsNew}
-use Rattle.ig_plain.proofs.Lists.{right_at}
 
 module _ {X : Type 0} where
   abbrev pub extends_itself : (xs : List X) → Extends xs xs

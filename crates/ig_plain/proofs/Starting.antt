@@ -1,5 +1,6 @@
 -- A run starts: the first items of the root begin, and nothing is taken.
 use Rattle.std.proofs.Common.{◌≡◌, ⊎_elim, ℕ, ◌<◌, List, [], ◌∷◌, ◌++◌, Some, None, length, map, Contains, sym, ap, ◌∙◌, subst, slice_get}
+use Rattle.ig_text.proofs.Lists.{contains_from_at, contains_one, none_in_nil}
 use Rattle.ig_item.specs.Items.{Item}
 use Rattle.ig_item.specs.Gives as given
 use Rattle.ig_item.specs.Gives.{Taken, Gives}
@@ -22,7 +23,6 @@ use Rattle.ig_plain.specs.Rules.{IsFirstOf}
 use Rattle.ig_plain.specs.Waiting.{not_called}
 use Rattle.ig_plain.specs.Trail as trail
 use Rattle.ig_plain.specs.Trail.{IsRecorded, FollowTrail, HasTrail, Records, By, IsUntrodden, Unfound}
-use Rattle.ig_plain.proofs.Lists.{contains_from_at, one_in, none_in}
 use Rattle.ig_plain.proofs.Growth.{extends_cases}
 use Rattle.ig_plain.proofs.Indexing.{indexed_same, indexed_none}
 
@@ -40,7 +40,7 @@ nothing_found s done here =
     ap (λ (z : List stored.Item). map (means s) (z ++ s.here.items)) done ∙ ap (λ (z : List stored.Item). map (means s) z) here
 
 pub none_unfound : (s : Found) (may : Item → Type 0) → found_in s ≡ [] → Unfound s may
-none_unfound s may none x m c = none_in x (subst (λ (z : List Item). Contains z x) none c)
+none_unfound s may none x m c = none_in_nil x (subst (λ (z : List Item). Contains z x) none c)
 
 module _ (core : List Nonterminal) (text : List ℕ) (root : Instance) (s t : Found) (v : Waiting) (tr u : Trail) (no_done : s.done.items ≡ [])
     (no_here : s.here.items ≡ []) (done : t.done.items ≡ []) (later : s.later.items ≡ []) (called : v.called.items ≡ not_called ∷ []) (untrodden : IsUntrodden v tr)
@@ -53,7 +53,7 @@ module _ (core : List Nonterminal) (text : List ℕ) (root : Instance) (s t : Fo
 
   none_taken : (x : Item) → Contains known x → ⊥
   none_taken x c =
-      none_in x
+      none_in_nil x
       (subst (λ (z : List Item). Contains z x) (ap (λ (z : List stored.Item). map (means t) (z ++ [])) done) c)
 
   none_last : u.later.items ≡ []
@@ -68,15 +68,15 @@ module _ (core : List Nonterminal) (text : List ℕ) (root : Instance) (s t : Fo
   further_there : (more : FurtherWay) → Contains u.ways.further more → more.item < length (found_in t)
   further_there more c =
       ⊎_elim
-      (λ (h : Contains tr.ways.further more). absurd (none_in more (subst (λ (z : WayLists). Contains z.further more) untrodden.ways h)))
+      (λ (h : Contains tr.ways.further more). absurd (none_in_nil more (subst (λ (z : WayLists). Contains z.further more) untrodden.ways h)))
       (λ (h : Contains r.further.more more). r.there more h)
       (extends_cases tr.ways.further u.ways.further more r.further c)
 
   none_before : (k : ℕ) (way : Way) → WayTo tr.ways k way → ⊥
   none_before k way (ways.found f) =
-      none_in way (contains_from_at [] k way (subst (λ (z : WayLists). slice_get z.firsts k ≡ Some way) untrodden.ways f))
+      none_in_nil way (contains_from_at [] k way (subst (λ (z : WayLists). slice_get z.firsts k ≡ Some way) untrodden.ways f))
   none_before k way (ways.again more c is e) =
-      none_in more (subst (λ (z : WayLists). Contains z.further more) untrodden.ways c)
+      none_in_nil more (subst (λ (z : WayLists). Contains z.further more) untrodden.ways c)
 
   -- what is allowed begins
   begins : (way : Way) (x : Item) → By Begin (IsFirstOf core root) way x → IsWay core text (Contains known) (found_in t) x way
@@ -88,7 +88,7 @@ module _ (core : List Nonterminal) (text : List ℕ) (root : Instance) (s t : Fo
       ⊎_elim (λ (h : WayTo tr.ways k way). absurd (none_before k way h)) (λ (h : By Begin (IsFirstOf core root) way x). begins way x h)
       (r.each even k way x at to)
   sound way x (trail.later n pair e) =
-      absurd (none_in n (contains_from_at [] pair.0 n (subst (λ (z : List ℕ). slice_get z pair.0 ≡ Some n) none_last pair.2)))
+      absurd (none_in_nil n (contains_from_at [] pair.0 n (subst (λ (z : List ℕ). slice_get z pair.0 ≡ Some n) none_last pair.2)))
 
   no_ends : u.ways.ends ≡ []
   no_ends = r.ends ∙ ap (λ (z : WayLists). z.ends) untrodden.ways
@@ -98,7 +98,7 @@ module _ (core : List Nonterminal) (text : List ℕ) (root : Instance) (s t : Fo
       record {
         first = λ x key k c. absurd (none_taken x k);
         exact = λ end. (
-          λ c. absurd (none_in end (subst (λ (z : List FurtherEnd). Contains z end) no_ends c)),
+          λ c. absurd (none_in_nil end (subst (λ (z : List FurtherEnd). Contains z end) no_ends c)),
           λ q. absurd (none_taken q.further.item q.further.is_known),
         );
       }
@@ -118,10 +118,10 @@ module _ (core : List Nonterminal) (text : List ℕ) (root : Instance) (s t : Fo
   starts_on =
       record {
         ways = follow;
-        callers = λ cell c. absurd (none_in cell (subst (λ (z : List Caller). Contains z cell) untrodden.callers c));
+        callers = λ cell c. absurd (none_in_nil cell (subst (λ (z : List Caller). Contains z cell) untrodden.callers c));
         ends = λ i callee one at there e.
             let is : one ≡ not_called =
-            one_in not_called one (subst (λ (z : List Called). Contains z one) called (contains_from_at v.called.items i one there)) in
+            contains_one not_called one (subst (λ (z : List Called). Contains z one) called (contains_from_at v.called.items i one there)) in
             let z : None ≡ Some 0 = sym (ap (λ (q : Called). q.last_end) is) ∙ e in cc;
         indexed = r.indexed
             (indexed_same [] s.done.items [] s.here.items [] tr.ways.firsts [] tr.returned no_done no_here

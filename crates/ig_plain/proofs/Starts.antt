@@ -3,6 +3,8 @@ use Rattle.std.proofs.Common.{◌≡◌, ⊎_elim, ℕ, zero, suc, List, [], ◌
 use Rattle.std.specs.Prelude.{Result, Ok, Err, MatchResult}
 use Rattle.std.proofs.lemmas.List.{append-nil}
 use Rattle.std.proofs.lemmas.Option.{same_Some, slice_get_within, get_or_from_slice_get}
+use Rattle.std.proofs.lemmas.List.Elements.{Contains-append_cases}
+use Rattle.ig_text.proofs.Lists.{contains_from_at, contains_one, none_in_nil, unmapped_in}
 use Rattle.ig_expr.specs.declared.value.Value.{Value}
 use Rattle.ig_item.specs.Core.{IsAlternative, numbered}
 use Rattle.ig_item.specs.Items as items
@@ -27,7 +29,6 @@ use Rattle.ig_plain.specs.Waiting.{not_called}
 use Rattle.ig_plain.specs.Run as run
 use Rattle.ig_plain.specs.Run.{IsWaiting, IsTaking, IsRun, Refuses}
 use Rattle.ig_plain.specs.Arrival.{IsNothing}
-use Rattle.ig_plain.proofs.Lists.{contains_from_at, contains_sides, one_in, none_in, unmapped_in}
 use Rattle.ig_plain.proofs.Growth.{found_from, later_same}
 use Rattle.ig_plain.proofs.Distinct.{too_many}
 use Rattle.ig_plain.proofs.Running.{stored_grown}
@@ -58,7 +59,7 @@ module _ (core : List Nonterminal) (text : List ℕ) (law : ReachableIsClosed) (
   no_later = later ∙ empty.later
 
   none_of : (xs : List stored.Item) → xs ≡ [] → (x : stored.Item) → Contains xs x → ⊥
-  none_of xs e x c = none_in x (subst (λ (z : List stored.Item). Contains z x) e c)
+  none_of xs e x c = none_in_nil x (subst (λ (z : List stored.Item). Contains z x) e c)
 
   once_none : (xs : List stored.Item) → xs ≡ [] → NoneTwice xs
   once_none xs e i j x p q = absurd (none_of xs e x (contains_from_at xs i x p))
@@ -67,7 +68,7 @@ module _ (core : List Nonterminal) (text : List ℕ) (law : ReachableIsClosed) (
   named_1 =
       record {
         values = λ x c.
-            let e = one_in key x (subst (λ (z : List InstanceKey). Contains z x) keys c) in
+            let e = contains_one key x (subst (λ (z : List InstanceKey). Contains z x) keys c) in
             let l = slice_get_within s1.envs.keys env [] there in let q = ap (λ (z : InstanceKey). z.env) e in omega (arith, l, q);
         done = λ x c. absurd (none_of s1.done.items no_done x c);
         here = λ x c. absurd (none_of s1.here.items no_here x c);
@@ -127,12 +128,12 @@ module _ (core : List Nonterminal) (text : List ℕ) (law : ReachableIsClosed) (
         ⊎_elim
         (λ (i : Contains (found_in s1) x).
         let u = unmapped_in (means s1) (s1.done.items ++ s1.here.items) x i in
-        absurd (⊎_elim (none_of s1.done.items no_done u.0) (none_of s1.here.items no_here u.0) (contains_sides s1.done.items s1.here.items u.0 u.1)))
+        absurd (⊎_elim (none_of s1.done.items no_done u.0) (none_of s1.here.items no_here u.0) (Contains-append_cases s1.done.items s1.here.items u.0 u.1)))
         (λ (i : IsFirstOf core root x). reach x i) (found_from 0 (IsFirstOf core root) s1 t named_1 g x h))
         (λ (h : Contains (later_in t) x).
         let u = unmapped_in (means s1) s1.later.items x (subst (λ (z : List Item). Contains z x) (later_same 0 (IsFirstOf core root) s1 t named_1 g) h) in
         absurd (none_of s1.later.items no_later u.0 u.1))
-        (contains_sides (found_in t) (later_in t) x c)
+        (Contains-append_cases (found_in t) (later_in t) x c)
 
     none_taken : (x : Item) → Contains (taken_in t 0) x → ⊥
     none_taken x c =
@@ -166,7 +167,7 @@ module _ (core : List Nonterminal) (text : List ℕ) (law : ReachableIsClosed) (
       let all : instances_in t ≡ root ∷ [] = (keeps_grown 0 may s1 t named_1 d.grows).instances ∙ ap (map (instance_by s1.envs.keys)) keys in
       let one : v.called.items ≡ not_called ∷ [] = called ∙ ap (λ (z : List Called). z ++ not_called ∷ []) empty.called in
       let known_one : (i : ℕ) (c : Called) → slice_get v.called.items i ≡ Some c → c ≡ not_called =
-      λ i c e. one_in not_called c (subst (λ (z : List Called). Contains z c) one (contains_from_at v.called.items i c e)) in
+      λ i c e. contains_one not_called c (subst (λ (z : List Called). Contains z c) one (contains_from_at v.called.items i c e)) in
       record {
         taking = record {
           stored = stored_grown 0 may s1 t stored_1 d.grows;
@@ -179,7 +180,7 @@ module _ (core : List Nonterminal) (text : List ℕ) (law : ReachableIsClosed) (
           within = d.within (let e = count_1 in omega (arith, e));
         };
         firsts = λ callee c a nonterminal alternative has.
-            let e : callee ≡ root = one_in root callee (subst (λ (z : List Instance). Contains z callee) all c) in
+            let e : callee ≡ root = contains_one root callee (subst (λ (z : List Instance). Contains z callee) all c) in
             d.has (first callee a)
             (a, nonterminal, alternative, subst (λ (z : Instance). IsAlternative core z.nonterminal a nonterminal alternative) e has, ap (λ (z : Instance). first z a) e);
         waiting = record {
@@ -190,8 +191,8 @@ module _ (core : List Nonterminal) (text : List ℕ) (law : ReachableIsClosed) (
                 chain = [];
                 chained = run.none;
                 ended = run.nowhere;
-                named = λ y k. absurd (none_in y k);
-                callers = λ y k. absurd (none_in y k);
+                named = λ y k. absurd (none_in_nil y k);
+                callers = λ y k. absurd (none_in_nil y k);
                 all = λ x k e. absurd (none_taken t d.grows x k);
               });
           ends = λ i callee c at known. (

@@ -3,7 +3,9 @@ use Rattle.std.proofs.Common.{◌≡◌, ⊎_elim, inl, inr, ℕ, suc, ◌+◌, 
 use Rattle.std.specs.Prelude.{Bool, IsTrue, Result, Ok, Err, OnOk}
 use Rattle.std.proofs.lemmas.List.{length-map}
 use Rattle.std.proofs.lemmas.Option.{same_Some}
+use Rattle.std.proofs.lemmas.List.Elements.{Contains-append_cases}
 use Rattle.ig_text.specs.declared.pattern.Pattern.{Pattern}
+use Rattle.ig_text.proofs.Lists.{contains_from_at, contains_one, none_in_nil}
 use Rattle.ig_expr.specs.Expression.{Expression}
 use Rattle.ig_item.specs.Step.{Test, Bind, Term, Call}
 use Rattle.ig_item.specs.Items.{Item, Calls, IsComplete, StandsBefore, MatchesNone, past, span_of}
@@ -32,7 +34,6 @@ use Rattle.ig_plain.specs.Run as run
 use Rattle.ig_plain.specs.Run.{Chains, IsRun, IsReturnToOne}
 use Rattle.ig_plain.specs.Trail as trails
 use Rattle.ig_plain.specs.Trail.{By, Records, RecordsTerminal, RecordsLater, HasTrail, AreKnown, IsKnown, IsBehindTest, IsBehindBind, IsReturnBy}
-use Rattle.ig_plain.proofs.Lists.{contains_from_at, contains_sides, one_in, none_in}
 use Rattle.ig_plain.proofs.Sets.{extends_same}
 use Rattle.ig_plain.proofs.Growth.{extends_at}
 use Rattle.ig_plain.proofs.Following.{one_step, not_both}
@@ -52,10 +53,10 @@ use Rattle.ig_plain.proofs.Onward.{Goes, EndsAlike, ends_alike_itself, goes_here
 -- each item of a chain is that of a cell
 pub chain_cell : (cells : List Caller) (head : ℕ) (xs : List stored.Item) (y : stored.Item) → Chains cells head xs → Contains xs y →
     (cell : Caller) × Contains cells cell × (cell.item ≡ y)
-chain_cell cells head xs y run.none c = absurd (none_in y c)
+chain_cell cells head xs y run.none c = absurd (none_in_nil y c)
 chain_cell cells head xs y (run.more k cell ys at behind rest) c =
-    ⊎_elim (λ (h : Contains (cell.item ∷ []) y). (cell, contains_from_at cells k cell at, sym (one_in cell.item y h)))
-    (λ (h : Contains ys y). chain_cell cells cell.next ys y rest h) (contains_sides (cell.item ∷ []) ys y c)
+    ⊎_elim (λ (h : Contains (cell.item ∷ []) y). (cell, contains_from_at cells k cell at, sym (contains_one cell.item y h)))
+    (λ (h : Contains ys y). chain_cell cells cell.next ys y rest h) (Contains-append_cases (cell.item ∷ []) ys y c)
 
 module _ (core : List Nonterminal) (text : List ℕ) (law : ReachableIsClosed) (budget p k : ℕ) (s : Found) (w : Waiting) (trail : Trail)
     (item : stored.Item)
@@ -397,8 +398,8 @@ module _ (core : List Nonterminal) (text : List ℕ) (law : ReachableIsClosed) (
     known_before : (done : Item) → IsComplete core done → Contains now done → Contains (taken_in s k) done
     known_before done c q =
         ⊎_elim (λ (a : Contains (taken_in s k) done). a)
-        (λ (a : Contains (it ∷ []) done). absurd (unfinished (subst (IsComplete core) (one_in it done a) c)))
-        (contains_sides (taken_in s k) (it ∷ []) done q)
+        (λ (a : Contains (it ∷ []) done). absurd (unfinished (subst (IsComplete core) (contains_one it done a) c)))
+        (Contains-append_cases (taken_in s k) (it ∷ []) done q)
 
     ends_now : (done : Item) (end : ℕ) → Contains now done → Completes core done (record { instance = callee; end = end }) → end ≡ p
     ends_now done end q c =

@@ -1,7 +1,9 @@
 -- The ways of items as one more is known, and as more is recorded.
 use Rattle.std.proofs.Common.{◌≡◌, ◌⊎◌, ⊎_elim, inl, inr, ℕ, ◌<◌, List, [], ◌∷◌, ◌++◌, Some, Option, length, Contains, refl, sym, ap, ◌∙◌, subst, arith, slice_get, length-append}
 use Rattle.std.proofs.lemmas.Option.{slice_get_within}
+use Rattle.std.proofs.lemmas.List.Elements.{Contains-append_left, Contains-append_right, Contains-append_cases}
 use Rattle.ig_text.specs.declared.pattern.Pattern.{Pattern}
+use Rattle.ig_text.proofs.Lists.{contains_from_at, it_is_in, contains_one, right_at}
 use Rattle.ig_item.specs.Items.{Item, Calls, MatchesNone, past, span_of}
 use Rattle.ig_item.specs.WellKinded.{NoneTwice}
 use Rattle.ig_item.specs.Gives as given
@@ -19,7 +21,6 @@ use Rattle.ig_plain.specs.Tables.{Extends}
 use Rattle.ig_plain.specs.Found.{found_in, later_in}
 use Rattle.ig_plain.specs.Trail as trails
 use Rattle.ig_plain.specs.Trail.{IsRecorded, IsIndexed, Records, RecordsLater, FollowTrail, Pairs, By}
-use Rattle.ig_plain.proofs.Lists.{left_contains, right_contains, contains_sides, contains_from_at, it_is_in, one_in, right_at}
 use Rattle.ig_plain.proofs.Sets.{extends_same}
 use Rattle.ig_plain.proofs.Growth.{extends_at, extends_cases, longer}
 use Rattle.ig_plain.proofs.Pairing.{front_at, pairs_sides}
@@ -113,9 +114,9 @@ module _ (core : List Nonterminal) (known wider : Item → Type 0) (items more :
           λ c.
               ⊎_elim (λ (h : Contains v.ends end). further_on end ((old.exact end).0 h))
               (λ (h : Contains (record { first = d; item = n } ∷ []) end).
-              subst (IsFurtherEnd core wider more) (sym (one_in (record { first = d; item = n }) end h))
+              subst (IsFurtherEnd core wider more) (sym (contains_one (record { first = d; item = n }) end h))
               (record { key = key; first = now; further = g.ends key is; other = λ e. let l = g.below key d first_end.end in omega (arith, l, e) }))
-              (contains_sides v.ends (record { first = d; item = n } ∷ []) end (subst (λ (z : List FurtherEnd). Contains z end) added c)),
+              (Contains-append_cases v.ends (record { first = d; item = n } ∷ []) end (subst (λ (z : List FurtherEnd). Contains z end) added c)),
           λ f. subst (λ (z : List FurtherEnd). Contains z end) (sym added) (back end f),
         );
       }
@@ -132,7 +133,7 @@ module _ (core : List Nonterminal) (known wider : Item → Type 0) (items more :
           (λ (h : IsEnd core known items f.key end.item).
           ⊎_elim
           (λ (i : IsEnd core known items f.key end.first).
-          left_contains v.ends (record { first = d; item = n } ∷ []) end
+          Contains-append_left v.ends (record { first = d; item = n } ∷ []) end
           ((old.exact end).1 (record { key = f.key; first = first_back f.key end.first f.first i; further = h; other = f.other })))
           (λ (i : (end.first ≡ n) × new f.key).
           let l = g.below f.key end.item h in let m = f.first.least end.item (end_on f.key end.item h) in let q = i.0 in
@@ -143,7 +144,7 @@ module _ (core : List Nonterminal) (known wider : Item → Type 0) (items more :
           let low = (subst (λ (z : NodeKey). IsFirstEnd core wider more z end.first) e f.first).least d now.end in
           let high = now.least end.first (subst (λ (z : NodeKey). IsEnd core wider more z end.first) e f.first.end) in
           let firsts : end.first ≡ d = omega (arith, low, high) in
-          right_contains v.ends (record { first = d; item = n } ∷ []) end
+          Contains-append_right v.ends (record { first = d; item = n } ∷ []) end
           (subst (Contains (record { first = d; item = n } ∷ [])) (sym (same_end end (record { first = d; item = n }) firsts h.0))
           (it_is_in (record { first = d; item = n }))))
           (g.splits f.key end.item f.further)
@@ -180,8 +181,8 @@ module _ (core : List Nonterminal) (text : List ℕ) where
 
   -- a member is a taken item, or the one that is taken now
   which : (taken : List Item) (it y : Item) → Contains (taken ++ it ∷ []) y → Contains taken y ⊎ (y ≡ it)
-  which taken it y c = ⊎_elim (λ (h : Contains taken y). inl h) (λ (h : Contains (it ∷ []) y). inr (one_in it y h))
-      (contains_sides taken (it ∷ []) y c)
+  which taken it y c = ⊎_elim (λ (h : Contains taken y). inl h) (λ (h : Contains (it ∷ []) y). inr (contains_one it y h))
+      (Contains-append_cases taken (it ∷ []) y c)
 
   -- what is given now was given before, or comes from the item that is taken now, or by it as a complete one
   pub gives_splits : (taken : List Item) (it prev : Item) (what : Taken) (x : Item) → Gives core text (Contains (taken ++ it ∷ [])) prev what x →
@@ -252,26 +253,26 @@ module _ (core : List Nonterminal) (taken items more : List Item) (n : ℕ) (ext
     pub ends_taken : EndsGrow core (Contains taken) (Contains (taken ++ it ∷ [])) items more n (λ key. Completes core it key)
     ends_taken =
         record {
-          knows = λ y c. left_contains taken (it ∷ []) y c;
+          knows = λ y c. Contains-append_left taken (it ∷ []) y c;
           stays = λ k x e. extends_at items more k x ext e;
           splits = λ key d e.
               ⊎_elim (λ (h : Contains taken e.item). inl (end_back key d (Contains (taken ++ it ∷ [])) e h))
               (λ (h : Contains (it ∷ []) e.item).
-              let same = one_in it e.item h in
+              let same = contains_one it e.item h in
               inr (
                 once d n it (e.there ∙ ap Some same) (extends_at items more n it ext at),
                 subst (λ (z : Item). Completes core z key) same e.completes,
               ))
-              (contains_sides taken (it ∷ []) e.item e.is_known);
+              (Contains-append_cases taken (it ∷ []) e.item e.is_known);
           below = end_below;
           which = λ x key c q.
               ⊎_elim (λ (h : Contains taken x). inl h)
-              (λ (h : Contains (it ∷ []) x). inr (subst (λ (z : Item). Completes core z key) (one_in it x h) q)) (contains_sides taken (it ∷ []) x c);
+              (λ (h : Contains (it ∷ []) x). inr (subst (λ (z : Item). Completes core z key) (contains_one it x h) q)) (Contains-append_cases taken (it ∷ []) x c);
           ends = λ key q.
               record {
                 item = it;
                 there = extends_at items more n it ext at;
-                is_known = right_contains taken (it ∷ []) it (it_is_in it);
+                is_known = Contains-append_right taken (it ∷ []) it (it_is_in it);
                 completes = q;
               };
         }
@@ -403,7 +404,7 @@ module _ (core : List Nonterminal) (text : List ℕ) (s t : Found) (trail u : Tr
       splits way x (trails.later m pair is) =
           ⊎_elim (λ (h : Pairs (later_in s) trail.later.items x m). inl (trails.later m h is))
           (λ (h : Pairs (y ∷ []) (n ∷ []) x m).
-          inr (is ∙ ap Leaf (one_in n m (contains_from_at (n ∷ []) h.0 m h.2)), one_in y x (contains_from_at (y ∷ []) h.0 x h.1)))
+          inr (is ∙ ap Leaf (contains_one n m (contains_from_at (n ∷ []) h.0 m h.2)), contains_one y x (contains_from_at (y ∷ []) h.0 x h.1)))
           (pairs_sides (later_in s) (y ∷ []) trail.later.items (n ∷ []) x m old.later_numbered
           (subst (λ (z : List Item). Pairs z (trail.later.items ++ n ∷ []) x m) r.behind
           (subst (λ (z : List ℕ). Pairs (later_in t) z x m) r.later pair)))

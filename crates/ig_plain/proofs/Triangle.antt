@@ -1,9 +1,10 @@
 -- The stretches of a text: there are (n + 1) (n + 2) / 2 of them in n characters.
 use Rattle.std.proofs.Common.{◌≡◌, ℕ, zero, suc, ◌+◌, ◌*◌, ◌/◌, ◌<◌, ◌≤◌, List, [], ◌++◌, Some, slice_get, length, length-append, Contains, sym, ap, ◌∙◌, refl, arith, ⊎_elim}
 use Rattle.std.proofs.Math.Nat.{mul_assoc}
+use Rattle.std.proofs.lemmas.List.Elements.{Contains-append_left, Contains-append_right}
+use Rattle.ig_text.proofs.Lists.{at_from_contains, sides}
 use Rattle.ig_item.specs.WellKinded.{NoneTwice}
 use Rattle.ig_plain.proofs.Distinct.{once_both}
-use Rattle.ig_plain.proofs.Lists.{at_from_contains, sides, left_contains, right_contains}
 use Rattle.ig_plain.proofs.Listing.{below, length-below, in_below, at_below, once_below, order}
 
 -- from where to where
@@ -36,10 +37,10 @@ in_stretches (suc n) start end first lt =
     ⊎_elim
     (λ (e : end ≡ n).
     rw e
-    (left_contains (below (stretch n) (suc n)) (stretches n) (stretch n start)
+    (Contains-append_left (below (stretch n) (suc n)) (stretches n) (stretch n start)
     (in_below (stretch n) (suc n) start (omega (arith, e, first)))))
     (λ (h : end < n).
-    right_contains (below (stretch n) (suc n)) (stretches n) (stretch end start) (in_stretches n start end first h))
+    Contains-append_right (below (stretch n) (suc n)) (stretches n) (stretch end start) (in_stretches n start end first h))
     (order end n lt)
 
 -- where each of them lies

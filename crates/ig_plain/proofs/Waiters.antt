@@ -1,6 +1,10 @@
 -- Which items wait for an instance, and where it ended, as items are taken.
 use Rattle.std.proofs.Common.{◌≡◌, ◌⊎◌, ⊎_elim, inl, inr, ℕ, zero, suc, ◌<◌, List, [], ◌∷◌, ◌++◌, Some, length, set, Contains, refl, sym, ap, ◌∙◌, subst, arith, slice_get}
 use Rattle.std.proofs.lemmas.Option.{same_Some, slice_get-get_or, get_or_from_slice_get}
+use Rattle.std.proofs.lemmas.List.Elements.{Contains-append_left, Contains-append_right, Contains-append_cases}
+use Rattle.std.proofs.lemmas.List.{length-set}
+use Rattle.std.proofs.lemmas.Bool.{cases_eq}
+use Rattle.ig_text.proofs.Lists.{it_is_in, contains_one}
 use Rattle.ig_item.specs.Items.{Item, IsComplete}
 use Rattle.ig_item.specs.WellKinded.{NoneTwice}
 use Rattle.ig_plain.proofs.Following.{not_both}
@@ -15,7 +19,6 @@ use Rattle.ig_plain.specs.Found.{means, Named, instances_in}
 use Rattle.ig_plain.specs.Rules.{IsCaller}
 use Rattle.ig_plain.specs.Waiting.{called_at, not_called, with_end}
 use Rattle.ig_plain.specs.Run.{HasCallers, HasEnd, IsWaiting}
-use Rattle.ig_plain.proofs.Lists.{left_contains, right_contains, contains_sides, it_is_in, one_in}
 
 -- what tables that grow keep
 pub record Keeps (s t : Found) : Type 0 where
@@ -35,11 +38,11 @@ module _ (core : List Nonterminal) (text : List ℕ) (p : ℕ) where
         named = λ y c. keeps.named y (h.named y c);
         callers = λ y c.
             let q = h.callers y c in let e = sym (keeps.means_same y (h.named y c)) in
-            (subst (Contains (taken ++ it ∷ [])) e (left_contains taken (it ∷ []) (means s y) q.0), subst (λ (z : Item). IsCaller core text z callee) e q.1);
+            (subst (Contains (taken ++ it ∷ [])) e (Contains-append_left taken (it ∷ []) (means s y) q.0), subst (λ (z : Item). IsCaller core text z callee) e q.1);
         all = λ x c d.
             ⊎_elim (λ (i : Contains taken x). let q = h.all x i d in (q.0, q.1, keeps.means_same q.0 (h.named q.0 q.1) ∙ q.2))
-            (λ (i : Contains (it ∷ []) x). absurd (apart (subst (λ (z : Item). IsCaller core text z callee) (one_in it x i) d)))
-            (contains_sides taken (it ∷ []) x c);
+            (λ (i : Contains (it ∷ []) x). absurd (apart (subst (λ (z : Item). IsCaller core text z callee) (contains_one it x i) d)))
+            (Contains-append_cases taken (it ∷ []) x c);
       }
 
   -- an end, where an item is taken that is no complete one of the instance
@@ -48,13 +51,13 @@ module _ (core : List Nonterminal) (text : List ℕ) (p : ℕ) where
   end_still taken it callee apart h =
       ⊎_elim (λ (i : Contains taken h.item). record { item = h.item; among = i; of = h.of; complete = h.complete; ends = h.ends })
       (λ (i : Contains (it ∷ []) h.item).
-      let e = one_in it h.item i in
+      let e = contains_one it h.item i in
       absurd (apart (ap (λ (z : Item). z.instance) (sym e) ∙ h.of) (subst (IsComplete core) e h.complete) (ap (λ (z : Item). z.position) (sym e) ∙ h.ends)))
-      (contains_sides taken (it ∷ []) h.item h.among)
+      (Contains-append_cases taken (it ∷ []) h.item h.among)
 
   pub end_more : (taken more : List Item) (callee : Instance) → HasEnd core taken callee p → HasEnd core (taken ++ more) callee p
   end_more taken more callee h =
-      record { item = h.item; among = left_contains taken more h.item h.among; of = h.of; complete = h.complete; ends = h.ends }
+      record { item = h.item; among = Contains-append_left taken more h.item h.among; of = h.of; complete = h.complete; ends = h.ends }
 
   -- an item is taken that neither calls nor is complete
   pub waits_alone : (s t : Found) (taken : List Item) (it : Item) (w : Waiting) → Keeps s t →
@@ -72,8 +75,8 @@ module _ (core : List Nonterminal) (text : List ℕ) (p : ℕ) where
         known = λ x callee c d.
             subst (λ (z : List Instance). Contains z callee) (sym keeps.instances)
             (⊎_elim (λ (i : Contains taken x). r.known x callee i d)
-            (λ (i : Contains (it ∷ []) x). absurd (apart callee (subst (λ (z : Item). IsCaller core text z callee) (one_in it x i) d)))
-            (contains_sides taken (it ∷ []) x c));
+            (λ (i : Contains (it ∷ []) x). absurd (apart callee (subst (λ (z : Item). IsCaller core text z callee) (contains_one it x i) d)))
+            (Contains-append_cases taken (it ∷ []) x c));
         before = r.before;
       }
 
@@ -87,11 +90,6 @@ set_cases (x ∷ xs) (suc m) y zero z e = inr (λ h. omega (arith, h), e)
 set_cases (x ∷ xs) (suc m) y (suc i) z e =
     ⊎_elim (λ h. inl (ap suc h.0, h.1, omega (arith, h.2))) (λ h. inr (λ q. h.0 (omega (arith, q)), h.1)) (set_cases xs m y i z e)
 
-pub set_length : {X : Type 0} (xs : List X) (m : ℕ) (y : X) → length (set xs m y) ≡ length xs
-set_length [] m y = refl
-set_length (x ∷ xs) zero y = refl
-set_length (x ∷ xs) (suc m) y = ap suc (set_length xs m y)
-
 -- p is the last end of instance m now, and no other changed
 pub record Ended (w v : Waiting) (m p : ℕ) : Type 0 where
   pub lengths : length v.called.items ≡ length w.called.items
@@ -104,7 +102,7 @@ pub ended_set : (w v : Waiting) (m p done : ℕ) → m < length w.called.items �
     v.called.items ≡ set w.called.items m (with_end (called_at w m) p done) → Ended w v m p
 ended_set w v m p done lt cells is =
     record {
-      lengths = ap length is ∙ set_length w.called.items m (with_end (called_at w m) p done);
+      lengths = ap length is ∙ length-set w.called.items m (with_end (called_at w m) p done);
       cells = cells;
       was = λ i after e.
           ⊎_elim
@@ -125,15 +123,9 @@ ended_already w m p is =
     record {
       lengths = refl;
       cells = refl;
-      was = λ i after e. (after, e, refl, refl, same i after e (nat_cases i m));
+      was = λ i after e. (after, e, refl, refl, same i after e (cases_eq i m));
     }
   where
-    nat_cases : (i m : ℕ) → (i ≡ m) ⊎ (i ≡ m → ⊥)
-    nat_cases zero zero = inl refl
-    nat_cases zero (suc m) = inr (λ h. omega (arith, h))
-    nat_cases (suc i) zero = inr (λ h. omega (arith, h))
-    nat_cases (suc i) (suc m) = ⊎_elim (λ h. inl (ap suc h)) (λ h. inr (λ q. h (omega (arith, q)))) (nat_cases i m)
-
     same : (i : ℕ) (after : Called) → slice_get w.called.items i ≡ Some after → (i ≡ m) ⊎ (i ≡ m → ⊥) →
         ((i ≡ m) × (after.last_end ≡ Some p)) ⊎ ((i ≡ m → ⊥) × (after.last_end ≡ after.last_end))
     same i after e (inl h) =
@@ -166,7 +158,7 @@ module _ (core : List Nonterminal) (text : List ℕ) (p : ℕ) where
             (λ (q : (i ≡ m) × (after.last_end ≡ Some p)). (
               λ x. record {
                 item = it;
-                among = right_contains taken (it ∷ []) it (it_is_in it);
+                among = Contains-append_right taken (it ∷ []) it (it_is_in it);
                 of = same_Some it.instance callee (sym at ∙ ap (slice_get (instances_in s)) (sym q.0) ∙ back i callee e);
                 complete = complete;
                 ends = here;
@@ -182,8 +174,8 @@ module _ (core : List Nonterminal) (text : List ℕ) (p : ℕ) where
         known = λ x callee c d.
             subst (λ (z : List Instance). Contains z callee) (sym keeps.instances)
             (⊎_elim (λ (i : Contains taken x). r.known x callee i d)
-            (λ (i : Contains (it ∷ []) x). absurd (apart callee (subst (λ (z : Item). IsCaller core text z callee) (one_in it x i) d)))
-            (contains_sides taken (it ∷ []) x c));
+            (λ (i : Contains (it ∷ []) x). absurd (apart callee (subst (λ (z : Item). IsCaller core text z callee) (contains_one it x i) d)))
+            (Contains-append_cases taken (it ∷ []) x c));
         before = λ i after e known is.
             let h = ended.was i after known in
             ⊎_elim (λ (q : (i ≡ m) × (after.last_end ≡ Some p)). let z = same_Some p e (sym q.1 ∙ is) in omega (arith, z))

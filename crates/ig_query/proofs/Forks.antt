@@ -3,6 +3,8 @@ use Rattle.std.proofs.Common.{◌≡◌, ◌↔◌, ◌⊎◌, ⊎_elim, inl, in
 use Rattle.std.specs.Prelude.{slice_index}
 use Rattle.std.specs.List.Sorted.{IsStrictlyIncreasing}
 use Rattle.std.proofs.lemmas.Option.{same_Some, slice_get_within}
+use Rattle.std.proofs.lemmas.List.Elements.{Contains-push}
+use Rattle.std.proofs.lemmas.Bool.{cases_lt}
 use Rattle.ig_text.proofs.Lists.{at_from_contains, contains_from_at, get_within, none_in_nil, place_cases}
 use Rattle.ig_forest.specs.Forest.{Forest, Node, ItemNode, PreviousIsBefore}
 use Rattle.ig_forest.specs.Unfold.{IsTrim}
@@ -10,9 +12,9 @@ use Rattle.ig_forest.specs.declared.entry.Choice.{Choice}
 use Rattle.ig_forest.specs.declared.entry.Entry.{Entry}
 use Rattle.ig_forest.specs.declared.entry.Entry.TheVariants.{Begin, Pass, Take}
 use Rattle.ig_query.specs.Ambiguity as forked
-use Rattle.ig_query.specs.Ambiguity.{AreAmbiguous, IsAmbiguous, IsAmbiguousNode, IsForked, link}
+use Rattle.ig_query.specs.Ambiguity.{AreAmbiguous, IsAmbiguous, IsForked, link}
 use Rattle.ig_query.specs.CodeAmbiguity.{AreMarks, AreNumbers, HasChoice, HasFork, IsMarked, IsNumber, LeadsToMark, LinksToMark}
-use Rattle.ig_query.proofs.Through.{one_more, old_in, last_in}
+use Rattle.ig_query.proofs.Through.{one_more, old_in}
 
 -- a mark at an optional number
 record MarkedAt (o : Option ℕ) (marks : List Bool) : Type 0 where
@@ -136,11 +138,8 @@ module _ (f : Forest) (marks : List Bool) where
         record { node = n.node; below = let low = n.below in omega (arith, low); there = n.there; leads = n.leads }
 
     this_or_earlier : (v : ℕ) → IsNumber f marks (k + 1) v → IsNumber f marks k v ⊎ ((v ≡ k) × LeadsToMark node.alternatives marks)
-    this_or_earlier v n = by (cases v k)
+    this_or_earlier v n = by (cases_lt v k)
       where
-        cases : (a b : ℕ) → (a < b) ⊎ (b ≤ a)
-        cases a b = grind arith
-
         by : (v < k) ⊎ (k ≤ v) → IsNumber f marks k v ⊎ ((v ≡ k) × LeadsToMark node.alternatives marks)
         by (inl lt) = inl (record { node = n.node; below = lt; there = n.there; leads = n.leads })
         by (inr le) =
@@ -176,7 +175,7 @@ module _ (f : Forest) (marks : List Bool) where
                 (one_more numbers k v c),
             λ n.
                 ⊎_elim (λ m. old_in numbers k v ((are.members v).1 m))
-                (λ p. subst (Contains (numbers ++ k ∷ [])) (sym p.0) (last_in numbers k)) (this_or_earlier v n),
+                (λ p. subst (Contains (numbers ++ k ∷ [])) (sym p.0) (Contains-push numbers k)) (this_or_earlier v n),
           );
           order = rising_more numbers k are.order (λ v c. ((are.members v).0 c).below);
         })

@@ -1,12 +1,13 @@
 -- The dots of items that are numbered in tables, and the patterns behind them.
 use Rattle.std.proofs.Common.{◌≡◌, ◌↔◌, ◌⊎◌, ℕ, ◌+◌, ◌<◌, ◌≤◌, List, Contains, length, take, get_or, sym, ap, ◌∙◌, subst}
 use Rattle.std.proofs.lemmas.List.{take_more}
+use Rattle.ig_text.proofs.Lists.{unmapped_in, mapped_in}
 use Rattle.ig_item.specs.Items.{Item}
 use Rattle.ig_item.specs.Tables.{Tables, item_of, items_of}
 use Rattle.ig_item.specs.declared.items.Item as stored
 use Rattle.ig_query.specs.CodeReport.{AreDotsAt, dot_of}
 use Rattle.ig_query.specs.declared.dots.Dot.{Dot}
-use Rattle.ig_query.proofs.Through.{IsImage, all_through, from_map, image_with, image_without, to_map}
+use Rattle.ig_query.proofs.Through.{IsImage, all_through, image_with, image_without}
 
 module _ (tables : Tables) (p : ℕ) where
   abbrev pub IsThere : stored.Item → Type 0
@@ -17,9 +18,9 @@ module _ (tables : Tables) (p : ℕ) where
 
   pub dots_there : (ds : List Dot) → IsImage IsThere its_dot tables.items ds → AreDotsAt (items_of tables) p ds
   dots_there ds image d = (
-    λ c. let r = (image d).0 c in (item_of tables r.0, to_map (item_of tables) tables.items r.0 r.1, r.2, r.3),
+    λ c. let r = (image d).0 c in (item_of tables r.0, mapped_in (item_of tables) tables.items r.0 r.1, r.2, r.3),
     λ r.
-        let (y, among, is) = from_map (item_of tables) tables.items r.0 r.1 in
+        let (y, among, is) = unmapped_in (item_of tables) tables.items r.0 r.1 in
         (image d).1 (y, among, ap (λ (z : Item). z.position) is ∙ r.2, ap dot_of is ∙ r.3),
   )
 

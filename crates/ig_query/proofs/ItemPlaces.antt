@@ -6,7 +6,8 @@ use Rattle.ig_item.specs.declared.core_grammar.Nonterminal.{Nonterminal}
 use Rattle.ig_item.specs.declared.items.Item as stored
 use Rattle.ig_query.specs.CodeReport.{Reports, IsFurthestAmong, EndsAt}
 use Rattle.std.proofs.lemmas.List.{take_more}
-use Rattle.ig_query.proofs.Through.{IsMost, NoneHas, all_through, from_map, most_with, most_without, to_map}
+use Rattle.ig_text.proofs.Lists.{unmapped_in, mapped_in}
+use Rattle.ig_query.proofs.Through.{IsMost, NoneHas, all_through, most_with, most_without}
 
 module _ (core : List Nonterminal) (tables : Tables) where
   -- a stored item that reports
@@ -20,13 +21,13 @@ module _ (core : List Nonterminal) (tables : Tables) where
   furthest_among p most =
       record {
         greatest = λ x c r.
-            let (y, among, is) = from_map (item_of tables) tables.items x c in
+            let (y, among, is) = unmapped_in (item_of tables) tables.items x c in
             subst (λ (z : Item). z.position ≤ p) is (most.greatest y among (subst (Reports core) (sym is) r));
         reached =
-            ⊎_elim (λ r. inl (item_of tables r.0, to_map (item_of tables) tables.items r.0 r.1, r.2, r.3))
+            ⊎_elim (λ r. inl (item_of tables r.0, mapped_in (item_of tables) tables.items r.0 r.1, r.2, r.3))
             (λ n. inr (
               λ x c r.
-                  let (y, among, is) = from_map (item_of tables) tables.items x c in
+                  let (y, among, is) = unmapped_in (item_of tables) tables.items x c in
                   n.0 y among (subst (Reports core) (sym is) r),
               n.1,
             )) most.reached;
@@ -37,11 +38,11 @@ module _ (core : List Nonterminal) (tables : Tables) where
   EndsHere p y = IsCompleteRoot core (item_of tables y) × (y.position ≡ p)
 
   pub ends : (p : ℕ) (y : stored.Item) → Contains tables.items y → EndsHere p y → EndsAt core (items_of tables) p
-  ends p y among h = (item_of tables y, to_map (item_of tables) tables.items y among, h.1, h.0)
+  ends p y among h = (item_of tables y, mapped_in (item_of tables) tables.items y among, h.1, h.0)
 
   pub never_ends : (p : ℕ) → NoneHas (EndsHere p) tables.items → EndsAt core (items_of tables) p → ⊥
   never_ends p none e =
-      let (y, among, is) = from_map (item_of tables) tables.items e.0 e.1 in
+      let (y, among, is) = unmapped_in (item_of tables) tables.items e.0 e.1 in
       none y among (subst (IsCompleteRoot core) (sym is) e.3, ap (λ (z : Item). z.position) is ∙ e.2)
 
   -- one more item

@@ -1,10 +1,11 @@
 -- The spans of a declaration's nodes are those in trees.
-use Rattle.std.proofs.Common.{◌≡◌, ℕ, zero, suc, List, Some, slice_get, Contains, sym, ap, ◌∙◌, subst}
+use Rattle.std.proofs.Common.{◌≡◌, ℕ, List, Some, slice_get, Contains, sym, ap, ◌∙◌, subst}
 use Rattle.std.specs.Prelude.{option_map}
 use Rattle.std.proofs.lemmas.Option.{same_Some, slice_get_within}
 use Rattle.ig_text.specs.declared.tag.Tag.TheVariants.{Rule}
 use Rattle.ig_text.specs.declared.text.Span.{Span}
 use Rattle.ig_text.proofs.Lists.{contains_from_at}
+use Rattle.ig_text.proofs.Pairwise.{key_at}
 use Rattle.ig_item.specs.WellKinded.{IsWellKinded}
 use Rattle.ig_item.specs.declared.core_grammar.Nonterminal.{Nonterminal}
 use Rattle.ig_forest.specs.Forest as forest
@@ -15,18 +16,11 @@ use Rattle.ig_forest.specs.Unfold.{OfNode, IsTrim}
 use Rattle.ig_item.specs.Core.{IsAlternative}
 use Rattle.ig_text.specs.Tree.{Tree}
 use Rattle.ig_item.specs.Gives.{NodeKey}
-use Rattle.ig_forest.specs.Reduced as reduced
-use Rattle.ig_forest.specs.Reduced.{Each, IsNamed, IsNode, IsReduced}
+use Rattle.ig_forest.specs.Reduced.{IsNamed, IsNode, IsReduced}
 use Rattle.ig_forest.specs.declared.entry.Choice.{Choice}
 use Rattle.ig_query.specs.Laws.{AreUniform, SpansAreThoseOfTrees, TreesHaveSpan}
 use Rattle.ig_query.specs.Spans.{HasSpan, IsRule}
 use Rattle.ig_query.proofs.InTrees.{nodes_are_those_of_trees}
-
-key_at : {X Y : Type 0} {P : X → Y → Type 0} {xs : List X} {ys : List Y} → Each P xs ys → (k : ℕ) (y : Y) →
-    slice_get ys k ≡ Some y → (x : X) × P x y
-key_at reduced.none k y at = cc
-key_at {P = P} (reduced.more a b xs ys p each) zero y at = (a, subst (λ z. P a z) (same_Some b y at) p)
-key_at (reduced.more a b xs ys p each) (suc k) y at = key_at each k y at
 
 same_rule : (n m a b : ℕ) → Rule n a ≡ Rule m b → n ≡ m
 same_rule n m a b e = cc
@@ -47,7 +41,7 @@ module _ (core : List Nonterminal) (text : List ℕ) (f : Forest) (kinded : IsWe
     (is : IsReduced core text f) where
   -- what the reduced forest says of a node
   node_of : (v : ℕ) (node : forest.Node) → slice_get f.nodes v ≡ Some node → (key : NodeKey) × IsNode core is.items key node
-  node_of v node at = key_at is.nodes v node at
+  node_of v node at = let paired = key_at is.nodes v node at in (paired.0, paired.2)
 
   -- its name is that of its nonterminal
   named : (v : ℕ) (node : forest.Node) → slice_get f.nodes v ≡ Some node → IsNamed core node.nonterminal node.name

@@ -1,11 +1,10 @@
 -- The spans of a declaration's nodes, each once, in order.
-use Rattle.std.proofs.Common.{◌≡◌, ◌↔◌, ◌⊎◌, ⊎_elim, inl, inr, ℕ, ◌+◌, ◌<◌, ◌≤◌, List, [], ◌∷◌, ◌++◌, Some, Less, Equal, Greater, Bool, length, slice_get, Contains, IsPermutation, IsSorted, refl, sym, ap, ◌∙◌, subst, arith}
-use Rattle.std.specs.declared.cmp.Ordering.{Ordering}
+use Rattle.std.proofs.Common.{◌≡◌, ◌↔◌, ◌⊎◌, ⊎_elim, inl, inr, ℕ, ◌+◌, ◌<◌, ◌≤◌, List, [], ◌∷◌, ◌++◌, Some, Bool, length, slice_get, Contains, IsPermutation, IsSorted, refl, sym, ap, ◌∙◌, subst, arith}
 use Rattle.std.specs.Cmp.{IsTotalOrder}
 use Rattle.std.specs.List.{dedup}
 use Rattle.std.specs.List.Retain.{IsFiltered, DiffersFromLast}
 use Rattle.std.specs.List.Sorted.{IsStrictlySortedBy}
-use Rattle.std.specs.Ordering.{eq_by_cmp, nat_cmp, ordering_then}
+use Rattle.std.specs.Ordering.{eq_by_cmp, nat_cmp}
 use Rattle.std.proofs.lemmas.Cmp.{nat_cmp_total, on_total, then_total, eq_by_cmp_equiv}
 use Rattle.std.proofs.lemmas.List.Filters.{dedup_is}
 use Rattle.std.proofs.lemmas.List.Kept.{Any-dedup, Contains-from_dedup, IsStrictlySortedBy-dedup}
@@ -13,11 +12,14 @@ use Rattle.std.proofs.lemmas.List.Sorted.{Contains-permutation, IsPermutation-sy
 use Rattle.std.proofs.lemmas.Map.Lookups.{CmpEqualImpliesEq, exact_unsigned}
 use Rattle.std.proofs.lemmas.Map.Views.{tells_apart}
 use Rattle.std.proofs.lemmas.Option.{same_Some, slice_get_within}
+use Rattle.std.proofs.lemmas.List.Elements.{Contains-push}
+use Rattle.std.proofs.lemmas.Bool.{cases_lt}
 use Rattle.ig_text.specs.declared.text.Span.{Span}
 use Rattle.ig_text.proofs.Lists.{none_in_nil}
+use Rattle.ig_text.proofs.Options.{equal_parts}
 use Rattle.ig_forest.specs.Forest.{Forest, Node}
 use Rattle.ig_query.specs.Spans.{AreSpansOf, HasSpan, IsOfDeclaration, span_cmp}
-use Rattle.ig_query.proofs.Through.{one_more, old_in, last_in}
+use Rattle.ig_query.proofs.Through.{one_more, old_in}
 
 module _ (f : Forest) (name : List ℕ) where
   -- one of the first k nodes is of the declaration and has the span
@@ -52,11 +54,8 @@ module _ (f : Forest) (name : List ℕ) where
         }
 
     earlier_or_here : (span : Span) → HasBelow (k + 1) span → HasBelow k span ⊎ (IsOfDeclaration name node × (node.span ≡ span))
-    earlier_or_here span h = by (cases h.number k)
+    earlier_or_here span h = by (cases_lt h.number k)
       where
-        cases : (a b : ℕ) → (a < b) ⊎ (b ≤ a)
-        cases a b = grind arith
-
         by : (h.number < k) ⊎ (k ≤ h.number) → HasBelow k span ⊎ (IsOfDeclaration name node × (node.span ≡ span))
         by (inl lt) =
             inl (record { number = h.number; node = h.node; below = lt; there = h.there; of = h.of; spans = h.spans })
@@ -82,7 +81,7 @@ module _ (f : Forest) (name : List ℕ) where
       λ h.
           subst (λ (z : List Span). Contains z span) (sym is)
           (⊎_elim (λ g. old_in spans node.span span ((up span).1 g))
-          (λ p. subst (Contains (spans ++ node.span ∷ [])) p.1 (last_in spans node.span)) (earlier_or_here span h)),
+          (λ p. subst (Contains (spans ++ node.span ∷ [])) p.1 (Contains-push spans node.span)) (earlier_or_here span h)),
     )
 
   pub spans_all : (k : ℕ) (spans : List Span) → length f.nodes ≤ k → SpansUpTo k spans → (span : Span) →
@@ -107,14 +106,9 @@ module _ (f : Forest) (name : List ℕ) where
 pub span_total : IsTotalOrder span_cmp
 span_total = then_total (on_total (λ (x : Span). x.begin) nat_cmp_total) (on_total (λ (x : Span). x.end) nat_cmp_total)
 
-then_equal : (a b : Ordering) → ordering_then a b ≡ Equal → (a ≡ Equal) × (b ≡ Equal)
-then_equal Less b e = cc
-then_equal Equal b e = (refl, e)
-then_equal Greater b e = cc
-
 pub span_exact : CmpEqualImpliesEq span_cmp
 span_exact x y e =
-    let p = then_equal (nat_cmp x.begin y.begin) (nat_cmp x.end y.end) e in
+    let p = equal_parts (nat_cmp x.begin y.begin) (nat_cmp x.end y.end) e in
     λ i. record { begin = exact_unsigned x.begin y.begin p.0 i; end = exact_unsigned x.end y.end p.1 i }
 
 -- a sort that drops what stands twice

@@ -1,17 +1,12 @@
 -- What loops over lists keep.
-use Rattle.std.proofs.Common.{◌≡◌, ◌↔◌, ◌⊎◌, ⊎_elim, inl, inr, ℕ, ◌+◌, ◌<◌, ◌≤◌, List, [], ◌∷◌, ◌++◌, Some, None, Option, max, length, map, take, get_or, Contains, refl, sym, ap, ◌∙◌, subst, arith}
-use Rattle.std.specs.Prelude.{option_map}
+use Rattle.std.proofs.Common.{◌≡◌, ◌↔◌, ◌⊎◌, ⊎_elim, inl, inr, ℕ, ◌+◌, ◌<◌, ◌≤◌, List, [], ◌∷◌, ◌++◌, Some, None, Option, max, length, take, get_or, Contains, refl, sym, ap, ◌∙◌, subst, arith}
 use Rattle.std.specs.List.{filter_map, cons_option}
 use Rattle.std.specs.Option.{option_to_list}
 use Rattle.std.proofs.lemmas.List.{take_all, take_more}
-use Rattle.std.proofs.lemmas.Option.{slice_get-map}
-use Rattle.std.proofs.lemmas.List.Elements.{filter_map-append, Contains-append_left, Contains-append_right, Contains-append_cases}
-use Rattle.ig_text.proofs.Lists.{contains_from_at, contains_one, none_in_nil, at_from_contains}
+use Rattle.std.proofs.lemmas.List.Elements.{filter_map-append, Contains-append_left, Contains-append_right, Contains-append_cases, Contains-push}
+use Rattle.ig_text.proofs.Lists.{contains_from_at, contains_one, none_in_nil}
 
 module _ {X : Type 0} where
-  pub last_in : (zs : List X) (x : X) → Contains (zs ++ x ∷ []) x
-  last_in zs x = Contains-append_right zs (x ∷ []) x (contains_from_at (x ∷ []) 0 x refl)
-
   pub old_in : (zs : List X) (x y : X) → Contains zs y → Contains (zs ++ x ∷ []) y
   old_in zs x y c = Contains-append_left zs (x ∷ []) y c
 
@@ -61,10 +56,10 @@ module _ {X : Type 0} where
           greater a b = grind arith
 
           highest : (place x ≤ m) ⊎ (m < place x) → ((y : X) × Contains (zs ++ x ∷ []) y × P y × (place y ≡ n)) ⊎ (NoneHas (zs ++ x ∷ []) × (n ≡ 0))
-          highest (inr lt) = inl (x, last_in zs x, p, omega (arith, lt, is))
+          highest (inr lt) = inl (x, Contains-push zs x, p, omega (arith, lt, is))
           highest (inl le) =
               ⊎_elim (λ r. inl (r.0, old_in zs x r.0 r.1, r.2, let at = r.3 in omega (arith, at, le, is)))
-              (λ e. let zero_is = e.1 in inl (x, last_in zs x, p, omega (arith, zero_is, le, is))) most.reached
+              (λ e. let zero_is = e.1 in inl (x, Contains-push zs x, p, omega (arith, zero_is, le, is))) most.reached
 
   -- the list has what g gives of those members that have the fact
   module _ {Y : Type 0} (P : X → Type 0) (g : X → Y) where
@@ -83,7 +78,7 @@ module _ {X : Type 0} where
     pub image_with : (zs : List X) (x : X) (ds es : List Y) → IsImage zs ds → P x →
         ((d : Y) → Contains es d ↔ (Contains ds d ⊎ (d ≡ g x))) → IsImage (zs ++ x ∷ []) es
     image_with zs x ds es image p more d = (
-      λ c. ⊎_elim (λ h. let r = (image d).0 h in (r.0, old_in zs x r.0 r.1, r.2, r.3)) (λ e. (x, last_in zs x, p, sym e)) ((more d).0 c),
+      λ c. ⊎_elim (λ h. let r = (image d).0 h in (r.0, old_in zs x r.0 r.1, r.2, r.3)) (λ e. (x, Contains-push zs x, p, sym e)) ((more d).0 c),
       λ r. (more d).1 (⊎_elim (λ h. inl ((image d).1 (r.0, h, r.2, r.3))) (λ e. inr (sym r.3 ∙ ap g e)) (one_more zs x r.0 r.1)),
     )
 
@@ -115,19 +110,6 @@ to_filter_map h (z ∷ zs) x y c e =
     let rest : Contains zs x → Contains (filter_map h zs) y = λ d. to_filter_map h zs x y d e in
     ⊎_elim (λ d. at_cons (h z) (filter_map h zs) y (ap h (sym (contains_one z x d)) ∙ e)) (λ d. behind_cons (h z) (filter_map h zs) y (rest d))
     (Contains-append_cases (z ∷ []) zs x c)
-
--- members of a mapped list
-pub from_map : {X Y : Type 0} (f : X → Y) (xs : List X) (y : Y) → Contains (map f xs) y → (x : X) × Contains xs x × (f x ≡ y)
-from_map f [] y c = absurd (none_in_nil y c)
-from_map f (x ∷ xs) y c =
-    let rest : Contains (map f xs) y → (z : _) × Contains xs z × (f z ≡ y) = from_map f xs y in
-    ⊎_elim (λ d. (x, contains_from_at (x ∷ xs) 0 x refl, sym (contains_one (f x) y d)))
-    (λ d. let r = rest d in (r.0, Contains-append_right (x ∷ []) xs r.0 r.1, r.2)) (Contains-append_cases (f x ∷ []) (map f xs) y c)
-
-pub to_map : {X Y : Type 0} (f : X → Y) (xs : List X) (x : X) → Contains xs x → Contains (map f xs) (f x)
-to_map f xs x c =
-    let at = at_from_contains xs x c in
-    contains_from_at (map f xs) at.0 (f x) (slice_get-map f xs at.0 ∙ ap (option_map f) at.1)
 
 -- a whole list, once the loop is behind it
 pub all_through : {X : Type 0} (P : List X → Type 0) (k : ℕ) (xs : List X) → length xs ≤ k → P (take k xs) → P xs

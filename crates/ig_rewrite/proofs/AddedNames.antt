@@ -1,12 +1,14 @@
 -- Names that passes add are no names of the notation, and tell their declarations and their numbers.
 use Rattle.std.proofs.Common.{◌≡◌, ◌∙◌, ℕ, zero, suc, ◌<◌, List, [], ◌∷◌, ◌++◌, Bool, true, false, refl, sym, ap, subst, arith, lit<, length, get_or}
-use Rattle.std.specs.Prelude.{codes, ◌&&◌, decimal, Contains}
+use Rattle.std.specs.Prelude.{codes, decimal, Contains}
 use Rattle.std.specs.List.{list_all}
 use Rattle.std.proofs.lemmas.Fmt.{decimal_injective}
-use Rattle.std.proofs.lemmas.List.Elements.{Contains-append_left, Contains-append_right, Contains-push}
+use Rattle.std.proofs.lemmas.List.Elements.{Contains-append_right}
+use Rattle.std.proofs.lemmas.Bool.{and_right, and_left}
+use Rattle.std.proofs.Math.Bool.{and-false}
 use Rattle.unicode_ident.specs.Ident.{is_xid_start, is_xid_continue}
 use Rattle.unicode_ident.proofs.IdentLemmas.{is_xid_start-ascii, is_xid_continue-ascii}
-use Rattle.ig_text.proofs.Lists.{none_in_nil}
+use Rattle.ig_text.proofs.Lists.{none_in_nil, contains_later, contains_first}
 use Rattle.ig_grammar.specs.Name.{is_name, is_identifier}
 use Rattle.ig_grammar.specs.Names.{names}
 use Rattle.ig_grammar.specs.declared.grammar.Grammar.{Grammar}
@@ -17,26 +19,14 @@ no_start c cs e = rw e refl
 
 all_refused : (p : ℕ → Bool) (xs ys : List ℕ) (c : ℕ) → p c ≡ false → list_all p (xs ++ c ∷ ys) ≡ false
 all_refused p [] ys c e = rw e refl
-all_refused p (x ∷ xs) ys c e = rw (all_refused p xs ys c e) (refused (p x))
-  where
-    refused : (b : Bool) → (b && false) ≡ false
-    refused true = refl
-    refused false = refl
-
-refused_right : (b c : Bool) → c ≡ false → (b && c) ≡ false
-refused_right true c e = e
-refused_right false c e = refl
-
-refused_left : (b c : Bool) → b ≡ false → (b && c) ≡ false
-refused_left true c e = absurd (cc)
-refused_left false c e = refl
+all_refused p (x ∷ xs) ys c e = rw (all_refused p xs ys c e) (and-false (p x))
 
 -- where a character stands with which no name begins or goes on
 no_name : (before after : List ℕ) (c : ℕ) → is_xid_start c ≡ false → is_xid_continue c ≡ false → is_name (before ++ c ∷ after) ≡ false
 no_name [] after c s e = no_start c after s
 no_name (b ∷ before) after c s e =
-    refused_left (is_identifier (b ∷ (before ++ c ∷ after))) _
-    (refused_right (is_xid_start b) (list_all is_xid_continue (before ++ c ∷ after)) (all_refused is_xid_continue before after c e))
+    and_left (is_identifier (b ∷ (before ++ c ∷ after))) _
+    (and_right (is_xid_start b) (list_all is_xid_continue (before ++ c ∷ after)) (all_refused is_xid_continue before after c e))
 
 pub root_is_no_name : is_name root_name ≡ false
 root_is_no_name = no_start 36 (codes "root") (is_xid_start-ascii 36 (lit< tt))
@@ -50,12 +40,6 @@ signed_is_no_name before after = no_name before after 35 (is_xid_start-ascii 35 
 is_fresh : (g : Grammar) (name : List ℕ) → ((declared : List ℕ) → Contains (names g.decls) declared → is_name declared ≡ true) →
     is_name name ≡ false → IsFresh g name
 is_fresh g name each none declared = let e : true ≡ false = sym (each name declared) ∙ none in cc
-
-first_in : {X : Type 0} (x : X) (xs : List X) → Contains (x ∷ xs) x
-first_in x xs = Contains-append_left (x ∷ []) xs x (Contains-push [] x)
-
-later_in : {X : Type 0} (x : X) (xs : List X) (y : X) → Contains xs y → Contains (x ∷ xs) y
-later_in x xs y m = Contains-append_right (x ∷ []) xs y m
 
 -- where a member stands, it has a beginning before it
 parted : (xs : List ℕ) (x k : ℕ) → k < length xs → get_or xs k x ≡ x → (before : List ℕ) × (after : List ℕ) × (xs ≡ before ++ x ∷ after)
@@ -83,10 +67,10 @@ root_unsigned =
 -- what stands before the sign, and what behind it
 sides_of_sign : (a b us vs : List ℕ) → HasNoSign a → HasNoSign b → a ++ number_sign ∷ us ≡ b ++ number_sign ∷ vs → (a ≡ b) × (us ≡ vs)
 sides_of_sign [] [] us vs n m e = (refl, cc)
-sides_of_sign [] (c ∷ b) us vs n m e = absurd (m (let f : 35 ≡ c = cc in subst (λ z. Contains (z ∷ b) number_sign) f (first_in number_sign b)))
-sides_of_sign (c ∷ a) [] us vs n m e = absurd (n (let f : 35 ≡ c = cc in subst (λ z. Contains (z ∷ a) number_sign) f (first_in number_sign a)))
+sides_of_sign [] (c ∷ b) us vs n m e = absurd (m (let f : 35 ≡ c = cc in subst (λ z. Contains (z ∷ b) number_sign) f (contains_first number_sign b)))
+sides_of_sign (c ∷ a) [] us vs n m e = absurd (n (let f : 35 ≡ c = cc in subst (λ z. Contains (z ∷ a) number_sign) f (contains_first number_sign a)))
 sides_of_sign (c ∷ a) (d ∷ b) us vs n m e =
-    let r = sides_of_sign a b us vs (λ h. n (later_in c a number_sign h)) (λ h. m (later_in d b number_sign h)) (cc) in
+    let r = sides_of_sign a b us vs (λ h. n (contains_later c a number_sign h)) (λ h. m (contains_later d b number_sign h)) (cc) in
     let f : c ≡ d = cc in
     (ap (λ z. c ∷ z) r.0 ∙ ap (λ z. z ∷ b) f, r.1)
 
@@ -96,7 +80,7 @@ apart a b j k n m l h e = let r = sides_of_sign a b (decimal j) (decimal k) n m 
 
 signed : (a b : List ℕ) (k : ℕ) → HasNoSign a → a ≡ added_name b k → ⊥
 signed a b k n e =
-    n (subst (λ z. Contains z number_sign) (sym e) (Contains-append_right b (number_sign ∷ decimal k) number_sign (first_in number_sign (decimal k))))
+    n (subst (λ z. Contains z number_sign) (sym e) (Contains-append_right b (number_sign ∷ decimal k) number_sign (contains_first number_sign (decimal k))))
 
 pub added_names : AddedNamesAreNew
 added_names =

@@ -1,13 +1,13 @@
 -- A symbol gets what it asks exactly where no condition holds of it.
-use Rattle.std.proofs.Common.{◌≡◌, ◌∙◌, ℕ, zero, suc, ◌<◌, List, [], ◌∷◌, ◌++◌, Option, Some, None, Bool, cond, true, false, refl, sym, ap, ap₂, subst, length, inl, inr, arith}
+use Rattle.std.proofs.Common.{◌≡◌, ◌∙◌, ℕ, zero, suc, List, [], ◌∷◌, ◌++◌, Option, Some, None, Bool, cond, true, false, refl, sym, ap, ap₂, subst, length, inl, inr, arith}
 use Rattle.std.specs.Prelude.{◌≢◌, ◌⊎◌, Contains, slice_get}
 use Rattle.std.specs.Cmp.Lexicographic.{bytes_decides}
-use Rattle.std.proofs.lemmas.Bool.{cases_order}
 use Rattle.std.proofs.lemmas.Option.{same_Some}
 use Rattle.std.proofs.lemmas.List.Elements.{Contains-append_cases, Contains-append_left, Contains-append_right}
 use Rattle.ig_text.specs.Words.{is_word}
 use Rattle.ig_text.proofs.Lists.{at_from_contains, contains_first, contains_later, contains_one, none_in_nil}
 use Rattle.ig_text.proofs.Positions.{beside-cons}
+use Rattle.ig_text.proofs.Orders.{equal_unless}
 use Rattle.ig_expr.specs.Expression as tree
 use Rattle.ig_expr.specs.Expression.{Expression}
 use Rattle.ig_expr.specs.Kinds.{of_one, of_two, of_equals, kind_of_operation, argument_of}
@@ -103,15 +103,7 @@ module _ (v : Visible) where
   known (tree.FreeBefore pattern) k e n m = absurd (none_in_nil n m)
   known (tree.FreeAfter pattern) k e n m = absurd (none_in_nil n m)
 
--- what can't fail to be equal is equal
-same_number : (n m : ℕ) → ((n ≢ m) → ⊥) → n ≡ m
-same_number n m f = go (cases_order n m)
-  where
-    go : (n ≡ m) ⊎ ((n < m) ⊎ (m < n)) → n ≡ m
-    go (inl e) = e
-    go (inr (inl l)) = absurd (f (λ e. omega (arith, e, l)))
-    go (inr (inr l)) = absurd (f (λ e. omega (arith, e, l)))
-
+-- a kind that can't fail to be given is given
 same_kind : (o : Option Kind) (k : Kind) → ((o ≢ Some k) → ⊥) → o ≡ Some k
 same_kind None k f = absurd (f (λ e. cc))
 same_kind (Some kind.Int) kind.Int f = refl
@@ -175,7 +167,7 @@ module _ (decls : List Decl) (within : DeclKind) (v : Visible) where
             callee = d;
             declared = h;
             fit = fit_each v arguments d.params
-                (same_number (length arguments) (length d.params) (λ f. fine meets.WrongArity (meets.wrong_arity name arguments d h f)))
+                (equal_unless (length arguments) (length d.params) (λ f. fine meets.WrongArity (meets.wrong_arity name arguments d h f)))
                 (λ i e p a b. same_kind (kind_at v e) p.kind (λ f. fine meets.KindMismatch (meets.argument_kind name arguments d i e p h a b f)));
             allowed = λ l s. fine meets.SyntaxInLexical (meets.syntax_in_lexical name arguments d l h s);
           }

@@ -1,15 +1,15 @@
 -- The declaration of a name is the first one with that name.
-use Rattle.std.proofs.Common.{◌≡◌, ◌∙◌, ℕ, zero, suc, ◌<◌, List, [], ◌∷◌, ◌++◌, Option, Some, None, Bool, true, false, refl, sym, ap, subst, arith, take, map, inl, inr}
-use Rattle.std.specs.Prelude.{◌⊎◌, option_map, option_and_then, slice_get, Contains, if◌then◌else◌}
+use Rattle.std.proofs.Common.{◌≡◌, ◌∙◌, ℕ, zero, suc, ◌<◌, List, [], ◌∷◌, ◌++◌, Option, Some, None, Bool, true, false, refl, sym, ap, subst, arith, take, map}
+use Rattle.std.specs.Prelude.{option_map, option_and_then, slice_get, Contains, if◌then◌else◌}
 use Rattle.std.specs.Cmp.Lexicographic.{bytes_decides}
-use Rattle.std.proofs.lemmas.Bool.{cases_order}
 use Rattle.std.proofs.lemmas.List.{take-map}
 use Rattle.std.proofs.lemmas.Option.{slice_get-map}
 use Rattle.std.proofs.lemmas.List.Elements.{Contains-append_left, Contains-append_right, Contains-push}
 use Rattle.ig_expr.specs.Names.{place_of}
 use Rattle.ig_text.specs.Words.{is_word}
 use Rattle.ig_text.proofs.Positions.{beside-cons}
-use Rattle.ig_text.proofs.Lists.{contains_from_at, in_take}
+use Rattle.ig_text.proofs.Lists.{contains_from_at, in_take, unmapped_at, mapped_at}
+use Rattle.ig_text.proofs.Orders.{neither_below}
 use Rattle.ig_grammar.specs.Condition.{declaration_of}
 use Rattle.ig_grammar.specs.Condition as meets
 use Rattle.ig_grammar.specs.Names.{AreDistinct, names}
@@ -82,10 +82,6 @@ not_declared (d ∷ ds) name fresh =
     go true e rest = absurd (fresh (subst (λ z. Contains (d.name ∷ names ds) z) ((bytes_decides d.name name).0 e) (Contains-append_left (d.name ∷ []) (names ds) d.name (Contains-push [] d.name))))
     go false e rest = rest
 
--- a place of a list is one of the names
-pub named_at : (ds : List Decl) (k : ℕ) (d : Decl) → slice_get ds k ≡ Some d → slice_get (names ds) k ≡ Some d.name
-named_at ds k d e = slice_get-map (λ z. z.name) ds k ∙ ap (option_map (λ z. z.name)) e
-
 pub first_at : (ds : List Decl) (k : ℕ) (decl : Decl) → slice_get ds k ≡ Some decl →
     ((j : ℕ) (d : Decl) → j < k → slice_get ds j ≡ Some d → d.name ≡ decl.name → ⊥) → declaration_of ds decl.name ≡ Some decl
 first_at [] k decl e f = absurd (cc)
@@ -108,19 +104,14 @@ itself_declared g k decl scoped e = first_at g.decls k decl e (λ j d l there sa
       decl,
       e,
       meets.duplicate_name (subst (Contains (names (take k g.decls))) same
-          (contains_from_at (names (take k g.decls)) j d.name (named_at (take k g.decls) j d (in_take g.decls k j d l there)))),
+          (contains_from_at (names (take k g.decls)) j d.name (mapped_at (λ (z : Decl). z.name) (take k g.decls) j d (in_take g.decls k j d l there)))),
     ))
 
 -- no name is declared twice
 module _ (g : Grammar) (scoped : IsWellScoped g) where
-  declared_at : (ds : List Decl) (j : ℕ) (name : List ℕ) → slice_get (names ds) j ≡ Some name → (d : Decl) × (slice_get ds j ≡ Some d) × (d.name ≡ name)
-  declared_at [] j name e = cc
-  declared_at (d ∷ ds) zero name e = (d, refl, cc)
-  declared_at (d ∷ ds) (suc j) name e = declared_at ds j name e
-
   not_again : (i j : ℕ) (name : List ℕ) → i < j → slice_get (names g.decls) i ≡ Some name → slice_get (names g.decls) j ≡ Some name → ⊥
   not_again i j name l e f =
-      let d = declared_at g.decls j name f in
+      let d = unmapped_at (λ (x : Decl). x.name) g.decls j name f in
       let earlier : Contains (names (take j g.decls)) name =
       subst (λ (z : List (List ℕ)). Contains z name) (take-map (λ (x : Decl). x.name) j g.decls)
       (contains_from_at (take j (names g.decls)) i name (in_take (names g.decls) j i name l e)) in
@@ -128,12 +119,8 @@ module _ (g : Grammar) (scoped : IsWellScoped g) where
       (d.0, d.1, meets.duplicate_name (subst (λ (z : List ℕ). Contains (names (take j g.decls)) z) (sym d.2) earlier))
 
   pub distinct : AreDistinct (names g.decls)
-  distinct i j name e f = cases (cases_order i j)
-    where
-      cases : (i ≡ j) ⊎ ((i < j) ⊎ (j < i)) → i ≡ j
-      cases (inl same) = same
-      cases (inr (inl before)) = absurd (not_again i j name before e f)
-      cases (inr (inr behind)) = absurd (not_again j i name behind f e)
+  distinct i j name e f =
+      neither_below i j (λ before. not_again i j name before e f) (λ behind. not_again j i name behind f e)
 
 -- each declaration changed, and under its name
 module _ (change : Decl → Decl) (kept : (d : Decl) → (change d).name ≡ d.name) where

@@ -1,8 +1,8 @@
 -- Names that are all different.
-use Rattle.std.proofs.Common.{◌≡◌, ◌∙◌, ℕ, ◌+◌, ◌<◌, List, ◌++◌, length, take, Some, sym, ap, inl, inr, arith}
+use Rattle.std.proofs.Common.{◌≡◌, ◌∙◌, ℕ, ◌+◌, List, ◌++◌, length, take, Some, sym, ap, inl, inr, arith}
 use Rattle.std.specs.Prelude.{◌⊎◌, Contains, slice_get}
-use Rattle.std.proofs.lemmas.Bool.{cases_order}
 use Rattle.ig_text.proofs.Lists.{at_from_contains, contains_from_at, in_take, within_take, sides}
+use Rattle.ig_text.proofs.Orders.{neither_below}
 use Rattle.ig_grammar.specs.Names.{AreDistinct}
 
 -- none of them stands earlier, too
@@ -15,12 +15,9 @@ not_again ns distinct k n e m =
 
 -- and the other way about
 pub all_different : (ns : List (List ℕ)) → ((k : ℕ) (n : List ℕ) → slice_get ns k ≡ Some n → Contains (take k ns) n → ⊥) → AreDistinct ns
-all_different ns f i j n a b = go (cases_order i j)
-  where
-    go : (i ≡ j) ⊎ ((i < j) ⊎ (j < i)) → i ≡ j
-    go (inl same) = same
-    go (inr (inl l)) = absurd (f j n b (contains_from_at (take j ns) i n (in_take ns j i n l a)))
-    go (inr (inr l)) = absurd (f i n a (contains_from_at (take i ns) j n (in_take ns i j n l b)))
+all_different ns f i j n a b =
+    neither_below i j (λ l. f j n b (contains_from_at (take j ns) i n (in_take ns j i n l a)))
+    (λ l. f i n a (contains_from_at (take i ns) j n (in_take ns i j n l b)))
 
 -- two lists of such names with none in common
 pub different_both : (ns ms : List (List ℕ)) → AreDistinct ns → AreDistinct ms → ((n : List ℕ) → Contains ms n → Contains ns n → ⊥) → AreDistinct (ns ++ ms)

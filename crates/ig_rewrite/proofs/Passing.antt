@@ -2,12 +2,12 @@
 use Rattle.std.proofs.Common.{◌≡◌, ◌∙◌, ℕ, zero, suc, ◌+◌, ◌<◌, ◌≤◌, List, [], ◌∷◌, ◌++◌, Option, Some, None, Bool, cond, true, false, refl, sym, ap, ap₂, subst, length, take, inl, inr, arith}
 use Rattle.std.specs.Prelude.{◌⊎◌, All, Contains, slice_get, count_by, if◌then◌else◌}
 use Rattle.std.specs.Cmp.Lexicographic.{bytes_decides}
-use Rattle.std.proofs.lemmas.List.{map-append, take-map}
+use Rattle.std.proofs.lemmas.List.{map-append, take-map, take-append-le}
 use Rattle.std.proofs.lemmas.List.Elements.{Contains-append_cases}
 use Rattle.std.proofs.lemmas.List.Sums.{sum_by-append, sum_by-cons}
 use Rattle.std.proofs.lemmas.Option.{same_Some, slice_get_within}
 use Rattle.ig_text.specs.Words.{is_word}
-use Rattle.ig_text.proofs.Lists.{at_from_contains, contains_from_at, contains_first, contains_later, contains_one, none_in_nil, get_within, in_take, within_take, left_at, sides}
+use Rattle.ig_text.proofs.Lists.{at_from_contains, contains_from_at, contains_first, contains_later, contains_one, none_in_nil, get_within, in_take, within_take, left_at, sides, mapped_at}
 use Rattle.ig_grammar.specs.Condition.{Condition, HeadMeets, StartMeets, IsNotPlain, declaration_of, symbols_of, named_parameters, most_variables, most_parameters, binds_name}
 use Rattle.ig_grammar.specs.Condition as meets
 use Rattle.ig_grammar.specs.Name.{is_name}
@@ -32,7 +32,7 @@ use Rattle.ig_rewrite.specs.Passing.{IsSettled, Settles, GetAll, IsReadyFor, IsR
 use Rattle.ig_rewrite.specs.Unbound.{LacksName}
 use Rattle.ig_rewrite.proofs.Asking.{symbols_ask}
 use Rattle.ig_rewrite.proofs.Counting.{symbols_counted}
-use Rattle.ig_rewrite.proofs.FirstNamed.{declaration_first, first_at, named_at, distinct}
+use Rattle.ig_rewrite.proofs.FirstNamed.{declaration_first, first_at, distinct}
 use Rattle.ig_rewrite.proofs.NamesOnce.{not_again, all_different, different_both}
 
 -- a declaration that is found stands at a place, under its name
@@ -51,7 +51,7 @@ found_at (x ∷ ds) name d e = go (is_word x.name name) refl (sym (declaration_f
 found_itself : (ds : List Decl) → AreDistinct (names ds) → (k : ℕ) (d : Decl) → slice_get ds k ≡ Some d → declaration_of ds d.name ≡ Some d
 found_itself ds different k d e =
     first_at ds k d e (λ j x less there same.
-    let one : j ≡ k = different j k d.name (named_at ds j x there ∙ ap Some same) (named_at ds k d e) in omega (arith, less, one))
+    let one : j ≡ k = different j k d.name (mapped_at (λ (z : Decl). z.name) ds j x there ∙ ap Some same) (mapped_at (λ (z : Decl). z.name) ds k d e) in omega (arith, less, one))
 
 -- the same names in the same order
 same_names : (ds es : List Decl) → length es ≡ length ds →
@@ -61,11 +61,6 @@ same_names [] (e ∷ es) l f = absurd (omega (arith, l))
 same_names (d ∷ ds) [] l f = absurd (omega (arith, l))
 same_names (d ∷ ds) (e ∷ es) l f =
     ap₂ (λ n ns. n ∷ ns) (f 0 d e refl refl) (same_names ds es (omega (arith, l)) (λ k x y a b. f (suc k) x y a b))
-
-take_left : {X : Type 0} (xs ys : List X) (b : ℕ) → b ≤ length xs → take b (xs ++ ys) ≡ take b xs
-take_left xs ys zero l = refl
-take_left [] ys (suc b) l = absurd (omega (arith, l))
-take_left (x ∷ xs) ys (suc b) l = ap (λ zs. x ∷ zs) (take_left xs ys b (omega (arith, l)))
 
 visible_names : (ps : List Param) → visible.names (parameters ps) ≡ parameter_names ps
 visible_names [] = refl
@@ -214,7 +209,7 @@ module _ (later : List (List ℕ)) (g h : Grammar) (scoped : IsWellScoped g) (ma
   module _ (b : ℕ) (e : Decl) (there : slice_get h.decls b ≡ Some e) where
     name_once : Contains (names (take b h.decls)) e.name → ⊥
     name_once m =
-        not_again (names h.decls) different b e.name (named_at h.decls b e there)
+        not_again (names h.decls) different b e.name (mapped_at (λ (z : Decl). z.name) h.decls b e there)
         (subst (λ z. Contains z e.name) (sym (take-map (λ (d : Decl). d.name) b h.decls)) m)
 
     parameter_once : AreDistinct (parameter_names e.params) → (k : ℕ) (p : Param) → slice_get e.params k ≡ Some p →
@@ -270,7 +265,7 @@ module _ (later : List (List ℕ)) (g h : Grammar) (scoped : IsWellScoped g) (ma
 
       names_before : names (take b h.decls) ≡ names (take b g.decls)
       names_before =
-          ap (λ ds. names (take b ds)) makes.decls ∙ ap names (take_left makes.remade makes.added b within) ∙
+          ap (λ ds. names (take b ds)) makes.decls ∙ ap names (take-append-le b makes.remade makes.added within) ∙
           sym (take-map (λ (x : Decl). x.name) b makes.remade) ∙ ap (take b) named ∙ take-map (λ (x : Decl). x.name) b g.decls
 
       remade_head : (c : Condition) → HeadMeets h.decls b e c → ⊥

@@ -1,7 +1,7 @@
 -- What the root alternative calls, and what a grammar without the name of the root calls.
 use Rattle.std.proofs.Common.{◌≡◌, ◌∙◌, ℕ, zero, suc, List, [], ◌∷◌, ◌++◌, Option, Some, None, Bool, true, false, refl, sym, ap, subst, inl, inr}
 use Rattle.std.specs.Prelude.{◌⊎◌, ◌≢◌, slice_get, Contains, if◌then◌else◌}
-use Rattle.ig_text.proofs.Lists.{at_from_contains, contains_from_at}
+use Rattle.ig_text.proofs.Lists.{at_from_contains, contains_from_at, mapped_at}
 use Rattle.ig_grammar.specs.Symbol.{Symbol, Call, gathered}
 use Rattle.ig_grammar.specs.Names.{names}
 use Rattle.ig_grammar.specs.Numbering.{Levelled, IsAlternative, layout_among, name_of_layout}
@@ -19,7 +19,7 @@ use Rattle.ig_meaning.specs.Operands.{without_tests}
 use Rattle.ig_meaning.specs.Permitted.{behind_layout}
 use Rattle.ig_rewrite.specs.Added.{root_name, IsFresh}
 use Rattle.ig_rewrite.specs.Rooted.{calls_of_start, has_root, is_root}
-use Rattle.ig_rewrite.proofs.FirstNamed.{not_declared, named_at}
+use Rattle.ig_rewrite.proofs.FirstNamed.{not_declared}
 use Rattle.ig_rewrite.proofs.CallsOnly.{IsCallOf, EachCallsOnly, each_gathered, from_symbols}
 use Rattle.ig_rewrite.specs.EachLevel.{alternative_at}
 
@@ -102,7 +102,7 @@ module _ (g : Grammar) (scoped : IsWellScoped g) (fresh : IsFresh g root_name) w
   pub layout_other : (name : List ℕ) → layout_among g.decls ≡ Some name → IsOther name
   layout_other name e same =
       let r = layout_there g.decls name e in
-      fresh (subst (Contains (names g.decls)) (r.3 ∙ same) (contains_from_at (names g.decls) r.0 r.1.name (named_at g.decls r.0 r.1 r.2)))
+      fresh (subst (Contains (names g.decls)) (r.3 ∙ same) (contains_from_at (names g.decls) r.0 r.1.name (mapped_at (λ (z : Decl). z.name) g.decls r.0 r.1 r.2)))
 
   call_other : (within : DeclKind) (o : Occurrence) → ((k : Condition) → SymbolMeets g.decls within o.visible o.symbol k → ⊥) → IsCallOf IsOther o.symbol
   call_other within o unmet = go o.symbol unmet

@@ -1,7 +1,8 @@
 -- A well-scoped grammar stays well scoped where its root is written as a declaration.
-use Rattle.std.proofs.Common.{◌≡◌, ◌∙◌, ℕ, zero, suc, ◌<◌, ◌≤◌, List, [], ◌∷◌, ◌++◌, Option, Some, None, true, false, refl, sym, ap, subst, arith, length, take, inl, inr}
+use Rattle.std.proofs.Common.{◌≡◌, ◌∙◌, ℕ, zero, suc, ◌<◌, List, [], ◌∷◌, ◌++◌, Option, Some, None, true, false, refl, sym, ap, subst, arith, length, take, inl, inr}
 use Rattle.std.specs.Prelude.{◌≢◌, ◌⊎◌, Contains, slice_get, count_by}
 use Rattle.std.proofs.lemmas.Option.{slice_get_within}
+use Rattle.std.proofs.lemmas.List.{take-append-le}
 use Rattle.ig_text.proofs.Lists.{place_cases}
 use Rattle.ig_grammar.specs.Symbol.{Symbol, Call, gathered}
 use Rattle.ig_grammar.specs.Names.{names}
@@ -57,11 +58,6 @@ call_fine decls kind v name d apart e p c (meets.no_kind _ f m k) = let l = m.1 
 call_fine decls kind v name d apart e p c (meets.argument_kind _ _ callee k f q found a b differs) = cc
 call_fine decls kind v name d apart e p c (meets.syntax_in_lexical _ _ callee i found s) = apart i
 
-take_left : {X : Type 0} (xs ys : List X) (b : ℕ) → b ≤ length xs → take b (xs ++ ys) ≡ take b xs
-take_left xs ys zero l = refl
-take_left [] ys (suc b) l = absurd (omega (arith, l))
-take_left (x ∷ xs) ys (suc b) l = ap (λ zs. x ∷ zs) (take_left xs ys b (omega (arith, l)))
-
 take_all : {X : Type 0} (xs : List X) → take (length xs) xs ≡ xs
 take_all [] = refl
 take_all (x ∷ xs) = ap (λ zs. x ∷ zs) (take_all xs)
@@ -116,7 +112,7 @@ module _ (g : Grammar) (scoped : IsWellScoped g) (fresh : IsFresh g root_name) w
   -- at the head of an earlier declaration
   head_before : (b : ℕ) (decl : Decl) (c : Condition) → b < length g.decls → HeadMeets h.decls b decl c → HeadMeets g.decls b decl c
   head_before b decl c l (meets.duplicate_name m) =
-      meets.duplicate_name (subst (λ ds. Contains (names ds) decl.name) (take_left g.decls (r ∷ []) b (omega (arith, l))) m)
+      meets.duplicate_name (subst (λ ds. Contains (names ds) decl.name) (take-append-le b g.decls (r ∷ []) (omega (arith, l))) m)
   head_before b decl c l (meets.duplicate_parameter k p e m) = meets.duplicate_parameter k p e m
   head_before b decl c l (meets.layout_not_plain k n) = meets.layout_not_plain k (go n)
     where
@@ -125,14 +121,14 @@ module _ (g : Grammar) (scoped : IsWellScoped g) (fresh : IsFresh g root_name) w
       go (meets.levels f) = meets.levels f
       go (meets.associativity level m f) = meets.associativity level m f
       go (meets.second earlier m f) =
-          meets.second earlier (subst (λ ds. Contains ds earlier) (take_left g.decls (r ∷ []) b (omega (arith, l))) m) f
+          meets.second earlier (subst (λ ds. Contains ds earlier) (take-append-le b g.decls (r ∷ []) (omega (arith, l))) m) f
   head_before b decl c l (meets.too_many_nonterminals n e) =
-      meets.too_many_nonterminals n (ap (count_by (λ d. is_name d.name)) (sym (take_left g.decls (r ∷ []) b (omega (arith, l)))) ∙ e)
+      meets.too_many_nonterminals n (ap (count_by (λ d. is_name d.name)) (sym (take-append-le b g.decls (r ∷ []) (omega (arith, l)))) ∙ e)
   head_before b decl c l (meets.too_many_parameters n e) = meets.too_many_parameters n e
 
   head_root : (c : Condition) → HeadMeets h.decls (length g.decls) r c → ⊥
   head_root c (meets.duplicate_name m) =
-      fresh (subst (λ ds. Contains (names ds) root_name) (take_left g.decls (r ∷ []) (length g.decls) (omega arith) ∙ take_all g.decls) m)
+      fresh (subst (λ ds. Contains (names ds) root_name) (take-append-le (length g.decls) g.decls (r ∷ []) (omega arith) ∙ take_all g.decls) m)
   head_root c (meets.duplicate_parameter k p e m) = cc
   head_root c (meets.layout_not_plain k n) = cc
   head_root c (meets.too_many_nonterminals n e) = let f : true ≡ false = sym n ∙ root_is_no_name in cc

@@ -6,7 +6,7 @@ use Rattle.std.proofs.lemmas.List.Elements.{Contains-push}
 use Rattle.ig_text.specs.declared.tag.Tag.{Tag}
 use Rattle.ig_text.specs.Tree.{Tree, Trees}
 use Rattle.ig_expr.specs.ValuedTree as valued
-use Rattle.ig_text.proofs.Lists.{at_from_contains, contains_from_at, left_at, place_last, place_cases}
+use Rattle.ig_text.proofs.Lists.{at_from_contains, contains_from_at, left_at, place_last, place_cases, mapped_at}
 use Rattle.ig_grammar.specs.Symbol.{Symbol, Call}
 use Rattle.ig_grammar.specs.Names.{names}
 use Rattle.ig_grammar.specs.Numbering.{Levelled, Declares, IsDeclaration, IsAlternative, layout_among}
@@ -30,7 +30,6 @@ use Rattle.ig_rewrite.specs.SameTrees.{PermitSame}
 use Rattle.ig_rewrite.specs.SameValues.{KeepsValues}
 use Rattle.ig_rewrite.specs.Added.{root_name, IsFresh}
 use Rattle.ig_rewrite.specs.Rooted.{calls_of_start, root_symbols, root_declaration, rooted_grammar, has_root, with_root}
-use Rattle.ig_rewrite.proofs.FirstNamed.{named_at}
 use Rattle.ig_rewrite.proofs.CallsOnly.{EachCallsOnly}
 use Rattle.ig_rewrite.proofs.Carried.{covers_too}
 use Rattle.ig_rewrite.proofs.CarriedValues.{bind_too}
@@ -207,7 +206,7 @@ module _ (c : CheckedGrammar) (scoped : IsWellScoped c.grammar) (fit : FitShapes
   is_the_root d decl a = go (place_cases g.decls r decl a.numbered.0 a.numbered.2)
     where
       go : (slice_get g.decls a.numbered.0 ≡ Some decl) ⊎ ((a.numbered.0 ≡ length g.decls) × (r ≡ decl)) → r ≡ decl
-      go (inl e) = absurd (fresh (subst (Contains (names g.decls)) a.named (contains_from_at (names g.decls) a.numbered.0 decl.name (named_at g.decls a.numbered.0 decl e))))
+      go (inl e) = absurd (fresh (subst (Contains (names g.decls)) a.named (contains_from_at (names g.decls) a.numbered.0 decl.name (mapped_at (λ (z : Decl). z.name) g.decls a.numbered.0 decl e))))
       go (inr e) = e.1
 
   some_start : (s : Option (List ℕ)) → g.start ≡ s → (start : List ℕ) × (g.start ≡ Some start)

@@ -1,5 +1,6 @@
 -- Tokens that a want doesn't bar stand behind it.
-use Rattle.std.proofs.Common.{◌≡◌, List, [], ◌∷◌, refl, subst, Bool, true, false}
+use Rattle.std.proofs.Common.{◌≡◌, List, [], ◌∷◌, subst, true, false}
+use Rattle.std.proofs.lemmas.Bool.{false_from_ne_true}
 use Rattle.std.specs.Prelude.{Some, None}
 use Rattle.ig_syntax.specs.Token.{Token}
 use Rattle.ig_rules.specs.Machine.{Want, may_lack, after, step}
@@ -15,14 +16,10 @@ Free x (t ∷ r) = some (step (ends x) t) ≡ false
 abbrev pub Same : (V : Type 0) → List Token → List Token → V → V → Type 0
 Same V r q v w = (r ≡ q) × (v ≡ w)
 
-false_unless : (b : Bool) → (b ≡ true → ⊥) → b ≡ false
-false_unless true h = absurd (h refl)
-false_unless false h = refl
-
 pub free_within : (y x : Want) → Within y x → (r : List Token) → Free x r → Free y r
 free_within y x within [] f = tt
 free_within y x within (t ∷ r) f =
-    false_unless (some (step (ends y) t)) (λ e. let w : some (step (ends x) t) ≡ true = within t e in cc)
+    false_from_ne_true (some (step (ends y) t)) (λ e. let w : some (step (ends x) t) ≡ true = within t e in cc)
 
 -- a token that begins a row of what may lack isn't free behind it
 pub not_free : (x : Want) → may_lack x ≡ true → (t : Token) (row : List Want) (u r : List Token) → after x t ≡ Some row → r ≡ t ∷ u → Free x r → ⊥
@@ -34,7 +31,7 @@ not_free x h t row u r e p f =
 -- what y permits stands behind x, if what stands behind that may
 pub free_behind : (x y : Want) → Apart x y → (s r : List Token) → Begins y s r → Free x r → Free x s
 free_behind x y apart s r (takes t u q row e c) f =
-    false_unless (some (step (ends x) t)) (λ h. let n : after y t ≡ None = apart t h in cc)
+    false_from_ne_true (some (step (ends x) t)) (λ h. let n : after y t ≡ None = apart t h in cc)
 free_behind x y apart s r (passed q e) f = f
 
 -- nothing that a want permits begins with a token without a row, unless it lacks

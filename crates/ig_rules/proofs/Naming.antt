@@ -10,9 +10,10 @@ use Rattle.ig_grammar.specs.Condition.{variables}
 use Rattle.ig_grammar.specs.declared.declaration.Param.{Param}
 use Rattle.ig_grammar.specs.declared.declaration.Decl.{Decl}
 use Rattle.ig_grammar.specs.declared.grammar.Grammar.{Grammar}
+use Rattle.ig_grammar.specs.Name.{IsName}
 use Rattle.ig_syntax.specs.Rules as rule
 use Rattle.ig_syntax.specs.Rules.{IsSeparated, ReadsTerm, ReadsExpression, ReadsArguments, ReadsSign, ReadsParameters, ReadsDeclaration, ReadsDeclarations, FollowsRules}
-use Rattle.ig_rules.specs.Names.{IsName, own_names, HasName, HasNames}
+use Rattle.ig_rules.specs.Names.{own_names, HasName, HasNames}
 use Rattle.ig_rules.proofs.Tails.{Facts, tail, head, behind, term_tail, expression_tail, declaration_tail}
 use Rattle.ig_rules.proofs.Standing.{Gives, grammar_holds}
 

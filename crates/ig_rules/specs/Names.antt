@@ -1,18 +1,15 @@
 -- The names in a grammar.
-use Rattle.std.specs.Prelude.{◌≡◌, ℕ, List, [], ◌∷◌, ◌++◌, Some, All, Contains, IsTrue, map}
+use Rattle.std.specs.Prelude.{◌≡◌, ℕ, List, [], ◌∷◌, ◌++◌, Some, All, Contains, map}
 use Rattle.std.specs.List.{flat_map}
 use Rattle.ig_syntax.specs.Token as token
 use Rattle.ig_syntax.specs.Token.{Token}
 use Rattle.ig_grammar.specs.Symbol.{Symbol, Call, Label, Let, Entry}
 use Rattle.ig_grammar.specs.Subterms.{subterms_of_alternatives}
-use Rattle.ig_grammar.specs.Name.{is_name}
 use Rattle.ig_grammar.specs.Condition.{expressions, variables}
 use Rattle.ig_grammar.specs.Regular.{OfEachLevel}
 use Rattle.ig_grammar.specs.declared.declaration.Decl.{Decl}
 use Rattle.ig_grammar.specs.declared.grammar.Grammar.{Grammar}
-
-abbrev pub IsName : List ℕ → Type 0
-IsName word = IsTrue (is_name word)
+use Rattle.ig_grammar.specs.Name.{IsName}
 
 -- what a symbol itself calls or binds
 abbrev pub called_or_bound : Symbol → List (List ℕ)

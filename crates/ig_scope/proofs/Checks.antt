@@ -20,6 +20,7 @@ use Rattle.ig_scope.specs.Told.{FirstIn, FirstPair, AlternativeFree, Alternative
 use Rattle.ig_scope.specs.declared.fault.ScopeFault.{ScopeFault}
 use Rattle.ig_scope.specs.declared.fault.ScopeFault.TheVariants.{Broken, Memory}
 use Rattle.ig_text.proofs.Options.{one_value}
+use Rattle.ig_text.proofs.Orders.{below_or_at}
 use Rattle.ig_scope.proofs.Firsts.{first_there, first_before, free_at}
 use Rattle.ig_scope.proofs.Walks.{fault_passed}
 
@@ -80,17 +81,12 @@ declaration_told decls decl index (Err Memory) n h = tt
 pub free_more : (decls : List Decl) (i : ℕ) (decl : Decl) → i < length decls → decl ≡ get_or decls i decl → AreFree decls i →
     ((a s : ℕ) → NoneHolds (DeclarationHas decls i decl a s)) → AreFree decls (i + 1)
 free_more decls i decl l e f h k d a s c m g p =
-    elim (split k i m) [
+    elim (below_or_at k i m) [
       | inl r ↦ f k d a s c r g p
       | inr r ↦
           let same = one_value (slice_get decls i) d decl (ap (slice_get decls) (sym r) ∙ g) (slice_get-get_or decls i decl l ∙ ap Some (sym e)) in
           h a s c (subst (λ z. DeclarationHas decls i z a s c) same (subst (λ z. DeclarationHas decls z d a s c) r p))
     ]
-  where
-    split : (k i : ℕ) → k < i + 1 → (k < i) ⊎ (k ≡ i)
-    split k zero l = inr (omega arith)
-    split zero (suc i) l = inl (omega arith)
-    split (suc k) (suc i) l = elim (split k i (omega arith)) [ inl r ↦ inl (omega arith) | inr r ↦ inr (ap suc r) ]
 
 pub declarations_stopped : (decls : List Decl) (i : ℕ) (decl : Decl) (fault : ScopeFault) (r : Result (Unit {0}) ScopeFault) → IsErrAnd r (λ f. f ≡ fault) →
     i < length decls → decl ≡ get_or decls i decl → AreFree decls i → TellsDeclaration decls decl i {T = Unit {0}} (Err fault) → TellsDeclarations decls r

@@ -1,7 +1,5 @@
 pub mod FirstPlaces
-pub mod Zipped
 pub mod NamePlaces
-pub mod Binding
 pub mod Firsts
 pub mod Walks
 pub mod Sequences

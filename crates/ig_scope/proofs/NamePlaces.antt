@@ -1,6 +1,6 @@
 -- What the place of a name says of the names.
 use Rattle.std.proofs.Common.{◌≡◌, ℕ, zero, suc, ◌<◌, ◌+◌, List, [], ◌∷◌, ◌++◌, Option, Some, None, Bool, cond, true, false, refl, sym, ◌∙◌, ap, subst, arith, length, get_or, set}
-use Rattle.std.specs.Prelude.{Contains, is_some, option_map, IsTrue, ◌↔◌}
+use Rattle.std.specs.Prelude.{Contains, is_some, IsTrue, ◌↔◌}
 use Rattle.std.specs.List.{zip}
 use Rattle.std.specs.Cmp.Lexicographic.{bytes_decides}
 use Rattle.ig_text.specs.Words.{is_word}
@@ -8,18 +8,13 @@ use Rattle.ig_expr.specs.Names.{place_of}
 use Rattle.ig_expr.specs.Expression.{Expression}
 use Rattle.ig_expr.specs.Kinds.{kind_in}
 use Rattle.ig_expr.specs.declared.kind.Kind.{Kind}
-use Rattle.ig_grammar.specs.Visible.{Visible, names, kinds, kind_at, with_kind}
-use Rattle.ig_text.proofs.Positions.{position-cons}
-use Rattle.ig_scope.proofs.Zipped.{firsts_zip, seconds_zip}
-
-abbrev pub place_behind : Bool → Option ℕ → Option ℕ
-place_behind b others = cond b (Some 0) (option_map (λ k. k + 1) others)
+use Rattle.ig_grammar.specs.Visible.{Visible, names, kind_at, with_kind}
+use Rattle.ig_text.proofs.Positions.{position-cons, place_behind, Behind, behind, first_behind, none_behind}
+use Rattle.ig_text.proofs.Zips.{firsts_of, seconds_of}
+use Rattle.ig_text.proofs.Lists.{contains_later}
 
 pub place_of_cons : (n : List ℕ) (ns : List (List ℕ)) (name : List ℕ) → place_of (n ∷ ns) name ≡ place_behind (is_word n name) (place_of ns name)
 place_of_cons n ns name = position-cons (λ z. is_word z name) n ns
-
-contains_later : (n : List ℕ) (ns : List (List ℕ)) (name : List ℕ) → Contains ns name → Contains (n ∷ ns) name
-contains_later n ns name h = (suc h.0, (let l = h.1 in omega arith), h.2)
 
 found : (b : Bool) (r : Option ℕ) → is_some r ≡ true → is_some (place_behind b r) ≡ true
 found true r e = refl
@@ -51,27 +46,11 @@ contains_place (n ∷ ns) name h = ap is_some (place_of_cons n ns name) ∙ at h
 pub sees_by_place : (ns : List (List ℕ)) (name : List ℕ) (b : Bool) → is_some (place_of ns name) ≡ b → IsTrue b ↔ Contains ns name
 sees_by_place ns name b e = ((λ t. place_contains ns name (e ∙ t)), (λ h. sym e ∙ contains_place ns name h))
 
--- the names and the kinds of two lists as one
-pub zipped_names : (v : Visible) (ns : List (List ℕ)) (ks : List Kind) → zip ns ks ≡ v → length ns ≡ length ks → names v ≡ ns
-zipped_names v ns ks e l = ap names (sym e) ∙ firsts_zip ns ks l
-
-pub zipped_kinds : (v : Visible) (ns : List (List ℕ)) (ks : List Kind) → zip ns ks ≡ v → length ns ≡ length ks → kinds v ≡ ks
-zipped_kinds v ns ks e l = ap kinds (sym e) ∙ seconds_zip ns ks l
-
+-- the kind of an expression, by the names and the kinds of two lists as one
 pub zipped_kind : (v : Visible) (ns xs : List (List ℕ)) (ks ys : List Kind) (e : Expression) (r : Option Kind) →
     zip ns ks ≡ v → length ns ≡ length ks → xs ≡ ns → ys ≡ ks → r ≡ kind_in xs ys e → r ≡ kind_at v e
 zipped_kind v ns xs ks ys e r z l p q h =
-    h ∙ (λ i. kind_in (p i) (q i) e) ∙ (λ i. kind_in (sym (zipped_names v ns ks z l) i) (sym (zipped_kinds v ns ks z l) i) e)
-
--- what a place says of the place in the rest
-abbrev Behind : Bool → Option ℕ → ℕ → Type 0
-Behind true r p = p ≡ 0
-Behind false r p = (q : ℕ) × (p ≡ suc q) × (r ≡ Some q)
-
-behind : (b : Bool) (r : Option ℕ) (p : ℕ) → place_behind b r ≡ Some p → Behind b r p
-behind true r p e = cc
-behind false None p e = cc
-behind false (Some q) p e = let s : q + 1 ≡ p = cc in (q, omega arith, refl)
+    h ∙ (λ i. kind_in (p i) (q i) e) ∙ (λ i. kind_in (sym (firsts_of v ns ks z l) i) (sym (seconds_of v ns ks z l) i) e)
 
 -- a new kind where the name has a place
 pub with_kind_placed : (ns : List (List ℕ)) (ks : List Kind) (name : List ℕ) (k : Kind) (p : ℕ) → length ns ≡ length ks →
@@ -93,13 +72,6 @@ with_kind_placed (n ∷ ns) (m ∷ ks) name k p l e =
         let z : Behind false (place_of ns name) p = subst (λ b. Behind b (place_of ns name) p) w h in
         ap (λ i. zip (n ∷ ns) (set (m ∷ ks) i k)) z.1 ∙ ap (λ x. (n, m) ∷ x) (r z.0 z.2) ∙
         sym (ap (λ b. cond b ((name, k) ∷ zip ns ks) ((n, m) ∷ with_kind (zip ns ks) name (Some k))) w)
-
-first_behind : (r : Option ℕ) → place_behind true r ≡ None → ⊥
-first_behind r e = cc
-
-none_behind : (r : Option ℕ) → place_behind false r ≡ None → r ≡ None
-none_behind None e = refl
-none_behind (Some k) e = cc
 
 -- a new name goes to the end
 pub with_kind_new : (v : Visible) (name : List ℕ) (k : Kind) → place_of (names v) name ≡ None → with_kind v name (Some k) ≡ v ++ (name, k) ∷ []

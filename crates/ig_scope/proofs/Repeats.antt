@@ -1,21 +1,24 @@
 -- Names that stand among earlier ones.
-use Rattle.std.proofs.Common.{◌≡◌, ℕ, zero, suc, ◌<◌, ◌+◌, ◌⊎◌, inl, inr, List, [], ◌∷◌, ◌++◌, length, get_or, take, map, Option, Some, None, Bool, true, false, cond, refl, sym, ◌∙◌, ap, subst, arith, true≢false}
-use Rattle.std.specs.Prelude.{Contains, IsTrue, ◌↔◌, slice_get, is_some, nat_lt, nat_eq, ◌||◌, not}
+use Rattle.std.proofs.Common.{◌≡◌, ℕ, zero, suc, ◌<◌, ◌+◌, inl, inr, List, [], ◌∷◌, ◌++◌, length, get_or, take, map, Option, Some, None, Bool, true, false, cond, refl, sym, ◌∙◌, ap, subst, arith, true≢false}
+use Rattle.std.specs.Prelude.{Contains, IsTrue, ◌↔◌, slice_get, is_some, nat_lt, ◌||◌, not}
 use Rattle.std.specs.List.{list_any}
 use Rattle.std.specs.Cmp.Lexicographic.{bytes_decides}
 use Rattle.std.proofs.lemmas.Bool.Decides.{nat_tests}
 use Rattle.std.proofs.lemmas.List.{take-map, map_more}
 use Rattle.std.proofs.lemmas.Option.{slice_get-get_or}
+use Rattle.std.proofs.lemmas.Bool.{or_right, not-true, not-false}
 use denote.Ref.{Bor}
 use Rattle.indexmap.specs.IndexSet.{insert_key}
 use Rattle.ig_text.specs.Words.{is_word}
+use Rattle.ig_text.proofs.Positions.{place_behind}
+use Rattle.ig_text.proofs.Orders.{below_or_at}
 use Rattle.ig_expr.specs.Names.{place_of}
 use Rattle.ig_grammar.specs.Names.{names as declared_names}
 use Rattle.ig_grammar.specs.Visible.{names, parameters}
 use Rattle.ig_grammar.specs.declared.declaration.Param.{Param}
 use Rattle.ig_grammar.specs.declared.declaration.Decl.{Decl}
 use Rattle.ig_scope.specs.Heads.{HasRepeated}
-use Rattle.ig_scope.proofs.NamePlaces.{place_behind, place_of_cons, sees_by_place}
+use Rattle.ig_scope.proofs.NamePlaces.{place_of_cons, sees_by_place}
 
 -- a place is before n
 abbrev pub before : Option ℕ → ℕ → Bool
@@ -65,10 +68,6 @@ any_contains (k ∷ keys) name e = go (is_word name k.now) refl (any_contains ke
     go true w h = (0, omega arith, sym ((bytes_decides name k.now).0 w))
     go false w h = let c = h (sym (ap (λ b. b || list_any (λ k. is_word name k.now) keys) w) ∙ e) in (suc c.0, (let l = c.1 in omega arith), c.2)
 
-any_either : (b c : Bool) → c ≡ true → (b || c) ≡ true
-any_either true c e = refl
-any_either false c e = e
-
 pub contains_any : (keys : List (Bor (List ℕ))) (name : List ℕ) → Contains (map (λ k. k.now) keys) name → list_any (λ k. is_word name k.now) keys ≡ true
 contains_any [] name m = let l = m.1 in let f : ⊥ = omega arith in absurd f
 contains_any (k ∷ keys) name m = go m.0 m.1 m.2 (contains_any keys name)
@@ -76,7 +75,7 @@ contains_any (k ∷ keys) name m = go m.0 m.1 m.2 (contains_any keys name)
     go : (i : ℕ) → i < length (map (λ k. k.now) (k ∷ keys)) → get_or (map (λ k. k.now) (k ∷ keys)) i name ≡ name →
         (Contains (map (λ k. k.now) keys) name → list_any (λ k. is_word name k.now) keys ≡ true) → list_any (λ k. is_word name k.now) (k ∷ keys) ≡ true
     go zero l e h = let w : is_word name k.now ≡ true = (bytes_decides name k.now).1 (sym e) in ap (λ b. b || list_any (λ k. is_word name k.now) keys) w
-    go (suc i) l e h = any_either (is_word name k.now) (list_any (λ k. is_word name k.now) keys) (h (i, omega arith, e))
+    go (suc i) l e h = or_right (is_word name k.now) (list_any (λ k. is_word name k.now) keys) (h (i, omega arith, e))
 
 -- no parameter before n repeats an earlier name
 abbrev pub NoneRepeated : List Param → ℕ → Type 0
@@ -97,17 +96,13 @@ got ps i x l e = slice_get-get_or ps i x l ∙ ap Some (sym e)
 pub repeated_found : (keys : List (Bor (List ℕ))) (ps : List Param) (i : ℕ) (x : Param) (word : List ℕ) (b : Bool) → i < length ps → x ≡ get_or ps i x → word ≡ x.name →
     HasNames keys ps i → b ≡ not (list_any (λ k. is_word word k.now) keys) → b ≡ false → HasRepeated ps
 repeated_found keys ps i x word b l e w h a f =
-    (i, x, got ps i x l e, subst (Contains (names (parameters (take i ps)))) w (subst (λ z. Contains z word) h.same (any_contains keys word (undone (list_any (λ k. is_word word k.now) keys) (sym a ∙ f)))))
-  where
-    undone : (b : Bool) → not b ≡ false → b ≡ true
-    undone true e = refl
-    undone false e = sym e
+    (i, x, got ps i x l e, subst (Contains (names (parameters (take i ps)))) w (subst (λ z. Contains z word) h.same (any_contains keys word (not-false (list_any (λ k. is_word word k.now) keys) (sym a ∙ f)))))
 
 pub names_more : (old new : List (Bor (List ℕ))) (ps : List Param) (i : ℕ) (x : Param) (key : Bor (List ℕ)) (b : Bool) → i < length ps → x ≡ get_or ps i x → key.now ≡ x.name →
     HasNames old ps i → b ≡ not (list_any (λ k. is_word key.now k.now) old) → b ≡ true →
     new ≡ insert_key (λ x y. is_word x.now y.now) old key → HasNames new ps (i + 1)
 names_more old new ps i x key b l e w h a t n =
-    let absent : list_any (λ k. is_word key.now k.now) old ≡ false = undone (list_any (λ k. is_word key.now k.now) old) (sym a ∙ t) in
+    let absent : list_any (λ k. is_word key.now k.now) old ≡ false = not-true (list_any (λ k. is_word key.now k.now) old) (sym a ∙ t) in
     record {
       same =
           ap (map (λ k. k.now)) (n ∙ ap (λ b. cond b old (old ++ key ∷ [])) absent) ∙ map_pushed old ∙
@@ -115,10 +110,6 @@ names_more old new ps i x key b l e w h a t n =
       apart = λ k p s g m. go absent k p s g m;
     }
   where
-    undone : (b : Bool) → not b ≡ true → b ≡ false
-    undone true e = sym e
-    undone false e = refl
-
     map_pushed : (keys : List (Bor (List ℕ))) → map (λ k. k.now) (keys ++ key ∷ []) ≡ map (λ k. k.now) keys ++ key.now ∷ []
     map_pushed [] = refl
     map_pushed (k ∷ keys) = ap (λ z. k.now ∷ z) (map_pushed keys)
@@ -134,16 +125,11 @@ names_more old new ps i x key b l e w h a t n =
 
     go : list_any (λ k. is_word key.now k.now) old ≡ false → NoneRepeated ps (i + 1)
     go absent k p s g m =
-        elim (split k i s) [
+        elim (below_or_at k i s) [
           | inl r ↦ h.apart k p r g m
           | inr r ↦ true≢false (sym (contains_any old key.now (subst (λ z. Contains z key.now) (sym h.same)
               (subst (λ j. Contains (names (parameters (take j ps))) key.now) r (subst (Contains (names (parameters (take k ps)))) (ap (λ (z : Param). z.name) (sym (last k p r g)) ∙ sym w) m)))) ∙ absent)
         ]
-      where
-        split : (k i : ℕ) → k < i + 1 → (k < i) ⊎ (k ≡ i)
-        split k zero l = inr (omega arith)
-        split zero (suc i) l = inl (omega arith)
-        split (suc k) (suc i) l = elim (split k i (omega arith)) [ inl r ↦ inl (omega arith) | inr r ↦ inr (ap suc r) ]
 
 pub none_repeated : (keys : List (Bor (List ℕ))) (ps : List Param) (i : ℕ) → (i < length ps → ⊥) → HasNames keys ps i → IsTrue false ↔ HasRepeated ps
 none_repeated keys ps i l h = (
@@ -161,13 +147,3 @@ none_yet keys ps e = record {
   same = ap (map (λ k. k.now)) e;
   apart = λ k p l s m. (let f : ⊥ = omega arith in f);
 }
-
-pub is_nothing : {X : Type 0} (xs ys : List X) (b : Bool) → b ≡ nat_eq (length xs) 0 → b ≡ true → xs ≡ ys → ys ≡ []
-is_nothing [] ys b e t s = sym s
-is_nothing (x ∷ xs) ys b e t s =
-    let h : nat_eq (suc (length xs)) 0 ≡ true = sym e ∙ t in
-    let f : nat_eq (suc (length xs)) 0 ≡ false = grind (arith, nat_tests) in absurd (true≢false (sym h ∙ f))
-
-pub is_something : {X : Type 0} (xs ys : List X) (b : Bool) → b ≡ nat_eq (length xs) 0 → b ≡ false → xs ≡ ys → ys ≡ [] → ⊥
-is_something [] ys b e t s n = let h : nat_eq 0 0 ≡ false = sym e ∙ t in let f : nat_eq 0 0 ≡ true = grind (arith, nat_tests) in true≢false (sym f ∙ h)
-is_something (x ∷ xs) ys b e t s n = let f : x ∷ xs ≡ [] = s ∙ n in cc

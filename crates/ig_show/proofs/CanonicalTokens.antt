@@ -13,6 +13,7 @@ use Rattle.ig_syntax.specs.Token.{Token}
 use Rattle.ig_syntax.specs.Spelling.{IsToken, entry, signs, keywords, named_classes, is_one_of, literal_signs, class_signs, IsLetter, SpellsText, SpellsRanges}
 use Rattle.ig_syntax.specs.Spelling as table
 use Rattle.ig_text.proofs.Tables.{found_row}
+use Rattle.ig_text.proofs.Numbers.{same_number}
 use Rattle.ig_show.specs.Spelling.{spelling, numeral, literal_character, class_character, range_spelling, control_or, escape}
 use Rattle.ig_show.proofs.Numerals.{spells_numeral}
 
@@ -89,33 +90,30 @@ number_spelled n =
     subst (λ z. IsToken (numeral n) (token.Number z)) (spells_numeral n).value (table.number (numeral n) (spells_numeral n).is_numeral)
 
 -- characters of a literal
-same_as : (c k : ℕ) → (c == k) ≡ true → c ≡ k
-same_as c k h = grind (arith, nat_tests)
-
 control_spelled : (special : List ℕ) (c : ℕ) → is_one_of special c ≡ false →
     table.escape special 110 ≡ Some 10 → table.escape special 114 ≡ Some 13 → table.escape special 116 ≡ Some 9 →
     IsLetter special (control_or (c ∷ []) c) c
 control_spelled special c h lf cr tab = lines (c == 10) refl
   where
     tabs : (b : Bool) → (c == 9) ≡ b → (c == 10) ≡ false → IsLetter special (cond b (escape 116) (c ∷ [])) c
-    tabs true e n = subst (IsLetter special (escape 116)) (sym (same_as c 9 e)) (table.escaped 116 9 tab)
+    tabs true e n = subst (IsLetter special (escape 116)) (sym (same_number c 9 e)) (table.escaped 116 9 tab)
     tabs false e n = table.bare c (plain n h)
       where
         plain : (c == 10) ≡ false → is_one_of special c ≡ false → is_one_of (10 ∷ special) c ≡ false
         plain a b = let k : (10 == c) ≡ false = grind (arith, nat_tests) in rw (k, b) refl
 
     returns : (b : Bool) → (c == 13) ≡ b → (c == 10) ≡ false → IsLetter special (cond b (escape 114) (cond (c == 9) (escape 116) (c ∷ []))) c
-    returns true e n = subst (IsLetter special (escape 114)) (sym (same_as c 13 e)) (table.escaped 114 13 cr)
+    returns true e n = subst (IsLetter special (escape 114)) (sym (same_number c 13 e)) (table.escaped 114 13 cr)
     returns false e n = tabs (c == 9) refl n
 
     lines : (b : Bool) → (c == 10) ≡ b → IsLetter special (cond b (escape 110) (cond (c == 13) (escape 114) (cond (c == 9) (escape 116) (c ∷ [])))) c
-    lines true e = subst (IsLetter special (escape 110)) (sym (same_as c 10 e)) (table.escaped 110 10 lf)
+    lines true e = subst (IsLetter special (escape 110)) (sym (same_number c 10 e)) (table.escaped 110 10 lf)
     lines false e = returns (c == 13) refl e
 
 -- a character that stands for itself behind a backslash
 escape_spelled : (special : List ℕ) (c k : ℕ) → (c == k) ≡ true → table.escape special k ≡ Some k → IsLetter special (escape c) c
 escape_spelled special c k e h =
-    subst (λ z. IsLetter special (escape z) z) (sym (same_as c k e)) (table.escaped k k h)
+    subst (λ z. IsLetter special (escape z) z) (sym (same_number c k e)) (table.escaped k k h)
 
 differ : (c k : ℕ) → (c == k) ≡ false → (k == c) ≡ false
 differ c k h = grind (arith, nat_tests)
@@ -168,7 +166,7 @@ class_letter c = opens (c == 91) refl
 one_range : (r : ℕ × ℕ) (rs : List (ℕ × ℕ)) → r.0 ≤ r.1 → (b : Bool) → (r.0 == r.1) ≡ b → SpellsRanges (flat_map range_spelling rs) rs →
     SpellsRanges (cond b (class_character r.0) (class_character r.0 ++ 45 ∷ class_character r.1) ++ flat_map range_spelling rs) (r ∷ rs)
 one_range r rs h true e s =
-    subst (λ z. SpellsRanges (class_character r.0 ++ flat_map range_spelling rs) ((r.0, z) ∷ rs)) (same_as r.0 r.1 e)
+    subst (λ z. SpellsRanges (class_character r.0 ++ flat_map range_spelling rs) ((r.0, z) ∷ rs)) (same_number r.0 r.1 e)
     (table.one_character (class_character r.0) (flat_map range_spelling rs) _ r.0 rs (class_letter r.0) s refl)
 one_range r rs h false e s =
     table.two_characters (class_character r.0) (class_character r.1) (flat_map range_spelling rs) _ r.0 r.1 rs (class_letter r.0) (class_letter r.1) h s

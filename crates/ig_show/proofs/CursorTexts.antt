@@ -12,6 +12,7 @@ use Rattle.std.proofs.lemmas.Option.{same_Some}
 use Rattle.std.proofs.lemmas.List.Elements.{All-nil, All-cons, All-head, All-tail}
 use Rattle.std.proofs.lemmas.List.Splits.{slice_split_none, slice_split_at}
 use Rattle.ig_text.specs.Words.{is_digit}
+use Rattle.ig_text.proofs.Equal.{same_first, same_rest}
 use Rattle.ig_syntax.specs.Spelling.{IsNumeral, nought, digits}
 use Rattle.ig_forest.specs.Cursors.{IsShortCursor}
 use Rattle.ig_show.specs.Laws.{CursorTextsDiffer}
@@ -52,12 +53,6 @@ numbers_apart n (m ∷ ms) short =
     (no_points (decimal n) (decimal_digits n (All-head IsShort n (m ∷ ms) short))) refl ∙
     ap (λ z. decimal n ∷ z) (numbers_apart m ms (All-tail IsShort n (m ∷ ms) short))
 
-first_same : {X : Type 0} (x y : X) (xs ys : List X) → x ∷ xs ≡ y ∷ ys → x ≡ y
-first_same x y xs ys e = cc
-
-rest_same : {X : Type 0} (x y : X) (xs ys : List X) → x ∷ xs ≡ y ∷ ys → xs ≡ ys
-rest_same x y xs ys e = cc
-
 same_numbers : (cs ds : List ℕ) → IsShortCursor cs → IsShortCursor ds → map decimal cs ≡ map decimal ds → cs ≡ ds
 same_numbers [] [] short others e = refl
 same_numbers [] (m ∷ ms) short others e = cc
@@ -66,15 +61,15 @@ same_numbers (n ∷ ns) (m ∷ ms) short others e =
     let a = All-head IsShort n ns short in
     let b = All-head IsShort m ms others in
     ap₂ (λ z zs. z ∷ zs)
-    (decimal_injective n m (omega (arith, a)) (omega (arith, b)) (first_same (decimal n) (decimal m) (map decimal ns) (map decimal ms) e))
+    (decimal_injective n m (omega (arith, a)) (omega (arith, b)) (same_first (decimal n) (decimal m) (map decimal ns) (map decimal ms) e))
     (same_numbers ns ms (All-tail IsShort n ns short) (All-tail IsShort m ms others)
-    (rest_same (decimal n) (decimal m) (map decimal ns) (map decimal ms) e))
+    (same_rest (decimal n) (decimal m) (map decimal ns) (map decimal ms) e))
 
 -- a number isn't the word
 pub never_only : (n : ℕ) (ns : List ℕ) → IsShortCursor (n ∷ ns) → codes "only" ≡ cursor_text (n ∷ ns) → ⊥
 never_only n ns short e =
     let pieces : codes "only" ∷ [] ≡ map decimal (n ∷ ns) = ap (slice_split is_point) e ∙ numbers_apart n ns short in
-    let word : codes "only" ≡ decimal n = first_same (codes "only") (decimal n) [] (map decimal ns) pieces in
+    let word : codes "only" ≡ decimal n = same_first (codes "only") (decimal n) [] (map decimal ns) pieces in
     let no : false ≡ true = ap (list_all is_digit) word ∙ decimal_digits n (All-head IsShort n ns short) in
     cc
 

@@ -12,6 +12,5 @@ pub mod Bytes
 pub mod Listing
 pub mod Nested
 pub mod CursorTexts
-pub mod Once
 pub mod SortedTexts
 pub mod Reporting

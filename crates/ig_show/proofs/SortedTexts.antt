@@ -7,9 +7,10 @@ use Rattle.std.specs.Ordering.{nat_cmp}
 use Rattle.std.specs.String.{string_cmp, string_eq}
 use Rattle.std.proofs.lemmas.Map.Lookups.{exact_bytes}
 use Rattle.ig_text.specs.declared.pattern.Pattern.{Pattern}
+use Rattle.ig_text.proofs.Lists.{mapped_in, unmapped_in}
+use Rattle.ig_text.proofs.Once.{kept_once, once_members, once_order}
 use Rattle.ig_show.specs.CoreText.{pattern_bytes}
 use Rattle.ig_show.specs.ReportText.{AreTextsOf}
-use Rattle.ig_show.proofs.Once.{map_member, member_of_map, kept_once, once_members, once_order}
 
 pub are_texts : {Z : Type 0} (patterns : List Pattern) (xs ys zs : List (String Z)) → map string_bytes xs ≡ map pattern_bytes patterns →
     IsPermutation xs ys → IsSorted string_cmp ys → IsFiltered (DiffersFromLast string_eq) [] ys zs →
@@ -20,9 +21,9 @@ are_texts {Z} patterns xs ys zs is moved sorted filtered =
     let members = once_members bytes nat_list_cmp_total exact_bytes xs ys zs moved kept in
     record {
       members = λ text. (
-        λ c. member_of_map pattern_bytes patterns text (subst (λ v. Contains v text) is ((members text).0 c)),
+        λ c. unmapped_in pattern_bytes patterns text (subst (λ v. Contains v text) is ((members text).0 c)),
         λ (p, among, e). (members text).1
-            (subst (λ v. Contains v text) (sym is) (subst (Contains (map pattern_bytes patterns)) e (map_member pattern_bytes patterns p among))),
+            (subst (λ v. Contains v text) (sym is) (subst (Contains (map pattern_bytes patterns)) e (mapped_in pattern_bytes patterns p among))),
       );
       order = once_order bytes nat_list_cmp_total exact_bytes ys zs sorted kept;
     }

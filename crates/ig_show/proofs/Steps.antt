@@ -58,9 +58,6 @@ pub pushed_character : {T E : Type 0} {a b : List ℕ} (c : ℕ) (r : Result T E
 pushed_character {T} {E} {a} {b} c r s u e =
     subst (λ z. OnOk r (Appends a b z)) (character_spelled c s) (pushed (encode_utf8 c) r u e)
 
-past_end : {X : Type 0} (xs : List X) (i : ℕ) → length xs ≤ i → drop i xs ≡ []
-past_end xs i h = drop_all i xs h
-
 -- in a loop, the word is written but for what is left
 pub record Left (a b word left : List ℕ) : Type 0 where
   pub kept : (s : List ℕ) → chars b ++ (left ++ s) ≡ chars a ++ (word ++ s)
@@ -82,7 +79,7 @@ less_left {X} {a} {b} {c} {word} f xs i d x e h l q =
 
 pub none_left : {X : Type 0} {a b word : List ℕ} (f : X → List ℕ) (xs : List X) (i : ℕ) → length xs ≤ i →
     Left a b word (flat_map f (drop i xs)) → Appends a b word
-none_left f xs i h l = record { grown = λ s. (rw (past_end xs i h) at l.kept s) }
+none_left f xs i h l = record { grown = λ s. (rw (drop_all i xs h) at l.kept s) }
 
 -- the same of pieces
 pub record Ahead (a b : List ℕ) (shown left : List Piece → List Piece) : Type 0 where
@@ -111,7 +108,7 @@ less_ahead {X} {a} {b} {c} {shown} {f} left xs i d x same h l p e =
 pub none_ahead : {X : Type 0} {a b : List ℕ} {shown : List Piece → List Piece} (left : List X → List Piece → List Piece) (xs : List X) (i : ℕ) →
     length xs ≤ i → ((ps : List Piece) → left [] ps ≡ ps) → Ahead a b shown (left (drop i xs)) → Adds a b shown
 none_ahead {X} {a} {b} left xs i h e l =
-    record { grown = λ ps. ap (λ z. chars b ++ text z) (sym (e ps) ∙ ap (λ z. left z ps) (sym (past_end xs i h))) ∙ l.kept ps }
+    record { grown = λ ps. ap (λ z. chars b ++ text z) (sym (e ps) ∙ ap (λ z. left z ps) (sym (drop_all i xs h))) ∙ l.kept ps }
 
 pub two_ends : (a b : ℕ) → (a ≡ b → ⊥) → class_character a ++ 45 ∷ class_character b ≡ range_spelling (a, b)
 two_ends a b n = rw (ne_eqb a b n) refl

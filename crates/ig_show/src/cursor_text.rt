@@ -4,6 +4,7 @@ ghost use Rattle.std.specs.Prelude.{◌≡◌, ◌++◌, ◌∷◌, ◌<◌, OnO
 ghost use Rattle.std.specs.Prelude.{string_bytes, option_map};
 ghost use Rattle.std.specs.Fmt.{decimal};
 ghost use Rattle.ig_forest.specs.Cursors.{IsShortCursor};
+ghost use Rattle.ig_item.specs.Limits.{numbers_end};
 ghost use Rattle.ig_show.specs.TreeText.{cursor_text};
 ghost use Rattle.ig_show.specs.declared.cursor_text.CursorFault.TheVariants.{NotACursor};
 
@@ -60,7 +61,7 @@ pub fn show_cursor(alloc: Global, cursor: &Cursor) -> Result<Vec<u8>, AllocError
 
 /// A number of 32 bits; it may have leading zeros or a plus sign.
 fn read_number(piece: &str) -> Option<u32>
-    ensures { (n : ℕ) → n < 4294967296 → decimal n ≡ piece.now → result ≡ Some n }
+    ensures { (n : ℕ) → n < numbers_end → decimal n ≡ piece.now → result ≡ Some n }
 {
     piece.parse::<u32>().ok()
 }

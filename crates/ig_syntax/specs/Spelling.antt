@@ -25,7 +25,8 @@ signs =
     (codes "!>>", token.NotFollowedBy) ∷ (codes "!<<", token.NotPrecededBy) ∷ (codes "==", token.EqualTo) ∷
     (codes "!=", token.NotEqualTo) ∷ (codes "<", token.Less) ∷ (codes "<=", token.AtMost) ∷ (codes ">=", token.AtLeast) ∷ []
 
--- the words that are no names (`specs/Name.antt` of ig_grammar), each with its token
+-- the words that are no names, each with its token; they are those of `specs/Name.antt` of ig_grammar, as the law
+-- `keywords_are_one` of ig_tokens says
 unfoldable pub keywords : List (List ℕ × Token)
 keywords =
     (codes "start", token.Start) ∷ (codes "syntax", token.Syntax) ∷ (codes "lexical", token.Lexical) ∷

@@ -1,5 +1,5 @@
 -- A grammar of one declaration without alternatives is well scoped.
-use Rattle.std.proofs.Common.{◌≡◌, ◌∙◌, ℕ, zero, suc, ◌<◌, List, [], ◌∷◌, Bool, true, Some, None, Contains, slice_get, if◌then◌else◌, refl, sym, ap, subst, arith, get_or, codes, chars}
+use Rattle.std.proofs.Common.{◌≡◌, ◌∙◌, ℕ, zero, suc, ◌<◌, List, [], ◌∷◌, Bool, true, Some, None, slice_get, if◌then◌else◌, refl, sym, ap, subst, arith, get_or, codes, chars}
 use Rattle.std.proofs.lemmas.Option.{same_Some}
 use Rattle.std.specs.Cmp.Lexicographic.{bytes_decides}
 use Rattle.ig_text.specs.Words.{is_word}
@@ -10,13 +10,10 @@ use Rattle.ig_grammar.specs.WellScoped.{GrammarHas, IsWellScoped}
 use Rattle.ig_grammar.specs.declared.declaration.Decl.{Decl}
 use Rattle.ig_grammar.specs.declared.grammar.Grammar.{Grammar}
 use Rattle.ig_text.proofs.Characters.{ascii_chars}
-use Rattle.ig_text.proofs.Lists.{contains_one}
+use Rattle.ig_text.proofs.Lists.{contains_one, none_in_nil}
 use Rattle.ig_text.proofs.Positions.{beside-cons}
 use Rattle.ig_rewrite.specs.Added.{IsFresh, root_name}
 use Rattle.ig_tests.specs.Barren.{barren, barren_grammar}
-
-in_empty : {X : Type 0} (x : X) → Contains [] x → ⊥
-in_empty x c = absurd (omega (arith, c.1))
 
 found : (name other : List ℕ) → name ≡ other → declaration_of (barren name ∷ []) other ≡ Some (barren name)
 found name other same =
@@ -32,7 +29,7 @@ start_fine name _ (meets.start_has_parameters other decl e is some) =
     some (ap (λ (d : Decl). d.params) (sym (same_Some (barren name) decl (sym h ∙ is))))
 
 head_fine : (name : List ℕ) (c : Condition) → HeadMeets (barren name ∷ []) 0 (barren name) c → ⊥
-head_fine name _ (meets.duplicate_name among) = in_empty name among
+head_fine name _ (meets.duplicate_name among) = none_in_nil name among
 head_fine name _ (meets.duplicate_parameter k p at among) = cc
 head_fine name _ (meets.layout_not_plain e plain) = cc
 head_fine name _ (meets.too_many_nonterminals named e) = let h : 0 ≡ 4096 = e in absurd (omega (arith, h))

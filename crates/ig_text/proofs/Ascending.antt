@@ -35,11 +35,13 @@ ascends low (x ∷ y ∷ ys) h s n =
           (sorted_tail x (y ∷ ys) s) (All-tail (λ r. r.0 ≤ r.1) x (y ∷ ys) n),
     )
 
+-- pairs that are sorted and don't fall ascend
 pub sorted_ascends : (pairs sorted given : List (ℕ × ℕ)) → given ≡ sorted → IsPermutation pairs sorted →
     IsSorted range_cmp sorted → NoneFalls pairs → Ascends 0 given
 sorted_ascends pairs sorted given e p s n =
     rw e (ascends 0 sorted (λ x rest h. omega arith) s (All-permutation (λ r. r.0 ≤ r.1) pairs sorted p n))
 
+-- the normal form of sorted pairs is that of the pairs
 pub of_permutation : (pairs sorted given ranges : List (ℕ × ℕ)) → given ≡ sorted → IsPermutation pairs sorted →
     IsNormalFormOf given ranges → IsNormalFormOf pairs ranges
 of_permutation pairs sorted given ranges e p n =

@@ -1,6 +1,6 @@
 -- Texts of ASCII characters, and texts compared by their bytes and by their characters.
-use Rattle.std.proofs.Common.{◌≡◌, ◌∙◌, ℕ, zero, suc, List, [], ◌∷◌, Bool, true, ◌&&◌, nat_lt, refl, sym, ap, arith, lit<}
-use Rattle.std.specs.Prelude.{chars, IsUtf8, encode_utf8_all}
+use Rattle.std.proofs.Common.{◌≡◌, ◌∙◌, ℕ, zero, suc, List, [], ◌∷◌, Bool, true, ◌&&◌, nat_lt, refl, sym, ap, arith, lit<, false}
+use Rattle.std.specs.Prelude.{chars, IsUtf8, encode_utf8_all, ◌≢◌}
 use Rattle.std.specs.Str.{IsAscii}
 use Rattle.std.specs.Cmp.Lexicographic.{bytes_decides}
 use Rattle.std.proofs.lemmas.Bool.{and_parts}
@@ -27,6 +27,10 @@ ascii_chars text a = chars-IsAscii text (ascii_at text a)
 pub texts_equal : (xs ys : List ℕ) → IsUtf8 xs → IsUtf8 ys → chars xs ≡ chars ys → xs ≡ ys
 texts_equal xs ys u v e = sym (encodes-chars xs u) ∙ ap encode_utf8_all e ∙ encodes-chars ys v
 
+-- the bytes of a text are those of its characters
+pub word_bytes : (bytes name : List ℕ) → IsUtf8 bytes → chars bytes ≡ name → bytes ≡ encode_utf8_all name
+word_bytes bytes name u e = sym (encodes-chars bytes u) ∙ ap encode_utf8_all e
+
 -- texts are compared by their bytes as by their characters
 pub words_equal : (xs ys a b : List ℕ) (r : Bool) → IsUtf8 xs → IsUtf8 ys → chars xs ≡ a → chars ys ≡ b →
     r ≡ is_word xs ys → r ≡ is_word a b
@@ -51,3 +55,15 @@ chars_of_word w text a u =
           (texts_equal w text (IsUtf8-from_ascii w (ascii_at w a)) u (ascii_chars w a ∙ sym e))),
     )
     (bytes_decides (chars text) w)
+
+-- words that differ are not one word
+pub differs : (a b : List ℕ) → a ≢ b → is_word a b ≡ false
+differs a b other = go (is_word a b) refl
+  where
+    go : (t : Bool) → is_word a b ≡ t → t ≡ false
+    go true e = absurd (other ((bytes_decides a b).0 e))
+    go false e = refl
+
+-- a word is that word
+pub itself : (a : List ℕ) → is_word a a ≡ true
+itself a = (bytes_decides a a).1 refl

@@ -2,8 +2,9 @@
 use Rattle.std.proofs.Common.{◌≡◌, ◌∙◌, ℕ, ◌+◌, ◌≤◌, ◌||◌, min, max, List, [], ◌∷◌, true, false, cond, ltb, refl, ap, arith}
 use Rattle.std.proofs.lemmas.Bool.Decides.{nat_tests}
 use Rattle.std.proofs.lemmas.List.Elements.{All-tail, All-cons, All-nil}
+use Rattle.std.proofs.Math.Bool.{or_assoc}
 use Rattle.ig_text.specs.Ranges.{NoneFalls, IsNormalFrom, IsNormalFormOf, NormalFormIsNormal, NormalRangesStay, is_within, is_among, with_range, normal_form}
-use Rattle.ig_text.proofs.Booleans.{or_assoc, or_swap}
+use Rattle.ig_text.proofs.Booleans.{or_swap}
 use Rattle.ig_text.proofs.Numbers.{far, near}
 use Rattle.ig_text.proofs.NormalForm.{one_normal_form}
 
@@ -71,6 +72,7 @@ put_members low r (s ∷ rest) c k n =
     ])
     refl
 
+-- what is made by putting in one range after another is the normal form
 pub form_is_normal : NormalFormIsNormal
 form_is_normal [] n = record { normal = tt; members = λ c. refl }
 form_is_normal (r ∷ pairs) n =
@@ -87,10 +89,12 @@ normal_falls_not : (low : ℕ) (xs : List (ℕ × ℕ)) → IsNormalFrom low xs 
 normal_falls_not low [] n = All-nil (λ r. r.0 ≤ r.1)
 normal_falls_not low (x ∷ xs) n = All-cons (λ r. r.0 ≤ r.1) x xs n.1 (normal_falls_not (x.1 + 2) xs n.2)
 
+-- ranges in normal form are their own
 pub ranges_stay : NormalRangesStay
 ranges_stay ranges n =
     one_normal_form ranges (normal_form ranges) ranges (form_is_normal ranges (normal_falls_not 0 ranges n))
     (record { normal = n; members = λ c. refl })
 
+-- a normal form of ranges is the one that is made
 pub class_value : (pairs ranges : List (ℕ × ℕ)) → NoneFalls pairs → IsNormalFormOf pairs ranges → ranges ≡ normal_form pairs
 class_value pairs ranges n is = one_normal_form pairs ranges (normal_form pairs) is (form_is_normal pairs n)

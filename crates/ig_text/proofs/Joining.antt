@@ -2,7 +2,7 @@
 use Rattle.std.proofs.Common.{◌≡◌, ◌∙◌, ℕ, ◌+◌, ◌≤◌, ◌||◌, List, [], ◌∷◌, ◌++◌, true, false, cond, ltb, length, drop, refl, sym, ap, subst, arith}
 use Rattle.std.proofs.lemmas.Bool.Decides.{nat_tests}
 use Rattle.std.proofs.lemmas.List.{drop_all}
-use Rattle.ig_text.proofs.Booleans.{or_assoc}
+use Rattle.std.proofs.Math.Bool.{or_assoc}
 use Rattle.ig_text.proofs.Numbers.{far, near}
 use Rattle.ig_text.specs.Ranges.{Ascends, IsNormalFrom, IsNormalFormOf, is_within, is_among}
 

@@ -13,3 +13,13 @@ pub mod Booleans
 pub mod Numbers
 pub mod Tables
 pub mod Positions
+pub mod Once
+pub mod Zips
+pub mod Emptiness
+pub mod WordPlaces
+pub mod Pairwise
+pub mod Orders
+pub mod Fallbacks
+pub mod Equal
+pub mod Filtered
+pub mod Rising

@@ -45,6 +45,7 @@ rise d b (c ∷ cs) h i j e m n =
     ])
     i j m n
 
+-- the starts of lines rise
 pub starts_rise : (text starts : List ℕ) → starts ≡ line_starts text → IsNonDecreasing starts
 starts_rise text starts e =
     subst IsNonDecreasing (sym e) (λ i j d m n. rise 0 0 text (omega arith) i j d m n)
@@ -55,6 +56,7 @@ le a b e = grind (arith, nat_tests)
 gt : (a b : ℕ) → leb a b ≡ false → b < a
 gt a b e = grind (arith, nat_tests)
 
+-- a partition point splits the starts into those up to a position and those behind it
 pub split_from : (starts : List ℕ) (p k : ℕ) → k ≤ length starts →
     IsPartitionPoint (λ y. leb y p ≡ true) (λ y. leb y p ≡ false) starts k → IsSplitAt starts p k
 split_from starts p k within h =
@@ -140,12 +142,14 @@ at_split text starts p (suc i) e l s =
     ap (λ (z : ℕ). get_or starts z 0) (omega arith) ∙ ap (λ (z : List ℕ). get_or z i 0) e in
     (omega (arith, r.0), omega (arith, r.1, same))
 
+-- the number of starts up to a position is its line
 pub line_is : (text starts : List ℕ) (p k : ℕ) → starts ≡ line_starts text → p ≤ length text → IsSplitAt starts p k →
     Some k ≡ line_at text p
 line_is text starts p k e l s =
     let inside : leb p (length text) ≡ true = grind (arith, nat_tests) in
     rw inside (ap Some (at_split text starts p k e l s).0)
 
+-- there are no more lines than positions
 pub line_le : (text starts : List ℕ) (p k : ℕ) → starts ≡ line_starts text → p ≤ length text → IsSplitAt starts p k →
     k ≤ length text + 1
 line_le text starts p k e l s =
@@ -156,6 +160,7 @@ line_le text starts p k e l s =
       length-take p text,
     )
 
+-- the distance from the start of its line gives a position's column
 pub column_is : (text starts : List ℕ) (p k start : ℕ) → starts ≡ line_starts text → p ≤ length text →
     IsSplitAt starts p k → start ≡ get_or starts (k - 1) start →
     (start ≤ p) × (p - start + 1 ≡ column_of text p)

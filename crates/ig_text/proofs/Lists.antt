@@ -1,9 +1,11 @@
--- Places in lists, in the beginnings of lists, and in lists one behind the other.
-use Rattle.std.proofs.Common.{◌≡◌, ◌⊎◌, ℕ, zero, suc, ◌+◌, ◌<◌, ◌≤◌, List, [], ◌∷◌, ◌++◌, Some, length, take, drop, get_or, Contains, slice_get, refl, sym, ap, ◌∙◌, inl, inr, ⊎_elim, arith, length-drop}
-use Rattle.std.specs.Prelude.{All}
-use Rattle.std.proofs.lemmas.List.{append_assoc, take_more}
+-- Members and places of lists: of beginnings and ranges, of lists one behind the other, of mapped lists.
+use Rattle.std.proofs.Common.{◌≡◌, ◌⊎◌, ℕ, zero, suc, ◌+◌, ◌<◌, ◌≤◌, List, [], ◌∷◌, ◌++◌, Some, length, take, drop, get_or, Contains, slice_get, refl, sym, ap, ◌∙◌, inl, inr, ⊎_elim, arith, length-drop, ◌-◌, map, subst}
+use Rattle.std.specs.Prelude.{All, slice_range, option_map}
+use Rattle.std.specs.List.{AllByRecursion}
+use Rattle.std.proofs.lemmas.List.{append_assoc, take_more, drop-append-le, take-append-le}
 use Rattle.std.proofs.lemmas.List.Elements.{All-contains, Contains-push}
-use Rattle.std.proofs.lemmas.Option.{slice_get-get_or, same_Some, slice_get_within, get_or_from_slice_get}
+use Rattle.std.proofs.lemmas.Option.{slice_get-get_or, same_Some, slice_get_within, get_or_from_slice_get, slice_get-map}
+use Rattle.std.proofs.Math.Seq.{take-length, drop-append_seam}
 
 module _ {X : Type 0} where
   -- a member stands at some place
@@ -18,12 +20,18 @@ module _ {X : Type 0} where
   pub none_in_nil : (x : X) → Contains [] x → ⊥
   none_in_nil x h = omega (arith, h.1)
 
-  -- the first member is one, and so is each of the others
+  -- the first member is one
   pub contains_first : (x : X) (xs : List X) → Contains (x ∷ xs) x
   contains_first x xs = contains_from_at (x ∷ xs) 0 x refl
 
+  -- and so is each of the others
   pub contains_later : (x : X) (xs : List X) (y : X) → Contains xs y → Contains (x ∷ xs) y
   contains_later x xs y m = let at = at_from_contains xs y m in contains_from_at (x ∷ xs) (suc at.0) y at.1
+
+  -- a member is the first one, or one of the others
+  pub in_rest : (y : X) (ys : List X) (x : X) → Contains (y ∷ ys) x → (y ≡ x) ⊎ Contains ys x
+  in_rest y ys x (zero, l, e) = inl e
+  in_rest y ys x (suc k, l, e) = inr (k, (let h : suc k < suc (length ys) = l in omega (arith, h)), e)
 
   -- a list of one has no other member
   pub contains_one : (x y : X) → Contains (x ∷ []) y → y ≡ x
@@ -77,6 +85,16 @@ module _ {X : Type 0} where
   sides (y ∷ xs) ys zero x e = inl e
   sides (y ∷ xs) ys (suc n) x e =
       ⊎_elim (λ h. inl h) (λ h. inr (h.0, omega (arith, h.1), h.2)) (sides xs ys n x e)
+
+  -- the same, the place behind what stands there
+  pub either_place : (xs ys : List X) (k : ℕ) (x : X) → slice_get (xs ++ ys) k ≡ Some x →
+      (slice_get xs k ≡ Some x) ⊎ ((m : ℕ) × (slice_get ys m ≡ Some x) × (k ≡ length xs + m))
+  either_place xs ys k x e = ⊎_elim (λ p. inl p) (λ p. inr (p.0, p.2, p.1)) (sides xs ys k x e)
+
+  -- where two lists one behind the other are empty, each is
+  pub both_empty : (xs ys : List X) → xs ++ ys ≡ [] → (xs ≡ []) × (ys ≡ [])
+  both_empty [] ys e = (refl, e)
+  both_empty (x ∷ xs) ys e = cc
 
   -- the last place of a list with one more at the end
   pub place_last : (xs : List X) (y : X) → slice_get (xs ++ y ∷ []) (length xs) ≡ Some y
@@ -183,3 +201,74 @@ module _ {X : Type 0} where
   closed_text front stop inside rest =
       append_assoc front (inside ++ stop ∷ []) rest ∙
       ap (λ (z : List X). front ++ z) (append_assoc inside (stop ∷ []) rest)
+
+  -- the member of a list of one
+  pub it_is_in : (x : X) → Contains (x ∷ []) x
+  it_is_in x = contains_from_at (x ∷ []) 0 x refl
+
+  -- a range of a list that grows stays
+  pub range_left : (xs ys : List X) (a b : ℕ) → a ≤ b → b ≤ length xs →
+      slice_range (xs ++ ys) a b ≡ slice_range xs a b
+  range_left xs ys a b onward within =
+      let few : b - a ≤ length (drop a xs) = omega (arith, length-drop a xs, within) in
+      ap (take (b - a)) (drop-append-le a xs ys (omega (arith, onward, within))) ∙ take-append-le (b - a) (drop a xs) ys few
+
+  -- the range of what was added
+  pub range_right : (xs ys : List X) (a b : ℕ) → a ≡ length xs → b ≡ length xs + length ys →
+      slice_range (xs ++ ys) a b ≡ ys
+  range_right xs ys a b a_is b_is =
+      let d : drop a (xs ++ ys) ≡ ys = ap (λ n. drop n (xs ++ ys)) a_is ∙ drop-append_seam xs ys in
+      let n : b - a ≡ length ys = omega (arith, a_is, b_is) in
+      ap (take (b - a)) d ∙ ap (λ m. take m ys) n ∙ take-length ys
+
+module _ {X Y : Type 0} (f : X → Y) where
+  -- what is made of a member is a member of the mapped list
+  pub mapped_in : (xs : List X) (x : X) → Contains xs x → Contains (map f xs) (f x)
+  mapped_in xs x c =
+      let at = at_from_contains xs x c in
+      contains_from_at (map f xs) at.0 (f x) (slice_get-map f xs at.0 ∙ ap (option_map f) at.1)
+
+  -- what is made of a member stands at its place
+  pub mapped_at : (xs : List X) (k : ℕ) (x : X) → slice_get xs k ≡ Some x → slice_get (map f xs) k ≡ Some (f x)
+  mapped_at xs k x e = slice_get-map f xs k ∙ ap (option_map f) e
+
+  -- what stands at a place of a mapped list is made of what stands there in the list
+  pub unmapped_at : (xs : List X) (k : ℕ) (y : Y) → slice_get (map f xs) k ≡ Some y →
+      (x : X) × (slice_get xs k ≡ Some x) × (f x ≡ y)
+  unmapped_at [] k y e = cc
+  unmapped_at (x ∷ xs) zero y e = (x, refl, same_Some (f x) y e)
+  unmapped_at (x ∷ xs) (suc k) y e = unmapped_at xs k y e
+
+  -- the same, what it is made of last
+  pub from_map : (xs : List X) (k : ℕ) (y : Y) → slice_get (map f xs) k ≡ Some y →
+      (x : X) × (slice_get xs k ≡ Some x) × (y ≡ f x)
+  from_map xs k y e = let u = unmapped_at xs k y e in (u.0, u.1, sym u.2)
+
+  -- a member of a mapped list is made of a member
+  pub unmapped_in : (xs : List X) (y : Y) → Contains (map f xs) y → (x : X) × Contains xs x × (f x ≡ y)
+  unmapped_in xs y c =
+      let at = at_from_contains (map f xs) y c in
+      let h = unmapped_at xs at.0 y at.1 in (h.0, contains_from_at xs at.0 h.0 h.1, h.2)
+
+-- lists with equal first members and equal others are equal
+paired : {Y : Type 0} {a b : Y} {us vs : List Y} → a ≡ b → us ≡ vs → a ∷ us ≡ b ∷ vs
+paired e h = cc
+
+-- a list is mapped by one function and by another one behind it
+pub map_twice : {X Y Z : Type 0} (f : X → Y) (g : Y → Z) (xs : List X) → map g (map f xs) ≡ map (λ x. g (f x)) xs
+map_twice f g [] = refl
+map_twice f g (x ∷ xs) = ap (λ (z : List _). g (f x) ∷ z) (map_twice f g xs)
+
+-- functions that are alike on the members map the list alike
+pub same_map : {X Y : Type 0} (f g : X → Y) (xs : List X) → ((x : X) → Contains xs x → f x ≡ g x) → map f xs ≡ map g xs
+same_map f g [] same = refl
+same_map f g (x ∷ xs) same =
+    paired (same x (contains_from_at (x ∷ xs) 0 x refl))
+    (same_map f g xs
+    (λ y c. let at = at_from_contains xs y c in same y (contains_from_at (x ∷ xs) (suc at.0) y at.1)))
+
+-- what holds of each member holds of the one at a place
+pub all_at : {X : Type 0} (P : X → Type 0) (xs : List X) (k : ℕ) (x : X) → AllByRecursion P xs → slice_get xs k ≡ Some x → P x
+all_at P [] k x all e = cc
+all_at P (y ∷ xs) zero x all e = subst P (same_Some y x e) all.0
+all_at P (y ∷ xs) (suc k) x all e = all_at P xs k x all.1 e

@@ -17,6 +17,7 @@ begins word rest r e t = (starts_is Decides-eqb rest word r e).0 t
 cut : (word rest more : List ℕ) (n : ℕ) → n ≡ length word → rest ≡ word ++ more → take n rest ≡ word
 cut word rest more n e h = rw (e, h) (take-append_seam word more)
 
+-- a word with which the rest of the text begins is spelled there
 pub spells_by_start : (text word rest : List ℕ) (i : ℕ) (r : Bool) → rest ≡ drop i text → i ≤ length text →
     r ≡ starts_with nat_eq rest word → r ≡ true → Spells text word i (i + length word)
 spells_by_start text word rest i r e h s t =
@@ -32,12 +33,14 @@ spells_by_start text word rest i r e h s t =
           (cut word rest (drop (length word) rest) (i + length word - i) (omega arith) b);
     }
 
+-- the rest of the text begins with a word that is spelled there
 pub start_by_spells : (text word rest : List ℕ) (i j : ℕ) (r : Bool) → rest ≡ drop i text →
     r ≡ starts_with nat_eq rest word → Spells text word i j → r ≡ true
 start_by_spells text word rest i j r e s sp =
     (starts_is Decides-eqb rest word r s).1 (drop (j - i) rest)
     (sym (take-append-drop (j - i) rest) ∙ ap (λ (z : List ℕ). z ++ drop (j - i) rest) (rw e sp.letters))
 
+-- a word ends as many characters behind its begin as it has
 pub spelled_width : WordsEndBehindTheirLetters
 spelled_width text word i j s =
     let len : length (take (j - i) (drop i text)) ≡ length word = ap length s.letters in

@@ -104,6 +104,7 @@ one_list low (x ∷ xs) (y ∷ ys) m n same =
     list_same x y xs ys (range_same x y begin end)
     (one_list (x.1 + 2) xs ys m.2 (rw end n.2) (others_same low x y xs ys m n same end))
 
+-- ranges have one normal form
 pub one_normal_form : HasOneNormalForm
 one_normal_form pairs xs ys m n =
     one_list 0 xs ys m.normal n.normal (λ c. m.members c ∙ sym (n.members c))

@@ -1,6 +1,6 @@
--- Values that may be missing, and orderings.
-use Rattle.std.proofs.Common.{◌≡◌, Bool, true, false, not, Option, Some, None, refl, sym, ◌∙◌}
-use Rattle.std.specs.Prelude.{is_some, is_none, option_map, option_and_then}
+-- Values that may be missing, results, and orderings.
+use Rattle.std.proofs.Common.{◌≡◌, Bool, true, false, not, Option, Some, None, refl, sym, ◌∙◌, Result, Ok, Err}
+use Rattle.std.specs.Prelude.{is_some, is_none, option_map, option_and_then, OnOk}
 use Rattle.std.specs.declared.cmp.Ordering.{Ordering}
 use Rattle.std.specs.declared.cmp.Ordering.TheVariants.{Less, Equal, Greater}
 use Rattle.std.specs.Ordering.{ordering_then}
@@ -37,3 +37,20 @@ pub equal_parts : (a b : Ordering) → ordering_then a b ≡ Equal → (a ≡ Eq
 equal_parts Less b e = cc
 equal_parts Equal b e = (refl, e)
 equal_parts Greater b e = cc
+
+-- what an `Ok` says is carried over an equality
+pub on_ok_same : {T E A : Type 0} (r : Result T E) (x y z : A) → OnOk r (x ≡ y) → y ≡ z → OnOk r (x ≡ z)
+on_ok_same (Ok t) x y z h e = h ∙ e
+on_ok_same (Err f) x y z h e = tt
+
+-- of three parts, those that are taken together first make no difference
+pub then_assoc : (a b c : Ordering) → ordering_then (ordering_then a b) c ≡ ordering_then a (ordering_then b c)
+then_assoc Less b c = refl
+then_assoc Equal b c = refl
+then_assoc Greater b c = refl
+
+-- an equal last part decides nothing
+pub then_nothing : (o : Ordering) → ordering_then o Equal ≡ o
+then_nothing Less = refl
+then_nothing Equal = refl
+then_nothing Greater = refl

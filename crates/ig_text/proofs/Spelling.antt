@@ -12,6 +12,7 @@ pub record IsLeft (letters text rest : List ℕ) (i : ℕ) : Type 0 where
   pub utf8 : IsUtf8 rest
   pub same : chars text ≡ take i letters ++ chars rest
 
+-- at the start all characters are left
 pub all_left : (letters text rest : List ℕ) → IsUtf8 text → rest ≡ text → IsLeft letters text rest 0
 all_left letters text rest u e = rw e (record { utf8 = u; same = refl })
 
@@ -25,6 +26,7 @@ is_other (Some c) letter e h =
     let same : c ≡ letter = cc in
     let is = (Decides-eqb c letter).1 same in cc
 
+-- a character that is the next letter is one more
 pub one_more : (letters text rest behind : List ℕ) (i letter : ℕ) (r : Option ℕ) (P : Type 0) → IsLeft letters text rest i →
     i < length letters → letter ≡ get_or letters i letter →
     MatchOption r P (λ c. rest ≡ encode_utf8 c ++ behind) →
@@ -43,6 +45,7 @@ one_more letters text rest behind i letter r P l h read next e =
           ap (λ (z : List ℕ). z ++ chars behind) (sym step);
     }
 
+-- a character that isn't tells the text from the letters
 pub another : (letters text rest : List ℕ) (i letter : ℕ) (r : Option ℕ) → IsLeft letters text rest i →
     i < length letters → letter ≡ get_or letters i letter → r ≡ slice_get (chars rest) 0 →
     option_eq eqb r (Some letter) ≡ false → letters ≡ chars text → ⊥
@@ -58,6 +61,7 @@ is_empty : (xs : List ℕ) → is_none (slice_get xs 0) ≡ true → xs ≡ []
 is_empty [] e = refl
 is_empty (x ∷ xs) e = cc
 
+-- behind all letters the text is the letters where no character is left
 pub none_left : (letters text rest : List ℕ) (i : ℕ) (r : Option ℕ) (all : Bool) → IsLeft letters text rest i →
     length letters ≤ i → r ≡ slice_get (chars rest) 0 → is_some r ≡ not all → IsTrue all ↔ (letters ≡ chars text)
 none_left letters text rest i r all l over next e =

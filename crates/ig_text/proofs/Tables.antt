@@ -3,6 +3,7 @@ use Rattle.std.proofs.Common.{◌≡◌, List, [], ◌∷◌, Bool, true, false,
 use Rattle.std.specs.Map.{lookup}
 use Rattle.std.proofs.lemmas.Bool.{and_parts}
 
+-- the test passes for each row
 abbrev pub all_rows : {K A : Type 0} → (K → A → Bool) → List (K × A) → Bool
 all_rows test [] = true
 all_rows test (row ∷ rows) = test row.0 row.1 && all_rows test rows

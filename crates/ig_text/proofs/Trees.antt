@@ -1,6 +1,6 @@
 -- Lists of trees one behind the other.
-use Rattle.std.proofs.Common.{◌≡◌, refl, sym, ap, ap₂}
-use Rattle.ig_text.specs.Tree.{Tree, Trees, none, more, one, join}
+use Rattle.std.proofs.Common.{◌≡◌, refl, sym, ap, ap₂, max, arith}
+use Rattle.ig_text.specs.Tree.{Tree, Trees, none, more, one, join, height, greatest_height}
 
 -- what is joined first makes no difference
 pub join_join : (ts us vs : Trees) → join (join ts us) vs ≡ join ts (join us vs)
@@ -11,6 +11,13 @@ join_join (more t ts) us vs = ap (more t) (join_join ts us vs)
 pub join-none : (ts : Trees) → join ts none ≡ ts
 join-none none = refl
 join-none (more t ts) = ap (more t) (join-none ts)
+
+-- trees that are joined are no higher than the higher ones
+pub joined_height : (ts us : Trees) → greatest_height (join ts us) ≡ max (greatest_height ts) (greatest_height us)
+joined_height none us = let h : greatest_height us ≡ max 0 (greatest_height us) = omega arith in h
+joined_height (more t ts) us =
+    let h = joined_height ts us in
+    let i : max (height t) (greatest_height (join ts us)) ≡ max (max (height t) (greatest_height ts)) (greatest_height us) = omega (arith, h) in i
 
 -- the first tree, and those behind it
 pub more_parts : (s r : Tree) (ts us : Trees) → more s ts ≡ more r us → (s ≡ r) × (ts ≡ us)

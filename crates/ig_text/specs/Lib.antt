@@ -10,3 +10,4 @@ pub mod Decoding
 pub mod Laws
 pub mod Words
 pub mod TagNumber
+pub mod Pairwise

@@ -4,9 +4,11 @@ use Rattle.std.specs.Prelude.{unwrap_or}
 use Rattle.std.specs.Char.{is_ascii_alphanumeric}
 use Rattle.std.proofs.lemmas.List.{take_at, drop_at, take_all, drop_all}
 use Rattle.std.proofs.lemmas.Bool.Decides.{nat_tests}
+use Rattle.std.proofs.lemmas.Bool.{not-true}
 use Rattle.unicode_ident.specs.Ident.{is_xid_continue}
 use Rattle.unicode_ident.proofs.IdentLemmas.{is_xid_continue-ascii}
 use Rattle.ig_text.proofs.Lists.{closed_text}
+use Rattle.ig_text.proofs.Booleans.{rest_false}
 use Rattle.ig_text.specs.Ranges.{normal_form}
 use Rattle.ig_text.specs.declared.class.Class.{Class}
 use Rattle.ig_text.specs.declared.class.Class.TheVariants as class
@@ -20,7 +22,7 @@ use Rattle.ig_tokens.specs.Scanner as scanner
 use Rattle.ig_tokens.specs.Scanner.{Next, next, run, past, word_token, keyword_or_name, name_token, numeral, number_token, literal_token, class_token, named_class, named_token, sign_token, sign_of, comment, separator, ended, broken, body, closed, literal_of, not_empty, text_of, class_of, class_with, ranges_of, between}
 use Rattle.ig_tokens.proofs.Named.{IsWord, word, name_word, name_entry}
 use Rattle.ig_tokens.proofs.Runs.{run_front, past_front, run_none, past_none, past_shorter, line_all, line_ends}
-use Rattle.ig_tokens.proofs.Spelled.{text_read, text_body, body_more, no_member, or_false}
+use Rattle.ig_tokens.proofs.Spelled.{text_read, text_body, body_more, no_member}
 use Rattle.ig_tokens.proofs.SpelledRanges.{ranges_read, ranges_body}
 use Rattle.ig_tokens.proofs.Entries.{keyword_word, class_name_continues, word_continues, named_class_precedes, sign_text, IsSignText}
 use Rattle.ig_tokens.proofs.Dispatch.{next_word, next_digit, next_quote, next_dollar, next_bracket, next_sign, next_blank}
@@ -116,10 +118,6 @@ no_digit (c ∷ cs) h = go (is_digit c) refl
     go false e = refl
     go true e = let k = digit_continues c e in cc
 
-not_true : (b : Bool) → not b ≡ true → b ≡ false
-not_true true e = absurd (cc)
-not_true false e = refl
-
 number_here : (w rest : List ℕ) → begins is_xid_continue rest ≡ false →
     number_token w rest ≡ scanner.token (token.Number (spelled 0 w)) rest
 number_here w rest h = rw h refl
@@ -160,7 +158,7 @@ letter_begins first c more inside (bare d k) e =
       first = c;
       others = more;
       parts = e;
-      no_caret = no_member class_signs 94 c refl (or_false (10 == c) (is_one_of class_signs c) k);
+      no_caret = no_member class_signs 94 c refl (rest_false (10 == c) (is_one_of class_signs c) k);
     }
 letter_begins first c more inside (escaped d x k) e =
     record { first = 92; others = d ∷ more; parts = e; no_caret = refl }
@@ -277,7 +275,7 @@ token_covers (spelling.head cs whole n e) rest f =
     rw e (subst (λ (z : List ℕ). Covers (next z) (token.Head cs) rest) (sym (append_assoc cs (40 ∷ []) rest)) (equal_covers (next (cs ++ 40 ∷ rest)) (token.Head cs) rest (head_read cs rest (name_word cs n) (name_entry cs n))))
 token_covers (spelling.number cs i) rest f =
     equal_covers (next (cs ++ rest)) (token.Number (spelled 0 cs)) rest
-    (number_read i rest (not_true (begins is_xid_continue rest) f))
+    (number_read i rest (not-true (begins is_xid_continue rest) f))
 token_covers (spelling.literal inside whole c t s e) rest f =
     rw e (equal_covers (next ((34 ∷ (inside ++ 34 ∷ [])) ++ rest)) (token.Literal (c ∷ t)) rest
     (ap next (closed_text (34 ∷ []) 34 inside rest) ∙ literal_read inside rest c t s))
@@ -289,7 +287,7 @@ token_covers (spelling.other_ranges inside whole p ps s e) rest f =
     (ap next (closed_text (91 ∷ 94 ∷ []) 93 inside rest) ∙ negated_read inside rest p ps s))
 token_covers (spelling.named_class cs c h) rest f =
     equal_covers (next (36 ∷ (cs ++ rest))) (token.OneOf c) rest
-    (named_read cs rest c h (not_true (begins is_xid_continue rest) (sym (named_class_precedes cs rest c h) ∙ f)))
+    (named_read cs rest c h (not-true (begins is_xid_continue rest) (sym (named_class_precedes cs rest c h) ∙ f)))
 token_covers (spelling.sign cs t h) rest f = sign_covers cs rest t h (sign_text cs t h)
 token_covers (spelling.keyword cs t h) rest f =
     word_covers cs rest t (begins is_xid_continue rest) (keyword_word cs t h) refl (keyword_covers cs rest t h)

@@ -1,6 +1,6 @@
 -- A token is the longest where what stands behind it makes none longer.
 use Rattle.std.proofs.Common.{◌≡◌, ◌∙◌, ap, refl, sym, subst, ℕ, List, [], ◌∷◌, ◌++◌, Bool, true, false, cond, not, ◌==◌, Option, Some, None, append_assoc, arith}
-use Rattle.std.proofs.lemmas.Bool.{and_parts}
+use Rattle.std.proofs.lemmas.Bool.{and_parts, not-true}
 use Rattle.std.proofs.lemmas.Bool.Decides.{nat_tests}
 use Rattle.std.proofs.lemmas.Slice.Eq.{bytes_eq-Decides}
 use Rattle.unicode_ident.specs.Ident.{is_xid_continue}
@@ -20,10 +20,6 @@ use Rattle.ig_tokens.proofs.Dispatch.{next_sign}
 use Rattle.ig_tokens.proofs.Tables.{single_reads}
 use Rattle.ig_tokens.proofs.Complete.{name_read, keyword_read, head_read, number_read, literal_read, class_read, negated_read, named_read}
 use Rattle.ig_tokens.proofs.Longest.{is_longest}
-
-not_true : (b : Bool) → not b ≡ true → b ≡ false
-not_true true e = absurd (cc)
-not_true false e = refl
 
 -- what holds of each row holds of the one that is found
 abbrev Each : {A : Type 0} → (List ℕ → A → Type 0) → List (List ℕ × A) → Type 0
@@ -63,8 +59,8 @@ before_another : (a : ℕ) (t : Token) (s : List ℕ) → entry signs (a ∷ [])
     ((c d : ℕ) → (c == 61) ≡ false → entry signs (a ∷ c ∷ d ∷ []) ≡ None) → not (begins (λ c. c == 61) s) ≡ true →
     sign_token (a ∷ s) ≡ scanner.token t s
 before_another a t [] h n m k = rw h refl
-before_another a t (c ∷ []) h n m k = rw (n c (not_true (c == 61) k), h) refl
-before_another a t (c ∷ d ∷ s) h n m k = rw (m c d (not_true (c == 61) k), n c (not_true (c == 61) k), h) refl
+before_another a t (c ∷ []) h n m k = rw (n c (not-true (c == 61) k), h) refl
+before_another a t (c ∷ d ∷ s) h n m k = rw (m c d (not-true (c == 61) k), n c (not-true (c == 61) k), h) refl
 
 turned : (c : ℕ) → (c == 61) ≡ false → (61 == c) ≡ false
 turned c h = grind (arith, nat_tests)
@@ -225,7 +221,7 @@ word_ended token.NotEqualTo rest h e = absurd (cc)
 word_ended token.Less rest h e = absurd (cc)
 word_ended token.AtMost rest h e = absurd (cc)
 word_ended token.AtLeast rest h e = absurd (cc)
-word_ended t rest h e = not_true (begins is_xid_continue rest) e
+word_ended t rest h e = not-true (begins is_xid_continue rest) e
 
 keyword_ends : (cs : List ℕ) (t : Token) → entry keywords cs ≡ Some t → ends_as_word t ≡ true
 unfolding keywords
@@ -236,10 +232,10 @@ ended_read : {front : List ℕ} {t : Token} → IsToken front t → (rest : List
     next (front ++ rest) ≡ scanner.token t rest
 ended_read (table.name cs n) rest e =
     let k = and_parts (not (begins is_xid_continue rest)) (not (begins (λ c. c == 40) rest)) e in
-    name_read cs rest (name_word cs n) (name_entry cs n) (not_true (begins is_xid_continue rest) k.0) (not_true (begins (λ c. c == 40) rest) k.1)
+    name_read cs rest (name_word cs n) (name_entry cs n) (not-true (begins is_xid_continue rest) k.0) (not-true (begins (λ c. c == 40) rest) k.1)
 ended_read (table.head cs whole n f) rest e =
     ap (λ (z : List ℕ). next (z ++ rest)) f ∙ ap next (append_assoc cs (40 ∷ []) rest) ∙ head_read cs rest (name_word cs n) (name_entry cs n)
-ended_read (table.number cs i) rest e = number_read i rest (not_true (begins is_xid_continue rest) e)
+ended_read (table.number cs i) rest e = number_read i rest (not-true (begins is_xid_continue rest) e)
 ended_read (table.literal inside whole c text s f) rest e =
     ap (λ (z : List ℕ). next (z ++ rest)) f ∙ ap next (closed_text (34 ∷ []) 34 inside rest) ∙ literal_read inside rest c text s
 ended_read (table.ranges inside whole p ps s f) rest e =
@@ -248,7 +244,7 @@ ended_read (table.other_ranges inside whole p ps s f) rest e =
     ap (λ (z : List ℕ). next (z ++ rest)) f ∙ ap next (closed_text (91 ∷ 94 ∷ []) 93 inside rest) ∙
     negated_read inside rest p ps s
 ended_read (table.named_class cs c k) rest e =
-    named_read cs rest c k (not_true (begins is_xid_continue rest) (sym (named_class_precedes cs rest c k) ∙ e))
+    named_read cs rest c k (not-true (begins is_xid_continue rest) (sym (named_class_precedes cs rest c k) ∙ e))
 ended_read (table.sign cs t k) rest e = sign_read cs rest t k e
 ended_read (table.keyword cs t k) rest e = keyword_read cs rest t k (word_ended t rest (keyword_ends cs t k) e)
 

@@ -1,6 +1,6 @@
 -- What the tables of the notation have in common.
 use Rattle.std.proofs.Common.{◌≡◌, ◌∙◌, ℕ, ◌<◌, ◌≤◌, List, [], ◌∷◌, Bool, true, false, not, ◌&&◌, ◌||◌, ◌==◌, nat_lt, nat_le, Some, length, refl, subst, arith}
-use Rattle.std.proofs.lemmas.Bool.{and_parts}
+use Rattle.std.proofs.lemmas.Bool.{and_parts, or_parts, not-true}
 use Rattle.std.specs.Char.{is_ascii_alphabetic, is_ascii_alphanumeric}
 use Rattle.std.specs.List.{list_all}
 use Rattle.std.proofs.lemmas.Slice.Eq.{bytes_eq-Decides}
@@ -125,16 +125,8 @@ pub record SignStart (c : ℕ) : Type 0 where
   pub no_bracket : (c == 91) ≡ false
   pub no_dollar : (c == 36) ≡ false
 
-negated : (b : Bool) → not b ≡ true → b ≡ false
-negated true e = absurd (cc)
-negated false e = refl
-
 other : (c k : ℕ) → c < 128 → (k == c) ≡ false → (c == k) ≡ false
 other c k h e = grind (arith, nat_tests)
-
-or_both : (a b : Bool) → (a || b) ≡ false → (a ≡ false) × (b ≡ false)
-or_both true b e = absurd (cc)
-or_both false b e = (refl, e)
 
 sign_start : (c : ℕ) → is_sign_start c ≡ true → SignStart c
 sign_start c h =
@@ -143,15 +135,15 @@ sign_start c h =
     let digit = and_parts (not (is_digit c)) _ letter.1 in
     let blank = and_parts (not (is_one_of blanks c)) (not (is_one_of (47 ∷ 34 ∷ 91 ∷ 36 ∷ []) c)) digit.1 in
     let n = below c small.0 in
-    let special = or_both (47 == c) _ (negated (is_one_of (47 ∷ 34 ∷ 91 ∷ 36 ∷ []) c) blank.1) in
-    let quote = or_both (34 == c) _ special.1 in
-    let bracket = or_both (91 == c) _ quote.1 in
-    let dollar = or_both (36 == c) false bracket.1 in
+    let special = or_parts (47 == c) _ (not-true (is_one_of (47 ∷ 34 ∷ 91 ∷ 36 ∷ []) c) blank.1) in
+    let quote = or_parts (34 == c) _ special.1 in
+    let bracket = or_parts (91 == c) _ quote.1 in
+    let dollar = or_parts (36 == c) false bracket.1 in
     record {
-      no_blank = negated (is_one_of blanks c) blank.0;
+      no_blank = not-true (is_one_of blanks c) blank.0;
       no_slash = other c 47 n special.0;
-      no_start = is_xid_start-ascii c n ∙ negated (is_ascii_alphabetic c) letter.0;
-      no_digit = negated (is_digit c) digit.0;
+      no_start = is_xid_start-ascii c n ∙ not-true (is_ascii_alphabetic c) letter.0;
+      no_digit = not-true (is_digit c) digit.0;
       no_quote = other c 34 n quote.0;
       no_bracket = other c 91 n bracket.0;
       no_dollar = other c 36 n dollar.0;

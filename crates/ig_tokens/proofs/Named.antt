@@ -2,7 +2,7 @@
 use Rattle.std.proofs.Common.{◌≡◌, ◌∙◌, ℕ, List, [], ◌∷◌, Bool, true, false, cond, not, ◌&&◌, ◌||◌, Option, Some, None, refl, sym, ap, subst}
 use Rattle.std.specs.Prelude.{map}
 use Rattle.std.specs.List.{list_all, list_any}
-use Rattle.std.proofs.lemmas.Bool.{and_parts}
+use Rattle.std.proofs.lemmas.Bool.{and_parts, not-true}
 use Rattle.std.proofs.lemmas.Bool.Decides.{same_from_decides}
 use Rattle.std.proofs.lemmas.Slice.Eq.{bytes_eq-Decides}
 use Rattle.unicode_ident.specs.Ident.{is_xid_start, is_xid_continue}
@@ -67,17 +67,13 @@ none_unlisted (row ∷ rows) text h =
     one_unlisted text row.0 row.1 (entry rows text) (list_any (is_word text) (map (λ r. r.0) rows)) (is_word text row.0) refl h
     (none_unlisted rows text)
 
-undone : (b : Bool) → not b ≡ true → b ≡ false
-undone true e = absurd (cc)
-undone false e = refl
-
 -- what a name is by the table of tokens
 pub name_word : (cs : List ℕ) → is_name cs ≡ true → IsWord cs
 name_word cs h = identifier_word cs (and_parts (is_identifier cs) (not (is_keyword cs)) h).0
 
 pub name_entry : (cs : List ℕ) → is_name cs ≡ true → entry keywords cs ≡ None
 name_entry cs h =
-    let free = undone (is_keyword cs) (and_parts (is_identifier cs) (not (is_keyword cs)) h).1 in
+    let free = not-true (is_keyword cs) (and_parts (is_identifier cs) (not (is_keyword cs)) h).1 in
     none_listed keywords cs (subst (λ ws. list_any (is_word cs) ws ≡ false) (sym keywords_are_one) free)
 
 pub named : (cs : List ℕ) → IsWord cs → entry keywords cs ≡ None → is_name cs ≡ true

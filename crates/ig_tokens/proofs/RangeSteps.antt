@@ -9,6 +9,7 @@ use Rattle.ig_tokens.specs.Scanner.{letter, ranges_of, ranges_behind, class_step
 use Rattle.ig_tokens.specs.Steps.{AddsRanges, IsNegation}
 use Rattle.std.proofs.lemmas.List.{nil_from_length}
 use Rattle.std.proofs.lemmas.Str.{chars-nil}
+use Rattle.std.proofs.lemmas.Option.{same_Some}
 use Rattle.ig_tokens.proofs.LetterSteps.{no_bytes}
 
 -- the ranges of the whole are those that were added, and those of the rest
@@ -24,12 +25,9 @@ pub record Known (s : scanner.ClassStep) : Type 0 where
   -- the reading stands between two ranges only behind one that has just ended
   pub ends : s.range ≡ None → s.is_escaped ≡ false → s.place ≡ between → ⊥
 
-some_same : {A : Type 0} (x y : A) → Some x ≡ Some y → x ≡ y
-some_same x y e = cc
-
 same_range : (a b : ℕ) (r : ℕ × ℕ) → Some (a, b) ≡ Some r → (r.0 ≡ a) × (r.1 ≡ b)
 same_range a b r e =
-    let q : (a, b) ≡ r = some_same (a, b) r e in
+    let q : (a, b) ≡ r = same_Some (a, b) r e in
     (ap (λ (z : ℕ × ℕ). z.0) (sym q), ap (λ (z : ℕ × ℕ). z.1) (sym q))
 
 -- a step that ends no range stands at this place
@@ -49,21 +47,21 @@ dash_known : (p : scanner.Place) (s : scanner.ClassStep) → dash p ≡ Some s �
 dash_known between s e = absurd (cc)
 dash_known (behind_dash a) s e = absurd (cc)
 dash_known (behind_character a) s e =
-    subst Known (some_same _ s e) (no_range_known false (behind_dash a) (λ f g. (cc)))
+    subst Known (same_Some _ s e) (no_range_known false (behind_dash a) (λ f g. (cc)))
 
 character_known : (p : scanner.Place) (c : ℕ) (s : scanner.ClassStep) → character p c ≡ Some s → Known s
-character_known between c s e = subst Known (some_same _ s e) (no_range_known false (behind_character c) (λ f g. (cc)))
+character_known between c s e = subst Known (same_Some _ s e) (no_range_known false (behind_character c) (λ f g. (cc)))
 character_known (behind_character a) c s e =
-    subst Known (some_same _ s e) (range_known false (behind_character c) a a (omega arith))
+    subst Known (same_Some _ s e) (range_known false (behind_character c) a a (omega arith))
 character_known (behind_dash a) c s e = go (nat_le a c) refl e
   where
     go : (b : Bool) → nat_le a c ≡ b →
         cond b (Some (record { is_escaped = false; place = between; range = Some (a, c) })) None ≡ Some s → Known s
-    go true h q = subst Known (some_same _ s q) (range_known false between a c (grind (arith, nat_tests)))
+    go true h q = subst Known (same_Some _ s q) (range_known false between a c (grind (arith, nat_tests)))
     go false h q = absurd (cc)
 
 placed_known : (p : scanner.Place) (l : scanner.Letter) (s : scanner.ClassStep) → placed p l ≡ Some s → Known s
-placed_known p backslash s e = subst Known (some_same _ s e) (no_range_known true p (λ f g. (cc)))
+placed_known p backslash s e = subst Known (same_Some _ s e) (no_range_known true p (λ f g. (cc)))
 placed_known p (stands_for c) s e = character_known p c s e
 
 letter_known : (p : scanner.Place) (l : Option scanner.Letter) (s : scanner.ClassStep) → option_and_then (placed p) l ≡ Some s → Known s
@@ -85,9 +83,9 @@ put_rises : (range : Option (ℕ × ℕ)) (r : Option (List (ℕ × ℕ))) (ps :
     ((x : ℕ × ℕ) → range ≡ Some x → x.0 ≤ x.1) → ((qs : List (ℕ × ℕ)) → r ≡ Some qs → NoneFalls qs) →
     option_map (with_range range) r ≡ Some ps → NoneFalls ps
 put_rises range None ps h k e = absurd (cc)
-put_rises None (Some qs) ps h k e = subst NoneFalls (some_same qs ps e) (k qs refl)
+put_rises None (Some qs) ps h k e = subst NoneFalls (same_Some qs ps e) (k qs refl)
 put_rises (Some x) (Some qs) ps h k e =
-    subst NoneFalls (some_same (x ∷ qs) ps e) (All-cons (λ r. r.0 ≤ r.1) x qs (h x refl) (k qs refl))
+    subst NoneFalls (same_Some (x ∷ qs) ps e) (All-cons (λ r. r.0 ≤ r.1) x qs (h x refl) (k qs refl))
 
 behind_rise : (r : Option scanner.ClassStep) (behind : Bool → scanner.Place → Option (List (ℕ × ℕ))) (ps : List (ℕ × ℕ)) →
     ((s : scanner.ClassStep) → r ≡ Some s → Known s) →
@@ -99,9 +97,9 @@ behind_rise (Some s) behind ps h k e =
 
 pub ranges_rise : (cs : List ℕ) (e : Bool) (p : scanner.Place) (ps : List (ℕ × ℕ)) → ranges_of e p cs ≡ Some ps → NoneFalls ps
 ranges_rise [] true p ps h = absurd (cc)
-ranges_rise [] false between ps h = subst NoneFalls (some_same [] ps h) (All-nil (λ r. r.0 ≤ r.1))
+ranges_rise [] false between ps h = subst NoneFalls (same_Some [] ps h) (All-nil (λ r. r.0 ≤ r.1))
 ranges_rise [] false (behind_character a) ps h =
-    subst NoneFalls (some_same ((a, a) ∷ []) ps h) (All-cons (λ r. r.0 ≤ r.1) (a, a) [] (omega arith) (All-nil (λ r. r.0 ≤ r.1)))
+    subst NoneFalls (same_Some ((a, a) ∷ []) ps h) (All-cons (λ r. r.0 ≤ r.1) (a, a) [] (omega arith) (All-nil (λ r. r.0 ≤ r.1)))
 ranges_rise [] false (behind_dash a) ps h = absurd (cc)
 ranges_rise (c ∷ cs) e p ps h =
     behind_rise (class_step e p c) (λ e p. ranges_of e p cs) ps (step_known e p c) (λ e p qs. ranges_rise cs e p qs) h

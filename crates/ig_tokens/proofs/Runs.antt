@@ -1,6 +1,6 @@
 -- The longest front of a kind of characters, and what stands behind it.
-use Rattle.std.proofs.Common.{◌≡◌, ℕ, suc, ◌<◌, ◌≤◌, List, [], ◌∷◌, ◌++◌, Bool, true, false, cond, not, ◌||◌, ◌==◌, length, refl, ap, arith}
-use Rattle.std.proofs.lemmas.Bool.{and_parts}
+use Rattle.std.proofs.Common.{◌≡◌, ℕ, suc, ◌<◌, ◌≤◌, List, [], ◌∷◌, ◌++◌, Bool, true, false, cond, not, ◌==◌, length, refl, ap, arith}
+use Rattle.std.proofs.lemmas.Bool.{and_parts, or_parts, not-true}
 use Rattle.std.proofs.lemmas.Bool.Decides.{nat_tests}
 use Rattle.std.specs.List.{list_all}
 use Rattle.ig_syntax.specs.Spelling.{begins, is_one_of, EndsLine}
@@ -54,13 +54,9 @@ past_shorter p [] h = cc
 past_shorter p (c ∷ cs) h = rw h (omega (arith, past_within p cs))
 
 -- a line
-or_both : (a b : Bool) → (a || b) ≡ false → (a ≡ false) × (b ≡ false)
-or_both true b e = absurd (cc)
-or_both false b e = (refl, e)
-
 pub line_all : (line : List ℕ) → is_one_of line 10 ≡ false → list_all (λ d. not (d == 10)) line ≡ true
 line_all [] h = refl
-line_all (c ∷ cs) h = let k = or_both (c == 10) (is_one_of cs 10) h in rw k.0 (line_all cs k.1)
+line_all (c ∷ cs) h = let k = or_parts (c == 10) (is_one_of cs 10) h in rw k.0 (line_all cs k.1)
 
 pub line_ends : (rest : List ℕ) → EndsLine rest → begins (λ d. not (d == 10)) rest ≡ false
 line_ends [] h = refl
@@ -70,11 +66,7 @@ pub all_line : (line : List ℕ) → list_all (λ d. not (d == 10)) line ≡ tru
 all_line [] h = refl
 all_line (c ∷ cs) h =
     let k = and_parts (not (c == 10)) (list_all (λ d. not (d == 10)) cs) h in
-    let n : (c == 10) ≡ false = negated (c == 10) k.0 in rw n (all_line cs k.1)
-  where
-    negated : (b : Bool) → not b ≡ true → b ≡ false
-    negated true e = cc
-    negated false e = refl
+    let n : (c == 10) ≡ false = not-true (c == 10) k.0 in rw n (all_line cs k.1)
 
 pub ends_line : (rest : List ℕ) → begins (λ d. not (d == 10)) rest ≡ false → EndsLine rest
 ends_line [] h = tt

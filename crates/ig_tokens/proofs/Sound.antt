@@ -7,6 +7,7 @@ use Rattle.unicode_ident.specs.Ident.{is_xid_start, is_xid_continue}
 use Rattle.unicode_ident.proofs.IdentLemmas.{is_xid_start-is_xid_continue}
 use Rattle.ig_text.specs.declared.class.Class.{Class}
 use Rattle.ig_text.specs.Words.{is_digit}
+use Rattle.ig_text.proofs.Numbers.{same_number}
 use Rattle.ig_expr.specs.Reading.{spelled}
 use Rattle.ig_syntax.specs.Token as token
 use Rattle.ig_syntax.specs.Token.{Token}
@@ -33,9 +34,6 @@ either : (text : List ℕ) (b : Bool) (x y : Next) → (b ≡ true → IsSound t
 either text true x y h k = h refl
 either text false x y h k = k refl
 
-number_here : (c k : ℕ) → (c == k) ≡ true → c ≡ k
-number_here c k h = grind (arith, nat_tests)
-
 -- words
 name_sound : (text w rest : List ℕ) → text ≡ w ++ rest → IsWord w → entry keywords w ≡ None → IsSound text (name_token w rest)
 name_sound text w [] e i n =
@@ -43,7 +41,7 @@ name_sound text w [] e i n =
 name_sound text w (c ∷ cs) e i n =
     either text (c == 40) (scanner.token (token.Head w) cs) (scanner.token (token.Name w) (c ∷ cs)) (
     λ h.
-    let p : c ≡ 40 = number_here c 40 h in
+    let p : c ≡ 40 = same_number c 40 h in
     record {
       front = w ++ 40 ∷ [];
       parts =
@@ -81,7 +79,7 @@ numeral_sound : (c : ℕ) (cs : List ℕ) → is_digit c ≡ true → IsSound (c
 numeral_sound c cs h =
     either (c ∷ cs) (c == 48) (number_token (c ∷ []) cs) (number_token (c ∷ run is_digit cs) (past is_digit cs)) (
     λ e.
-    let p : c ≡ 48 = number_here c 48 e in
+    let p : c ≡ 48 = same_number c 48 e in
     number_sound (c ∷ cs) (c ∷ []) cs refl (subst (λ (z : ℕ). IsNumeral (z ∷ [])) (sym p) nought)
     ) (
     λ e.
@@ -117,7 +115,7 @@ literal_body text cs (Some parts) e h =
 
 literal_sound : (c : ℕ) (cs : List ℕ) → (c == 34) ≡ true → IsSound (c ∷ cs) (literal_token cs)
 literal_sound c cs h =
-    literal_body (c ∷ cs) cs (body 34 false cs) (ap (λ (z : ℕ). z ∷ cs) (number_here c 34 h)) refl
+    literal_body (c ∷ cs) cs (body 34 false cs) (ap (λ (z : ℕ). z ∷ cs) (same_number c 34 h)) refl
 
 class_inside : (text cs inside rest : List ℕ) (r : Option (List (ℕ × ℕ))) → text ≡ 91 ∷ cs → cs ≡ inside ++ 93 ∷ rest →
     ranges_of false between inside ≡ r →
@@ -155,7 +153,7 @@ class_either text cs (c ∷ inside) rest e f = go (c == 94) refl
         IsSound text (unwrap_or (option_map (λ x. scanner.token (token.OneOf x) rest)
         (cond b (class_with true (ranges_of false between inside)) (class_with false (ranges_of false between (c ∷ inside))))) broken)
     go true h =
-        let p : c ≡ 94 = number_here c 94 h in
+        let p : c ≡ 94 = same_number c 94 h in
         negated_inside text (inside ++ 93 ∷ rest) inside rest (ranges_of false between inside)
         (e ∙ ap (λ (z : List ℕ). 91 ∷ z) f ∙ ap (λ (z : ℕ). 91 ∷ z ∷ (inside ++ 93 ∷ rest)) p) refl refl
     go false h = class_inside text cs (c ∷ inside) rest (ranges_of false between (c ∷ inside)) e f refl
@@ -167,7 +165,7 @@ class_body text cs (Some parts) e h =
     class_either text cs parts.0 parts.1 e (body_parts 93 cs false parts.0 parts.1 h)
 
 class_sound : (c : ℕ) (cs : List ℕ) → (c == 91) ≡ true → IsSound (c ∷ cs) (class_token cs)
-class_sound c cs h = class_body (c ∷ cs) cs (body 93 false cs) (ap (λ (z : ℕ). z ∷ cs) (number_here c 91 h)) refl
+class_sound c cs h = class_body (c ∷ cs) cs (body 93 false cs) (ap (λ (z : ℕ). z ∷ cs) (same_number c 91 h)) refl
 
 -- classes with names
 named_found : (text w rest : List ℕ) (r : Option Class) → text ≡ 36 ∷ (w ++ rest) → begins is_xid_continue rest ≡ false →
@@ -183,7 +181,7 @@ named_found text w rest (Some c) e f h =
 
 named_sound : (c : ℕ) (cs : List ℕ) → (c == 36) ≡ true → IsSound (c ∷ cs) (named_class cs)
 named_sound c cs h =
-    let p : c ≡ 36 = number_here c 36 h in
+    let p : c ≡ 36 = same_number c 36 h in
     named_found (c ∷ cs) (run is_xid_continue cs) (past is_xid_continue cs) (entry named_classes (run is_xid_continue cs))
     (ap (λ (z : ℕ). z ∷ cs) p ∙ ap (λ (z : List ℕ). 36 ∷ z) (sym (run_past is_xid_continue cs)))
     (past_begins is_xid_continue cs) refl
@@ -212,8 +210,8 @@ comment_sound c [] h = tt
 comment_sound c (d ∷ ds) h =
     either (c ∷ d ∷ ds) (d == 47) (separator (past (λ e. not (e == 10)) ds)) broken (
     λ k.
-    let p : c ≡ 47 = number_here c 47 h in
-    let q : d ≡ 47 = number_here d 47 k in
+    let p : c ≡ 47 = same_number c 47 h in
+    let q : d ≡ 47 = same_number d 47 k in
     spelling.comment (run (λ e. not (e == 10)) ds) (past (λ e. not (e == 10)) ds) (c ∷ d ∷ ds)
     (all_line (run (λ e. not (e == 10)) ds) (all_run (λ e. not (e == 10)) ds))
     (ends_line (past (λ e. not (e == 10)) ds) (past_begins (λ e. not (e == 10)) ds))

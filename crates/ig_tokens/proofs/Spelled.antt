@@ -1,13 +1,13 @@
 -- What the characters of literals and classes stand for, by the table and as they are read.
-use Rattle.std.proofs.Common.{◌≡◌, ◌∙◌, ℕ, List, [], ◌∷◌, ◌++◌, Bool, true, false, cond, not, ◌&&◌, ◌||◌, ◌==◌, Option, Some, None, option_map, refl, sym, ap, subst, arith}
+use Rattle.std.proofs.Common.{◌≡◌, ◌∙◌, ℕ, List, [], ◌∷◌, ◌++◌, Bool, true, false, cond, not, ◌&&◌, ◌==◌, Option, Some, None, option_map, refl, sym, ap, subst, arith}
 use Rattle.std.proofs.lemmas.Bool.Decides.{nat_tests}
-use Rattle.ig_syntax.specs.Spelling.{is_one_of, literal_signs, class_signs, escape, IsLetter, bare, escaped, SpellsText, no_letter, SpellsRanges, no_range, one_character, two_characters}
+use Rattle.std.proofs.lemmas.Option.{same_Some}
+use Rattle.ig_text.proofs.Numbers.{same_number}
+use Rattle.ig_text.proofs.Booleans.{rest_false}
+use Rattle.ig_syntax.specs.Spelling.{is_one_of, literal_signs, escape, IsLetter, bare, escaped, SpellsText, no_letter}
 use Rattle.ig_syntax.specs.Spelling as spelling
 use Rattle.ig_tokens.specs.Scanner as scanner
-use Rattle.ig_tokens.specs.Scanner.{letter, text_of, text_behind, backslash, stands_for, body, with_first, ranges_of, ranges_behind, class_step, dash, character, placed, with_range, between, behind_character, behind_dash}
-
-pub some_same : {A : Type 0} (x y : A) → Some x ≡ Some y → x ≡ y
-some_same x y e = cc
+use Rattle.ig_tokens.specs.Scanner.{letter, text_of, text_behind, backslash, stands_for, body, with_first}
 
 -- the characters that a letter takes, one or two
 abbrev pub taken : Bool → ℕ → List ℕ
@@ -19,15 +19,12 @@ abbrev pub whole : Bool → List ℕ → List ℕ
 whole true cs = 92 ∷ cs
 whole false cs = cs
 
-pub same_number : (a b : ℕ) → (a == b) ≡ true → a ≡ b
-same_number a b h = grind (arith, nat_tests)
-
 -- a letter that is read is one of the table
 letter_escaped : (special : List ℕ) (c d : ℕ) (r : Option ℕ) → escape special c ≡ r → option_map stands_for r ≡ Some (stands_for d) →
     IsLetter special (92 ∷ c ∷ []) d
 letter_escaped special c d None e h = absurd (cc)
 letter_escaped special c d (Some x) e h =
-    let p : x ≡ d = let q = some_same (stands_for x) (stands_for d) h in cc in
+    let p : x ≡ d = let q = same_Some (stands_for x) (stands_for d) h in cc in
     escaped c d (e ∙ ap Some p)
 
 letter_bare : (special : List ℕ) (c d : ℕ) (b r : Bool) → (c == 92) ≡ b → is_one_of (10 ∷ special) c ≡ r →
@@ -35,7 +32,7 @@ letter_bare : (special : List ℕ) (c d : ℕ) (b r : Bool) → (c == 92) ≡ b 
 letter_bare special c d true r e f h = absurd (cc)
 letter_bare special c d false true e f h = absurd (cc)
 letter_bare special c d false false e f h =
-    let p : c ≡ d = let q = some_same (stands_for c) (stands_for d) h in cc in
+    let p : c ≡ d = let q = same_Some (stands_for c) (stands_for d) h in cc in
     subst (λ (z : ℕ). IsLetter special (c ∷ []) z) p (bare c f)
 
 pub letter_is : (special : List ℕ) (e : Bool) (c d : ℕ) → letter special e c ≡ Some (stands_for d) → IsLetter special (taken e c) d
@@ -76,12 +73,12 @@ spelled_behind e c cs text (Some (stands_for d)) k half full h = go (text_of fal
     go : (r : Option (List ℕ)) → text_of false cs ≡ r → option_map (λ t. d ∷ t) r ≡ Some text → SpellsText (whole e (c ∷ cs)) text
     go None f g = absurd (cc)
     go (Some t) f g =
-        subst (SpellsText (whole e (c ∷ cs))) (some_same (d ∷ t) text g)
+        subst (SpellsText (whole e (c ∷ cs))) (same_Some (d ∷ t) text g)
         (spelling.letter (taken e c) cs (whole e (c ∷ cs)) d t (letter_is literal_signs e c d k) (full t f) (parts e))
 
 pub text_spelled : (cs : List ℕ) (e : Bool) (text : List ℕ) → text_of e cs ≡ Some text → SpellsText (whole e cs) text
 text_spelled [] true text h = absurd (cc)
-text_spelled [] false text h = subst (SpellsText []) (some_same [] text h) no_letter
+text_spelled [] false text h = subst (SpellsText []) (same_Some [] text h) no_letter
 text_spelled (c ∷ cs) e text h =
     spelled_behind e c cs text (letter literal_signs e c) refl (text_spelled cs true) (text_spelled cs false) h
 
@@ -89,16 +86,12 @@ text_spelled (c ∷ cs) e text h =
 not_backslash : (special : List ℕ) (c : ℕ) → is_one_of special 92 ≡ true → is_one_of (10 ∷ special) c ≡ false → (c == 92) ≡ false
 not_backslash special c h k = go (c == 92) refl
   where
-    or_false : (a b : Bool) → (a || b) ≡ false → b ≡ false
-    or_false true b e = cc
-    or_false false b e = e
-
     go : (b : Bool) → (c == 92) ≡ b → b ≡ false
     go false e = refl
     go true e =
         let p : c ≡ 92 = same_number c 92 e in
         let q : is_one_of special 92 ≡ false =
-        subst (λ (z : ℕ). is_one_of special z ≡ false) p (or_false (10 == c) (is_one_of special c) k) in cc
+        subst (λ (z : ℕ). is_one_of special z ≡ false) p (rest_false (10 == c) (is_one_of special c) k) in cc
 
 pub bare_read : (special : List ℕ) (c : ℕ) → is_one_of special 92 ≡ true → is_one_of (10 ∷ special) c ≡ false →
     letter special false c ≡ Some (stands_for c)
@@ -139,11 +132,11 @@ cut_parts : (stop c : ℕ) (cs inside rest : List ℕ) (b : Bool) (r : Option (L
     ((a d : List ℕ) → r ≡ Some (a, d) → cs ≡ a ++ stop ∷ d) →
     cond b (Some ([], cs)) (option_map (with_first c) r) ≡ Some (inside, rest) → c ∷ cs ≡ inside ++ stop ∷ rest
 cut_parts stop c cs inside rest true r h k e =
-    let p = same_parts inside rest ([], cs) (some_same _ (inside, rest) e) in
+    let p = same_parts inside rest ([], cs) (same_Some _ (inside, rest) e) in
     let q : c ≡ stop = h refl in rw (q, p.1, ← p.0) refl
 cut_parts stop c cs inside rest false None h k e = absurd (cc)
 cut_parts stop c cs inside rest false (Some parts) h k e =
-    let p = same_parts inside rest (with_first c parts) (some_same _ (inside, rest) e) in
+    let p = same_parts inside rest (with_first c parts) (same_Some _ (inside, rest) e) in
     let q = k parts.0 parts.1 refl in rw (← p.0, ← p.1) (ap (λ (z : List ℕ). c ∷ z) q)
 
 stops : (stop c : ℕ) (e : Bool) → (not e && (c == stop)) ≡ true → c ≡ stop
@@ -162,10 +155,6 @@ abbrev pub half : scanner.Letter → Bool
 half backslash = true
 half (stands_for d) = false
 
-pub or_false : (a b : Bool) → (a || b) ≡ false → b ≡ false
-or_false true b e = absurd (cc)
-or_false false b e = e
-
 pub no_member : (special : List ℕ) (stop c : ℕ) → is_one_of special stop ≡ true → is_one_of special c ≡ false → (c == stop) ≡ false
 no_member special stop c h k = go (c == stop) refl
   where
@@ -177,17 +166,17 @@ no_member special stop c h k = go (c == stop) refl
 
 facts_escaped : (r : Option ℕ) (l : scanner.Letter) → option_map stands_for r ≡ Some l → false ≡ half l
 facts_escaped None l h = absurd (cc)
-facts_escaped (Some x) l h = ap half (some_same (stands_for x) l h)
+facts_escaped (Some x) l h = ap half (same_Some (stands_for x) l h)
 
 facts_bare : (special : List ℕ) (stop c : ℕ) (b r : Bool) (l : scanner.Letter) → is_one_of special stop ≡ true → (92 == stop) ≡ false →
     (c == 92) ≡ b → is_one_of (10 ∷ special) c ≡ r →
     cond b (Some backslash) (cond r None (Some (stands_for c))) ≡ Some l → ((c == stop) ≡ false) × ((c == 92) ≡ half l)
 facts_bare special stop c true r l h n e f g =
     let p : c ≡ 92 = same_number c 92 e in
-    (subst (λ (z : ℕ). (z == stop) ≡ false) (sym p) n, e ∙ ap half (some_same backslash l g))
+    (subst (λ (z : ℕ). (z == stop) ≡ false) (sym p) n, e ∙ ap half (same_Some backslash l g))
 facts_bare special stop c false true l h n e f g = absurd (cc)
 facts_bare special stop c false false l h n e f g =
-    (no_member special stop c h (or_false (10 == c) (is_one_of special c) f), e ∙ ap half (some_same (stands_for c) l g))
+    (no_member special stop c h (rest_false (10 == c) (is_one_of special c) f), e ∙ ap half (same_Some (stands_for c) l g))
 
 -- a letter doesn't close its token, and says whether the next one is escaped
 pub letter_facts : (special : List ℕ) (stop : ℕ) (e : Bool) (c : ℕ) (l : scanner.Letter) → is_one_of special stop ≡ true →

@@ -1,10 +1,13 @@
 -- The ranges of classes, by the table and as they are read.
 use Rattle.std.proofs.Common.{◌≡◌, ◌∙◌, ℕ, ◌≤◌, List, [], ◌∷◌, ◌++◌, Bool, true, false, cond, not, ◌&&◌, ◌==◌, nat_le, Option, Some, None, option_map, option_and_then, refl, sym, ap, subst, arith}
 use Rattle.std.proofs.lemmas.Bool.Decides.{nat_tests}
+use Rattle.std.proofs.lemmas.Option.{same_Some}
+use Rattle.ig_text.proofs.Numbers.{same_number}
+use Rattle.ig_text.proofs.Booleans.{rest_false}
 use Rattle.ig_syntax.specs.Spelling.{is_one_of, class_signs, IsLetter, bare, escaped, SpellsRanges, no_range, one_character, two_characters}
 use Rattle.ig_tokens.specs.Scanner as scanner
 use Rattle.ig_tokens.specs.Scanner.{letter, backslash, stands_for, body, ranges_of, ranges_behind, class_step, dash, character, placed, with_range, between, behind_character, behind_dash}
-use Rattle.ig_tokens.proofs.Spelled.{some_same, taken, whole, same_number, letter_is, half_is, bare_read, escaped_read, rest_body, body_ends, body_more, letter_facts, no_member, or_false}
+use Rattle.ig_tokens.proofs.Spelled.{taken, whole, letter_is, half_is, bare_read, escaped_read, rest_body, body_ends, body_more, letter_facts, no_member}
 
 -- what the characters behind a place make of those before it
 abbrev pub Standing : scanner.Place → List ℕ → List (ℕ × ℕ) → Type 0
@@ -19,7 +22,7 @@ put_none (Some qs) ps h = h
 pub put_one : (x : ℕ × ℕ) (r : Option (List (ℕ × ℕ))) (ps : List (ℕ × ℕ)) → option_map (with_range (Some x)) r ≡ Some ps →
     (qs : List (ℕ × ℕ)) × (r ≡ Some qs) × (x ∷ qs ≡ ps)
 put_one x None ps h = absurd (cc)
-put_one x (Some qs) ps h = (qs, refl, some_same (x ∷ qs) ps h)
+put_one x (Some qs) ps h = (qs, refl, same_Some (x ∷ qs) ps h)
 
 pub put_is : (r : Option (List (ℕ × ℕ))) → option_map (with_range None) r ≡ r
 put_is None = refl
@@ -36,7 +39,7 @@ dash_stands : (cs : List ℕ) (p : scanner.Place) (s : scanner.ClassStep) (ps : 
 dash_stands cs between s ps ih e h = absurd (cc)
 dash_stands cs (behind_dash a) s ps ih e h = absurd (cc)
 dash_stands cs (behind_character a) s ps ih e h =
-    let g = subst (λ (z : scanner.ClassStep). Behind cs z ps) (sym (some_same _ s e)) h in
+    let g = subst (λ (z : scanner.ClassStep). Behind cs z ps) (sym (same_Some _ s e)) h in
     ih false (behind_dash a) ps (put_none (ranges_of false (behind_dash a) cs) ps g)
 
 parts : (e : Bool) (c : ℕ) (cs : List ℕ) → whole e (c ∷ cs) ≡ taken e c ++ cs
@@ -51,11 +54,11 @@ dash_range first last more a d ps all e k l h s =
 character_stands : (e : Bool) (c d : ℕ) (cs : List ℕ) (p : scanner.Place) (s : scanner.ClassStep) (ps : List (ℕ × ℕ)) → Rest cs →
     IsLetter class_signs (taken e c) d → character p d ≡ Some s → Behind cs s ps → Standing p (whole e (c ∷ cs)) ps
 character_stands e c d cs between s ps ih l k h =
-    let g = subst (λ (z : scanner.ClassStep). Behind cs z ps) (sym (some_same _ s k)) h in
+    let g = subst (λ (z : scanner.ClassStep). Behind cs z ps) (sym (same_Some _ s k)) h in
     let r = ih false (behind_character d) ps (put_none (ranges_of false (behind_character d) cs) ps g) in
     subst (λ (z : List ℕ). SpellsRanges z ps) (sym (parts e c cs)) (r (taken e c) l)
 character_stands e c d cs (behind_character a) s ps ih l k h =
-    let g = subst (λ (z : scanner.ClassStep). Behind cs z ps) (sym (some_same _ s k)) h in
+    let g = subst (λ (z : scanner.ClassStep). Behind cs z ps) (sym (same_Some _ s k)) h in
     let q = put_one (a, a) (ranges_of false (behind_character d) cs) ps g in
     let r = ih false (behind_character d) q.0 q.1 in
     λ first m.
@@ -69,7 +72,7 @@ character_stands e c d cs (behind_dash a) s ps ih l k h = go (nat_le a d) refl k
         Standing (behind_dash a) (whole e (c ∷ cs)) ps
     go false n f = absurd (cc)
     go true n f =
-        let g = subst (λ (z : scanner.ClassStep). Behind cs z ps) (sym (some_same _ s f)) h in
+        let g = subst (λ (z : scanner.ClassStep). Behind cs z ps) (sym (same_Some _ s f)) h in
         let q = put_one (a, d) (ranges_of false between cs) ps g in
         let r = ih false between q.0 q.1 in
         let o : a ≤ d = grind (arith, nat_tests) in
@@ -81,7 +84,7 @@ half_stands : (e : Bool) (c : ℕ) (cs : List ℕ) (p : scanner.Place) (s : scan
     letter class_signs e c ≡ Some backslash → placed p backslash ≡ Some s → Behind cs s ps → Standing p (whole e (c ∷ cs)) ps
 half_stands e c cs p s ps ih l k h =
     let i = half_is class_signs e c l in
-    let g = subst (λ (z : scanner.ClassStep). Behind cs z ps) (sym (some_same _ s k)) h in
+    let g = subst (λ (z : scanner.ClassStep). Behind cs z ps) (sym (same_Some _ s k)) h in
     let r : Standing p (92 ∷ cs) ps = ih true p ps (put_none (ranges_of true p cs) ps g) in
     subst (λ (z : Bool). Standing p (whole z (c ∷ cs)) ps) (sym i.0)
     (subst (λ (z : ℕ). Standing p (z ∷ cs) ps) (sym i.1) r)
@@ -115,10 +118,10 @@ behind_stands e c cs p (Some s) ps ih k h = step_stands e c cs p (not e && (c ==
 pub ranges_spelled : (cs : List ℕ) (e : Bool) (p : scanner.Place) (ps : List (ℕ × ℕ)) → ranges_of e p cs ≡ Some ps →
     Standing p (whole e cs) ps
 ranges_spelled [] true p ps h = absurd (cc)
-ranges_spelled [] false between ps h = subst (SpellsRanges []) (some_same [] ps h) no_range
+ranges_spelled [] false between ps h = subst (SpellsRanges []) (same_Some [] ps h) no_range
 ranges_spelled [] false (behind_character a) ps h =
     λ first l.
-    subst (SpellsRanges (first ++ [])) (some_same ((a, a) ∷ []) ps h) (one_character first [] (first ++ []) a [] l no_range refl)
+    subst (SpellsRanges (first ++ [])) (same_Some ((a, a) ∷ []) ps h) (one_character first [] (first ++ []) a [] l no_range refl)
 ranges_spelled [] false (behind_dash a) ps h = absurd (cc)
 ranges_spelled (c ∷ cs) e p ps h =
     behind_stands e c cs p (class_step e p c) ps (λ f q qs. ranges_spelled cs f q qs) refl h
@@ -127,7 +130,7 @@ ranges_spelled (c ∷ cs) e p ps h =
 pub character_read : (first : List ℕ) (d : ℕ) (more : List ℕ) (p : scanner.Place) → IsLetter class_signs first d →
     ranges_of false p (first ++ more) ≡ ranges_behind (character p d) (λ e q. ranges_of e q more)
 character_read first d more p (bare c k) =
-    let n : (d == 45) ≡ false = no_member class_signs 45 d refl (or_false (10 == d) (is_one_of class_signs d) k) in
+    let n : (d == 45) ≡ false = no_member class_signs 45 d refl (rest_false (10 == d) (is_one_of class_signs d) k) in
     let l = bare_read class_signs d refl k in rw (n, l) refl
 character_read first d more p (escaped c x k) =
     let l = escaped_read class_signs c d k in
@@ -156,7 +159,7 @@ longer_step a c cs false l ps ih h = longer_letter a c cs l ps ih h
 pub longer : (cs : List ℕ) (e : Bool) (a : ℕ) (ps : List (ℕ × ℕ)) → ranges_of e between cs ≡ Some ps →
     ranges_of e (behind_character a) cs ≡ Some ((a, a) ∷ ps)
 longer [] true a ps h = absurd (cc)
-longer [] false a ps h = ap (λ (z : List (ℕ × ℕ)). Some ((a, a) ∷ z)) (some_same [] ps h)
+longer [] false a ps h = ap (λ (z : List (ℕ × ℕ)). Some ((a, a) ∷ z)) (same_Some [] ps h)
 longer (c ∷ cs) e a ps h =
     longer_step a c cs (not e && (c == 45)) (letter class_signs e c) ps (λ qs q. longer cs true a qs q) h
 
@@ -187,26 +190,26 @@ some_rest range (Some qs) ps h = (qs, refl)
 
 -- a step that isn't a dash says by its letter whether an escape is open
 step_escaped : (p : scanner.Place) (d : ℕ) (s : scanner.ClassStep) → character p d ≡ Some s → s.is_escaped ≡ false
-step_escaped between d s e = ap (λ (z : scanner.ClassStep). z.is_escaped) (sym (some_same _ s e))
-step_escaped (behind_character a) d s e = ap (λ (z : scanner.ClassStep). z.is_escaped) (sym (some_same _ s e))
+step_escaped between d s e = ap (λ (z : scanner.ClassStep). z.is_escaped) (sym (same_Some _ s e))
+step_escaped (behind_character a) d s e = ap (λ (z : scanner.ClassStep). z.is_escaped) (sym (same_Some _ s e))
 step_escaped (behind_dash a) d s e = go (nat_le a d) e
   where
     go : (b : Bool) → cond b (Some (record { is_escaped = false; place = between; range = Some (a, d) })) None ≡ Some s →
         s.is_escaped ≡ false
-    go true f = ap (λ (z : scanner.ClassStep). z.is_escaped) (sym (some_same _ s f))
+    go true f = ap (λ (z : scanner.ClassStep). z.is_escaped) (sym (same_Some _ s f))
     go false f = absurd (cc)
 
 dash_escaped : (p : scanner.Place) (s : scanner.ClassStep) → dash p ≡ Some s → s.is_escaped ≡ false
 dash_escaped between s e = absurd (cc)
 dash_escaped (behind_dash a) s e = absurd (cc)
-dash_escaped (behind_character a) s e = ap (λ (z : scanner.ClassStep). z.is_escaped) (sym (some_same _ s e))
+dash_escaped (behind_character a) s e = ap (λ (z : scanner.ClassStep). z.is_escaped) (sym (same_Some _ s e))
 
 letter_body : (e : Bool) (c : ℕ) (cs rest : List ℕ) (p : scanner.Place) (l : Option scanner.Letter) (s : scanner.ClassStep) (ps : List (ℕ × ℕ)) →
     RestBody cs rest → letter class_signs e c ≡ l → option_and_then (placed p) l ≡ Some s → Behind cs s ps →
     rest_body 93 e (c ∷ cs) rest
 letter_body e c cs rest p None s ps ih k f h = absurd (cc)
 letter_body e c cs rest p (Some backslash) s ps ih k f h =
-    let g = subst (λ (z : scanner.ClassStep). Behind cs z ps) (sym (some_same _ s f)) h in
+    let g = subst (λ (z : scanner.ClassStep). Behind cs z ps) (sym (same_Some _ s f)) h in
     let q = some_rest None (ranges_of true p cs) ps g in
     let t = letter_facts class_signs 93 e c backslash refl refl k in body_more 93 e true c cs rest t.0 t.1 (ih true p q.0 q.1)
 letter_body e c cs rest p (Some (stands_for d)) s ps ih k f h =

@@ -1,5 +1,6 @@
 -- What `clap` makes of the words for a row.
 use Rattle.std.proofs.Common.{◌≡◌, ◌≢◌, ◌∙◌, ◌+◌, ◌<◌, Bool, true, false, List, [], ◌∷◌, ◌++◌, length, map, refl, sym, ap, subst, Option, Some, None, arith}
+use Rattle.std.proofs.lemmas.Bool.{and_right}
 use Rattle.std.specs.Prelude.{if◌then◌else◌, ◌||◌, ◌&&◌, is_some, slice_get, option_and_then, cond, find, codes}
 use Rattle.std.specs.List.{list_all, list_any}
 use Rattle.std.specs.Str.{bytes_eq}
@@ -122,10 +123,6 @@ first_use x (p ∷ u) = by_test (bytes_eq p.0 x) (first_use x u)
     by_test true more = refl
     by_test false more = more
 
-and_false : (b c : Bool) → c ≡ false → (b && c) ≡ false
-and_false true c e = e
-and_false false c e = refl
-
 not_all : (f : Text → Option (Option Text)) (names : List Text) (m : Text) → list_any (bytes_eq m) names ≡ true → f m ≡ None →
     list_all (λ n. is_some (f n)) names ≡ false
 not_all f [] m e g = absurd (cc)
@@ -136,7 +133,7 @@ not_all f (n ∷ ns) m e g = by_test (bytes_eq m n) refl e (λ h. not_all f ns m
         (is_some (f n) && list_all (λ n. is_some (f n)) ns) ≡ false
     by_test true h i more =
         ap (λ z. is_some z && list_all (λ n. is_some (f n)) ns) (subst (λ z. f z ≡ None) (same_by_test m n h) g)
-    by_test false h i more = and_false (is_some (f n)) _ (more i)
+    by_test false h i more = and_right (is_some (f n)) _ (more i)
 
 with_matches : (r : Row) (m : ArgMatches) (faults : Kinds) (found : List Found) (t : Option Uses) (o : Option Parts) → Agrees faults found t →
     Meets label (places_of r) (names_of r) (ids_differ r) (are_few r) [] (places_of r) t o → faults ≡ [] → rows_of (found_of m) ≡ found →

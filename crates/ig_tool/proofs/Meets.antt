@@ -1,8 +1,11 @@
 -- The uses that words make, beside the parts of the words.
 use Rattle.std.proofs.Common.{◌≡◌, ◌∙◌, ℕ, ◌+◌, ◌≤◌, ◌<◌, Bool, true, false, List, [], ◌∷◌, ◌++◌, length, map, refl, sym, ap, ap₂, subst, Option, Some, None, arith}
+use Rattle.std.proofs.lemmas.Bool.{or_right, and_from, or_left}
 use Rattle.std.specs.Prelude.{if◌then◌else◌, ◌||◌, ◌&&◌, ◌==◌, not, option_map, option_and_then, is_some}
 use Rattle.std.specs.List.{list_any, list_all, before_first, after_first}
 use Rattle.std.specs.Str.{bytes_eq}
+use Rattle.ig_text.proofs.Booleans.{rest_true, first_true}
+use Rattle.ig_text.proofs.Options.{mapped}
 use Rattle.clap.specs.Lexer.{usize_max}
 use Rattle.clap.specs.Walk.{Rule, Text, arg_by_id, arg_by_index, arg_by_long}
 use Rattle.ig_tool.specs.Words.{Parts, Setting, is_equals, is_value, no_parts, parts_of, option_before, with_positional, with_setting}
@@ -13,7 +16,7 @@ use Rattle.ig_tool.proofs.UseRows.{place_rule, option_rule}
 use Rattle.ig_tool.proofs.Turns.{same_bytes}
 use Rattle.ig_tool.proofs.Walks.{AreOwn, IsOwn, Uses, all_before, occurs, uses_of}
 use Rattle.ig_tool.proofs.Walks as walks
-use Rattle.ig_tool.proofs.Rules.{all_differ, all_quiet, all_stay, both_true, by_name, by_number, first_out, id_behind, id_of_place, in_behind, in_range, missing_places, not_in_front, or_left, or_right, others, place_at, places_from, rest_true, same_by_test, swap}
+use Rattle.ig_tool.proofs.Rules.{all_differ, all_quiet, all_stay, by_name, by_number, first_out, id_behind, id_of_place, in_behind, in_range, missing_places, not_in_front, others, place_at, places_from, same_by_test, swap}
 
 -- the first value of an id among uses
 abbrev pub find_in : Text → Uses → Option Text
@@ -147,11 +150,7 @@ stands (c ∷ d ∷ ds) e = by_tests (c == 45) (d == 45) refl refl e
 pub all_stand : (ws : List Text) → list_all may_stand ws ≡ true → AllStand ws
 all_stand [] e = none
 all_stand (w ∷ ws) e =
-    one w ws (stands w (by_test (may_stand w) (list_all may_stand ws) e)) (all_stand ws (rest_true (may_stand w) (list_all may_stand ws) e))
-  where
-    by_test : (b c : Bool) → (b && c) ≡ true → b ≡ true
-    by_test true c h = refl
-    by_test false c h = h
+    one w ws (stands w (first_true (may_stand w) (list_all may_stand ws) e)) (all_stand ws (rest_true (may_stand w) (list_all may_stand ws) e))
 
 -- the parts by the first word; that may be the value of an option
 abbrev pub parts_from : Option Text → List Text → Option Parts
@@ -173,10 +172,6 @@ parts_joined : (x : ℕ) (xs : Text) (ws : List Text) → list_any is_equals (x 
     parts_of ((45 ∷ 45 ∷ x ∷ xs) ∷ ws) ≡ option_before (before_first is_equals (x ∷ xs)) (after_first is_equals (x ∷ xs)) (parts_of ws)
 parts_joined x xs [] e = rw e refl
 parts_joined x xs (w ∷ ws) e = rw e refl
-
-pub mapped : {A B : Type 0} (f : A → B) (o : Option A) (p : B) → option_map f o ≡ Some p → (q : A) × (o ≡ Some q) × (f q ≡ p)
-mapped f None p e = absurd (cc)
-mapped f (Some q) p e = (q, refl, (cc))
 
 abbrev pub first : List Text → Option Text
 first [] = None
@@ -294,14 +289,14 @@ module _ (label : Text) (ps names : List Text) (differ : all_differ (ps ++ names
   option_step n w u left _ _ known new (took v p T) =
       took v (with_setting n w p) (record {
         grows = λ x z e. T.grows x z (found_kept x u ((n, w) ∷ []) z e);
-        among = both_true (list_any (bytes_eq n) names) (are_among names p.options) known T.among;
+        among = and_from (list_any (bytes_eq n) names) (are_among names p.options) known T.among;
         files = T.files;
         options = λ m h. behind_option n w u p.options new m ∙ T.options m h;
       })
   option_step n w u left _ _ known new (refuses o r) =
       refuses (option_map (with_setting n w) o) (λ p e.
       let q = mapped (with_setting n w) o p e in
-      subst (Fails u left) q.2 (λ among len.
+      subst (Fails u left) (sym q.2) (λ among len.
       let d = r q.0 q.1 (rest_true (list_any (bytes_eq n) names) (are_among names q.0.options) among) len in
       (d.0, d.1, behind_option n w u q.0.options new d.0 ∙ d.2)))
 
@@ -312,7 +307,7 @@ module _ (label : Text) (ps names : List Text) (differ : all_differ (ps ++ names
   option_use n w u left t o known true e more =
       refuses (option_map (with_setting n w) o) (λ p h.
       let q = mapped (with_setting n w) o p h in
-      subst (Fails u left) q.2 (λ among len.
+      subst (Fails u left) (sym q.2) (λ among len.
       let found = found_some n u e in (
         n,
         known,
@@ -333,7 +328,7 @@ module _ (label : Text) (ps names : List Text) (differ : all_differ (ps ++ names
   place_step id w u left _ _ new other (refuses o r) =
       refuses (option_map (with_positional w) o) (λ p e.
       let q = mapped (with_positional w) o p e in
-      subst (Fails u (id ∷ left)) q.2 (λ among len.
+      subst (Fails u (id ∷ left)) (sym q.2) (λ among len.
       let shorter : length q.0.positional ≡ length left = omega (arith, len) in
       let d = r q.0 q.1 among shorter in
       (d.0, d.1, ap (λ z. once_behind z (values_of d.0 q.0.options)) (sym (found_other d.0 id w u (other d.0 d.1))) ∙ d.2)))
@@ -343,7 +338,7 @@ module _ (label : Text) (ps names : List Text) (differ : all_differ (ps ++ names
   no_place_left w u o =
       refuses (option_map (with_positional w) o) (λ p e.
       let q = mapped (with_positional w) o p e in
-      subst (Fails u []) q.2 (λ among len. absurd (omega (arith, len))))
+      subst (Fails u []) (sym q.2) (λ among len. absurd (omega (arith, len))))
 
   unknown_name : (n : Text) (u : Uses) (left : List Text) (o : Option Parts) (w : Text) → list_any (bytes_eq n) names ≡ false →
       Meets u left None (option_before n w o)
@@ -354,7 +349,7 @@ module _ (label : Text) (ps names : List Text) (differ : all_differ (ps ++ names
       by_value false p e = absurd (cc)
       by_value true p e =
           let q = mapped (with_setting n w) o p e in
-          subst (Fails u left) q.2 (λ among len. absurd (wrong (list_any (bytes_eq n) names) (are_among names q.0.options) lacks among))
+          subst (Fails u left) (sym q.2) (λ among len. absurd (wrong (list_any (bytes_eq n) names) (are_among names q.0.options) lacks among))
         where
           wrong : (a b : Bool) → a ≡ false → (a && b) ≡ true → ⊥
           wrong true b f g = cc

@@ -1,8 +1,11 @@
 -- What a row asks for, by the values that were found and by the parts of the words.
 use Rattle.std.proofs.Common.{◌≡◌, ◌∙◌, ℕ, Bool, true, false, List, [], ◌∷◌, length, map, refl, sym, ap, ap₂, subst, Option, Some, None}
+use Rattle.std.proofs.lemmas.Bool.{and_from, or_left}
 use Rattle.std.specs.Prelude.{if◌then◌else◌, ◌&&◌, ◌||◌, not, option_map, option_and_then, is_some, codes, drop}
 use Rattle.std.specs.List.{list_all, list_any, after_first, before_first}
 use Rattle.ig_text.specs.Words.{is_word}
+use Rattle.ig_text.proofs.Booleans.{first_true, rest_true}
+use Rattle.ig_text.proofs.Options.{mapped}
 use Rattle.ig_tool.specs.Words.{Parts, Setting, is_apart, is_equals, is_joined, is_long, is_value, no_parts, parts_of, with_positional, with_setting, word_before}
 use Rattle.ig_tool.specs.Commands.{Listing, Request, are_among, listing_with, number_if, number_of, number_or, option_in, question_with, request_of, request_with, row, most_budget, most_count, most_depth, most_number, most_size, usual_budget, usual_count}
 use Rattle.ig_tool.specs.Commands.{check, show, core, forest, trees, query, load, for_forest, for_grammar, for_load, for_query, for_trees}
@@ -13,8 +16,6 @@ use Rattle.clap.specs.declared.parser.matches.ArgMatches.{ArgMatches}
 use Rattle.ig_tool.specs.declared.command.Command.{Command}
 use Rattle.ig_tool.specs.declared.rows.Row.{Row}
 use Rattle.ig_tool.specs.declared.rows.Row.TheVariants as rows
-use Rattle.ig_tool.proofs.Rules.{both_true, first_true, or_left, rest_true}
-use Rattle.ig_tool.proofs.Meets.{mapped}
 
 -- the table, by its rows
 by_row : (name : List ℕ) (p : Parts) (a b c d e f g : Bool) → is_word name (codes "check") ≡ a → is_word name (codes "show") ≡ b →
@@ -243,21 +244,21 @@ module _ (names : List (List ℕ)) (named : list_any (is_word []) names ≡ fals
           else None)) ≡ Some p → (may_stand w ≡ true) × (q : Parts) × (o ≡ Some q) × AreNamed q
       by_tests true j a h i k e =
           let q = mapped (with_positional w) o p e in
-          (or_left (is_value w) _ h, q.0, q.1, subst AreNamed (sym q.2) among)
+          (or_left (is_value w) _ h, q.0, q.1, subst AreNamed q.2 among)
       by_tests false true true h i k e =
           let q = mapped (with_setting (before_first is_equals (drop 2 w)) (after_first is_equals (drop 2 w))) o p e in (
             joined_stands (is_value w) (is_long w) (list_any is_equals (drop 2 w)) (is_value (after_first is_equals (drop 2 w)))
                 (not (is_empty (drop 2 w))) i k,
             q.0,
             q.1,
-            rest_true (list_any (is_word (before_first is_equals (drop 2 w))) names) (are_among names q.0.options) (subst AreNamed (sym q.2) among),
+            rest_true (list_any (is_word (before_first is_equals (drop 2 w))) names) (are_among names q.0.options) (subst AreNamed q.2 among),
           )
       by_tests false true false h i k e = absurd (cc)
       by_tests false false a h i k e = absurd (cc)
 
   parts_stand : (ws : List (List ℕ)) (p : Parts) → parts_of ws ≡ Some p → AreNamed p → list_all may_stand ws ≡ true
   parts_stand [] p e among = refl
-  parts_stand (w ∷ []) p e among = both_true (may_stand w) true (before w (Some no_parts) p e among).0 refl
+  parts_stand (w ∷ []) p e among = and_from (may_stand w) true (before w (Some no_parts) p e among).0 refl
   parts_stand (w ∷ next ∷ ws) p e among =
       by_tests (is_apart w) (is_value next) refl refl e (λ q h i. parts_stand ws q h i) (λ q h i. parts_stand (next ∷ ws) q h i)
     where
@@ -268,17 +269,17 @@ module _ (names : List (List ℕ)) (named : list_any (is_word []) names ≡ fals
           list_all may_stand (w ∷ next ∷ ws) ≡ true
       by_tests true true h i e more further =
           let q = mapped (with_setting (drop 2 w) next) (parts_of ws) p e in
-          let both : (list_any (is_word (drop 2 w)) names && are_among names q.0.options) ≡ true = subst AreNamed (sym q.2) among in
-          both_true (may_stand w) (list_all may_stand (next ∷ ws))
+          let both : (list_any (is_word (drop 2 w)) names && are_among names q.0.options) ≡ true = subst AreNamed q.2 among in
+          and_from (may_stand w) (list_all may_stand (next ∷ ws))
           (apart_stands (is_value w) (is_long w) (list_any is_equals (drop 2 w)) (is_value (after_first is_equals (drop 2 w)))
           (not (is_empty (drop 2 w))) h
           (has_name (drop 2 w) (first_true (list_any (is_word (drop 2 w)) names) (are_among names q.0.options) both)))
-          (both_true (may_stand next) (list_all may_stand ws) (or_left (is_value next) _ i)
+          (and_from (may_stand next) (list_all may_stand ws) (or_left (is_value next) _ i)
           (more q.0 q.1 (rest_true (list_any (is_word (drop 2 w)) names) (are_among names q.0.options) both)))
       by_tests true false h i e more further = absurd (cc)
       by_tests false v h i e more further =
           let q = before w (parts_of (next ∷ ws)) p e among in
-          both_true (may_stand w) (list_all may_stand (next ∷ ws)) q.0 (further q.1 q.2 q.3)
+          and_from (may_stand w) (list_all may_stand (next ∷ ws)) q.0 (further q.1 q.2 q.3)
 
 all_named : (r : Row) → list_any (is_word []) (names_of r) ≡ false
 all_named rows.Check = refl

@@ -5,6 +5,9 @@ use Rattle.std.specs.List.{list_any}
 use Rattle.std.specs.Option.{option_map_or}
 use Rattle.std.specs.Str.{bytes_eq}
 use Rattle.std.proofs.lemmas.Slice.Eq.{bytes_eq-Decides}
+use Rattle.std.proofs.lemmas.Bool.{or_right, or_left}
+use Rattle.ig_text.proofs.Numbers.{same_number}
+use Rattle.ig_text.proofs.Booleans.{rest_true}
 use Rattle.clap.specs.Facts.{explicit_source}
 use Rattle.clap.specs.Faults.{defaults_fault}
 use Rattle.clap.specs.Lexer.{usize_max}
@@ -43,37 +46,13 @@ swap a b = both (bytes_eq a b) (bytes_eq b a) refl refl
     both true false e f = sym (test_by_same b a (sym (same_by_test a b e))) ∙ f
     both false true e f = sym e ∙ test_by_same a b (sym (same_by_test b a f))
 
-pub or_left : (b c : Bool) → b ≡ true → (b || c) ≡ true
-or_left true c e = refl
-or_left false c e = absurd (cc)
-
-pub or_right : (b c : Bool) → c ≡ true → (b || c) ≡ true
-or_right true c e = refl
-or_right false c e = e
-
 pub first_false : (b c : Bool) → (b || c) ≡ false → b ≡ false
 first_false true c e = e
 first_false false c e = refl
 
-pub rest_false : (b c : Bool) → (b || c) ≡ false → c ≡ false
-rest_false true c e = absurd (cc)
-rest_false false c e = e
-
 pub first_out : (b c : Bool) → (not b && c) ≡ true → b ≡ false
 first_out true c e = sym e
 first_out false c e = refl
-
-pub rest_true : (b c : Bool) → (b && c) ≡ true → c ≡ true
-rest_true true c e = e
-rest_true false c e = absurd (cc)
-
-pub first_true : (b c : Bool) → (b && c) ≡ true → b ≡ true
-first_true true c e = refl
-first_true false c e = e
-
-pub both_true : (b c : Bool) → b ≡ true → c ≡ true → (b && c) ≡ true
-both_true true c e f = f
-both_true false c e f = absurd (cc)
 
 -- what is among texts differs from what isn't
 pub others : (x t : Text) (xs : List Text) → list_any (bytes_eq x) xs ≡ false → list_any (bytes_eq t) xs ≡ true → bytes_eq x t ≡ false
@@ -109,9 +88,6 @@ not_in_front t (x ∷ xs) ys e = by_test (bytes_eq t x) e (not_in_front t xs ys)
 no_number : (names : List Text) (k : ℕ) → arg_by_index (map option_rule names) k ≡ None
 no_number [] k = refl
 no_number (n ∷ ns) k = no_number ns k
-
-same_number : (i k : ℕ) → (i == k) ≡ true → i ≡ k
-same_number i k e = grind (arith, e)
 
 pub by_number : (i : ℕ) (ps names : List Text) (k : ℕ) →
     arg_by_index (places_from i ps ++ map option_rule names) k ≡ option_map (λ id. place_rule id k) (place_at i ps k)

@@ -1,6 +1,6 @@
 -- What one word does in a walk.
 use Rattle.std.proofs.Common.{◌≡◌, ℕ, ◌+◌, ◌<◌, Bool, true, false, List, [], ◌∷◌, refl, ap₂, Option, Some, None, arith}
-use Rattle.std.specs.Prelude.{if◌then◌else◌, ◌&&◌, ◌==◌, not, min}
+use Rattle.std.specs.Prelude.{if◌then◌else◌, ◌&&◌, ◌==◌, min}
 use Rattle.std.specs.List.{list_any, before_first, after_first}
 use Rattle.std.specs.Str.{bytes_eq}
 use Rattle.clap.specs.Lexer.{usize_max, short_of}
@@ -39,10 +39,6 @@ asking rows name k = record {
   is_trailing = false;
   stopped = None;
 }
-
-turned : (b : Bool) → not b ≡ true → b ≡ false
-turned false e = refl
-turned true e = absurd (cc)
 
 -- a word that doesn't begin with `-` is no bundle
 plain_word_is_no_flag : (c : ℕ) (cs : Text) → (c == 45) ≡ false → short_of (c ∷ cs) ≡ None

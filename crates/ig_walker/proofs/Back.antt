@@ -1,9 +1,11 @@
 -- Each walk is that of a tree.
 use Rattle.std.proofs.Common.{◌≡◌, ℕ, zero, suc, List, [], ◌∷◌, ◌++◌, Option, Some, None, length, slice_get, map, refl, sym, ap, ap₂, ◌∙◌, subst, append_assoc}
 use Rattle.std.proofs.lemmas.Option.{same_Some}
+use Rattle.std.proofs.lemmas.List.{append-nil, length-map}
 use Rattle.ig_text.specs.declared.text.Span.{Span}
 use Rattle.ig_text.specs.Tree.{Tree, Trees, none, more, one, join}
 use Rattle.ig_text.specs.Tree as shape
+use Rattle.ig_text.proofs.Lists.{unmapped_at}
 use Rattle.ig_forest.specs.Forest as forest
 use Rattle.ig_forest.specs.Forest.{Forest, ItemNode}
 use Rattle.ig_forest.specs.Unfold.{noted, OfNode, OfItem, Unfold}
@@ -20,7 +22,7 @@ use Rattle.ig_forest.specs.declared.tree.Part.{Part}
 use Rattle.ig_walker.specs.declared.goal.Goal.{Goal}
 use Rattle.ig_walker.specs.declared.goal.Goal.TheVariants.{Node, Item, Leaf}
 use Rattle.ig_walker.specs.declared.goal.Visit.{Visit}
-use Rattle.ig_walker.proofs.Unfolding.{of_mapped, length_mapped, node_walk}
+use Rattle.ig_walker.proofs.Unfolding.{node_walk}
 use Rattle.ig_walker.proofs.Cursors.{one_walk}
 
 module _ (f : Forest) where
@@ -65,12 +67,12 @@ module _ (f : Forest) where
       Pending (Node v (suc d) ∷ gs) (noted (length (map (behind_choice d) (alternatives_of node))) i ++ cs)
   by_node v d gs part i cs None e has p = cc
   by_node v d gs part i cs (Some node) e has p =
-      let m = of_mapped (behind_choice d) node.alternatives i part has in
+      let m = unmapped_at (behind_choice d) node.alternatives i part has in
       let h = item_first m.0.item d gs cs (subst (λ (z : List Goal). Pending (z ++ gs) cs) (sym m.2) p) in
       of_node v (suc d) gs (noted (length node.alternatives) i ++ h.bs) h.cs _ (shape.Node m.0.tag node.span.begin node.span.end h.ts)
       (trees.choose v d i node m.0 h.bs (noted (length node.alternatives) i ++ h.bs) h.ts _ e m.1 h.here refl refl)
       h.others
-      (ap₂ (λ (n : ℕ) (z : List ℕ). noted n i ++ z) (length_mapped (behind_choice d) node.alternatives) h.whole
+      (ap₂ (λ (n : ℕ) (z : List ℕ). noted n i ++ z) (length-map node.alternatives (behind_choice d)) h.whole
       ∙ sym (append_assoc (noted (length node.alternatives) i) h.bs h.cs))
 
   by_entry_of : (k d : ℕ) (gs : List Goal) (i : ℕ) (cs : List ℕ) (it : ItemNode) (e : Entry) → slice_get f.items k ≡ Some it →
@@ -102,8 +104,8 @@ module _ (f : Forest) where
       Pending (Item k d ∷ gs) (noted (length (map (behind_entry d) (entries_of it))) i ++ cs)
   by_item_of k d gs part i cs None e has p = cc
   by_item_of k d gs part i cs (Some it) e has p =
-      let m = of_mapped (behind_entry d) it.entries i part has in
-      subst (λ (n : ℕ). Pending (Item k d ∷ gs) (noted n i ++ cs)) (sym (length_mapped (behind_entry d) it.entries))
+      let m = unmapped_at (behind_entry d) it.entries i part has in
+      subst (λ (n : ℕ). Pending (Item k d ∷ gs) (noted n i ++ cs)) (sym (length-map it.entries (behind_entry d)))
       (by_entry_of k d gs i cs it m.0 e m.1 (subst (λ (z : List Goal). Pending (z ++ gs) cs) (sym m.2) p))
 
   by_goal : (g : Goal) (gs part : List Goal) (i : ℕ) (cs : List ℕ) → slice_get (opts g) i ≡ Some part → Pending (part ++ gs) cs →
@@ -130,15 +132,11 @@ module _ (f : Forest) where
     pub here : OfNode f v d (cursor opts vs) t
     pub writes : (ps : List Part) → emits f ps vs ≡ ps ++ flat t
 
-  nothing_behind : {X : Type 0} (xs : List X) → xs ++ [] ≡ xs
-  nothing_behind [] = refl
-  nothing_behind (x ∷ xs) = ap (λ (z : List _). x ∷ z) (nothing_behind xs)
-
   -- a walk from a node is that of a tree, and writes it
   pub tree_of : (v d : ℕ) (vs : List Visit) → Walk opts (Node v d ∷ []) vs → TreeOf v d vs
   tree_of v d vs walk =
       let s = node_first v d [] (cursor opts vs) (walk_pending walk) in
-      let told : s.bs ≡ cursor opts vs = sym (s.whole ∙ ap (λ (z : List ℕ). s.bs ++ z) (pending_none s.others refl) ∙ nothing_behind s.bs) in
+      let told : s.bs ≡ cursor opts vs = sym (s.whole ∙ ap (λ (z : List ℕ). s.bs ++ z) (pending_none s.others refl) ∙ append-nil s.bs) in
       let h = node_walk f s.here in
       let same : h.vs ≡ vs = one_walk opts h.vs vs h.walk walk (h.told ∙ told) in
       record {

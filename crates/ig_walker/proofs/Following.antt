@@ -1,5 +1,6 @@
 -- Following a cursor from the root.
 use Rattle.std.proofs.Common.{◌≡◌, ℕ, zero, suc, ◌<◌, ◌≤◌, List, [], ◌∷◌, ◌++◌, Some, length, slice_get, reverse, drop, refl, sym, ap, ◌∙◌, subst, arith, append_assoc}
+use Rattle.std.proofs.lemmas.List.{append-nil}
 use Rattle.ig_forest.specs.Forest.{Forest}
 use Rattle.ig_forest.specs.Unfold.{noted, IsTrim}
 use Rattle.ig_walker.specs.Walks.{Walk, Leads, cursor}
@@ -9,7 +10,7 @@ use Rattle.ig_walker.specs.States.{LeadsOn, LeadsNowhere, IsAlong, IsWalkOf, IsT
 use Rattle.ig_walker.specs.declared.goal.Goal.{Goal}
 use Rattle.ig_walker.specs.declared.goal.Visit.{Visit}
 use Rattle.ig_walker.proofs.Walking.{within, visits, walk_lifts}
-use Rattle.ig_walker.proofs.Unfolding.{cursor_join, nothing_behind}
+use Rattle.ig_walker.proofs.Unfolding.{cursor_join}
 use Rattle.ig_walker.proofs.Replaying.{takes, along_back, ended_along, left_along}
 use Rattle.ig_walker.proofs.Stacks.{popped}
 use Rattle.ig_walker.proofs.Weights.{weight, visit_lower}
@@ -45,7 +46,7 @@ module _ (f : Forest) (root : List Goal) (cs : List ℕ) where
         whole =
             h.whole ∙ ap (λ (z : List ℕ). cursor opts vs ++ z) told.whole ∙ sym (append_assoc (cursor opts vs) n left)
             ∙ ap (λ (z : List ℕ). z ++ left)
-            (sym (cursor_join f vs (record { goal = g; choice = i } ∷ []) ∙ ap (λ (z : List ℕ). cursor opts vs ++ z) (nothing_behind n)));
+            (sym (cursor_join f vs (record { goal = g; choice = i } ∷ []) ∙ ap (λ (z : List ℕ). cursor opts vs ++ z) (append-nil n)));
         leads = visits opts h.leads g gs part i refl on.has;
       }
 
@@ -74,8 +75,8 @@ module _ (f : Forest) (root : List Goal) (cs : List ℕ) where
   pub follow_done : (vs : List Visit) (rest : List ℕ) → rest ≡ [] → Followed f root cs vs rest [] → IsWalkOf opts root cs vs
   follow_done vs rest e h =
       record {
-        walk = subst (λ (z : List Visit). Walk opts root z) (nothing_behind vs) (walk_lifts opts h.leads [] w.done);
-        told = sym (h.whole ∙ ap (λ (z : List ℕ). cursor opts vs ++ z) e ∙ nothing_behind (cursor opts vs));
+        walk = subst (λ (z : List Visit). Walk opts root z) (append-nil vs) (walk_lifts opts h.leads [] w.done);
+        told = sym (h.whole ∙ ap (λ (z : List ℕ). cursor opts vs ++ z) e ∙ append-nil (cursor opts vs));
       }
 
   -- the pending goals as a stack, whose top is at the end

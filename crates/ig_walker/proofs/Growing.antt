@@ -4,7 +4,7 @@ use Rattle.std.specs.List.{AllPairs}
 use Rattle.std.proofs.lemmas.List.Elements.{All-contains_itself, Contains-append_left, Contains-append_right, Contains-append_cases}
 use Rattle.std.proofs.lemmas.List.Quantifiers.{all_pairs_push}
 use Rattle.ig_text.specs.Tree.{Tree}
-use Rattle.ig_text.proofs.Lists.{none_in_nil, contains_one, contains_from_at}
+use Rattle.ig_text.proofs.Lists.{none_in_nil, contains_one, contains_from_at, contains_first, contains_later}
 use Rattle.ig_forest.specs.Forest.{Forest}
 use Rattle.ig_forest.specs.Unfold.{Unfold}
 use Rattle.ig_forest.specs.declared.tree.Part.{Part}
@@ -160,12 +160,6 @@ module _ (f : Forest) (d : ℕ) where
   member x xs y among =
       elim (Contains-append_cases (x ∷ []) xs y among) [ inl h ↦ inl (contains_one x y h) | inr h ↦ inr h ]
 
-  head_in : (x : Listed) (xs : List Listed) → Contains (x ∷ xs) x
-  head_in x xs = contains_from_at (x ∷ xs) 0 x refl
-
-  tail_in : (x : Listed) (xs : List Listed) (y : Listed) → Contains xs y → Contains (x ∷ xs) y
-  tail_in x xs y among = Contains-append_right (x ∷ []) xs y among
-
   -- what is listed elsewhere doesn't come before the head
   not_before : (from : Option (List ℕ)) (n : ℕ) (x : Listed) (xs : List Listed) (y : Listed) → IsListing f d from n (x ∷ xs) →
       Unfold f d y.cursor y.tree → IsBehind from y.cursor → Less y.cursor x.cursor → ⊥
@@ -176,7 +170,7 @@ module _ (f : Forest) (d : ℕ) where
               | inl e ↦ less_same less (ap (λ (z : Listed). z.cursor) e)
               | inr among ↦ less_same (onward less y.cursor (first_before x xs y l.are.order among)) refl
             ])
-        | inr h ↦ less_same (onward less y.cursor (h.1 x (head_in x xs))) refl
+        | inr h ↦ less_same (onward less y.cursor (h.1 x (contains_first x xs))) refl
       ]
 
   rest_is : (from : Option (List ℕ)) (n : ℕ) (x : Listed) (xs : List Listed) → IsListing f d from (suc n) (x ∷ xs) →
@@ -184,26 +178,26 @@ module _ (f : Forest) (d : ℕ) where
   rest_is from n x xs l =
       record {
         are = record {
-          unfolded = λ y among. l.are.unfolded y (tail_in x xs y among);
+          unfolded = λ y among. l.are.unfolded y (contains_later x xs y among);
           behind = λ y among. first_before x xs y l.are.order among;
           order = λ i j e less within. l.are.order (suc i) (suc j) e (omega (arith, less)) (omega (arith, within));
         };
         few = let h = l.few in omega (arith, h);
         whole = λ y unfolds less.
-            elim (l.whole y unfolds (further from x.cursor y.cursor (l.are.behind x (head_in x xs)) less)) [
+            elim (l.whole y unfolds (further from x.cursor y.cursor (l.are.behind x (contains_first x xs)) less)) [
               | inl h ↦
                   (elim (member x xs y h) [
                     | inl e ↦ absurd (less_same less (ap (λ (z : Listed). z.cursor) (sym e)))
                     | inr among ↦ inl among
                   ])
-              | inr h ↦ inr (let e = h.0 in omega (arith, e), λ z among. h.1 z (tail_in x xs z among))
+              | inr h ↦ inr (let e = h.0 in omega (arith, e), λ z among. h.1 z (contains_later x xs z among))
             ];
       }
 
   none_more : (from : Option (List ℕ)) (n : ℕ) (y : Listed) (ys : List Listed) → IsListing f d from n [] →
       IsListing f d from n (y ∷ ys) → ⊥
   none_more from n y ys l m =
-      elim (l.whole y (m.are.unfolded y (head_in y ys)) (m.are.behind y (head_in y ys))) [
+      elim (l.whole y (m.are.unfolded y (contains_first y ys)) (m.are.behind y (contains_first y ys))) [
         | inl h ↦ none_in_nil y h
         | inr h ↦ (let e = h.0 in let few = m.few in omega (arith, e, few))
       ]
@@ -211,11 +205,11 @@ module _ (f : Forest) (d : ℕ) where
   heads : (from : Option (List ℕ)) (n : ℕ) (x y : Listed) (xs ys : List Listed) → IsListing f d from n (x ∷ xs) →
       IsListing f d from n (y ∷ ys) → (x.cursor ≡ y.cursor) ⊎ (Less x.cursor y.cursor ⊎ Less y.cursor x.cursor) → x ≡ y
   heads from n x y xs ys l m (inl e) =
-      listed_one f d x y (l.are.unfolded x (head_in x xs)) (m.are.unfolded y (head_in y ys)) e
+      listed_one f d x y (l.are.unfolded x (contains_first x xs)) (m.are.unfolded y (contains_first y ys)) e
   heads from n x y xs ys l m (inr (inl less)) =
-      absurd (not_before from n y ys x m (l.are.unfolded x (head_in x xs)) (l.are.behind x (head_in x xs)) less)
+      absurd (not_before from n y ys x m (l.are.unfolded x (contains_first x xs)) (l.are.behind x (contains_first x xs)) less)
   heads from n x y xs ys l m (inr (inr less)) =
-      absurd (not_before from n x xs y l (m.are.unfolded y (head_in y ys)) (m.are.behind y (head_in y ys)) less)
+      absurd (not_before from n x xs y l (m.are.unfolded y (contains_first y ys)) (m.are.behind y (contains_first y ys)) less)
 
   one_listing : (from : Option (List ℕ)) (n : ℕ) (xs ys : List Listed) → IsListing f d from n xs → IsListing f d from n ys → xs ≡ ys
   one_listing from n [] [] l m = refl

@@ -10,7 +10,6 @@ pub mod Deciding
 pub mod Weights
 pub mod Running
 pub mod Stacks
-pub mod Emptiness
 pub mod Starting
 pub mod Replaying
 pub mod Following

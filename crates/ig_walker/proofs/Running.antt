@@ -1,5 +1,6 @@
 -- The states of the walker: going on to the least walk, and going back to the next option.
 use Rattle.std.proofs.Common.{◌≡◌, ℕ, suc, List, [], ◌∷◌, ◌++◌, length, refl, sym, ap, ◌∙◌, subst, arith, append_assoc}
+use Rattle.std.proofs.lemmas.List.{append-nil}
 use Rattle.ig_forest.specs.Forest.{Forest}
 use Rattle.ig_walker.specs.Walks.{Walk, Leads, cursor, Before, Opens, Passed, Least, Next, Last}
 use Rattle.ig_walker.specs.Walks as w
@@ -13,10 +14,6 @@ module _ (f : Forest) where
   abbrev opts : Goal → List (List Goal)
   opts = options f
 
-  nil_behind : {X : Type 0} (xs : List X) → xs ++ [] ≡ xs
-  nil_behind [] = refl
-  nil_behind (x ∷ xs) = ap (λ (z : List _). x ∷ z) (nil_behind xs)
-
   pub opens_both : (gs hs : List Goal) → Opens opts gs → Opens opts hs → Opens opts (gs ++ hs)
   opens_both gs hs a b = (a.0 ++ b.0, joined opts a.1 hs b.0 b.1)
 
@@ -24,7 +21,7 @@ module _ (f : Forest) where
   opens_back g gs o = let h = parted opts (g ∷ []) gs o.0 o.1 in (h.back, h.second)
 
   pub starts : (gs : List Goal) (before : List Visit) → Opens opts gs → Completes f gs before gs before
-  starts gs before o = record { taken = []; whole = sym (nil_behind before); to = λ ws l. l; opens = o }
+  starts gs before o = record { taken = []; whole = sym (append-nil before); to = λ ws l. l; opens = o }
 
   pub goes_on : (old : List Goal) (before : List Visit) (g : Goal) (rest : List Goal) (vs : List Visit) (i : ℕ) (part : List Goal) →
       Completes f old before (g ∷ rest) vs → FirstOption f g 0 i part → Completes f old before (part ++ rest) (vs ++ record { goal = g; choice = i } ∷ [])
@@ -38,10 +35,10 @@ module _ (f : Forest) where
       }
 
   pub completed : (old : List Goal) (before vs : List Visit) → (c : Completes f old before [] vs) → Least opts old c.taken
-  completed old before vs c = subst (λ (z : List Visit). Least opts old z) (nil_behind c.taken) (c.to [] (least_done opts))
+  completed old before vs c = subst (λ (z : List Visit). Least opts old z) (append-nil c.taken) (c.to [] (least_done opts))
 
   pub at_end : (root : List Goal) (old : List Visit) → Walk opts root old → Backs f root old old []
-  at_end root old walk = record { rest = []; whole = sym (nil_behind old); leads = walked opts walk; walk = w.done; last = last_done opts }
+  at_end root old walk = record { rest = []; whole = sym (append-nil old); leads = walked opts walk; walk = w.done; last = last_done opts }
 
   -- what was pending below the last visit
   pub below : (root : List Goal) (old vs : List Visit) (g : Goal) (i : ℕ) (pending : List Goal) →

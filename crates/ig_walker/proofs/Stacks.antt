@@ -1,5 +1,5 @@
 -- The states of the walker over vectors, whose last element is the top.
-use Rattle.std.proofs.Common.{◌≡◌, ℕ, suc, ◌<◌, List, [], ◌∷◌, ◌++◌, Some, length, slice_get, refl, sym, ap, ◌∙◌, subst, arith, Bool, true, false, reverse}
+use Rattle.std.proofs.Common.{◌≡◌, ℕ, suc, ◌<◌, List, [], ◌∷◌, ◌++◌, Some, length, slice_get, sym, ap, ◌∙◌, subst, arith, Bool, true, false, reverse}
 use Rattle.std.proofs.lemmas.List.{reverse-append}
 use Rattle.ig_forest.specs.Forest.{Forest}
 use Rattle.ig_forest.specs.Unfold.{IsTrim}
@@ -14,10 +14,6 @@ use Rattle.ig_walker.proofs.Weights.{weight, visit_lower}
 
 pub popped : {X : Type 0} (xs ys : List X) (g : X) → xs ≡ ys ++ g ∷ [] → reverse xs ≡ g ∷ reverse ys
 popped xs ys g e = ap (λ (z : List _). reverse z) e ∙ reverse-append ys (g ∷ [])
-
-pub emptied : {X : Type 0} (xs : List X) (n : ℕ) → n ≡ length xs → n ≡ 0 → xs ≡ []
-emptied [] n e z = refl
-emptied (x ∷ xs) n e z = absurd (omega (arith, e, z))
 
 module _ (f : Forest) where
   abbrev opts : Goal → List (List Goal)

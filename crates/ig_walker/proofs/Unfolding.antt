@@ -1,8 +1,9 @@
 -- The trees of a forest are the walks from its root, each with its cursor and its parts.
-use Rattle.std.proofs.Common.{◌≡◌, ℕ, zero, suc, ◌+◌, List, [], ◌∷◌, ◌++◌, Option, Some, length, slice_get, map, refl, sym, ap, ap₂, ◌∙◌, subst, arith, append_assoc}
-use Rattle.std.proofs.lemmas.Option.{same_Some}
+use Rattle.std.proofs.Common.{◌≡◌, ℕ, suc, ◌+◌, List, [], ◌∷◌, ◌++◌, Option, Some, length, slice_get, refl, sym, ap, ap₂, ◌∙◌, subst, arith, append_assoc}
+use Rattle.std.proofs.lemmas.List.{append-nil, length-map}
 use Rattle.ig_text.specs.Tree.{Tree, Trees, none, more, one, join}
 use Rattle.ig_text.specs.Tree as shape
+use Rattle.ig_text.proofs.Lists.{mapped_at}
 use Rattle.ig_forest.specs.Forest as forest
 use Rattle.ig_forest.specs.Forest.{Forest, ItemNode}
 use Rattle.ig_forest.specs.Unfold.{noted, OfNode, OfItem, Unfold}
@@ -21,25 +22,6 @@ use Rattle.ig_walker.specs.declared.goal.Goal.{Goal}
 use Rattle.ig_walker.specs.declared.goal.Goal.TheVariants.{Node, Item, Leaf}
 use Rattle.ig_walker.specs.declared.goal.Visit.{Visit}
 use Rattle.ig_walker.proofs.Walking.{at, joined}
-
-module _ {X Y : Type 0} (g : X → Y) where
-  pub mapped : (xs : List X) (i : ℕ) (x : X) → slice_get xs i ≡ Some x → slice_get (map g xs) i ≡ Some (g x)
-  mapped [] i x e = cc
-  mapped (y ∷ xs) zero x e = ap (λ (z : X). Some (g z)) (same_Some y x e)
-  mapped (y ∷ xs) (suc i) x e = mapped xs i x e
-
-  pub of_mapped : (xs : List X) (i : ℕ) (y : Y) → slice_get (map g xs) i ≡ Some y → (x : X) × (slice_get xs i ≡ Some x) × (g x ≡ y)
-  of_mapped [] i y e = cc
-  of_mapped (x ∷ xs) zero y e = (x, refl, same_Some (g x) y e)
-  of_mapped (x ∷ xs) (suc i) y e = of_mapped xs i y e
-
-  pub length_mapped : (xs : List X) → length (map g xs) ≡ length xs
-  length_mapped [] = refl
-  length_mapped (x ∷ xs) = let h = length_mapped xs in omega (arith, h)
-
-pub nothing_behind : {X : Type 0} (xs : List X) → xs ++ [] ≡ xs
-nothing_behind [] = refl
-nothing_behind (x ∷ xs) = ap (λ (z : List _). x ∷ z) (nothing_behind xs)
 
 bumped_none : (q : Part) → bumped 0 q ≡ q
 bumped_none q = let e : q.children + 0 ≡ q.children = omega arith in ap (λ (n : ℕ). record { tag = q.tag; span = q.span; children = n }) e
@@ -70,7 +52,7 @@ more_parts ps q ts t =
     let n : 1 + count ts ≡ count (join ts (one t)) = let h = count_join ts (one t) in omega (arith, h) in
     append_assoc (ps ++ bumped (count ts) (bumped 1 q) ∷ []) (flats ts) (flat t)
     ∙ ap₂ (λ (a : Part) (b : List Part). (ps ++ a ∷ []) ++ b) (bumped_twice (count ts) 1 q ∙ ap (λ (m : ℕ). bumped m q) n)
-    (sym (flats_join ts (one t) ∙ ap (λ (z : List Part). flats ts ++ z) (nothing_behind (flat t))))
+    (sym (flats_join ts (one t) ∙ ap (λ (z : List Part). flats ts ++ z) (append-nil (flat t))))
 
 module _ (f : Forest) where
   abbrev opts : Goal → List (List Goal)
@@ -108,13 +90,13 @@ module _ (f : Forest) where
   -- the number of options of an item
   pub entries_many : (k d : ℕ) (it : ItemNode) → slice_get f.items k ≡ Some it → length (opts (Item k d)) ≡ length it.entries
   entries_many k d it has =
-      length_mapped (behind_entry d) (entries_of (slice_get f.items k))
+      length-map (entries_of (slice_get f.items k)) (behind_entry d)
       ∙ ap (λ (z : Option ItemNode). length (entries_of z)) has
 
   pub alternatives_many : (v d : ℕ) (node : forest.Node) → slice_get f.nodes v ≡ Some node →
       length (opts (Node v (suc d))) ≡ length node.alternatives
   alternatives_many v d node has =
-      length_mapped (behind_choice d) (alternatives_of (slice_get f.nodes v))
+      length-map (alternatives_of (slice_get f.nodes v)) (behind_choice d)
       ∙ ap (λ (z : Option forest.Node). length (alternatives_of z)) has
 
   -- a visit of an item by an entry, and what is behind it
@@ -124,8 +106,8 @@ module _ (f : Forest) where
       Walk opts (Item k d ∷ []) (record { goal = Item k d; choice = i } ∷ vs) × (cursor opts (record { goal = Item k d; choice = i } ∷ vs) ≡ cs)
   by_item k d i it e vs bs cs has at walk told is = (
     w.step (Item k d) [] (behind_entry d e) i vs
-        (mapped (behind_entry d) (entries_of (slice_get f.items k)) i e (entry_here k i it e has at))
-        (subst (λ (z : List Goal). Walk opts z vs) (sym (nothing_behind (behind_entry d e))) walk),
+        (mapped_at (behind_entry d) (entries_of (slice_get f.items k)) i e (entry_here k i it e has at))
+        (subst (λ (z : List Goal). Walk opts z vs) (sym (append-nil (behind_entry d e))) walk),
     ap₂ (λ (n : ℕ) (z : List ℕ). noted n i ++ z) (entries_many k d it has) told ∙ sym is,
   )
 
@@ -139,7 +121,7 @@ module _ (f : Forest) where
           vs = record { goal = Node v (suc d); choice = i } ∷ h.vs;
           walk =
               w.step (Node v (suc d)) [] (behind_choice d choice) i h.vs
-              (mapped (behind_choice d) (alternatives_of (slice_get f.nodes v)) i choice here) h.walk;
+              (mapped_at (behind_choice d) (alternatives_of (slice_get f.nodes v)) i choice here) h.walk;
           told = ap₂ (λ (n : ℕ) (z : List ℕ). noted n i ++ z) (alternatives_many v d node has) h.told ∙ sym is;
           writes = λ ps.
               ap (λ (z : Option forest.Node). emits f (by_choice z i ps) h.vs) has
@@ -152,14 +134,14 @@ module _ (f : Forest) where
 
     pub item_walk : {k d : ℕ} {cs : List ℕ} {ts : Trees} → OfItem f k d cs ts → ItemWalk k d cs ts
     item_walk (trees.begin k d i it cs has at is) =
-        let h = by_item k d i it Begin [] [] cs has at w.done refl (is ∙ sym (nothing_behind (noted (length it.entries) i))) in
+        let h = by_item k d i it Begin [] [] cs has at w.done refl (is ∙ sym (append-nil (noted (length it.entries) i))) in
         record {
           vs = record { goal = Item k d; choice = i } ∷ [];
           walk = h.0;
           told = h.1;
           writes = λ ps q.
               ap (λ (z : Option Entry). by_entry z (ps ++ q ∷ [])) (entry_here k i it Begin has at)
-              ∙ ap (λ (z : Part). ps ++ z ∷ []) (sym (bumped_none q)) ∙ sym (nothing_behind (ps ++ bumped 0 q ∷ []));
+              ∙ ap (λ (z : Part). ps ++ z ∷ []) (sym (bumped_none q)) ∙ sym (append-nil (ps ++ bumped 0 q ∷ []));
         }
     item_walk (trees.pass k d i prev it bs cs ts has at item is) =
         let r = item_walk item in
@@ -177,7 +159,7 @@ module _ (f : Forest) where
         let one_more : Walk opts (Leaf span ∷ []) (last ∷ []) = w.step (Leaf span) [] [] 0 [] refl w.done in
         let h = by_item k d i it (Take prev (child.Leaf span)) (r.vs ++ last ∷ []) bs cs has at
         (joined opts r.walk (Leaf span ∷ []) (last ∷ []) one_more)
-        (cursor_join r.vs (last ∷ []) ∙ nothing_behind (cursor opts r.vs) ∙ r.told) is in
+        (cursor_join r.vs (last ∷ []) ∙ append-nil (cursor opts r.vs) ∙ r.told) is in
         record {
           vs = record { goal = Item k d; choice = i } ∷ (r.vs ++ last ∷ []);
           walk = h.0;

@@ -1,6 +1,6 @@
 -- A measure of pending goals that each visit lowers.
 use Rattle.std.proofs.Common.{◌≡◌, ℕ, zero, suc, ◌<◌, ◌≤◌, ◌+◌, List, [], ◌∷◌, ◌++◌, Option, Some, None, length, slice_get, map, refl, subst, arith}
-use Rattle.ig_text.proofs.Lists.{contains_from_at}
+use Rattle.ig_text.proofs.Lists.{contains_from_at, unmapped_at}
 use Rattle.ig_text.specs.declared.text.Span.{Span}
 use Rattle.ig_forest.specs.Forest as forest
 use Rattle.ig_forest.specs.Forest.{Forest, ItemNode}
@@ -11,7 +11,6 @@ use Rattle.ig_forest.specs.declared.entry.Child.TheVariants as child
 use Rattle.ig_walker.specs.Options.{alternatives_of, entries_of, behind_choice, behind_entry, options}
 use Rattle.ig_walker.specs.declared.goal.Goal.{Goal}
 use Rattle.ig_walker.specs.declared.goal.Goal.TheVariants.{Node, Item, Leaf}
-use Rattle.ig_walker.proofs.Unfolding.{of_mapped}
 
 abbrev pub pow3 : ℕ → ℕ
 pow3 zero = 1
@@ -73,14 +72,14 @@ module _ (f : Forest) (good : IsTrim f) where
       slice_get (map (behind_entry d) (entries_of it)) i ≡ Some part → weight many part < pow3 (level many (Item k d))
   item_lower k d i part None e has = cc
   item_lower k d i part (Some it) e has =
-      let m = of_mapped (behind_entry d) it.entries i part has in
+      let m = unmapped_at (behind_entry d) it.entries i part has in
       subst (λ (z : List Goal). weight many z < pow3 (level many (Item k d))) m.2 (entry_lower d k i it m.0 e m.1)
 
   node_lower : (v d i : ℕ) (part : List Goal) (node : Option forest.Node) → slice_get f.nodes v ≡ node →
       slice_get (map (behind_choice d) (alternatives_of node)) i ≡ Some part → weight many part < pow3 (level many (Node v (suc d)))
   node_lower v d i part None e has = cc
   node_lower v d i part (Some node) e has =
-      let m = of_mapped (behind_choice d) node.alternatives i part has in
+      let m = unmapped_at (behind_choice d) node.alternatives i part has in
       let p = good.forest.alternatives v node m.0 e (contains_from_at node.alternatives i m.0 m.1) in
       subst (λ (z : List Goal). weight many z < pow3 (level many (Node v (suc d)))) m.2
       (one_lower many (Node v (suc d)) (Item m.0.item d) (omega (arith, p)))

@@ -1,8 +1,9 @@
 use Rattle.std.proofs.Common.{◌≡◌, ◌∙◌, suc, ◌-◌, arith, sym}
 use Rattle.std.proofs.lemmas.Option.{get_or_from_slice_get}
 use Rattle.ig_text.proofs.Lists.{get_within}
+use Rattle.ig_text.proofs.Characters.{word_bytes}
 use Rattle.ig_grammar.specs.declared.place.Shape.TheVariants.{Rule}
-use Rattle.ig_blocks.proofs.KindTable.{word_bytes, kinds_more, kinds_same}
+use Rattle.ig_blocks.proofs.KindTable.{kinds_more, kinds_same}
 use Rattle.ig_blocks.proofs.guide.kinds_of.Goals as goal
 
 pub loop-index-preserved-in_ok-insert : goal.loop-index-preserved-in_ok-insert

@@ -1,6 +1,7 @@
 use Rattle.std.proofs.Common.{arith, sym, ◌∙◌, ap}
+use Rattle.ig_text.proofs.Characters.{word_bytes}
 use Rattle.ig_rewrite.specs.Rooted.{is_root}
-use Rattle.ig_core.proofs.NameNumbers.{names_more, names_same, word_bytes, next_more, next_same}
+use Rattle.ig_core.proofs.NameNumbers.{names_more, names_same, next_more, next_same}
 use Rattle.ig_core.proofs.naming.number_names.Goals as goal
 use Rattle.ig_core.proofs.naming.number_names.Goals.{then-not-is_root+in_ok-insert, else-not-is_root}
 

@@ -1,7 +1,7 @@
 use Rattle.std.proofs.Common.{◌∙◌, refl}
 use Rattle.std.specs.Prelude.{codes}
+use Rattle.ig_text.proofs.Characters.{ascii_chars}
 use Rattle.ig_core.specs.Tables.{number_by}
-use Rattle.ig_core.proofs.NameTexts.{ascii_chars}
 use Rattle.ig_core.proofs.Whole.{made_is}
 use Rattle.ig_core.proofs.roots.made_root.Goals as goal
 

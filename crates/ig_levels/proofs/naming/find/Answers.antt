@@ -2,7 +2,7 @@ use Rattle.std.proofs.Common.{◌∙◌, ap, ℕ, List}
 use Rattle.std.specs.BTreeMap.{get_by}
 use Rattle.std.specs.Cmp.Lexicographic.{slice_cmp}
 use Rattle.std.specs.Ordering.{nat_cmp}
-use Rattle.ig_levels.proofs.Telling.{word_bytes}
+use Rattle.ig_text.proofs.Characters.{word_bytes}
 use Rattle.ig_levels.proofs.naming.find.Goals as goal
 
 pub returns : goal.returns

@@ -1,7 +1,8 @@
 use Rattle.std.proofs.Common.{◌≡◌, ◌∙◌, ◌+◌, ◌-◌, ap, refl, sym, subst, drop, arith, ℕ}
+use Rattle.ig_text.proofs.Characters.{word_bytes}
 use Rattle.ig_levels.specs.Levels.{is_levelled}
 use Rattle.ig_levels.specs.Tables.{Tells}
-use Rattle.ig_levels.proofs.Telling.{tells_more, word_bytes}
+use Rattle.ig_levels.proofs.Telling.{tells_more}
 use Rattle.ig_levels.proofs.naming.levelled_names.Goals as goal
 
 pub loop-index-preserved : goal.loop-index-preserved

@@ -1,7 +1,8 @@
 use Rattle.std.proofs.Common.{◌≡◌, Contains, refl, sym, subst}
+use Rattle.std.proofs.lemmas.List.Elements.{Contains-append_left}
+use Rattle.ig_text.proofs.Lists.{contains_from_at}
 use Rattle.ig_plain.specs.Returned.{entry}
 use Rattle.ig_plain.specs.Found.{means, found_in, later_in}
-use Rattle.ig_plain.proofs.Lists.{contains_from_at, left_contains}
 use Rattle.ig_plain.proofs.Growth.{grows_not}
 use Rattle.ig_plain.proofs.Sets.{extends_itself}
 use Rattle.ig_plain.proofs.Indexing.{not_indexed}
@@ -23,7 +24,7 @@ pub returns-clause-adds : goal.returns-clause-adds
 returns-clause-adds c =
     let at = meant_at c.args.found.now c.in-Some.item c.args.item (c.requires.indexed.sound (entry c.args.item c.in-Some.item) c.in-Some.ensures.some) in
     adds_nothing c.args.item.position (λ x. x ≡ means c.args.found.now c.args.item) c.args.budget c.args.found.now
-    (λ x e. left_contains (found_in c.args.found.now) (later_in c.args.found.now) x
+    (λ x e. Contains-append_left (found_in c.args.found.now) (later_in c.args.found.now) x
     (subst (Contains (found_in c.args.found.now)) (sym e)
     (contains_from_at (found_in c.args.found.now) c.in-Some.item (means c.args.found.now c.args.item) at)))
 

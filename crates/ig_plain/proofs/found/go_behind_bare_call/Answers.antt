@@ -1,10 +1,10 @@
 use Rattle.std.proofs.Common.{◌+◌, length, refl, sym, ◌∙◌, arith}
 use Rattle.std.proofs.lemmas.Result.{on_ok_weaker}
+use Rattle.ig_text.proofs.Lists.{right_at}
 use Rattle.ig_item.specs.declared.items.Item as stored
 use Rattle.ig_item.specs.declared.run_fault.RunFault.TheVariants.{Memory}
 use Rattle.ig_item.specs.declared.ways.Way.TheVariants.{Node}
 use Rattle.ig_plain.specs.Found.{means}
-use Rattle.ig_plain.proofs.Lists.{right_at}
 use Rattle.ig_plain.proofs.Growth.{grows_not, bare_means}
 use Rattle.ig_plain.proofs.Sets.{extends_itself}
 use Rattle.ig_plain.proofs.Additions.{adds_fails, adds_alike}

@@ -1,7 +1,8 @@
 use Rattle.std.proofs.lemmas.Result.{on_ok_weaker}
+use Rattle.ig_text.proofs.Options.{not_none}
 use Rattle.ig_expr.specs.View.{expression_of}
 use Rattle.ig_item.specs.declared.ways.Way.TheVariants.{Pass}
-use Rattle.ig_plain.proofs.Additions.{adds_with, adds_without, value_at, value_only, value_none}
+use Rattle.ig_plain.proofs.Additions.{adds_with, adds_without, value_at, value_only}
 use Rattle.ig_plain.proofs.Recording.{records_with, records_without}
 use Rattle.ig_plain.proofs.moves.take_bind.Goals as goal
 
@@ -30,8 +31,8 @@ returns-clause-ways c =
 
 pub returns-in_default-clause-adds : goal.returns-in_default-clause-adds
 returns-in_default-clause-adds c =
-    adds_without c.args.item.position _ _ c.args.budget c.args.found.now (λ w h. value_none _ w (value_at c.args.text.now c.args.names.now c.args.item.position _ _ (expression_of c.args.expression.now) _ _ c.values_at-values.ensures c.value.ensures c.in_default.is) h)
+    adds_without c.args.item.position _ _ c.args.budget c.args.found.now (λ w h. not_none _ w (value_at c.args.text.now c.args.names.now c.args.item.position _ _ (expression_of c.args.expression.now) _ _ c.values_at-values.ensures c.value.ensures c.in_default.is) h)
 
 pub returns-in_default-clause-ways : goal.returns-in_default-clause-ways
 returns-in_default-clause-ways c =
-    records_without _ (Pass c.args.number) _ c.args.found.now c.args.trail.now (λ w h. value_none _ w (value_at c.args.text.now c.args.names.now c.args.item.position _ _ (expression_of c.args.expression.now) _ _ c.values_at-values.ensures c.value.ensures c.in_default.is) h)
+    records_without _ (Pass c.args.number) _ c.args.found.now c.args.trail.now (λ w h. not_none _ w (value_at c.args.text.now c.args.names.now c.args.item.position _ _ (expression_of c.args.expression.now) _ _ c.values_at-values.ensures c.value.ensures c.in_default.is) h)

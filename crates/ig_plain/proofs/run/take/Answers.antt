@@ -1,7 +1,7 @@
 use Rattle.std.proofs.Common.{sym, subst}
+use Rattle.ig_text.proofs.Lists.{contains_from_at}
 use Rattle.ig_plain.specs.Run.{IsRun}
 use Rattle.ig_plain.specs.Trail.{HasTrail}
-use Rattle.ig_plain.proofs.Lists.{contains_from_at}
 use Rattle.ig_plain.proofs.Onward.{trail_next}
 use Rattle.ig_plain.proofs.Alone.{fits, stands_at, complete_at, taken_next}
 use Rattle.ig_plain.proofs.run.take.Goals as goal

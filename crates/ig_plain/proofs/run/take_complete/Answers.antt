@@ -1,11 +1,12 @@
 use Rattle.std.proofs.Common.{refl, sym, ap, ◌∙◌, subst, length, arith}
+use Rattle.std.proofs.lemmas.List.{length-set}
 use Rattle.std.specs.Prelude.{OnOk}
 use Rattle.ig_plain.specs.Waiting.{called_at}
 use Rattle.ig_plain.specs.Run.{IsChainOf, IsReturnToOne}
 use Rattle.ig_plain.specs.Found.{Adds, means}
 use Rattle.ig_plain.specs.Trail.{Records, AreKnown, IsReturnBy}
 use Rattle.ig_plain.proofs.Distinct.{found_once}
-use Rattle.ig_plain.proofs.Waiters.{ended_set, set_length}
+use Rattle.ig_plain.proofs.Waiters.{ended_set}
 use Rattle.ig_plain.proofs.Completes.{called_there, nothing_new, chain_of, completes, run_at, head_now}
 use Rattle.ig_plain.proofs.Fresh.{found_by_node}
 use Rattle.ig_plain.proofs.Onward.{trail_at}
@@ -45,7 +46,7 @@ pub first_caller-head-requires : goal.first_caller-head-requires
 first_caller-head-requires c =
     let l = called_there c.args.core.now c.args.text.now c.reachable_is_closed.ensures c.args.budget c.args.item.position c.requires.taking.number c.args.found.now c.args.waiting.now c.args.item
     refl c.requires.taking.run c.requires.taking.at in
-    let e = ap length c.add_end.ensures.called ∙ set_length c.args.waiting.now.called.items c.args.item.instance _ in
+    let e = ap length c.add_end.ensures.called ∙ length-set c.args.waiting.now.called.items c.args.item.instance _ in
     record { there = omega (arith, l, e) }
 
 pub return_to_all-requires-clause-chain : goal.return_to_all-requires-clause-chain

@@ -1,5 +1,6 @@
 use Rattle.std.proofs.Common.{refl, ap, sym, subst, map, ◌∙◌}
 use Rattle.std.specs.Prelude.{OnOk}
+use Rattle.ig_text.proofs.Lists.{contains_from_at}
 use Rattle.ig_expr.specs.View.{expression_of}
 use Rattle.ig_item.specs.View.{step_of}
 use Rattle.ig_item.specs.Items.{StandsBefore}
@@ -8,7 +9,6 @@ use Rattle.ig_plain.specs.Compiled.{form_of}
 use Rattle.ig_plain.specs.Rules.{IsBehind}
 use Rattle.ig_plain.specs.Found.{means, Adds, AddsTerminal}
 use Rattle.ig_plain.specs.Trail.{By, Records, RecordsTerminal, Unfound, IsBehindTest, IsBehindBind}
-use Rattle.ig_plain.proofs.Lists.{contains_from_at}
 use Rattle.ig_plain.proofs.Completes.{run_at}
 use Rattle.ig_plain.proofs.Fresh.{new_test, new_bind, new_terminal}
 use Rattle.ig_plain.proofs.Onward.{trail_at, not_taken}

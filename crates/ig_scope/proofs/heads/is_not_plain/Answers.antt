@@ -1,8 +1,8 @@
 use Rattle.std.proofs.Common.{ap, subst, ◌≡◌, length}
 use Rattle.std.proofs.Common.{arith}
 use Rattle.std.specs.Prelude.{IsTrue, ◌↔◌}
+use Rattle.ig_text.proofs.Emptiness.{is_nothing}
 use Rattle.ig_scope.specs.Heads.{HaveAssociativity}
-use Rattle.ig_scope.proofs.Repeats.{is_nothing}
 use Rattle.ig_scope.proofs.HeadCauses.{not_plain_second, not_plain_last}
 use Rattle.ig_scope.proofs.heads.is_not_plain.Goals as goal
 

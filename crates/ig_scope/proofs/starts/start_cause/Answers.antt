@@ -1,7 +1,7 @@
 use Rattle.std.proofs.Common.{◌≡◌, subst, None, Some}
+use Rattle.ig_text.proofs.Emptiness.{is_something}
 use Rattle.ig_grammar.specs.Condition.{declaration_of}
 use Rattle.ig_scope.proofs.StartCauses.{start_missing, start_unknown, start_parametrized}
-use Rattle.ig_scope.proofs.Repeats.{is_something}
 use Rattle.ig_scope.proofs.starts.start_cause.Goals as goal
 
 pub returns-in-None : goal.returns-in-None

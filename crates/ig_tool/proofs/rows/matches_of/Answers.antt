@@ -1,6 +1,7 @@
 use Rattle.std.proofs.Common.{◌≡◌, ◌≢◌, ◌∙◌, ◌⊎◌, ⊎_elim, [], map, ap, sym, subst, true}
 use Rattle.std.proofs.lemmas.Result.{IfOk-weaker}
 use Rattle.std.specs.Prelude.{string_bytes}
+use Rattle.ig_text.proofs.Booleans.{first_true}
 use Rattle.clap.specs.Kinds.{Kinds, IsAmong}
 use Rattle.clap.specs.Words.{app_of, fault_of, is_simple, is_simple_and_free, matches_of}
 use Rattle.clap.specs.declared.error.kind.ErrorKind.{ErrorKind}
@@ -8,7 +9,6 @@ use Rattle.clap.specs.declared.error.kind.ErrorKind.TheVariants as kind
 use Rattle.ig_tool.specs.Rows.{Answers}
 use Rattle.ig_tool.specs.Words.{parts_of}
 use Rattle.ig_tool.proofs.Matched.{answers_found, answers_none, is_simple_row}
-use Rattle.ig_tool.proofs.Rules.{first_true}
 use Rattle.ig_tool.proofs.rows.matches_of.Goals as goal
 
 refuses : (k : ErrorKind) (kinds : Kinds) → (k ≡ kind.OutOfMemory) ⊎ IsAmong k kinds → k ≢ kind.OutOfMemory → kinds ≢ []

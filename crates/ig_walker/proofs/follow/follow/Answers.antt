@@ -1,8 +1,8 @@
 use Rattle.std.proofs.Common.{[], ◌∷◌, refl, vec_items, arith}
+use Rattle.ig_text.proofs.Emptiness.{emptied}
 use Rattle.ig_walker.specs.Behind.{listed}
 use Rattle.ig_walker.specs.Options.{root_goal}
 use Rattle.ig_walker.proofs.Following.{follow_starts, follow_goes_code, follow_ends_code, follow_fails_code, follow_lower_code, follow_left_code, follow_done_code, drop_some, drop_none}
-use Rattle.ig_walker.proofs.Stacks.{emptied}
 use Rattle.ig_walker.proofs.Starting.{root_alone}
 use Rattle.ig_walker.proofs.follow.follow.Goals as goal
 

@@ -1,11 +1,12 @@
 use Rattle.std.proofs.Common.{◌≡◌, ℕ, suc, ◌+◌, List, ◌∷◌, [], length, reverse, vec_items, arith, subst, sym}
+use Rattle.ig_text.proofs.Emptiness.{emptied}
 use Rattle.ig_walker.specs.Options.{options, root_goal}
 use Rattle.ig_walker.specs.States.{Backs, FirstOption}
 use Rattle.ig_walker.specs.Behind.{listed}
 use Rattle.ig_walker.specs.Walks.{Passed}
 use Rattle.ig_walker.specs.declared.goal.Goal.{Goal}
 use Rattle.ig_walker.proofs.Running.{at_end}
-use Rattle.ig_walker.proofs.Stacks.{goes_back_code, found_code, exhausted_code, emptied}
+use Rattle.ig_walker.proofs.Stacks.{goes_back_code, found_code, exhausted_code}
 use Rattle.ig_walker.proofs.walk.back.Goals as goal
 
 pub loop-visit-init : goal.loop-visit-init

@@ -1,5 +1,6 @@
 use Rattle.std.proofs.Common.{vec_items}
-use Rattle.ig_walker.proofs.Stacks.{goes_on_code, lower_code, never_code, completed_code, emptied}
+use Rattle.ig_text.proofs.Emptiness.{emptied}
+use Rattle.ig_walker.proofs.Stacks.{goes_on_code, lower_code, never_code, completed_code}
 use Rattle.ig_walker.proofs.walk.complete.Goals as goal
 
 pub loop-goal-smaller-in-Continue-branch-2 : goal.loop-goal-smaller-in-Continue-branch-2

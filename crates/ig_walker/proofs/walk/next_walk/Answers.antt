@@ -1,6 +1,6 @@
 use Rattle.std.proofs.Common.{vec_items, refl}
 use Rattle.std.proofs.lemmas.Result.{IfOk-weaker}
-use Rattle.ig_walker.proofs.Emptiness.{is_nothing, is_something}
+use Rattle.ig_text.proofs.Emptiness.{is_nothing, is_something}
 use Rattle.ig_walker.proofs.Starting.{found_weaker, none_first, is_first, has_walk, none_later, is_later}
 use Rattle.ig_walker.proofs.walk.next_walk.Goals as goal
 

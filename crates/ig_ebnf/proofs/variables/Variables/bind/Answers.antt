@@ -1,5 +1,5 @@
 use Rattle.std.proofs.Common.{◌∙◌}
-use Rattle.ig_ebnf.proofs.CodeOfBound.{bound_pushed}
+use Rattle.ig_text.proofs.Zips.{bound_pushed}
 use Rattle.ig_ebnf.proofs.variables.Variables.bind.Goals as goal
 use Rattle.ig_ebnf.proofs.variables.Variables.bind.Goals.{in-Ok, in-Err}
 

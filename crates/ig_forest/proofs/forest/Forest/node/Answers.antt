@@ -1,6 +1,6 @@
 use Rattle.std.proofs.Common.{[], refl, sym}
+use Rattle.ig_text.proofs.Lists.{contains_from_at}
 use Rattle.ig_forest.specs.CodeNodeRows.{stored_view}
-use Rattle.ig_forest.proofs.Lists.{contains_from_at}
 use Rattle.ig_forest.proofs.CodeReading.{node_absent, node_read, there_not, read_at, read_none}
 use Rattle.ig_forest.proofs.forest.Forest.node.Goals as goal
 

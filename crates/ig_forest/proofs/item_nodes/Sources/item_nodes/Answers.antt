@@ -1,15 +1,15 @@
 use Rattle.std.proofs.Common.{List, [], sym, subst}
-use Rattle.ig_forest.specs.Reduced as reduced
-use Rattle.ig_forest.specs.Reduced.{Each}
+use Rattle.ig_text.specs.Pairwise as pairwise
 use Rattle.ig_forest.specs.CodeItemNodes.{IsStoredItem}
 use Rattle.ig_forest.specs.CodeParts.{StoredItem}
 use Rattle.std.proofs.lemmas.List.Elements.{Contains-get_or}
-use Rattle.ig_forest.proofs.CodeItemNodes.{each_next, each_all}
+use Rattle.ig_text.specs.Pairwise.{Each}
+use Rattle.ig_text.proofs.Pairwise.{each_next, each_all}
 use Rattle.ig_forest.proofs.item_nodes.Sources.item_nodes.Goals as goal
 
 pub loop-number-init : goal.loop-number-init
 loop-number-init c =
-    subst (λ (v : List StoredItem). Each (IsStoredItem c.args.self.now) [] v) (sym c.in_ok-table.ensures) reduced.none
+    subst (λ (v : List StoredItem). Each (IsStoredItem c.args.self.now) [] v) (sym c.in_ok-table.ensures) pairwise.none
 
 pub add-requires-clause-live : goal.add-requires-clause-live
 add-requires-clause-live c = Contains-get_or c.args.self.now.order.now c.loop-number.number-index _ c.loop-number-test.true

@@ -1,5 +1,5 @@
 use Rattle.std.proofs.Common.{take}
-use Rattle.ig_forest.specs.Reduced.{Each}
+use Rattle.ig_text.specs.Pairwise.{Each}
 use Rattle.ig_forest.specs.CodeItemNodes.{IsStoredItem}
 use Rattle.ig_forest.proofs.item_nodes.Sources.item_nodes.Given as goal
 

@@ -1,5 +1,5 @@
 use Rattle.std.proofs.Common.{◌≡◌, sym, subst, slice_get, Some, length, ap, [], ◌∷◌, refl, arith}
-use Rattle.ig_plain.proofs.Lists.{right_at}
+use Rattle.ig_text.proofs.Lists.{right_at}
 use Rattle.ig_plain.proofs.Numbered.{once_more}
 use Rattle.ig_item.specs.WellKinded.{NoneTwice}
 use Rattle.ig_plain.proofs.instance_set.InstanceSet.enter.Goals as goal

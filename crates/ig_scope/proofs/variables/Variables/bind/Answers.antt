@@ -1,5 +1,5 @@
 use Rattle.std.proofs.Common.{◌∙◌}
-use Rattle.ig_scope.proofs.Binding.{bound_pushed}
+use Rattle.ig_text.proofs.Zips.{bound_pushed}
 use Rattle.ig_scope.proofs.variables.Variables.bind.Goals as goal
 use Rattle.ig_scope.proofs.variables.Variables.bind.Goals.{in-Ok, in-Err}
 

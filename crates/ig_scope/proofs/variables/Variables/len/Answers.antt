@@ -1,5 +1,5 @@
 use Rattle.std.proofs.Common.{sym, ◌∙◌, ap, length}
-use Rattle.ig_scope.proofs.Zipped.{length_zip}
+use Rattle.ig_text.proofs.Zips.{length_zip}
 use Rattle.ig_scope.proofs.variables.Variables.len.Goals as goal
 
 pub returns : goal.returns

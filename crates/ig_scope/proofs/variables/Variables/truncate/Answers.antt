@@ -1,6 +1,6 @@
 use Rattle.std.proofs.Common.{◌∙◌, ap, take}
 use Rattle.std.specs.List.{zip}
-use Rattle.ig_scope.proofs.Zipped.{zip_take}
+use Rattle.ig_text.proofs.Zips.{zip_take}
 use Rattle.ig_scope.proofs.variables.Variables.truncate.Goals as goal
 
 pub returns : goal.returns

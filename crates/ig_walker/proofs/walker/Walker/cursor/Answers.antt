@@ -1,6 +1,6 @@
 use Rattle.std.proofs.Common.{vec_items}
+use Rattle.ig_text.proofs.Emptiness.{is_nothing, is_something}
 use Rattle.ig_walker.proofs.Closing.{shows_none, shows_cursor}
-use Rattle.ig_walker.proofs.Emptiness.{is_nothing, is_something}
 use Rattle.ig_walker.proofs.walker.Walker.cursor.Goals as goal
 
 pub returns-then-is_empty : goal.returns-then-is_empty
