@@ -34,7 +34,7 @@ BlocksKeep =
     (c : CheckedGrammar) → IsSound c → IsFree c.grammar → IsUnbound c.grammar margin_name →
     IsUnbound c.grammar first_name → IsUnbound c.grammar column_name → PlainIsUnmarked c.grammar → KeptByBlocks c
 
--- each count of the grammar is multiplied by five at most, with two for the root
+-- one bound on all counts grows fivefold at most, with two for the root
 abbrev pub BlocksMultiply : Type 0
 BlocksMultiply = (c : CheckedGrammar) → Multiplies 5 c.grammar (BlocksOf c).grammar
 

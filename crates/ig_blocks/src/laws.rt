@@ -21,9 +21,8 @@ pub fn blocks_keep()
     ig_rewrite::same_trees_is_an_equivalence();
 }
 
-/// Of declarations, levels, alternatives and symbols the grammar without marks has fewer than five
-/// times as many as the grammar, but for two for the root. This law, proved of all checked
-/// grammars, computes nothing.
+/// A grammar with fewer than n declarations, levels, alternatives and symbols has fewer than
+/// 5 (n + 2) of each without marks. This law, proved of all checked grammars, computes nothing.
 pub fn blocks_multiply()
     ensures { BlocksMultiply }
 {

@@ -47,7 +47,7 @@ LoweringKeeps =
     (c : CheckedGrammar) → IsSound c → IsFree c.grammar → IsUnmarked c.grammar → layout_among c.grammar.decls ≡ None →
     HasExclusionsAlone c.grammar → HasFewLists c.grammar → KeptByLowering c
 
--- where symbols stand well and no mark is left, no count grows more than threefold
+-- where symbols stand well and no mark is left, one bound on all counts grows threefold at most, but for the root
 abbrev pub ListsMultiply : Type 0
 ListsMultiply =
     (c : CheckedGrammar) → OfEachLevel AlternativesStandWell c.grammar → IsUnmarked c.grammar →

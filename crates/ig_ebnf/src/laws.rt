@@ -35,9 +35,9 @@ pub fn lists_keep()
     ig_rewrite::same_trees_is_an_equivalence();
 }
 
-/// Where symbols stand well and no mark is left, the pass makes no count of a grammar more than
-/// three times as great: that of its declarations, its levels, its alternatives, and its symbols
-/// with filters. This law, proved of all checked grammars, computes nothing.
+/// Where symbols stand well and no mark is left, a grammar with fewer than n declarations, levels,
+/// alternatives, and symbols with filters becomes one with fewer than 3 (n + 2) of each. This law,
+/// proved of all checked grammars, computes nothing.
 pub fn lists_multiply()
     ensures { ListsMultiply }
 {

@@ -5,8 +5,8 @@
 //! each symbol: a call for a list, an option, a group or an entry, and in place of a sequence its
 //! symbols. [`lower_ebnf`] is exactly that, and is refused for want of memory alone. The laws say
 //! that the pass changes no tree, and keeps a checked grammar checked; what is left are literals,
-//! classes and calls, with exclusions and a label, guards and lets; and that no count of a grammar
-//! grows more than threefold.
+//! classes and calls, with exclusions and a label, guards and lets; and that one bound n on all
+//! counts of a grammar becomes 3 (n + 2).
 #![tactic(auto)]
 
 mod entries;

@@ -48,7 +48,6 @@ BoundsAskOfSpines =
     IsWithin (rooted Syntax c) text name vs kind i e t starts l r ↔
     Instance (LevelsOf c).grammar (LevelsOf c).shapes text name (vs ++ Int (pos l) ∷ Int (pos r) ∷ []) kind i e t starts
 
--- of declarations, levels, alternatives and symbols the grammar without levels has fewer than three times as many, but for
--- two for the root
+-- one bound on all counts grows threefold at most, with two for the root
 abbrev pub LevelsMultiply : Type 0
 LevelsMultiply = (c : CheckedGrammar) → Multiplies 3 c.grammar (LevelsOf c).grammar

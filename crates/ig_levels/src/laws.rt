@@ -36,9 +36,8 @@ pub fn bounds_ask_of_spines()
     ig_rewrite::results_are_ready();
 }
 
-/// Of declarations, levels, alternatives and symbols the grammar without levels has fewer than
-/// three times as many as the grammar, but for two for the root. This law, proved of all checked
-/// grammars, computes nothing.
+/// A grammar with fewer than n declarations, levels, alternatives and symbols has fewer than
+/// 3 (n + 2) of each without levels. This law, proved of all checked grammars, computes nothing.
 pub fn levels_multiply()
     ensures { LevelsMultiply }
 {

@@ -11,7 +11,7 @@ use Rattle.ig_grammar.specs.declared.grammar.Grammar.{Grammar}
 use Rattle.ig_rewrite.specs.Rewriting.{rewritten_level}
 use Rattle.ig_rewrite.specs.Rooted.{rooted}
 
--- a grammar and what a pass makes of it: each count is multiplied by k at most, and two are added before for the root
+-- a grammar and what a pass makes of it: a bound on all counts is multiplied by k, and two are added before for the root
 abbrev pub Multiplies : ℕ → Grammar → Grammar → Type 0
 Multiplies k g h = (most : ℕ) → HasFewerThan most g → HasFewerThan (k * (most + 2)) h
 
