@@ -5,13 +5,14 @@ use Rattle.std.specs.List.{flat_map}
 use Rattle.std.proofs.lemmas.List.{append-nil}
 use Rattle.std.proofs.lemmas.List.Elements.{All-nil}
 use Rattle.ig_text.specs.declared.pattern.Pattern.{Pattern}
-use Rattle.ig_expr.specs.Expression.{Expression}
+use Rattle.ig_expr.specs.Expression.{Expression, patterns_in}
 use Rattle.ig_expr.specs.Expression as expression
 use Rattle.ig_expr.specs.Kinds.{of_equals}
 use Rattle.ig_expr.specs.declared.kind.Kind.TheVariants as kind
 use Rattle.ig_expr.specs.declared.operator.Op.TheVariants.{Equal}
+use Rattle.ig_text.specs.Pattern.{HasNoEmptyLiteral}
 use Rattle.ig_grammar.specs.Binding.{Binding}
-use Rattle.ig_grammar.specs.Regular.{patterns_in, HasNoEmptyLiteral, IsPlaced, IsNoMark, MayHaveEntry}
+use Rattle.ig_grammar.specs.Regular.{IsPlaced, IsNoMark, MayHaveEntry}
 use Rattle.ig_grammar.specs.Visible.{Visible, binds, all_bind, replaced, kind_at}
 use Rattle.ig_grammar.specs.Symbol.{Symbol, Literal, OneOf, Call, Label, Guard, Offside, Ignore, Align, Filtered, Seq, Entry}
 use Rattle.ig_grammar.specs.Symbol.{gathered}

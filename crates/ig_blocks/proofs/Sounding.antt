@@ -4,10 +4,11 @@ use Rattle.std.specs.Prelude.{All, slice_get}
 use Rattle.std.specs.List.{flat_map}
 use Rattle.std.proofs.lemmas.List.{map-append, append-nil}
 use Rattle.std.proofs.lemmas.List.Elements.{All-nil}
-use Rattle.ig_expr.specs.Expression.{Expression}
+use Rattle.ig_expr.specs.Expression.{Expression, patterns_in}
 use Rattle.ig_expr.specs.declared.kind.Kind.TheVariants.{Span}
+use Rattle.ig_text.specs.Pattern.{HasNoEmptyLiteral}
 use Rattle.ig_grammar.specs.Binding.{Binding}
-use Rattle.ig_grammar.specs.Regular.{patterns_in, HasNoEmptyLiteral, IsPlaced, FitsRound, MayHaveSign, MayHaveEntry, BindsNothing}
+use Rattle.ig_grammar.specs.Regular.{IsPlaced, FitsRound, MayHaveSign, MayHaveEntry, BindsNothing}
 use Rattle.ig_grammar.specs.Subterms.{subterms, subterms_of_symbols, subterms_of_alternatives}
 use Rattle.ig_grammar.specs.Visible.{Visible, binds, all_bind, replaced, bound}
 use Rattle.ig_grammar.specs.Symbol.{Symbol, Literal, OneOf, Call, Label, Guard, Let, Opt, Star, Plus, SepStar, SepPlus, Group, Offside, Ignore, Align, Filtered, Seq, Entry}

@@ -9,11 +9,12 @@ use Rattle.std.proofs.lemmas.List.Elements.{Contains-push_cases}
 use Rattle.ig_text.proofs.Lists.{at_from_contains, contains_first, contains_from_at, contains_later, contains_one, from_map}
 use Rattle.ig_text.proofs.Lists.{none_in_nil}
 use Rattle.ig_text.specs.Words.{is_word}
+use Rattle.ig_text.specs.Pattern.{HasNoEmptyLiteral}
 use Rattle.ig_grammar.specs.Alternative.{gathered_alternatives}
 use Rattle.ig_grammar.specs.Binding.{Binding}
 use Rattle.ig_grammar.specs.Checked.{CheckedGrammar}
 use Rattle.ig_grammar.specs.Numbering.{layout_among}
-use Rattle.ig_grammar.specs.Regular.{AlternativesStandWell, HasNoEmptyLiteral, IsPlaced, MayHaveFilters, MayHaveLabel}
+use Rattle.ig_grammar.specs.Regular.{AlternativesStandWell, IsPlaced, MayHaveFilters, MayHaveLabel}
 use Rattle.ig_grammar.specs.Regular.{OfEachLevel, StandsWell, SymbolsStandWell, patterns_in}
 use Rattle.ig_grammar.specs.Subterms.{subterms, subterms_of_symbols, subterms_of_alternatives}
 use Rattle.ig_grammar.specs.Symbol.{Symbol, Literal, OneOf, Call, Label, Guard, Let, Opt, Star, Plus, SepStar}

@@ -1,6 +1,7 @@
 -- Expressions as syntax trees. The last four forms stand in no grammar text.
-use Rattle.std.specs.Prelude.{ℕ, ◌+◌, ℤ, List, Bool}
+use Rattle.std.specs.Prelude.{ℕ, ◌+◌, ℤ, List, [], ◌∷◌, ◌++◌, Bool}
 use Rattle.ig_text.specs.declared.pattern.Pattern.{Pattern}
+use Rattle.ig_text.specs.declared.pattern.Pattern.TheVariants.{Literal}
 use Rattle.ig_expr.specs.declared.operator.Op.{Op}
 use Rattle.ig_expr.specs.declared.operator.Function.{Function}
 
@@ -37,3 +38,17 @@ nodes (Outer a b) = nodes a + nodes b + 1
 nodes (Inside a b) = nodes a + nodes b + 1
 nodes (FreeBefore pattern) = 1
 nodes (FreeAfter pattern) = 1
+
+-- the patterns in it: the words that spans are compared with, and what may not stand before or behind
+abbrev pub patterns_in : Expression → List Pattern
+patterns_in (Not a) = patterns_in a
+patterns_in (Negative a) = patterns_in a
+patterns_in (Binary op a b) = patterns_in a ++ patterns_in b
+patterns_in (Of function a) = patterns_in a
+patterns_in (Same a b) = patterns_in a ++ patterns_in b
+patterns_in (Spells a word) = Literal word ∷ patterns_in a
+patterns_in (Outer a b) = patterns_in a ++ patterns_in b
+patterns_in (Inside a b) = patterns_in a ++ patterns_in b
+patterns_in (FreeBefore pattern) = pattern ∷ []
+patterns_in (FreeAfter pattern) = pattern ∷ []
+patterns_in e = []

@@ -1,10 +1,10 @@
 -- Which grammars are regular: what a grammar that was read, and each one that a pass makes of it, keeps to.
-use Rattle.std.specs.Prelude.{◌≡◌, ◌≢◌, ℕ, ◌+◌, ◌<◌, List, [], ◌∷◌, ◌++◌, map, All, Contains, length, sum_by}
+use Rattle.std.specs.Prelude.{◌≡◌, ℕ, ◌+◌, ◌<◌, List, [], ◌∷◌, map, All, Contains, length, sum_by}
 use Rattle.std.specs.List.{flat_map}
 use Rattle.ig_text.specs.declared.pattern.Pattern.{Pattern}
-use Rattle.ig_text.specs.declared.pattern.Pattern.TheVariants.{Literal as Spelled, OneOf as AnyOf}
-use Rattle.ig_expr.specs.Expression as tree
-use Rattle.ig_expr.specs.Expression.{Expression}
+use Rattle.ig_text.specs.declared.pattern.Pattern.TheVariants.{Literal as Spelled}
+use Rattle.ig_text.specs.Pattern.{HasNoEmptyLiteral}
+use Rattle.ig_expr.specs.Expression.{patterns_in}
 use Rattle.ig_grammar.specs.Symbol.{Symbol, Literal, Label, Guard, Let, Opt, Star, Plus, SepStar, SepPlus, Group, Offside, Ignore, Align, Filtered, Seq, Entry}
 use Rattle.ig_grammar.specs.Symbol.{Symbols, Alternatives, no_alternatives, next_alternative}
 use Rattle.ig_grammar.specs.Subterms.{subterms, subterms_of_symbols, subterms_of_alternatives, bound_names}
@@ -77,20 +77,6 @@ FitsRound (Filtered x filters) = MayHaveFilters x
 FitsRound (Entry bindings x) = MayHaveEntry x
 FitsRound x = Unit {0}
 
--- the patterns in an expression
-abbrev pub patterns_in : Expression → List Pattern
-patterns_in (tree.Not a) = patterns_in a
-patterns_in (tree.Negative a) = patterns_in a
-patterns_in (tree.Binary op a b) = patterns_in a ++ patterns_in b
-patterns_in (tree.Of function a) = patterns_in a
-patterns_in (tree.Same a b) = patterns_in a ++ patterns_in b
-patterns_in (tree.Spells a word) = Spelled word ∷ patterns_in a
-patterns_in (tree.Outer a b) = patterns_in a ++ patterns_in b
-patterns_in (tree.Inside a b) = patterns_in a ++ patterns_in b
-patterns_in (tree.FreeBefore pattern) = pattern ∷ []
-patterns_in (tree.FreeAfter pattern) = pattern ∷ []
-patterns_in e = []
-
 abbrev pub pattern_of : Filter → Pattern
 pattern_of (NotFollowed pattern) = pattern
 pattern_of (NotPreceded pattern) = pattern
@@ -101,11 +87,6 @@ abbrev pub patterns_of : Symbol → List Pattern
 patterns_of (Literal word) = Spelled word ∷ []
 patterns_of (Filtered x filters) = map pattern_of filters
 patterns_of x = flat_map patterns_in (expressions x)
-
--- a literal has at least one character
-abbrev pub HasNoEmptyLiteral : Pattern → Type 0
-HasNoEmptyLiteral (Spelled word) = word ≢ []
-HasNoEmptyLiteral (AnyOf class) = Unit {0}
 
 -- none of its own literals is empty, and it stands round what it may
 abbrev pub IsPlaced : Symbol → Type 0

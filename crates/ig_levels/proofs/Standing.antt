@@ -5,10 +5,11 @@ use Rattle.std.specs.List.{flat_map}
 use Rattle.std.proofs.lemmas.Grind.{flat_map-append}
 use Rattle.std.proofs.lemmas.List.{append-nil}
 use Rattle.std.proofs.lemmas.List.Elements.{All-nil}
-use Rattle.ig_expr.specs.Expression.{Expression}
+use Rattle.ig_expr.specs.Expression.{Expression, patterns_in}
+use Rattle.ig_text.specs.Pattern.{HasNoEmptyLiteral}
 use Rattle.ig_grammar.specs.Symbol.{Symbol, Literal, OneOf, Call, Label, Guard, Let, Opt, Star, Plus, SepStar, SepPlus, Group, Offside, Ignore, Align, Filtered, Seq, Entry}
 use Rattle.ig_grammar.specs.Symbol.{Symbols, no_symbols, next_symbol}
-use Rattle.ig_grammar.specs.Regular.{IsPlaced, HasNoEmptyLiteral, patterns_in, MayHaveLabel, MayHaveMark, MayHaveFilters, MayHaveSign, MayBeSeparated, MayHaveEntry}
+use Rattle.ig_grammar.specs.Regular.{IsPlaced, MayHaveLabel, MayHaveMark, MayHaveFilters, MayHaveSign, MayBeSeparated, MayHaveEntry}
 use Rattle.ig_grammar.specs.Subterms.{bound_names, names_bound_by}
 use Rattle.ig_levels.specs.Levels.{Pair, no_pair, with_pair, in_symbols, pair_arguments}
 use Rattle.ig_levels.proofs.Keeping.{Keeps, IsAddedArgument, number, left_variable, right_variable, IsAddedPair}

@@ -7,9 +7,10 @@ use Rattle.std.proofs.lemmas.List.Elements.{All-nil, All-cons, All-head, All-tai
 use Rattle.std.proofs.Math.Bool.{or-false}
 use Rattle.ig_text.specs.declared.pattern.Pattern.{Pattern}
 use Rattle.ig_expr.specs.Expression.{Expression, FreeBefore, FreeAfter}
+use Rattle.ig_text.specs.Pattern.{HasNoEmptyLiteral}
 use Rattle.ig_grammar.specs.Symbol.{Symbol, Literal, OneOf, Call, Label, Guard, Let, Opt, Star, Plus, SepStar, SepPlus, Group, Offside, Ignore, Align, Filtered, Seq, Entry, gathered}
 use Rattle.ig_grammar.specs.Symbol.{Symbols, no_symbols, next_symbol, Alternatives, no_alternatives, next_alternative}
-use Rattle.ig_grammar.specs.Regular.{IsPlaced, HasNoEmptyLiteral, pattern_of, IsNoMark, MayHaveLabel, MayHaveFilters, MayHaveSign, MayBeSeparated, MayHaveEntry, AlternativesStandWell, AlternativesHaveNoMark}
+use Rattle.ig_grammar.specs.Regular.{IsPlaced, pattern_of, IsNoMark, MayHaveLabel, MayHaveFilters, MayHaveSign, MayBeSeparated, MayHaveEntry, AlternativesStandWell, AlternativesHaveNoMark}
 use Rattle.ig_grammar.specs.Subterms.{bound_names, names_bound_by, subterms_of_alternatives}
 use Rattle.ig_grammar.specs.declared.filter.Filter.{Filter}
 use Rattle.ig_grammar.specs.declared.filter.Filter.TheVariants.{NotFollowed, NotPreceded, Not}

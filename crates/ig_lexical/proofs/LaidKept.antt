@@ -4,11 +4,12 @@ use Rattle.std.specs.Prelude.{not, ◌&&◌, ◌||◌, if◌then◌else◌}
 use Rattle.std.proofs.lemmas.List.{append-nil}
 use Rattle.std.proofs.lemmas.List.Elements.{All-nil}
 use Rattle.std.proofs.Math.Bool.{or-false}
+use Rattle.ig_text.specs.Pattern.{HasNoEmptyLiteral}
 use Rattle.ig_grammar.specs.Binding.{Binding}
 use Rattle.ig_grammar.specs.declared.filter.Filter.{Filter}
 use Rattle.ig_grammar.specs.Symbol.{Symbol, Call, Offside, Ignore, Align, Opt, Star, Plus, SepStar, SepPlus, Group, Label, Filtered, Seq, Entry, no_symbols, next_symbol}
 use Rattle.ig_grammar.specs.Symbol.{Alternatives}
-use Rattle.ig_grammar.specs.Regular.{IsPlaced, HasNoEmptyLiteral, IsNoMark, MayHaveLabel, MayHaveFilters, MayHaveSign, MayBeSeparated, MayHaveEntry, AlternativesStandWell, AlternativesHaveNoMark}
+use Rattle.ig_grammar.specs.Regular.{IsPlaced, IsNoMark, MayHaveLabel, MayHaveFilters, MayHaveSign, MayBeSeparated, MayHaveEntry, AlternativesStandWell, AlternativesHaveNoMark}
 use Rattle.ig_grammar.specs.Subterms.{bound_names}
 use Rattle.ig_grammar.specs.declared.declaration.DeclKind.{DeclKind}
 use Rattle.ig_grammar.specs.declared.declaration.DeclKind.TheVariants.{Syntax, Lexical, Layout, Plain}

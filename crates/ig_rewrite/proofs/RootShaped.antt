@@ -6,6 +6,7 @@ use Rattle.std.proofs.lemmas.List.{length-append}
 use Rattle.std.proofs.lemmas.List.Elements.{All-nil, All-cons, Contains-push_cases}
 use Rattle.ig_text.proofs.Lists.{at_from_contains, contains_one, place_cases}
 use Rattle.ig_expr.specs.Expression.{Expression}
+use Rattle.ig_text.specs.Pattern.{HasNoEmptyLiteral}
 use Rattle.ig_grammar.specs.Symbol.{Symbol, Call, Alternatives}
 use Rattle.ig_grammar.specs.Alternative.{gathered_alternatives}
 use Rattle.ig_grammar.specs.Visible.{Occurrence}
@@ -14,7 +15,7 @@ use Rattle.ig_grammar.specs.Condition.{Condition, SymbolMeets, symbols_of}
 use Rattle.ig_grammar.specs.Condition as meets
 use Rattle.ig_grammar.specs.WellScoped.{IsWellScoped}
 use Rattle.ig_grammar.specs.Checked.{CheckedGrammar, FitShapes, FitsShape, IsRoot, IsOfCalls}
-use Rattle.ig_grammar.specs.Regular.{IsRegular, HasFewerThan, counts_bound, OfEachLevel, IsPlaced, IsNoMark, HasNoEmptyLiteral, AlternativesHaveNoMark}
+use Rattle.ig_grammar.specs.Regular.{IsRegular, HasFewerThan, counts_bound, OfEachLevel, IsPlaced, IsNoMark, AlternativesHaveNoMark}
 use Rattle.ig_grammar.specs.Subterms.{subterms_of_alternatives}
 use Rattle.ig_grammar.specs.declared.symbol.Alt.{Alt}
 use Rattle.ig_grammar.specs.declared.declaration.Assoc.TheVariants.{Free}

@@ -5,11 +5,12 @@ use Rattle.std.specs.List.{flat_map}
 use Rattle.std.proofs.lemmas.List.Elements.{All-nil, All-cons, All-append}
 use Rattle.ig_text.specs.declared.pattern.Pattern.{Pattern}
 use Rattle.ig_text.specs.declared.pattern.Pattern.TheVariants.{Literal as Spelled}
-use Rattle.ig_expr.specs.Expression.{Expression}
+use Rattle.ig_expr.specs.Expression.{Expression, patterns_in}
 use Rattle.ig_syntax.specs.Token as token
 use Rattle.ig_syntax.specs.Token.{Token}
+use Rattle.ig_text.specs.Pattern.{HasNoEmptyLiteral}
 use Rattle.ig_grammar.specs.Symbol.{Symbol, Seq}
-use Rattle.ig_grammar.specs.Regular.{MayHaveFilters, MayHaveSign, MayHaveLabel, MayBeSeparated, HasNoEmptyLiteral, patterns_in, pattern_of, IsPlaced, AlternativesStandWell, OfEachLevel}
+use Rattle.ig_grammar.specs.Regular.{MayHaveFilters, MayHaveSign, MayHaveLabel, MayBeSeparated, pattern_of, IsPlaced, AlternativesStandWell, OfEachLevel}
 use Rattle.ig_grammar.specs.declared.filter.Filter.{Filter}
 use Rattle.ig_grammar.specs.declared.grammar.Grammar.{Grammar}
 use Rattle.ig_syntax.specs.Rules as rule

@@ -1,14 +1,14 @@
 -- How each token of the notation is spelled, and which token stands first in a text.
 use Rattle.std.specs.Prelude.{◌≡◌, ℕ, ◌≤◌, ◌⊎◌, ◌<◌, Bool, true, false, not, List, [], ◌∷◌, ◌++◌, length, Option, Some, IsTrue, ◌==◌, codes, if◌then◌else◌}
 use Rattle.std.specs.Map.{lookup}
-use Rattle.std.specs.List.{list_all, list_any}
+use Rattle.std.specs.List.{list_all, list_any, zip}
 use Rattle.unicode_ident.specs.Ident.{is_xid_continue}
 use Rattle.ig_text.specs.Ranges.{normal_form}
 use Rattle.ig_text.specs.declared.class.Class.{Class}
 use Rattle.ig_text.specs.declared.class.Class.TheVariants.{Ranges, Any, XidStart, XidContinue}
 use Rattle.ig_text.specs.Words.{is_word, is_digit}
 use Rattle.ig_expr.specs.Reading.{spelled}
-use Rattle.ig_grammar.specs.Name.{is_name}
+use Rattle.ig_grammar.specs.Name.{is_name, keywords as words}
 use Rattle.ig_syntax.specs.Token as token
 use Rattle.ig_syntax.specs.Token.{Token, Name, Head, Number, Literal, OneOf}
 
@@ -25,17 +25,15 @@ signs =
     (codes "!>>", token.NotFollowedBy) ∷ (codes "!<<", token.NotPrecededBy) ∷ (codes "==", token.EqualTo) ∷
     (codes "!=", token.NotEqualTo) ∷ (codes "<", token.Less) ∷ (codes "<=", token.AtMost) ∷ (codes ">=", token.AtLeast) ∷ []
 
--- the words that are no names, each with its token; they are those of `specs/Name.antt` of ig_grammar, as the law
--- `keywords_are_one` of ig_tokens says
+-- the words that are no names, each with its token
 unfoldable pub keywords : List (List ℕ × Token)
 keywords =
-    (codes "start", token.Start) ∷ (codes "syntax", token.Syntax) ∷ (codes "lexical", token.Lexical) ∷
-    (codes "layout", token.Layout) ∷ (codes "left", token.Left) ∷ (codes "right", token.Right) ∷
-    (codes "nonassoc", token.Nonassoc) ∷ (codes "offside", token.Offside) ∷ (codes "ignore", token.Ignore) ∷
-    (codes "align", token.Align) ∷ (codes "when", token.When) ∷ (codes "let", token.Let) ∷ (codes "here", token.Here) ∷
-    (codes "true", token.True) ∷ (codes "false", token.False) ∷ (codes "and", token.And) ∷ (codes "or", token.Or) ∷
-    (codes "not", token.Not) ∷ (codes "div", token.Div) ∷ (codes "mod", token.Mod) ∷ (codes "int", token.Int) ∷
-    (codes "bool", token.Bool) ∷ (codes "span", token.Span) ∷ (codes "tabs", token.Tabs) ∷ (codes "return", token.Return) ∷ []
+    zip words (
+    token.Start ∷ token.Syntax ∷ token.Lexical ∷ token.Layout ∷ token.Left ∷ token.Right ∷
+    token.Nonassoc ∷ token.Offside ∷ token.Ignore ∷ token.Align ∷ token.When ∷ token.Let ∷
+    token.Here ∷ token.True ∷ token.False ∷ token.And ∷ token.Or ∷ token.Not ∷ token.Div ∷
+    token.Mod ∷ token.Int ∷ token.Bool ∷ token.Span ∷ token.Tabs ∷ token.Return ∷ []
+    )
 
 -- the classes that have a name, which stands behind `$`
 unfoldable pub named_classes : List (List ℕ × Class)

@@ -1,5 +1,5 @@
--- Where a pattern matches.
-use Rattle.std.specs.Prelude.{◌≡◌, ℕ, ◌+◌, List, Some, slice_get, IsTrue}
+-- Where a pattern matches, and literals that aren't empty.
+use Rattle.std.specs.Prelude.{◌≡◌, ◌≢◌, ℕ, ◌+◌, List, [], Some, slice_get, IsTrue}
 use Rattle.ig_text.specs.Place.{Spells}
 use Rattle.ig_text.specs.Class.{is_in_class}
 use Rattle.ig_text.specs.declared.class.Class.{Class}
@@ -17,3 +17,8 @@ pub record IsOneOf (text : List ℕ) (class : Class) (i j : ℕ) : Type 0 where
 abbrev pub Matches : List ℕ → Pattern → ℕ → ℕ → Type 0
 Matches text (Literal word) i j = Spells text word i j
 Matches text (OneOf class) i j = IsOneOf text class i j
+
+-- a literal has at least one character
+abbrev pub HasNoEmptyLiteral : Pattern → Type 0
+HasNoEmptyLiteral (Literal word) = word ≢ []
+HasNoEmptyLiteral (OneOf class) = Unit {0}

@@ -9,13 +9,13 @@ use Rattle.unicode_ident.specs.Ident.{is_xid_start, is_xid_continue}
 use Rattle.ig_text.specs.declared.class.Class.TheVariants.{XidContinue}
 use Rattle.ig_text.specs.Class.{is_in_class}
 use Rattle.ig_text.specs.Words.{is_word}
-use Rattle.ig_grammar.specs.Name.{is_name, is_identifier, is_keyword}
+use Rattle.ig_grammar.specs.Name.{is_name, is_identifier, is_keyword, keywords as words}
 use Rattle.ig_syntax.specs.Spelling.{entry, keywords}
-use Rattle.ig_tokens.specs.Laws.{KeywordsAreOne}
 
-pub keywords_are_one : KeywordsAreOne
+-- the words of the table
+listed_words : map (λ row. row.0) keywords ≡ words
 unfolding keywords
-keywords_are_one = refl
+listed_words = refl
 
 -- a word is an XID_Start character and then XID_Continue characters
 pub data IsWord : List ℕ → Type 0 where
@@ -74,10 +74,10 @@ name_word cs h = identifier_word cs (and_parts (is_identifier cs) (not (is_keywo
 pub name_entry : (cs : List ℕ) → is_name cs ≡ true → entry keywords cs ≡ None
 name_entry cs h =
     let free = not-true (is_keyword cs) (and_parts (is_identifier cs) (not (is_keyword cs)) h).1 in
-    none_listed keywords cs (subst (λ ws. list_any (is_word cs) ws ≡ false) (sym keywords_are_one) free)
+    none_listed keywords cs (subst (λ ws. list_any (is_word cs) ws ≡ false) (sym listed_words) free)
 
 pub named : (cs : List ℕ) → IsWord cs → entry keywords cs ≡ None → is_name cs ≡ true
 named cs w h =
     let free : is_keyword cs ≡ false =
-    subst (λ ws. list_any (is_word cs) ws ≡ false) keywords_are_one (none_unlisted keywords cs h) in
+    subst (λ ws. list_any (is_word cs) ws ≡ false) listed_words (none_unlisted keywords cs h) in
     rw (word_identifier w, free) refl

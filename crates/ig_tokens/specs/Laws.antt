@@ -1,10 +1,9 @@
 -- Laws of the tokens of a text.
-use Rattle.std.specs.Prelude.{◌≡◌, ℕ, ◌≤◌, ◌⊎◌, Bool, true, not, ◌&&◌, ◌==◌, List, [], ◌++◌, length, IsTrue, map}
+use Rattle.std.specs.Prelude.{◌≡◌, ℕ, ◌≤◌, ◌⊎◌, Bool, true, not, ◌&&◌, ◌==◌, List, [], ◌++◌, length, IsTrue}
 use Rattle.unicode_ident.specs.Ident.{is_xid_continue}
-use Rattle.ig_grammar.specs.Name.{keywords as words}
 use Rattle.ig_syntax.specs.Token as token
 use Rattle.ig_syntax.specs.Token.{Token}
-use Rattle.ig_syntax.specs.Spelling.{IsToken, IsSeparator, IsLongest, StandsFirst, begins, may_precede, keywords}
+use Rattle.ig_syntax.specs.Spelling.{IsToken, IsSeparator, IsLongest, StandsFirst, begins, may_precede}
 use Rattle.ig_syntax.specs.Lexing.{Lexes, Breaks, IsBroken}
 use Rattle.ig_tokens.specs.Scanner as scanner
 use Rattle.ig_tokens.specs.Scanner.{Next, next}
@@ -19,10 +18,6 @@ IsNext text scanner.broken = IsBroken text
 -- a token that the scanner finds is the longest of the table, and where it finds nothing no token and no separator begins
 abbrev pub LongestTokenIsNext : Type 0
 LongestTokenIsNext = (text : List ℕ) → IsNext text (next text)
-
--- the words that have a token of their own are those that are no names
-abbrev pub KeywordsAreOne : Type 0
-KeywordsAreOne = map (λ row. row.0) keywords ≡ words
 
 -- a text has one list of tokens at most
 abbrev pub TokensAreSingle : Type 0

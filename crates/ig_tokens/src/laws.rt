@@ -1,5 +1,5 @@
 ghost use Rattle.ig_tokens.specs.Laws.{BreakIsSingle, LexesOrBreaks, NeverBoth, TokensAreSingle};
-ghost use Rattle.ig_tokens.specs.Laws.{EndedTokensAreLongest, KeywordsAreOne, LongestTokenIsNext};
+ghost use Rattle.ig_tokens.specs.Laws.{EndedTokensAreLongest, LongestTokenIsNext};
 ghost use Rattle.ig_tokens.specs.Laws.{TokensAreFew};
 
 /// What the scanner of `specs/Scanner.antt` finds first in a text is a separator, or the longest
@@ -7,12 +7,6 @@ ghost use Rattle.ig_tokens.specs.Laws.{TokensAreFew};
 /// broken. This law, proved of every text, computes nothing.
 pub fn longest_token_is_next()
     ensures { LongestTokenIsNext }
-{}
-
-/// The keywords, which are no names, are the words that have tokens of their own. This law computes
-/// nothing.
-pub fn keywords_are_one()
-    ensures { KeywordsAreOne }
 {}
 
 /// A text has one list of tokens at most. This law, proved of every text, computes nothing.

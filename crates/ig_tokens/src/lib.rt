@@ -20,8 +20,8 @@ mod words;
 
 pub use classes::class_of;
 pub use laws::{
-    break_is_single, ended_tokens_are_longest, keywords_are_one, longest_token_is_next,
-    texts_lex_or_break, texts_never_do_both, tokens_are_few, tokens_are_single,
+    break_is_single, ended_tokens_are_longest, longest_token_is_next, texts_lex_or_break,
+    texts_never_do_both, tokens_are_few, tokens_are_single,
 };
 pub use literals::literal_text;
 pub use numbers::number_of;
