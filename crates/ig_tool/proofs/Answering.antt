@@ -14,8 +14,8 @@ use Rattle.ig_parse.specs.Parses.{IsForestOf}
 use Rattle.ig_tool.specs.declared.stop.Stop.{Stop}
 use Rattle.ig_tool.specs.declared.stop.Stop.TheVariants as halt
 use Rattle.ig_tool.specs.declared.status.Status.TheVariants as status
-use Rattle.ig_tool.specs.Commands as asked
-use Rattle.ig_tool.specs.Commands.{Question}
+use Rattle.ig_command.specs.Commands as asked
+use Rattle.ig_command.specs.Commands.{Question}
 use Rattle.ig_tool.specs.Jobs.{ask}
 use Rattle.ig_tool.specs.Questions.{TellsAmbiguous, TellsCyclic, TellsSpans, Tells}
 use Rattle.ig_tool.specs.Outcome.{Finishes, told_ambiguous, told_cyclic, told_spans, told_report}

@@ -16,7 +16,7 @@ use Rattle.ig_tool.specs.declared.stop.Stop.{Stop}
 use Rattle.ig_tool.specs.declared.stop.Stop.TheVariants as halt
 use Rattle.ig_tool.specs.declared.status.Status.{Status}
 use Rattle.ig_tool.specs.declared.status.Status.TheVariants as status
-use Rattle.ig_tool.specs.Commands.{Request, check, show, core, forest, trees, query, load, grammar_file, files_of, IsCommand, never, for_names}
+use Rattle.ig_command.specs.Commands.{Request, check, show, core, forest, trees, query, load, grammar_file, files_of, IsCommand}
 use Rattle.ig_tool.specs.Jobs.{Job, print, list, ask, request_for, task_request}
 use Rattle.ig_tool.specs.declared.job.Task.{Task}
 use Rattle.ig_tool.specs.declared.job.Task.TheVariants as task
@@ -24,7 +24,7 @@ use Rattle.ig_tool.specs.Accepted.{IsAccepted}
 use Rattle.ig_tool.specs.Laws.{ReadGrammarsAreBuildable}
 use Rattle.ig_tool.specs.Refusals.{too_many_dots, dots_text}
 use Rattle.ig_tool.specs.Outcome as decided
-use Rattle.ig_tool.specs.Outcome.{MayGive, HasFiles, Decided, usage, load_over_budget, load_summed, grammar_missing, grammar_unread, grammar_refused, checked, shown, core_shown, input_missing, input_unread, input_refused, over_budget, no_parse, parsed, usage_note, Answers, noted, unwritten, unnoted, no_memory}
+use Rattle.ig_tool.specs.Outcome.{never, for_names, MayGive, HasFiles, Decided, usage, load_over_budget, load_summed, grammar_missing, grammar_unread, grammar_refused, checked, shown, core_shown, input_missing, input_unread, input_refused, over_budget, no_parse, parsed, usage_note, Answers, noted, unwritten, unnoted, no_memory}
 use Rattle.ig_tool.specs.Stops as stops
 use Rattle.ig_tool.specs.Stops.{StopsAt, IsNoGrammar, IsNoInput, IsWrittenIn, LoadsGrammar, LoadsInput, StopsWith, IsPrepared, Prepares, IsParse, StopsParse, LoadsText, ParsesText, StopsRun, GivesText, RunsJob, SaysOk, ShowsGrammar, ShowsCore, Decides, WritesText, WritesNote, GivesUp}
 

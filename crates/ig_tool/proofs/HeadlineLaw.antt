@@ -20,7 +20,7 @@ use Rattle.ig_item.specs.Core.{dots}
 use Rattle.ig_item.specs.Limits.{most_dots}
 use Rattle.ig_core.specs.Lowered.{CoreOf}
 use Rattle.ig_core.specs.Notation.{unchanged}
-use Rattle.ig_tool.specs.Commands.{Request, request_of, check, show, core, forest, trees, query, load, grammar_file, IsCommand}
+use Rattle.ig_command.specs.Commands.{Request, request_of, check, show, core, forest, trees, query, load, grammar_file, IsCommand}
 use Rattle.ig_tool.specs.Jobs.{Job, print, list, ask, request_for}
 use Rattle.ig_tool.specs.Accepted.{IsAccepted}
 use Rattle.ig_tool.specs.Refusals.{IsRefused, too_many, not_utf8, not_grammar, too_large, not_scoped, too_many_dots}

@@ -15,7 +15,7 @@ use Rattle.ig_tool.specs.declared.stop.Stop.{Stop}
 use Rattle.ig_tool.specs.declared.stop.Stop.TheVariants as halt
 use Rattle.ig_tool.specs.declared.status.Status.{Status}
 use Rattle.ig_tool.specs.declared.status.Status.TheVariants as status
-use Rattle.ig_tool.specs.Commands.{Listing}
+use Rattle.ig_command.specs.Commands.{Listing}
 use Rattle.ig_tool.specs.Jobs.{list}
 use Rattle.ig_tool.specs.Listing as listing
 use Rattle.ig_tool.specs.Listing.{IsBounded, IsEligible, IsNoCursor, Begins, IsTreeListing, IsListedOrBehind, StandsBefore, StandsBehind}

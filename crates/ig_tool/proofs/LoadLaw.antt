@@ -3,7 +3,7 @@ use Rattle.std.proofs.Common.{◌≡◌, ℕ, List, [], inl, inr, refl, ap, subs
 use Rattle.ig_outside.specs.States.{ShelfState, SinkState}
 use Rattle.ig_tool.specs.declared.status.Status.{Status}
 use Rattle.ig_tool.specs.declared.status.Status.TheVariants as status
-use Rattle.ig_tool.specs.Commands.{Request, check, show, core, load, grammar_file, IsCommand}
+use Rattle.ig_command.specs.Commands.{Request, check, show, core, load, grammar_file, IsCommand}
 use Rattle.ig_tool.specs.Jobs.{Job, request_for}
 use Rattle.ig_tool.specs.Change.{Change}
 use Rattle.ig_tool.specs.Outcome as answer

@@ -17,7 +17,7 @@ use Rattle.ig_tool.specs.declared.status.Status.TheVariants as status
 use Rattle.ig_tool.specs.Outcome.{depth_needed_note, no_cursor_note}
 use Rattle.ig_tool.specs.Pages as pages
 use Rattle.ig_tool.specs.Pages.{at_first, at_cursor, IsDepthFor, NeedsDepth, IsStart, Starts, IsPageText, needs_depth, Lists}
-use Rattle.ig_tool.specs.Commands as command
+use Rattle.ig_command.specs.Commands as command
 use Rattle.ig_tool.specs.Stops.{StopsWith}
 
 module _ (f : Forest) (d : ℕ) where

@@ -1,6 +1,6 @@
 -- What is done with a grammar, or with a grammar and an input.
 use Rattle.std.specs.Prelude.{ℕ, List}
-use Rattle.ig_tool.specs.Commands.{Request, check, show, core, forest, trees, query, Listing, Question, stored_listing, stored_question}
+use Rattle.ig_command.specs.Commands.{Request, check, show, core, forest, trees, query, Listing, Question, stored_listing, stored_question}
 use Rattle.ig_tool.specs.declared.job.Job.{Job as StoredJob}
 use Rattle.ig_tool.specs.declared.job.Job.TheVariants as stored
 use Rattle.ig_tool.specs.declared.job.Task.{Task}

@@ -1,11 +1,8 @@
-pub mod Words
 pub mod Accepted
 pub mod Refusals
-pub mod Commands
 pub mod Jobs
 pub mod Listing
 pub mod Questions
-pub mod Rows
 pub mod Change
 pub mod Outcome
 pub mod Stops

@@ -1,5 +1,5 @@
 -- What the top call answers, by cases.
-use Rattle.std.specs.Prelude.{◌≡◌, ◌≢◌, ◌↔◌, ℕ, List, [], ◌++◌, Bool, IsTrue, Option, Some, None, codes, encode_utf8_all}
+use Rattle.std.specs.Prelude.{◌≡◌, ◌≢◌, ◌↔◌, ◌≤◌, ℕ, zero, List, [], ◌++◌, length, Bool, IsTrue, Option, Some, None, codes, encode_utf8_all}
 use Rattle.std.specs.Fmt.{decimal}
 use Rattle.ig_text.specs.Decoding.{IsDecoded, IsFaulty}
 use Rattle.ig_text.specs.Tree.{Tree}
@@ -29,8 +29,8 @@ use Rattle.ig_tool.specs.Change.{Change, Fetched, IsCalm, FetchFailed, Stood, Go
 use Rattle.ig_show.specs.CanonicalText.{text_of}
 use Rattle.ig_tool.specs.Accepted.{IsAccepted}
 use Rattle.ig_tool.specs.Refusals.{IsRefused}
-use Rattle.ig_tool.specs.Commands.{Request, Listing, check, show, core, load, grammar_file, IsCommand, MayFetch}
-use Rattle.ig_tool.specs.Commands as asked
+use Rattle.ig_command.specs.Commands.{Request, Listing, check, show, core, load, grammar_file, files_of, IsCommand}
+use Rattle.ig_command.specs.Commands as asked
 use Rattle.ig_load.specs.Summary.{IsLoadSummary, IsTooLarge, summary_text}
 use Rattle.ig_load.specs.declared.summary.Summary.{Summary}
 use Rattle.ig_tool.specs.Jobs.{Job, print, list, ask, request_for}
@@ -212,6 +212,11 @@ pub data Decided (words : List (List ℕ)) (shelf : Change ShelfState) : Status 
   parsed : (g : Grammar) (input : List ℕ) (budget : ℕ) (job : Job) (f : Forest) (s : Status) (out note : List ℕ) →
       IsCalm shelf → HasFiles words shelf.before g input budget job → HasForest (unchanged g) input budget f →
       Finishes (unchanged g) input f job s out note → Decided words shelf s out note 2
+
+-- how often files may be fetched: never where the words are no command, else once for each file at most
+pub data MayFetch (words : List (List ℕ)) : ℕ → Type 0 where
+  never : MayFetch words zero
+  for_names : (request : Request) (k : ℕ) → IsCommand words request → k ≤ length (files_of request) → MayFetch words k
 
 -- the answer of the top call to its words, by what the shelf tells, with what was fetched and put
 pub data Answers (words : List (List ℕ)) (shelf : Change ShelfState) (out notes : Change SinkState) : Status → Type 0 where

@@ -19,7 +19,7 @@ use Rattle.ig_tool.specs.declared.stop.Stop.{Stop}
 use Rattle.ig_tool.specs.declared.stop.Stop.TheVariants as halt
 use Rattle.ig_tool.specs.declared.status.Status.{Status}
 use Rattle.ig_tool.specs.declared.status.Status.TheVariants as status
-use Rattle.ig_tool.specs.Commands.{Listing, Question}
+use Rattle.ig_command.specs.Commands.{Listing, Question}
 use Rattle.ig_tool.specs.Jobs.{Job, print, list, ask}
 use Rattle.ig_tool.specs.Listing.{listing_text}
 use Rattle.ig_tool.specs.Questions.{Tells}

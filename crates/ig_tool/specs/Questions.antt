@@ -13,8 +13,8 @@ use Rattle.ig_query.specs.Spans.{AreSpansOf, span_cmp}
 use Rattle.ig_parse.specs.Laws.{DeclaresSpan}
 use Rattle.ig_print.specs.QueryText.{ambiguous_text, cyclic_text, spans_text, IsFurthestLine}
 use Rattle.ig_print.specs.declared.report.Report.{Report}
-use Rattle.ig_tool.specs.Commands as asked
-use Rattle.ig_tool.specs.Commands.{Question}
+use Rattle.ig_command.specs.Commands as asked
+use Rattle.ig_command.specs.Commands.{Question}
 
 -- the name is the one that is given, or that of the start symbol where none is
 abbrev pub IsWanted : CheckedGrammar → Option (List ℕ) → List ℕ → Type 0

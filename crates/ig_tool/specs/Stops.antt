@@ -13,7 +13,6 @@ use Rattle.ig_tool.specs.declared.stop.Stop.TheVariants as halt
 use Rattle.ig_tool.specs.declared.status.Status.{Status}
 use Rattle.ig_tool.specs.declared.status.Status.TheVariants as status
 use Rattle.ig_tool.specs.Change.{Change, Fetched, Stood, Got, Failed, Untouched, Noted}
-use Rattle.ig_tool.specs.Commands.{MayFetch}
 use Rattle.ig_grammar.specs.Checked.{CheckedGrammar}
 use Rattle.ig_grammar.specs.declared.grammar.Grammar.{Grammar}
 use Rattle.ig_item.specs.Core.{dots}
@@ -33,7 +32,7 @@ use Rattle.ig_tool.specs.Accepted.{IsTextOf, HasFewDots}
 use Rattle.ig_tool.specs.Refusals.{IsRefused, dots_text}
 use Rattle.ig_print.specs.declared.report.Report.{Report}
 use Rattle.ig_print.specs.ReportText.{IsPlace}
-use Rattle.ig_tool.specs.Outcome.{MayGive, budget_note, cannot_read_note, cannot_write_note, input_note, no_memory_note, no_parse_note, IsNoParseNote, grammar_note, shown_text, ok_text, Decided, Finishes}
+use Rattle.ig_tool.specs.Outcome.{MayFetch, MayGive, budget_note, cannot_read_note, cannot_write_note, input_note, no_memory_note, no_parse_note, IsNoParseNote, grammar_note, shown_text, ok_text, Decided, Finishes}
 
 -- a line of two pieces
 abbrev pub IsLine : List ℕ → List ℕ → Vec ℕ Global → Type 0

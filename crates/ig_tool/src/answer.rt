@@ -2,12 +2,12 @@
 ghost use Rattle.std.specs.Prelude.{IfOk, chars};
 ghost use Rattle.std.specs.Option.{option_copied};
 ghost use Rattle.ig_parse.specs.Parses.{AreReachable};
-ghost use Rattle.ig_tool.specs.Commands.{stored_question};
+ghost use Rattle.ig_command.specs.Commands.{stored_question};
 ghost use Rattle.ig_tool.specs.Pages.{GivesAnswer};
 ghost use Rattle.ig_tool.specs.Questions.{IsWanted, Tells, TellsAmbiguous, TellsCyclic};
 ghost use Rattle.ig_tool.specs.Questions.{TellsReport, TellsSpans};
 
-use crate::command::Question;
+use ig_command::Question;
 use crate::stop::Stop;
 use ig_forest::Forest;
 use ig_grammar::Checked;

@@ -1,6 +1,6 @@
 //! What is done with a grammar, or with a grammar and an input.
 
-use crate::command::{Listing, Question};
+use ig_command::{Listing, Question};
 
 /// What is done with a grammar alone.
 #[derive(Clone, Copy, Debug)]

@@ -6,28 +6,24 @@
 //! to exactly the derivation trees that the grammar permits. `specs/Headline.antt` has that
 //! theorem, `specs/Outcome.antt` all answers.
 //!
-//! Inside, the words are tested (`words`), given to a command of `clap` (`rows`) and become what is
-//! asked for (`command`). A grammar text is read and its scopes are checked, or a note says why it
-//! is refused (`grammar_text`). Each grammar that is read can be built, which
-//! [`read_grammars_are_buildable`] says, so its parser is made, unless its core grammar has too
-//! many dots, and a forest is that parser's (`parse`). Its trees are listed (`listing`), or a
-//! question on it is answered (`answer`). A load has its line (`summary`).
+//! What the words ask for, `ig_command` says. Inside, a grammar text is read and its scopes are
+//! checked, or a note says why it is refused (`grammar_text`). Each grammar that is read can be
+//! built, which [`read_grammars_are_buildable`] says, so its parser is made, unless its core
+//! grammar has too many dots, and a forest is that parser's (`parse`). Its trees are listed
+//! (`listing`), or a question on it is answered (`answer`). A load has its line (`summary`).
 #![tactic(auto)]
 
 mod answer;
-mod command;
 mod grammar_text;
 mod job;
 mod laws;
 mod listing;
 mod load;
 mod parse;
-mod rows;
 pub mod status;
 mod stop;
 mod summary;
 mod top_call;
-mod words;
 
 pub use laws::{read_grammars_are_buildable, read_grammars_stay_regular};
 pub use status::Status;

@@ -8,7 +8,7 @@ ghost use Rattle.ig_forest.specs.Tags.{TagsAreNamed};
 ghost use Rattle.ig_forest.specs.Unfold.{Unfold};
 ghost use Rattle.ig_heights.specs.Heights.{AreHeights};
 ghost use Rattle.ig_text.specs.Tree.{Tree};
-ghost use Rattle.ig_tool.specs.Commands.{stored_listing};
+ghost use Rattle.ig_command.specs.Commands.{stored_listing};
 ghost use Rattle.ig_tool.specs.Listing.{line_text};
 ghost use Rattle.ig_tool.specs.Outcome.{depth_needed_note, no_cursor_note};
 ghost use Rattle.ig_tool.specs.Pages.{IsDepthFor, IsPageText, IsPrintable, Lists, NeedsDepth};
@@ -16,7 +16,7 @@ ghost use Rattle.ig_tool.specs.Pages.{Starts};
 ghost use Rattle.ig_tool.specs.Stops.{StopsWith};
 ghost use Rattle.ig_tool.specs.declared.status.Status.TheVariants as status;
 
-use crate::command::Listing;
+use ig_command::Listing;
 use crate::status::Status;
 use crate::stop::{Stop, stop_with};
 use ig_forest::{Forest, Tree};

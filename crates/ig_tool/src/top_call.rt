@@ -5,13 +5,13 @@ ghost use Rattle.ig_tool.specs.Change.{change, Fetched};
 ghost use Rattle.ig_tool.specs.Outcome.{Answers, usage_note};
 ghost use Rattle.ig_tool.specs.Headline.{Completeness, GrammarCommands, Headline};
 ghost use Rattle.ig_tool.specs.Headline.{LoadCommands};
-ghost use Rattle.ig_tool.specs.Commands.{IsCommand};
+ghost use Rattle.ig_command.specs.Commands.{IsCommand};
 ghost use Rattle.ig_tool.specs.Jobs.{request_for, stored_job, task_request};
 ghost use Rattle.ig_tool.specs.Stops.{Decides, GivesUp, RunsJob, SaysOk, ShowsCore};
 ghost use Rattle.ig_tool.specs.Stops.{ShowsGrammar, StopsWith, WritesNote, WritesText};
 ghost use Rattle.ig_tool.specs.declared.status.Status.TheVariants.{Usage};
 
-use crate::command::{Command, command_of};
+use ig_command::{Command, command_of, load_sizes_are_few};
 use crate::job::{Job, Task};
 use crate::laws::read_grammars_are_buildable;
 use crate::load::{load_grammar, load_input};
@@ -96,6 +96,7 @@ fn decide<F: Shelf>(alloc: Global, words: &[String], shelf: &mut F) -> Result<Ve
         (change (F.state shelf.old) (F.state shelf.new)) result }
     ensures same { (n : List ℕ) → (F.state shelf.new).holds n ≡ (F.state shelf.old).holds n }
 {
+    load_sizes_are_few();
     let Some(command) = command_of(alloc, words)? else {
         return Err(usage(alloc));
     };

@@ -1,5 +1,5 @@
 use Rattle.std.proofs.Common.{subst, sym}
-use Rattle.ig_tool.specs.Commands.{stored_listing}
+use Rattle.ig_command.specs.Commands.{stored_listing}
 use Rattle.ig_tool.specs.Pages.{Lists}
 use Rattle.ig_tool.proofs.Deciding.{passed}
 use Rattle.ig_tool.proofs.Starting.{lists_needs, lists_lost, lists_made, start_named}

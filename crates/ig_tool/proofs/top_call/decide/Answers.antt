@@ -1,6 +1,5 @@
 use Rattle.std.specs.Prelude.{map, string_bytes}
 use Rattle.ig_tool.proofs.Deciding.{decides_usage, decides_load, decides_memory}
-use Rattle.ig_tool.proofs.Sizes.{size_fits}
 use Rattle.ig_tool.proofs.top_call.decide.Goals as goal
 
 pub returns-in_default-clause-answer : goal.returns-in_default-clause-answer
@@ -37,7 +36,7 @@ returns-in-Query-clause-answer g c =
 pub summary_line-requires : goal.summary_line-requires
 summary_line-requires g c =
     let read = rw c.in-Some.is at c.in_ok-command.ensures in
-    size_fits (map string_bytes c.args.words.now) c.in-Load.size c.in-Load.number c.in-Load.budget (rw c.in-Load.is at read)
+    c.load_sizes_are_few.ensures (map string_bytes c.args.words.now) c.in-Load.size c.in-Load.number c.in-Load.budget (rw c.in-Load.is at read)
 
 pub returns-in-Load-clause-answer : goal.returns-in-Load-clause-answer
 returns-in-Load-clause-answer g c =

@@ -1,0 +1,11 @@
+pub mod Numbers
+pub mod Options
+pub mod Sorting
+pub mod UseRows
+pub mod Turns
+pub mod Walks
+pub mod Rules
+pub mod Meets
+pub mod Requests
+pub mod Matched
+pub mod Sizes

@@ -1,0 +1,228 @@
+-- Which words are a command.
+use Rattle.std.specs.Prelude.{◌≡◌, ℕ, ◌&&◌, nat_le, Bool, if◌then◌else◌, List, [], ◌∷◌, Option, Some, None, option_map, option_and_then, codes}
+use Rattle.std.specs.List.{list_all, list_any}
+use Rattle.std.specs.Option.{option_copied}
+use Rattle.ig_text.specs.Words.{is_word, is_digit}
+use Rattle.ig_expr.specs.Reading.{spelled}
+use Rattle.ig_command.specs.Words.{Setting, Parts, parts_of}
+use Rattle.ig_command.specs.declared.command.Command.{Command}
+use Rattle.ig_command.specs.declared.command.Command.TheVariants as stored
+use Rattle.ig_command.specs.declared.command.Listing.{Listing as StoredListing}
+use Rattle.ig_command.specs.declared.command.Question.{Question as StoredQuestion}
+use Rattle.ig_command.specs.declared.command.Question.TheVariants as asks
+
+-- which trees are listed: those up to a height, or all; so many at most; those behind a cursor, or from the first on
+pub record Listing : Type 0 where
+  pub depth : Option ℕ
+  pub count : ℕ
+  pub after : Option (List ℕ)
+
+-- what is asked of a forest
+pub data Question : Type 0 where
+  -- whether there are two trees, and where they differ
+  ambiguous : Question
+  -- whether there are trees of every height
+  cyclic : Question
+  -- the spans of the declaration of this name, or of the start symbol
+  spans : (name : Option (List ℕ)) → Question
+  -- how far the input was read
+  report : Question
+
+-- what a command asks for, with the names of its files
+pub data Request : Type 0 where
+  -- that the grammar is checked
+  check : (grammar : List ℕ) → Request
+  -- the canonical text of the grammar
+  show : (grammar : List ℕ) → Request
+  -- the text of its core grammar
+  core : (grammar : List ℕ) → Request
+  -- the forest of the grammar and the input, where no more items than the budget are reachable
+  forest : (grammar input : List ℕ) (budget : ℕ) → Request
+  -- its trees
+  trees : (grammar input : List ℕ) (budget : ℕ) (listing : Listing) → Request
+  -- an answer from it
+  query : (grammar input : List ℕ) (budget : ℕ) (question : Question) → Request
+  -- the numbers of the forest of a grammar and an input that are made
+  load : (size number budget : ℕ) → Request
+
+-- the names of the files that a command reads, the grammar's first
+abbrev pub files_of : Request → List (List ℕ)
+files_of (check grammar) = grammar ∷ []
+files_of (show grammar) = grammar ∷ []
+files_of (core grammar) = grammar ∷ []
+files_of (forest grammar input budget) = grammar ∷ input ∷ []
+files_of (trees grammar input budget listing) = grammar ∷ input ∷ []
+files_of (query grammar input budget question) = grammar ∷ input ∷ []
+files_of (load size number budget) = []
+
+-- the name of the grammar, where one is read
+abbrev pub grammar_file : Request → Option (List ℕ)
+grammar_file (check grammar) = Some grammar
+grammar_file (show grammar) = Some grammar
+grammar_file (core grammar) = Some grammar
+grammar_file (forest grammar input budget) = Some grammar
+grammar_file (trees grammar input budget listing) = Some grammar
+grammar_file (query grammar input budget question) = Some grammar
+grammar_file (load size number budget) = None
+
+-- the limits of numbers, and the numbers that are meant where an option doesn't stand
+abbrev pub usual_budget : ℕ
+usual_budget = 1000000
+
+abbrev pub most_budget : ℕ
+most_budget = 4000000
+
+abbrev pub most_depth : ℕ
+most_depth = 1000000
+
+abbrev pub usual_count : ℕ
+usual_count = 20
+
+abbrev pub most_count : ℕ
+most_count = 100000
+
+abbrev pub most_size : ℕ
+most_size = 4000
+
+abbrev pub most_number : ℕ
+most_number = 18446744073709551615
+
+-- the number that digits spell, from the least to the most
+abbrev pub number_of : ℕ → ℕ → List ℕ → Option ℕ
+number_of least most digits =
+    if list_all is_digit digits && (nat_le least (spelled 0 digits) && nat_le (spelled 0 digits) most) then Some (spelled 0 digits)
+    else None
+
+-- the values of the options of this name
+abbrev pub values_of : List ℕ → List Setting → List (List ℕ)
+values_of name [] = []
+values_of name (option ∷ options) =
+    if is_word option.name name then option.value ∷ values_of name options else values_of name options
+
+-- the value of an option that stands once at most
+abbrev pub once : List (List ℕ) → Option (Option (List ℕ))
+once [] = Some None
+once (value ∷ []) = Some (Some value)
+once (value ∷ next ∷ others) = None
+
+abbrev pub option_in : List ℕ → List Setting → Option (Option (List ℕ))
+option_in name options = once (values_of name options)
+
+-- the number of an option; the usual one where it doesn't stand
+abbrev pub number_or : ℕ → ℕ → ℕ → Option (List ℕ) → Option ℕ
+number_or usual least most None = Some usual
+number_or usual least most (Some digits) = number_of least most digits
+
+-- the number of an option that has no usual one
+abbrev pub number_if : ℕ → ℕ → Option (List ℕ) → Option (Option ℕ)
+number_if least most None = Some None
+number_if least most (Some digits) = option_map Some (number_of least most digits)
+
+abbrev pub budget_in : List Setting → Option ℕ
+budget_in options = option_and_then (number_or usual_budget 1 most_budget) (option_in (codes "budget") options)
+
+abbrev pub depth_in : List Setting → Option (Option ℕ)
+depth_in options = option_and_then (number_if 0 most_depth) (option_in (codes "depth") options)
+
+abbrev pub count_in : List Setting → Option ℕ
+count_in options = option_and_then (number_or usual_count 1 most_count) (option_in (codes "count") options)
+
+abbrev pub listing_with : Option (Option ℕ) → Option ℕ → Option (Option (List ℕ)) → Option Listing
+listing_with depth count after =
+    option_and_then (λ d. option_and_then (λ n. option_map (λ a. record { depth = d; count = n; after = a }) after) count) depth
+
+abbrev pub listing_in : List Setting → Option Listing
+listing_in options = listing_with (depth_in options) (count_in options) (option_in (codes "after") options)
+
+-- the question that `--what` names; only that for spans looks at `--name`
+abbrev pub question_with : Option (List ℕ) → Option (List ℕ) → Option Question
+question_with name None = Some ambiguous
+question_with name (Some what) =
+    if is_word what (codes "ambiguous") then Some ambiguous
+    else (if is_word what (codes "cyclic") then Some cyclic
+    else (if is_word what (codes "spans") then Some (spans name)
+    else (if is_word what (codes "report") then Some report else None)))
+
+abbrev pub question_in : List Setting → Option Question
+question_in options =
+    option_and_then (λ name. option_and_then (question_with name) (option_in (codes "what") options)) (option_in (codes "name") options)
+
+-- the requests of a command's positional words and options
+abbrev pub for_grammar : (List ℕ → Request) → List (List ℕ) → List Setting → Option Request
+for_grammar ask (grammar ∷ []) options = Some (ask grammar)
+for_grammar ask words options = None
+
+abbrev pub for_forest : List (List ℕ) → List Setting → Option Request
+for_forest (grammar ∷ input ∷ []) options = option_map (forest grammar input) (budget_in options)
+for_forest words options = None
+
+abbrev pub for_trees : List (List ℕ) → List Setting → Option Request
+for_trees (grammar ∷ input ∷ []) options =
+    option_and_then (λ budget. option_map (trees grammar input budget) (listing_in options)) (budget_in options)
+for_trees words options = None
+
+abbrev pub for_query : List (List ℕ) → List Setting → Option Request
+for_query (grammar ∷ input ∷ []) options =
+    option_and_then (λ budget. option_map (query grammar input budget) (question_in options)) (budget_in options)
+for_query words options = None
+
+abbrev pub for_load : List (List ℕ) → List Setting → Option Request
+for_load (size ∷ number ∷ []) options =
+    option_and_then (λ s. option_and_then (λ n. option_map (load s n) (budget_in options))
+    (number_of 0 most_number number)) (number_of 1 most_size size)
+for_load words options = None
+
+-- each option has one of the names
+abbrev pub are_among : List (List ℕ) → List Setting → Bool
+are_among names options = list_all (λ option. list_any (is_word option.name) names) options
+
+-- a row of the table of commands: the options that may stand, and what the parts ask for
+abbrev pub row : List (List ℕ) → (List (List ℕ) → List Setting → Option Request) → Parts → Option Request
+row names ask parts = if are_among names parts.options then ask parts.positional parts.options else None
+
+-- the table of commands
+abbrev pub request_with : List ℕ → Parts → Option Request
+request_with name =
+    if is_word name (codes "check") then row [] (for_grammar check)
+    else (if is_word name (codes "show") then row [] (for_grammar show)
+    else (if is_word name (codes "core") then row [] (for_grammar core)
+    else (if is_word name (codes "forest") then row (codes "budget" ∷ []) for_forest
+    else (if is_word name (codes "trees")
+    then row (codes "budget" ∷ codes "depth" ∷ codes "count" ∷ codes "after" ∷ []) for_trees
+    else (if is_word name (codes "query") then row (codes "budget" ∷ codes "what" ∷ codes "name" ∷ []) for_query
+    else (if is_word name (codes "load") then row (codes "budget" ∷ []) for_load
+    else (λ parts. None)))))))
+
+-- the request of the words: first the name of a command, then positional words and options in any order; none exactly where
+-- they are no command
+abbrev pub request_of : List (List ℕ) → Option Request
+request_of [] = None
+request_of (name ∷ words) = option_and_then (request_with name) (parts_of words)
+
+-- the words are the command
+abbrev pub IsCommand : List (List ℕ) → Request → Type 0
+IsCommand words request = request_of words ≡ Some request
+
+abbrev pub stored_listing : StoredListing → Listing
+stored_listing l = record { depth = l.depth; count = l.count; after = option_copied l.after }
+
+abbrev pub stored_question : StoredQuestion → Question
+stored_question asks.Ambiguous = ambiguous
+stored_question asks.Cyclic = cyclic
+stored_question (asks.Spans name) = spans (option_copied name)
+stored_question asks.Report = report
+
+-- what a stored command asks for
+abbrev pub stored_request : Command → Request
+stored_request (stored.Check grammar) = check grammar.now
+stored_request (stored.Show grammar) = show grammar.now
+stored_request (stored.Core grammar) = core grammar.now
+stored_request (stored.Forest grammar input budget) = forest grammar.now input.now budget
+stored_request (stored.Trees grammar input budget listing) = trees grammar.now input.now budget (stored_listing listing)
+stored_request (stored.Query grammar input budget question) = query grammar.now input.now budget (stored_question question)
+stored_request (stored.Load size number budget) = load size number budget
+
+-- the words are this command, or none
+abbrev pub Reads : List (List ℕ) → Option Command → Type 0
+Reads words None = (request : Request) → IsCommand words request → ⊥
+Reads words (Some command) = IsCommand words (stored_request command)

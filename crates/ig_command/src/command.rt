@@ -1,0 +1,303 @@
+//! What a command asks for, and how its words are read.
+ghost use Rattle.std.specs.Prelude.{◌≡◌, IfOk, map, option_map, string_bytes};
+ghost use Rattle.std.specs.Option.{option_copied};
+ghost use Rattle.clap.specs.Words.{first_value, found_of};
+ghost use Rattle.ig_command.specs.Commands.{Reads, number_if, number_of, number_or};
+ghost use Rattle.ig_command.specs.Commands.{question_with, stored_listing, stored_question};
+ghost use Rattle.ig_command.specs.Commands.{stored_request};
+ghost use Rattle.ig_command.specs.Rows.{budget_found, found_request, listing_found};
+
+use crate::rows::{Row, matches_of, row_named};
+use crate::words::{all_may_stand, read_number};
+use clap::ArgMatches;
+use std::alloc::{AllocError, Global};
+
+/// The budget where none is given.
+const USUAL_BUDGET: u32 = 1_000_000;
+
+/// The greatest budget.
+const MOST_BUDGET: u32 = 4_000_000;
+
+/// The greatest depth.
+const MOST_DEPTH: u32 = 1_000_000;
+
+/// How many trees are listed where no number is given.
+const USUAL_COUNT: u32 = 20;
+
+/// How many trees may be asked for.
+const MOST_COUNT: u32 = 100_000;
+
+/// The greatest size of a load.
+pub const MOST_SIZE: u32 = 4000;
+
+/// Which trees are listed.
+#[derive(Clone, Copy, Debug)]
+pub struct Listing<'a> {
+    /// The height that they have at most, where there is a bound.
+    pub depth: Option<u32>,
+    /// How many at most.
+    pub count: u32,
+    /// The cursor that they stand behind, where they don't begin with the first.
+    pub after: Option<&'a str>,
+}
+
+/// What is asked of a forest.
+#[derive(Clone, Copy, Debug)]
+pub enum Question<'a> {
+    /// Whether there are two trees, and where they differ.
+    Ambiguous,
+    /// Whether there are trees of every height.
+    Cyclic,
+    /// The spans of the declaration of this name, or of the start symbol.
+    Spans { name: Option<&'a str> },
+    /// How far the input was read.
+    Report,
+}
+
+/// What the words of a command ask for, with the names of its files.
+#[derive(Clone, Copy, Debug)]
+pub enum Command<'a> {
+    /// That the grammar is checked.
+    Check {
+        grammar: &'a str,
+    },
+    /// The canonical text of the grammar.
+    Show {
+        grammar: &'a str,
+    },
+    /// The text of its core grammar.
+    Core {
+        grammar: &'a str,
+    },
+    /// The forest of the grammar and the input, where no more items than the budget are reachable.
+    Forest {
+        grammar: &'a str,
+        input: &'a str,
+        budget: u32,
+    },
+    /// Its trees.
+    Trees {
+        grammar: &'a str,
+        input: &'a str,
+        budget: u32,
+        listing: Listing<'a>,
+    },
+    /// An answer from it.
+    Query {
+        grammar: &'a str,
+        input: &'a str,
+        budget: u32,
+        question: Question<'a>,
+    },
+    /// The numbers of the forest of a grammar and an input that are made.
+    Load {
+        size: u32,
+        number: u64,
+        budget: u32,
+    },
+}
+
+/// The command that the words are, as the table of commands says: a name, then positional words and
+/// options in any order.
+pub fn command_of(alloc: Global, words: &[String]) -> Result<Option<Command<'_>>, AllocError>
+    ensures { IfOk result (Reads (map string_bytes words.now)) }
+{
+    let Some((name, others)) = words.split_first() else {
+        return Ok(None);
+    };
+    let Some(row) = row_named(name.as_str()) else {
+        return Ok(None);
+    };
+    if !all_may_stand(others) {
+        return Ok(None);
+    }
+    match matches_of(alloc, row, others)? {
+        Some(matches) => Ok(command_in(row, &matches)),
+        None => Ok(None),
+    }
+}
+
+/// The command of the row with the values that were found.
+fn command_in<'a>(row: Row, matches: &ArgMatches<'a>) -> Option<Command<'a>>
+    ensures { option_map stored_request result
+        ≡ found_request row (first_value (found_of matches.now)) }
+{
+    match row {
+        Row::Check => check_command(matches),
+        Row::Show => show_command(matches),
+        Row::Core => core_command(matches),
+        Row::Forest => forest_command(matches),
+        Row::Trees => trees_command(matches),
+        Row::Query => query_command(matches),
+        Row::Load => load_command(matches),
+    }
+}
+
+/// The command that checks the grammar.
+fn check_command<'a>(matches: &ArgMatches<'a>) -> Option<Command<'a>>
+    ensures { option_map stored_request result
+        ≡ found_request Row.Check (first_value (found_of matches.now)) }
+{
+    let grammar = matches.get_str("G")?;
+    Some(Command::Check { grammar })
+}
+
+/// The command for its text.
+fn show_command<'a>(matches: &ArgMatches<'a>) -> Option<Command<'a>>
+    ensures { option_map stored_request result
+        ≡ found_request Row.Show (first_value (found_of matches.now)) }
+{
+    let grammar = matches.get_str("G")?;
+    Some(Command::Show { grammar })
+}
+
+/// The command for the text of its core grammar.
+fn core_command<'a>(matches: &ArgMatches<'a>) -> Option<Command<'a>>
+    ensures { option_map stored_request result
+        ≡ found_request Row.Core (first_value (found_of matches.now)) }
+{
+    let grammar = matches.get_str("G")?;
+    Some(Command::Core { grammar })
+}
+
+/// The command for the forest of two files.
+fn forest_command<'a>(matches: &ArgMatches<'a>) -> Option<Command<'a>>
+    ensures { option_map stored_request result
+        ≡ found_request Row.Forest (first_value (found_of matches.now)) }
+{
+    let grammar = matches.get_str("G")?;
+    let input = matches.get_str("I")?;
+    let budget = budget_of(matches)?;
+    Some(Command::Forest {
+        grammar,
+        input,
+        budget,
+    })
+}
+
+/// The command for the trees of two files.
+fn trees_command<'a>(matches: &ArgMatches<'a>) -> Option<Command<'a>>
+    ensures { option_map stored_request result
+        ≡ found_request Row.Trees (first_value (found_of matches.now)) }
+{
+    let grammar = matches.get_str("G")?;
+    let input = matches.get_str("I")?;
+    let budget = budget_of(matches)?;
+    let listing = listing_of(matches)?;
+    Some(Command::Trees {
+        grammar,
+        input,
+        budget,
+        listing,
+    })
+}
+
+/// The command for an answer from the forest of two files.
+fn query_command<'a>(matches: &ArgMatches<'a>) -> Option<Command<'a>>
+    ensures { option_map stored_request result
+        ≡ found_request Row.Query (first_value (found_of matches.now)) }
+{
+    let grammar = matches.get_str("G")?;
+    let input = matches.get_str("I")?;
+    let budget = budget_of(matches)?;
+    let question = question_named(matches.get_str("what"), matches.get_str("name"))?;
+    Some(Command::Query {
+        grammar,
+        input,
+        budget,
+        question,
+    })
+}
+
+/// The command for a load.
+fn load_command<'a>(matches: &ArgMatches<'a>) -> Option<Command<'a>>
+    ensures { option_map stored_request result
+        ≡ found_request Row.Load (first_value (found_of matches.now)) }
+{
+    let size = matches.get_str("SIZE")?;
+    let number = matches.get_str("NUMBER")?;
+    let size = read_small(size, 1, MOST_SIZE)?;
+    let number = read_number(number, 0, u64::MAX)?;
+    let budget = budget_of(matches)?;
+    Some(Command::Load {
+        size,
+        number,
+        budget,
+    })
+}
+
+/// The budget.
+fn budget_of(matches: &ArgMatches<'_>) -> Option<u32>
+    ensures { result ≡ budget_found (first_value (found_of matches.now)) }
+{
+    small_or(USUAL_BUDGET, 1, MOST_BUDGET, matches.get_str("budget"))
+}
+
+/// Which trees are listed.
+fn listing_of<'a>(matches: &ArgMatches<'a>) -> Option<Listing<'a>>
+    ensures { option_map stored_listing result
+        ≡ listing_found (first_value (found_of matches.now)) }
+{
+    let depth = small_if(0, MOST_DEPTH, matches.get_str("depth"))?;
+    let count = small_or(USUAL_COUNT, 1, MOST_COUNT, matches.get_str("count"))?;
+    let after = matches.get_str("after");
+    Some(Listing {
+        depth,
+        count,
+        after,
+    })
+}
+
+/// The question that `--what` names.
+fn question_named<'a>(what: Option<&str>, name: Option<&'a str>) -> Option<Question<'a>>
+    ensures { option_map stored_question result
+        ≡ question_with (option_copied name.entry) (option_copied what.entry) }
+{
+    let Some(what) = what else {
+        return Some(Question::Ambiguous);
+    };
+    if what == "ambiguous" {
+        return Some(Question::Ambiguous);
+    }
+    if what == "cyclic" {
+        return Some(Question::Cyclic);
+    }
+    if what == "spans" {
+        return Some(Question::Spans { name });
+    }
+    if what == "report" {
+        return Some(Question::Report);
+    }
+    None
+}
+
+/// The number of an option that has no usual one.
+fn small_if(least: u32, most: u32, value: Option<&str>) -> Option<Option<u32>>
+    ensures { result ≡ number_if least most (option_copied value.entry) }
+{
+    match value {
+        Some(digits) => {
+            let number = read_small(digits, least, most)?;
+            Some(Some(number))
+        }
+        None => Some(None),
+    }
+}
+
+/// The number of an option, or the usual one.
+fn small_or(usual: u32, least: u32, most: u32, value: Option<&str>) -> Option<u32>
+    ensures { result ≡ number_or usual least most (option_copied value.entry) }
+{
+    match value {
+        Some(digits) => read_small(digits, least, most),
+        None => Some(usual),
+    }
+}
+
+/// The number that the digits spell, from the least to the most.
+fn read_small(digits: &str, least: u32, most: u32) -> Option<u32>
+    ensures { result ≡ number_of least most digits.now }
+{
+    let number = read_number(digits, u64::from(least), u64::from(most))?;
+    u32::try_from(number).ok()
+}

@@ -1,0 +1,175 @@
+//! The rows of the table of commands, each as a command of `clap`.
+ghost use Rattle.std.specs.Prelude.{◌≡◌, ◌≢◌, ◌∷◌, [], IfOk, None, codes, map, string_bytes, true};
+ghost use Rattle.std.specs.List.{list_all};
+ghost use Rattle.clap.specs.Words.{app_of, with_rule};
+ghost use Rattle.ig_command.specs.Rows.{Answers, app_for, app_with, may_stand, option, place, row_of};
+ghost use Rattle.ig_command.specs.Words.{parts_of};
+
+use clap::error::ErrorKind;
+use clap::{Arg, ArgMatches, Command};
+use std::alloc::{AllocError, Global};
+
+/// A row of the table of commands.
+#[derive(Clone, Copy, Debug)]
+pub(crate) enum Row {
+    Check,
+    Show,
+    Core,
+    Forest,
+    Trees,
+    Query,
+    Load,
+}
+
+/// The row of the command of this name.
+pub(crate) fn row_named(name: &str) -> Option<Row>
+    ensures { result ≡ row_of name.now }
+{
+    if name == "check" {
+        return Some(Row::Check);
+    }
+    if name == "show" {
+        return Some(Row::Show);
+    }
+    if name == "core" {
+        return Some(Row::Core);
+    }
+    if name == "forest" {
+        return Some(Row::Forest);
+    }
+    if name == "trees" {
+        return Some(Row::Trees);
+    }
+    if name == "query" {
+        return Some(Row::Query);
+    }
+    if name == "load" {
+        return Some(Row::Load);
+    }
+    None
+}
+
+/// What the words are by `clap`, as the row says; `None` exactly where `clap` refuses them.
+pub(crate) fn matches_of<'a>(
+    alloc: Global,
+    row: Row,
+    words: &'a [String],
+) -> Result<Option<ArgMatches<'a>>, AllocError>
+    requires { list_all may_stand (map string_bytes words.now) ≡ true }
+    ensures { IfOk result (Answers row (parts_of (map string_bytes words.now))) }
+{
+    let command = command_for(alloc, row)?;
+    match command.try_get_matches_from(words) {
+        Ok(matches) => Ok(Some(matches)),
+        Err(error) => refused(error.kind()),
+    }
+}
+
+/// No matches, but where memory ran out.
+fn refused<'a>(kind: ErrorKind) -> Result<Option<ArgMatches<'a>>, AllocError>
+    ensures { IfOk result (λ r. (r ≡ None) × (kind ≢ ErrorKind.OutOfMemory)) }
+{
+    match kind {
+        ErrorKind::OutOfMemory => Err(AllocError),
+        _ => Ok(None),
+    }
+}
+
+/// The command of `clap` for the row.
+fn command_for<'a>(alloc: Global, row: Row) -> Result<Command<'a>, AllocError>
+    ensures { IfOk result (λ c. app_of c ≡ app_for row) }
+{
+    match row {
+        Row::Check => one_file(alloc),
+        Row::Show => one_file(alloc),
+        Row::Core => one_file(alloc),
+        Row::Forest => forest(alloc),
+        Row::Trees => trees(alloc),
+        Row::Query => query(alloc),
+        Row::Load => load(alloc),
+    }
+}
+
+/// A command for one file.
+fn one_file<'a>(alloc: Global) -> Result<Command<'a>, AllocError>
+    ensures { IfOk result (λ c. app_of c ≡ app_with (place (codes "G") ∷ [])) }
+{
+    with_place(alloc, bare(alloc), "G")
+}
+
+/// The command for the forest of two files.
+fn forest<'a>(alloc: Global) -> Result<Command<'a>, AllocError>
+    ensures { IfOk result (λ c. app_of c
+        ≡ app_with (place (codes "G") ∷ place (codes "I") ∷ option (codes "budget") ∷ [])) }
+{
+    let grammar = one_file(alloc)?;
+    let both = with_place(alloc, grammar, "I")?;
+    with_option(alloc, both, "budget")
+}
+
+/// The command for its trees.
+fn trees<'a>(alloc: Global) -> Result<Command<'a>, AllocError>
+    ensures { IfOk result (λ c. app_of c
+        ≡ app_with (place (codes "G") ∷ place (codes "I") ∷ option (codes "budget")
+        ∷ option (codes "depth") ∷ option (codes "count") ∷ option (codes "after") ∷ [])) }
+{
+    let with_budget = forest(alloc)?;
+    let with_depth = with_option(alloc, with_budget, "depth")?;
+    let with_count = with_option(alloc, with_depth, "count")?;
+    with_option(alloc, with_count, "after")
+}
+
+/// The command for an answer from it.
+fn query<'a>(alloc: Global) -> Result<Command<'a>, AllocError>
+    ensures { IfOk result (λ c. app_of c
+        ≡ app_with (place (codes "G") ∷ place (codes "I") ∷ option (codes "budget")
+        ∷ option (codes "what") ∷ option (codes "name") ∷ [])) }
+{
+    let with_budget = forest(alloc)?;
+    let with_what = with_option(alloc, with_budget, "what")?;
+    with_option(alloc, with_what, "name")
+}
+
+/// The command for a load.
+fn load<'a>(alloc: Global) -> Result<Command<'a>, AllocError>
+    ensures { IfOk result (λ c. app_of c ≡ app_with (place (codes "SIZE")
+        ∷ place (codes "NUMBER") ∷ option (codes "budget") ∷ [])) }
+{
+    let size = with_place(alloc, bare(alloc), "SIZE")?;
+    let both = with_place(alloc, size, "NUMBER")?;
+    with_option(alloc, both, "budget")
+}
+
+/// A command with no arguments. It has no help flag: `--help` is an option as any other.
+fn bare<'a>(alloc: Global) -> Command<'a>
+    ensures { app_of result ≡ app_with [] }
+{
+    Command::new(alloc, "iguana")
+        .no_binary_name(true)
+        .disable_help_flag(true)
+}
+
+/// The command with a positional word that has to stand.
+fn with_place<'a>(
+    alloc: Global,
+    command: Command<'a>,
+    id: &'a str,
+) -> Result<Command<'a>, AllocError>
+    ensures { IfOk result (λ c. app_of c ≡ with_rule (app_of command.entry) (place id.entry.now)) }
+{
+    let argument = Arg::new(alloc, id).required(true);
+    command.arg(argument)
+}
+
+/// The command with an option that has a value.
+fn with_option<'a>(
+    alloc: Global,
+    command: Command<'a>,
+    name: &'a str,
+) -> Result<Command<'a>, AllocError>
+    ensures { IfOk result (λ c. app_of c
+        ≡ with_rule (app_of command.entry) (option name.entry.now)) }
+{
+    let argument = Arg::new(alloc, name).long(name);
+    command.arg(argument)
+}
