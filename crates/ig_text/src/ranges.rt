@@ -1,5 +1,5 @@
 ghost use Rattle.std.specs.Prelude.{◌≡◌, [], ◌∷◌, ◌++◌, OnOk, OnErr, IfOk, IfErr};
-ghost use Rattle.ig_text.specs.Ranges.{is_among, KnowsFirst};
+ghost use Rattle.ig_text.specs.Ranges.{is_within, is_among, KnowsFirst};
 
 use crate::copied::Copied;
 use std::alloc::{AllocError, Global};
@@ -95,7 +95,14 @@ fn ascii_of(alloc: Global, pairs: &[(char, char)]) -> Result<Vec<bool>, AllocErr
 fn is_in_some(ranges: &[(char, char)], c: char) -> bool
     ensures { result ≡ is_among ranges.now c }
 {
-    ranges.iter().any(|(first, last)| *first <= c && c <= *last)
+    ranges.iter().any(|range| is_within(*range, c))
+}
+
+/// Whether the character is in the range. Takes no memory.
+fn is_within(range: (char, char), c: char) -> bool
+    ensures { result ≡ is_within range c }
+{
+    range.0 <= c && c <= range.1
 }
 
 impl Copied for Ranges {

@@ -88,7 +88,7 @@ impl Text {
         ensures text { IfOk result (IsDecoded text.now) }
         ensures fault { IfErr result (IsFaulty text.now) }
     {
-        let characters: Vec<char> = text.chars().collect(alloc)?;
+        let characters = characters_of(alloc, text)?;
         if characters.len() > MOST_CHARACTERS {
             return Err(TextFault::TooLong);
         }
@@ -211,4 +211,11 @@ fn are_letters_of(letters: &[char], text: &str) -> bool
         }
     }
     rest.next().is_none()
+}
+
+/// The characters of a string.
+pub(crate) fn characters_of(alloc: Global, text: &str) -> Result<Vec<char>, AllocError>
+    ensures { IfOk result (λ letters. letters.items ≡ chars text.now) }
+{
+    text.chars().collect(alloc)
 }

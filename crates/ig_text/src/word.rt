@@ -5,7 +5,7 @@ ghost use Rattle.ig_text.specs.Words.{is_word};
 
 use crate::copied::Copied;
 use crate::sequence::Sequence;
-use crate::text::Text;
+use crate::text::{Text, characters_of};
 use std::alloc::{AllocError, Global};
 use std::hash::{Hash, Hasher};
 use std::marker::Model;
@@ -36,7 +36,7 @@ impl Word {
     pub fn new(alloc: Global, text: &str) -> Result<Word, AllocError>
         ensures { IfOk result (λ w. w ≡ chars text.now) }
     {
-        let characters = text.chars().collect(alloc)?;
+        let characters = characters_of(alloc, text)?;
         let text = String::from_str(alloc, text)?;
         Ok(Word { text, characters })
     }

@@ -1,9 +1,6 @@
 use Rattle.std.proofs.Common.{rules}
 use Rattle.std.proofs.lemmas.Str.{chars_from_encodes}
-use Rattle.ig_text.proofs.word.Word.new.Goals as goal
-
-pub invariant_of-result : goal.invariant_of-result
-invariant_of-result c = search (rules, chars_from_encodes)
+use Rattle.ig_text.proofs.text.characters_of.Goals as goal
 
 pub returns : goal.returns
 returns c = search (rules, chars_from_encodes)
