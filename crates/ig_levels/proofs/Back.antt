@@ -27,6 +27,7 @@ use Rattle.ig_grammar.specs.declared.place.Shape.{Shape}
 use Rattle.ig_levels.specs.Spines.{AtLeast}
 use Rattle.ig_levels.specs.Levels.{Pair, no_pair, with_pair, in_symbols, in_alternatives, lowered, test_of, place_in, is_levelled, is_test, is_operand, Place, elsewhere, has_left, has_right, pair_at, added_parameters, pair_arguments}
 use Rattle.ig_rewrite.specs.Added.{left_name, right_name}
+use Rattle.ig_levels.proofs.SameForm.{SameForm}
 use Rattle.ig_levels.proofs.Bounds.{Bounds, bounded, bounds_of, bound_values, Inserted, PairHas, Clear, AllClear}
 use Rattle.ig_levels.proofs.Takes.{Takes, OwnKind, Fits, Wanted, Handed, left_of, right_of}
 use Rattle.ig_levels.proofs.SpineFacts.{node_at_least, node_is_clean}
@@ -198,6 +199,30 @@ module _ (g g' : Grammar) (shapes shapes' : List Shape) (levelled : List ℕ →
       go (plain arguments) = lev
       go (labelled lab arguments) = lev
 
+  -- what stands for a symbol has its form
+  forms_kept : (pair : Pair) (x : Symbol) → SameForm (with_pair levelled pair x) x
+  forms_kept pair (Literal word) = tt
+  forms_kept pair (OneOf class) = tt
+  forms_kept pair (Call name arguments) = tt
+  forms_kept pair (Label name x) = tt
+  forms_kept pair (Guard e) = tt
+  forms_kept pair (Let name e) = tt
+  forms_kept pair (Opt x) = tt
+  forms_kept pair (Star x) = tt
+  forms_kept pair (Plus x) = tt
+  forms_kept pair (SepStar x separator) = tt
+  forms_kept pair (SepPlus x separator) = tt
+  forms_kept pair (Group choices) = tt
+  forms_kept pair (Offside x) = tt
+  forms_kept pair (Ignore x) = tt
+  forms_kept pair (Align x) = tt
+  forms_kept pair (Filtered x filters) = tt
+  forms_kept pair (Seq xs) = tt
+  forms_kept pair (Entry bindings x) = tt
+
+  same_form : {y : Symbol} (pair : Pair) (x : Symbol) → y ≡ with_pair levelled pair x → SameForm y x
+  same_form pair x same = subst (λ z. SameForm z x) (sym same) (forms_kept pair x)
+
   mutual
     pub covers_from : {c : DeclKind} {ys : List Symbol} {env' left : Environment} {i j : ℕ} {vs : Trees} {starts : List ℕ} →
         Covers g' shapes' text c ys env' i j vs left starts → (tests : List Expression) (xs : List Symbol) (p : Place) (b : Bounds) (first : Bool) →
@@ -244,7 +269,7 @@ module _ (g g' : Grammar) (shapes shapes' : List Shape) (levelled : List ℕ →
           clean = subst (AllClean g) (sym trees) (tt, there.clean);
           handed = λ never. absurd never;
         }
-    derives_from (literal c word env' i e j us ts starts spells trails trees exposes) x pair l r b same clear env ins has = absurd (cc)
+    derives_from (literal c word env' i e j us ts starts spells trails trees exposes) x pair l r b same clear env ins has = absurd (same_form pair x same)
     derives_from (one_of c class env' i e j us ts starts among trails trees exposes) (OneOf k) pair l r b same clear env ins has =
         let there = trails_from trails in
         let classes : class ≡ k = cc in
@@ -255,7 +280,7 @@ module _ (g g' : Grammar) (shapes shapes' : List Shape) (levelled : List ℕ →
           clean = subst (AllClean g) (sym trees) (tt, there.clean);
           handed = λ never. absurd never;
         }
-    derives_from (one_of c class env' i e j us ts starts among trails trees exposes) x pair l r b same clear env ins has = absurd (cc)
+    derives_from (one_of c class env' i e j us ts starts among trails trees exposes) x pair l r b same clear env ins has = absurd (same_form pair x same)
     derives_from (token c name1 arguments1 ws env' i e j t us ts ks starts have instance trails trees exposes) (Call name arguments) pair l r b same clear env ins has =
         let args : arguments1 ≡ arguments ++ pair_arguments (levelled name) pair = cc in
         let names : name1 ≡ name = cc in
@@ -269,7 +294,7 @@ module _ (g g' : Grammar) (shapes shapes' : List Shape) (levelled : List ℕ →
           clean = subst (AllClean g) (sym trees) (here.clean, there.clean);
           handed = λ lev. record { first = λ u rs split. (let same_tree : t ≡ u = first_tree (sym trees ∙ split) in subst (AtLeast g l r) same_tree (here.least lev)) };
         }
-    derives_from (token c name1 arguments1 ws env' i e j t us ts ks starts have instance trails trees exposes) x pair l r b same clear env ins has = absurd (cc)
+    derives_from (token c name1 arguments1 ws env' i e j t us ts ks starts have instance trails trees exposes) x pair l r b same clear env ins has = absurd (same_form pair x same)
     derives_from (call c kind name1 arguments1 ws env' i j t starts have instance other) (Call name arguments) pair l r b same clear env ins has =
         let args : arguments1 ≡ arguments ++ pair_arguments (levelled name) pair = cc in
         let names : name1 ≡ name = cc in
@@ -282,7 +307,7 @@ module _ (g g' : Grammar) (shapes shapes' : List Shape) (levelled : List ℕ →
           clean = (here.clean, tt);
           handed = λ lev. record { first = λ u rs split. (let same_tree : t ≡ u = first_tree split in subst (AtLeast g l r) same_tree (here.least lev)) };
         }
-    derives_from (call c kind name1 arguments1 ws env' i j t starts have instance other) x pair l r b same clear env ins has = absurd (cc)
+    derives_from (call c kind name1 arguments1 ws env' i j t starts have instance other) x pair l r b same clear env ins has = absurd (same_form pair x same)
     derives_from (label c name1 y env' between left i e j ts starts inner bound) (Label name x) pair l r b same clear env ins has =
         let here = derives_from inner x pair l r b (cc) clear.1 env ins has in
         let names : name1 ≡ name = cc in
@@ -293,7 +318,7 @@ module _ (g g' : Grammar) (shapes shapes' : List Shape) (levelled : List ℕ →
           clean = here.clean;
           handed = here.handed;
         }
-    derives_from (label c name1 y env' between left i e j ts starts inner bound) x pair l r b same clear env ins has = absurd (cc)
+    derives_from (label c name1 y env' between left i e j ts starts inner bound) x pair l r b same clear env ins has = absurd (same_form pair x same)
     derives_from (guard c condition1 env' i holds) (Guard condition) pair l r b same clear env ins has =
         let conds : condition1 ≡ condition = cc in
         record {
@@ -303,7 +328,7 @@ module _ (g g' : Grammar) (shapes shapes' : List Shape) (levelled : List ℕ →
           clean = tt;
           handed = λ never. absurd never;
         }
-    derives_from (guard c condition1 env' i holds) x pair l r b same clear env ins has = absurd (cc)
+    derives_from (guard c condition1 env' i holds) x pair l r b same clear env ins has = absurd (same_form pair x same)
     derives_from (let_be c name1 expression1 v env' left i value_is bound) (Let name expression) pair l r b same clear env ins has =
         let names : name1 ≡ name = cc in
         let exprs : expression1 ≡ expression = cc in
@@ -314,7 +339,7 @@ module _ (g g' : Grammar) (shapes shapes' : List Shape) (levelled : List ℕ →
           clean = tt;
           handed = λ never. absurd never;
         }
-    derives_from (let_be c name1 expression1 v env' left i value_is bound) x pair l r b same clear env ins has = absurd (cc)
+    derives_from (let_be c name1 expression1 v env' left i value_is bound) x pair l r b same clear env ins has = absurd (same_form pair x same)
     derives_from (absent c y env' i) (Opt x) pair l r b same clear env ins has =
         record {
           after = env;
@@ -323,7 +348,7 @@ module _ (g g' : Grammar) (shapes shapes' : List Shape) (levelled : List ℕ →
           clean = ((clean_other g shapes text tag.Absent (λ d k z. cc) none, tt), tt);
           handed = λ never. absurd never;
         }
-    derives_from (absent c y env' i) x pair l r b same clear env ins has = absurd (cc)
+    derives_from (absent c y env' i) x pair l r b same clear env ins has = absurd (same_form pair x same)
     derives_from (present c y env' between i e j ts starts inner) (Opt x) pair l r b same clear env ins has =
         let here = derives_from inner x no_pair 0 0 b (cc) clear env ins (no_pair_has text env' i) in
         record {
@@ -333,9 +358,9 @@ module _ (g g' : Grammar) (shapes shapes' : List Shape) (levelled : List ℕ →
           clean = ((clean_other g shapes text tag.Present (λ d k z. cc) ts, here.clean), tt);
           handed = λ never. absurd never;
         }
-    derives_from (present c y env' between i e j ts starts inner) x pair l r b same clear env ins has = absurd (cc)
+    derives_from (present c y env' between i e j ts starts inner) x pair l r b same clear env ins has = absurd (same_form pair x same)
     derives_from (star c y env' i j t starts items list) (Star x) pair l r b same clear env ins has =
-        let here = lists_from list (Star x) (cc) clear env b ins in
+        let here = lists_from list (Star x) same clear env b ins in
         record {
           after = env;
           derives = star c x env i j t starts items here.lists;
@@ -343,9 +368,9 @@ module _ (g g' : Grammar) (shapes shapes' : List Shape) (levelled : List ℕ →
           clean = (here.clean, tt);
           handed = λ never. absurd never;
         }
-    derives_from (star c y env' i j t starts items list) x pair l r b same clear env ins has = absurd (cc)
+    derives_from (star c y env' i j t starts items list) x pair l r b same clear env ins has = absurd (same_form pair x same)
     derives_from (plus c y env' i j t starts items list) (Plus x) pair l r b same clear env ins has =
-        let here = lists_from list (Plus x) (cc) clear env b ins in
+        let here = lists_from list (Plus x) same clear env b ins in
         record {
           after = env;
           derives = plus c x env i j t starts items here.lists;
@@ -353,9 +378,9 @@ module _ (g g' : Grammar) (shapes shapes' : List Shape) (levelled : List ℕ →
           clean = (here.clean, tt);
           handed = λ never. absurd never;
         }
-    derives_from (plus c y env' i j t starts items list) x pair l r b same clear env ins has = absurd (cc)
+    derives_from (plus c y env' i j t starts items list) x pair l r b same clear env ins has = absurd (same_form pair x same)
     derives_from (sep_star c y separator1 env' i j t starts items list) (SepStar x separator) pair l r b same clear env ins has =
-        let here = lists_from list (SepStar x separator) (cc) clear env b ins in
+        let here = lists_from list (SepStar x separator) same clear env b ins in
         record {
           after = env;
           derives = sep_star c x separator env i j t starts items here.lists;
@@ -363,9 +388,9 @@ module _ (g g' : Grammar) (shapes shapes' : List Shape) (levelled : List ℕ →
           clean = (here.clean, tt);
           handed = λ never. absurd never;
         }
-    derives_from (sep_star c y separator1 env' i j t starts items list) x pair l r b same clear env ins has = absurd (cc)
+    derives_from (sep_star c y separator1 env' i j t starts items list) x pair l r b same clear env ins has = absurd (same_form pair x same)
     derives_from (sep_plus c y separator1 env' i j t starts items list) (SepPlus x separator) pair l r b same clear env ins has =
-        let here = lists_from list (SepPlus x separator) (cc) clear env b ins in
+        let here = lists_from list (SepPlus x separator) same clear env b ins in
         record {
           after = env;
           derives = sep_plus c x separator env i j t starts items here.lists;
@@ -373,7 +398,7 @@ module _ (g g' : Grammar) (shapes shapes' : List Shape) (levelled : List ℕ →
           clean = (here.clean, tt);
           handed = λ never. absurd never;
         }
-    derives_from (sep_plus c y separator1 env' i j t starts items list) x pair l r b same clear env ins has = absurd (cc)
+    derives_from (sep_plus c y separator1 env' i j t starts items list) x pair l r b same clear env ins has = absurd (same_form pair x same)
     derives_from (group c choices1 k ys env' between i j ts starts chosen inner) (Group choices) pair l r b same clear env ins has =
         let from = chosen_from levelled choices k ys (let all : choices1 ≡ in_alternatives levelled choices = cc in subst (λ z. IsChoice z k ys) all chosen) in
         let here = covers_from inner [] (listed from.xs) elsewhere b true (ap listed from.same ∙ sym (listed_lowered levelled true from.xs)) (λ is. absurd (cc)) (λ is. absurd (cc)) (λ is. absurd (cc)) (clear_listed from.xs (clear_choice choices from.chosen.0 from.xs clear from.chosen.2)) env ins in
@@ -384,7 +409,7 @@ module _ (g g' : Grammar) (shapes shapes' : List Shape) (levelled : List ℕ →
           clean = ((clean_other g shapes text (tag.GroupAlt k) (λ d m z. cc) ts, here.clean), tt);
           handed = λ never. absurd never;
         }
-    derives_from (group c choices1 k ys env' between i j ts starts chosen inner) x pair l r b same clear env ins has = absurd (cc)
+    derives_from (group c choices1 k ys env' between i j ts starts chosen inner) x pair l r b same clear env ins has = absurd (same_form pair x same)
     derives_from (offside c y env' left i e j ts starts inner right) (Offside x) pair l r b same clear env ins has =
         let here = derives_from inner x no_pair 0 0 b (cc) clear env ins (no_pair_has text env' i) in
         record {
@@ -394,7 +419,7 @@ module _ (g g' : Grammar) (shapes shapes' : List Shape) (levelled : List ℕ →
           clean = here.clean;
           handed = λ never. absurd never;
         }
-    derives_from (offside c y env' left i e j ts starts inner right) x pair l r b same clear env ins has = absurd (cc)
+    derives_from (offside c y env' left i e j ts starts inner right) x pair l r b same clear env ins has = absurd (same_form pair x same)
     derives_from (ignore c y env' left i e j ts starts inner) (Ignore x) pair l r b same clear env ins has =
         let here = derives_from inner x no_pair 0 0 b (cc) clear env ins (no_pair_has text env' i) in
         record {
@@ -404,7 +429,7 @@ module _ (g g' : Grammar) (shapes shapes' : List Shape) (levelled : List ℕ →
           clean = here.clean;
           handed = λ never. absurd never;
         }
-    derives_from (ignore c y env' left i e j ts starts inner) x pair l r b same clear env ins has = absurd (cc)
+    derives_from (ignore c y env' left i e j ts starts inner) x pair l r b same clear env ins has = absurd (same_form pair x same)
     derives_from (align c y env' left i e j ts starts items inner column) (Align x) pair l r b same clear env ins has =
         let here = items_from inner x (cc) clear env b ins in
         record {
@@ -414,7 +439,7 @@ module _ (g g' : Grammar) (shapes shapes' : List Shape) (levelled : List ℕ →
           clean = here.clean;
           handed = λ never. absurd never;
         }
-    derives_from (align c y env' left i e j ts starts items inner column) x pair l r b same clear env ins has = absurd (cc)
+    derives_from (align c y env' left i e j ts starts items inner column) x pair l r b same clear env ins has = absurd (same_form pair x same)
     derives_from (filtered c y filters1 env' left i e j ts starts inner passes) (Filtered x filters) pair l r b same clear env ins has =
         let here = derives_from inner x no_pair 0 0 b (cc) clear env ins (no_pair_has text env' i) in
         let all : filters1 ≡ filters = cc in
@@ -425,7 +450,7 @@ module _ (g g' : Grammar) (shapes shapes' : List Shape) (levelled : List ℕ →
           clean = here.clean;
           handed = λ never. absurd never;
         }
-    derives_from (filtered c y filters1 env' left i e j ts starts inner passes) x pair l r b same clear env ins has = absurd (cc)
+    derives_from (filtered c y filters1 env' left i e j ts starts inner passes) x pair l r b same clear env ins has = absurd (same_form pair x same)
     derives_from (sequence c ys env' left i j ts starts inner) (Seq xs) pair l r b same clear env ins has =
         let here = covers_from inner [] (listed xs) elsewhere b true (let all : ys ≡ in_symbols levelled xs = cc in ap listed all ∙ sym (listed_lowered levelled true xs)) (λ is. absurd (cc)) (λ is. absurd (cc)) (λ is. absurd (cc)) (clear_listed xs clear) env ins in
         record {
@@ -435,7 +460,7 @@ module _ (g g' : Grammar) (shapes shapes' : List Shape) (levelled : List ℕ →
           clean = here.clean;
           handed = λ never. absurd never;
         }
-    derives_from (sequence c ys env' left i j ts starts inner) x pair l r b same clear env ins has = absurd (cc)
+    derives_from (sequence c ys env' left i j ts starts inner) x pair l r b same clear env ins has = absurd (same_form pair x same)
     derives_from (entry c bindings1 y vs env' within left i e j ts starts have renewed inner) (Entry bindings x) pair l r b same clear env ins has =
         let all : bindings1 ≡ bindings = cc in
         let renewed1 : within ≡ replaced env' bindings vs = renewed ∙ ap (λ z. replaced env' z vs) all in
@@ -447,45 +472,45 @@ module _ (g g' : Grammar) (shapes shapes' : List Shape) (levelled : List ℕ →
           clean = here.clean;
           handed = λ never. absurd never;
         }
-    derives_from (entry c bindings1 y vs env' within left i e j ts starts have renewed inner) x pair l r b same clear env ins has = absurd (cc)
+    derives_from (entry c bindings1 y vs env' within left i e j ts starts have renewed inner) x pair l r b same clear env ins has = absurd (same_form pair x same)
 
     pub lists_from : {c : DeclKind} {y : Symbol} {env' : Environment} {i j : ℕ} {t : Tree} {starts items : List ℕ} →
         Lists g' shapes' text c y env' i j t starts items → (x : Symbol) → y ≡ with_pair levelled no_pair x → Clear x → (env : Environment) (b : Bounds) →
         Inserted b env env' → ListsFrom c x env i j t starts items
     lists_from (nil c y env' i) (Star x) same clear env b ins =
         record { lists = nil c x env i; clean = (clean_other g shapes text tag.Nil (λ d k z. cc) (none), tt) }
-    lists_from (nil c y env' i) x same clear env b ins = absurd (cc)
+    lists_from (nil c y env' i) x same clear env b ins = absurd (same_form no_pair x same)
     lists_from (snoc c y env' left i h e j t ts ks ls starts ps items list item exposes begins) (Star x) same clear env b ins =
-        let before = lists_from list (Star x) (cc) clear env b ins in
+        let before = lists_from list (Star x) same clear env b ins in
         let here = derives_from item x no_pair 0 0 b (cc) clear env ins (no_pair_has text env' h) in
         record { lists = snoc c x env here.after i h e j t ts ks ls starts ps items before.lists here.derives exposes begins; clean = (clean_other g shapes text tag.Snoc (λ d k z. cc) (more t ts), (before.clean, here.clean)) }
-    lists_from (snoc c y env' left i h e j t ts ks ls starts ps items list item exposes begins) x same clear env b ins = absurd (cc)
+    lists_from (snoc c y env' left i h e j t ts ks ls starts ps items list item exposes begins) x same clear env b ins = absurd (same_form no_pair x same)
     lists_from (one_item c y env' left i e j ts starts item) (Plus x) same clear env b ins =
         let here = derives_from item x no_pair 0 0 b (cc) clear env ins (no_pair_has text env' i) in
         record { lists = one_item c x env here.after i e j ts starts here.derives; clean = (clean_other g shapes text tag.One (λ d k z. cc) (ts), here.clean) }
-    lists_from (one_item c y env' left i e j ts starts item) x same clear env b ins = absurd (cc)
+    lists_from (one_item c y env' left i e j ts starts item) x same clear env b ins = absurd (same_form no_pair x same)
     lists_from (more_items c y env' left i h e j t ts ks ls starts ps items list item exposes begins) (Plus x) same clear env b ins =
-        let before = lists_from list (Plus x) (cc) clear env b ins in
+        let before = lists_from list (Plus x) same clear env b ins in
         let here = derives_from item x no_pair 0 0 b (cc) clear env ins (no_pair_has text env' h) in
         record { lists = more_items c x env here.after i h e j t ts ks ls starts ps items before.lists here.derives exposes begins; clean = (clean_other g shapes text tag.More (λ d k z. cc) (more t ts), (before.clean, here.clean)) }
-    lists_from (more_items c y env' left i h e j t ts ks ls starts ps items list item exposes begins) x same clear env b ins = absurd (cc)
+    lists_from (more_items c y env' left i h e j t ts ks ls starts ps items list item exposes begins) x same clear env b ins = absurd (same_form no_pair x same)
     lists_from (first_item c y separator1 env' left i e j ts starts item) (SepPlus x separator) same clear env b ins =
         let here = derives_from item x no_pair 0 0 b (cc) clear.0 env ins (no_pair_has text env' i) in
         record { lists = first_item c x separator env here.after i e j ts starts here.derives; clean = (clean_other g shapes text tag.One (λ d k z. cc) (ts), here.clean) }
-    lists_from (first_item c y separator1 env' left i e j ts starts item) x same clear env b ins = absurd (cc)
+    lists_from (first_item c y separator1 env' left i e j ts starts item) x same clear env b ins = absurd (same_form no_pair x same)
     lists_from (further_item c y separator1 env' between left i h f m e j t us ts vs ks ms ls starts ps items list part item trees exposes begins) (SepPlus x separator) same clear env b ins =
-        let before = lists_from list (SepPlus x separator) (cc) clear env b ins in
+        let before = lists_from list (SepPlus x separator) same clear env b ins in
         let middle = derives_from part separator no_pair 0 0 b (cc) clear.1 env ins (no_pair_has text env' h) in
         let here = derives_from item x no_pair 0 0 b (cc) clear.0 env ins (no_pair_has text env' m) in
         record { lists = further_item c x separator env middle.after here.after i h f m e j t us ts vs ks ms ls starts ps items before.lists middle.derives here.derives trees exposes begins; clean = (clean_other g shapes text tag.More (λ d k z. cc) (more t vs), (before.clean, subst (AllClean g) (sym trees) (clean_join g us ts middle.clean here.clean))) }
-    lists_from (further_item c y separator1 env' between left i h f m e j t us ts vs ks ms ls starts ps items list part item trees exposes begins) x same clear env b ins = absurd (cc)
+    lists_from (further_item c y separator1 env' between left i h f m e j t us ts vs ks ms ls starts ps items list part item trees exposes begins) x same clear env b ins = absurd (same_form no_pair x same)
     lists_from (no_item c y separator1 env' i) (SepStar x separator) same clear env b ins =
         record { lists = no_item c x separator env i; clean = (clean_other g shapes text tag.Absent (λ d k z. cc) (none), tt) }
-    lists_from (no_item c y separator1 env' i) x same clear env b ins = absurd (cc)
+    lists_from (no_item c y separator1 env' i) x same clear env b ins = absurd (same_form no_pair x same)
     lists_from (some_items c y separator1 env' i j t starts items list) (SepStar x separator) same clear env b ins =
         let before = lists_from list (SepPlus x separator) (cc) clear env b ins in
         record { lists = some_items c x separator env i j t starts items before.lists; clean = (clean_other g shapes text tag.Present (λ d k z. cc) (one t), (before.clean, tt)) }
-    lists_from (some_items c y separator1 env' i j t starts items list) x same clear env b ins = absurd (cc)
+    lists_from (some_items c y separator1 env' i j t starts items list) x same clear env b ins = absurd (same_form no_pair x same)
 
     pub items_from : {c : DeclKind} {y : Symbol} {env' left : Environment} {i e j : ℕ} {ts : Trees} {starts items : List ℕ} →
         Items g' shapes' text c y env' i e j ts left starts items → (x : Symbol) → y ≡ with_pair levelled no_pair x → Clear x → (env : Environment) (b : Bounds) →
@@ -499,7 +524,7 @@ module _ (g g' : Grammar) (shapes shapes' : List Shape) (levelled : List ℕ →
           inserted = here.inserted;
           clean = here.clean;
         }
-    items_from (with_filters c y filters1 env' left i e j ts starts items inner passes) x same clear env b ins = absurd (cc)
+    items_from (with_filters c y filters1 env' left i e j ts starts items inner passes) x same clear env b ins = absurd (same_form no_pair x same)
     items_from (bare c y env' i j t starts items list) x same clear env b ins =
         let here = lists_from list x same clear env b ins in
         record { after = env; derives = bare c x env i j t starts items here.lists; inserted = ins; clean = (here.clean, tt) }

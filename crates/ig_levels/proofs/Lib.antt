@@ -9,6 +9,7 @@ pub mod Lowering
 pub mod Forth
 pub mod Values
 pub mod Nodes
+pub mod SameForm
 pub mod Back
 pub mod Premises
 pub mod Declaring

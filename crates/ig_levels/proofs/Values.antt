@@ -10,24 +10,17 @@ use Rattle.ig_grammar.specs.Numbering.{tag_of}
 use Rattle.ig_grammar.specs.declared.declaration.DeclKind.{DeclKind}
 use Rattle.ig_grammar.specs.declared.grammar.Grammar.{Grammar}
 use Rattle.ig_grammar.specs.declared.place.Shape.{Shape}
-use Rattle.ig_meaning.specs.Environment.{AreBound, Environment, replaced, values}
+use Rattle.ig_meaning.specs.Environment.{AreBound, Environment, replaced}
 use Rattle.ig_meaning.specs.Derivation.{span_value}
-use Rattle.ig_meaning.specs.Annotated.{bound_between, IsRound, HasParts, Bind, Binds, BindApart, Within, Behind}
+use Rattle.ig_meaning.specs.Annotated.{IsRound, HasParts, Bind, Binds, BindApart, Within, Behind}
 use Rattle.ig_meaning.specs.Annotated as a
 use Rattle.ig_levels.specs.Levels.{added_parameters, Pair, no_pair, with_pair, in_symbols, lowered, lowered_declaration, test_of, place_in, is_levelled, is_test, Place, elsewhere, has_left, has_right, pair_at}
 use Rattle.ig_rewrite.specs.Added.{left_name, right_name}
+use Rattle.ig_rewrite.specs.Grown.{bound_alike}
 use Rattle.ig_levels.proofs.Bounds.{Bounds, bounds_of, bound_values, bound_pairs, Inserted, PairHas, Clear, AllClear}
 use Rattle.ig_levels.proofs.Takes.{Takes, Fits}
 use Rattle.ig_levels.proofs.Inserting.{appended, all_renewed, has_to, have_to, arguments_to, bound_to, parameters_inserted}
 use Rattle.ig_levels.proofs.Lowering.{listed_lowered, chosen_to, alternative_to, clear_listed, clear_choice, bindings_of_source, no_pair_has, pair_has, flat}
-
-values_behind : (env grown : Environment) → bound_between env (env ++ grown) ≡ values grown
-values_behind [] grown = refl
-values_behind (pair ∷ env) grown = values_behind env grown
-
--- where environments grow alike, the values that were bound are the same
-pub bound_alike : (env after env' grown : Environment) → after ≡ env ++ grown → bound_between env after ≡ bound_between env' (env' ++ grown)
-bound_alike env after env' grown same = ap (bound_between env) same ∙ values_behind env grown ∙ sym (values_behind env' grown)
 
 module _ (levelled : List ℕ → Bool) where
   parts_to : {x : Symbol} {form : Tag} {parts : List Symbol} → HasParts x form parts → (pair : Pair) →

@@ -17,24 +17,13 @@ use Rattle.ig_grammar.specs.declared.filter.Filter.TheVariants.{NotFollowed, Not
 use Rattle.ig_rewrite.specs.Needs.{needs, symbols_need, IsEntered, AlternativesAreEntered}
 use Rattle.ig_rewrite.specs.Remaining.{IsExclusion}
 use Rattle.ig_rewrite.specs.Rewriting.{within, rewritten, rewritten_symbols, rewritten_choices}
+use Rattle.ig_rewrite.specs.Forms.{label_of_filtered, separated_of_label}
 use Rattle.ig_rewrite.specs.Sound.{ExcludesOnly}
 use Rattle.ig_lexical.specs.Filters.{befores, afters, exclusions, with_filters, guarded, attached}
 use Rattle.ig_lexical.proofs.Traversal.{Throughout, ThroughoutSymbols, ThroughoutChoices}
 use Rattle.ig_lexical.proofs.Everywhere.{throughout_choices, of_throughout_choices, choices_kept}
 use Rattle.ig_lexical.proofs.LaidKept.{unmarked_head}
 use Rattle.ig_lexical.proofs.StandingWell.{label_within, filters_within, entry_within, placed_within, entered_within}
-
--- what may have filters may have a label, and may be separated
-label_of_filtered : (x : Symbol) → MayHaveFilters x → MayHaveLabel x
-label_of_filtered (Filtered x fs) m = absurd m
-label_of_filtered (Offside x) m = absurd m
-label_of_filtered (Ignore x) m = absurd m
-label_of_filtered (Align x) m = absurd m
-label_of_filtered x m = m
-
-separated_of_label : (x : Symbol) → MayHaveLabel x → MayBeSeparated x
-separated_of_label (Seq xs) m = tt
-separated_of_label x m = m
 
 -- guards read no variable and bind none
 names_before : (bs : List Expression) (xs : List Symbol) → names_bound_by (gathered (map Guard bs ++ xs)) ≡ names_bound_by (gathered xs)

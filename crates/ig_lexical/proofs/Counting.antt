@@ -7,7 +7,7 @@ use Rattle.ig_grammar.specs.Symbol.{Symbols, no_symbols, next_symbol, Alternativ
 use Rattle.ig_grammar.specs.declared.declaration.Decl.{Decl}
 use Rattle.ig_rewrite.specs.Binders.{one_if, binders, binders_of_symbols, binders_of_choices}
 use Rattle.ig_rewrite.specs.Rewriting.{within, rewritten, rewritten_symbols, rewritten_choices}
-use Rattle.ig_lexical.proofs.Pass.{gathered_rewritten}
+use Rattle.ig_rewrite.specs.Gathered.{symbols_gathered}
 use Rattle.ig_lexical.specs.Layout.{is_token, then_layout, laid_inside, laid}
 
 module _ (own : Symbol → Symbol) (keeps : (x : Symbol) → binders (own x) ≡ binders x) where
@@ -42,7 +42,7 @@ module _ (own : Symbol → Symbol) (keeps : (x : Symbol) → binders (own x) ≡
 
   -- as many labels and lets in an alternative as before
   pub same_binders : (xs : List Symbol) → binders_of_symbols (gathered (map (rewritten own) xs)) ≡ binders_of_symbols (gathered xs)
-  same_binders xs = ap binders_of_symbols (gathered_rewritten own xs) ∙ symbols_binders (gathered xs)
+  same_binders xs = ap binders_of_symbols (symbols_gathered own xs) ∙ symbols_binders (gathered xs)
 
 module _ (decls : List Decl) (w : List ℕ) where
   then_binders : (x : Symbol) → binders (then_layout w x) ≡ binders x

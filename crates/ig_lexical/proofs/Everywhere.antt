@@ -1,5 +1,5 @@
 -- A fact of each symbol in a symbol, over the list of them and by form; and in the rewritten symbol.
-use Rattle.std.proofs.Common.{◌≡◌, List, [], ◌∷◌, ◌++◌, map, refl, sym, subst}
+use Rattle.std.proofs.Common.{List, [], ◌∷◌, ◌++◌, sym, subst}
 use Rattle.std.specs.Prelude.{All, Contains}
 use Rattle.std.proofs.lemmas.List.Elements.{All-nil, All-cons, All-head, All-tail, All-append}
 use Rattle.ig_text.proofs.Lists.{contains_from_at, at_from_contains, from_map}
@@ -8,13 +8,12 @@ use Rattle.ig_grammar.specs.Symbol.{Symbols, no_symbols, next_symbol, Alternativ
 use Rattle.ig_grammar.specs.Alternative.{gathered_alternatives}
 use Rattle.ig_grammar.specs.Regular.{OfEachLevel}
 use Rattle.ig_grammar.specs.Subterms.{subterms, subterms_of_symbols, subterms_of_alternatives}
-use Rattle.ig_grammar.specs.declared.symbol.Alt.{Alt}
 use Rattle.ig_grammar.specs.declared.declaration.DeclKind.{DeclKind}
 use Rattle.ig_grammar.specs.declared.declaration.Level.{Level}
 use Rattle.ig_grammar.specs.declared.declaration.Decl.{Decl}
 use Rattle.ig_grammar.specs.declared.grammar.Grammar.{Grammar}
-use Rattle.ig_rewrite.specs.Rewriting.{within, rewritten_symbols, rewritten_choices, rewritten_alternative, rewritten_level}
-use Rattle.ig_lexical.proofs.Pass.{gathered_rewritten}
+use Rattle.ig_rewrite.specs.Rewriting.{within, rewritten_symbols, rewritten_choices, rewritten_level}
+use Rattle.ig_rewrite.specs.Gathered.{choices_gathered}
 use Rattle.ig_lexical.proofs.RewrittenScoped.{turned, turned_grammar}
 use Rattle.ig_lexical.proofs.Traversal.{Throughout, ThroughoutSymbols, ThroughoutChoices}
 
@@ -129,10 +128,6 @@ module _ (own : Symbol → Symbol) (N M : Symbol → Type 0) (head : (x : Symbol
 
   pub choices_kept : (xs : Alternatives) → All N (subterms_of_alternatives xs) → All M (subterms_of_alternatives (rewritten_choices own xs))
   choices_kept xs a = of_throughout_choices M (rewritten_choices own xs) (choices_throughout xs (throughout_choices N xs a))
-
-choices_gathered : (own : Symbol → Symbol) (xs : List Alt) → gathered_alternatives (map (rewritten_alternative own) xs) ≡ rewritten_choices own (gathered_alternatives xs)
-choices_gathered own [] = refl
-choices_gathered own (a ∷ others) = rw (choices_gathered own others, gathered_rewritten own a.symbols) refl
 
 -- over the levels of a grammar
 module _ (becomes : DeclKind → DeclKind) (own : Decl → Symbol → Symbol) (g : Grammar) where

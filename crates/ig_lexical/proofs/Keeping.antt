@@ -12,7 +12,7 @@ use Rattle.ig_lexical.proofs.Alike.{IsLeaf}
 use Rattle.ig_lexical.proofs.Traversal.{ThroughoutSymbols, symbols_alike}
 use Rattle.ig_rewrite.specs.Throughout.{Placed, PlacedSymbols}
 use Rattle.ig_lexical.proofs.Placing.{SameHead, label_head, filtered_head, entry_head, Stays, each_stays, alike_stays}
-use Rattle.ig_lexical.proofs.Pass.{gathered_rewritten}
+use Rattle.ig_rewrite.specs.Gathered.{symbols_gathered}
 use Rattle.ig_lexical.specs.Layout.{is_token, then_layout, laid_inside, laid}
 use Rattle.ig_grammar.specs.Regular.{IsNoMark}
 use Rattle.ig_lexical.proofs.Unmarked.{admits}
@@ -32,7 +32,7 @@ module _ (N : Visible → Symbol → Type 0) (heads : (v : Visible) (x y : Symbo
       (λ x n a. let r = alike_stays N N heads S leaves x (within own x) a in
       record { placed = λ v p. (keeps (within own x) v (r.placed v p)).0; bound = λ v p. (keeps (within own x) v (r.placed v p)).1 ∙ r.bound v p })
       (gathered xs) q in
-      subst (λ ys. PlacedSymbols N ys v) (sym (gathered_rewritten own xs)) ((each_stays N N heads S leaves (gathered xs) (rewritten_symbols own (gathered xs)) each).placed v p)
+      subst (λ ys. PlacedSymbols N ys v) (sym (symbols_gathered own xs)) ((each_stays N N heads S leaves (gathered xs) (rewritten_symbols own (gathered xs)) each).placed v p)
 
   pub same_keeps : Keeps (λ x. x)
   same_keeps x v p = (p, refl)

@@ -1,4 +1,3 @@
-pub mod Listing
 pub mod Simulation
 pub mod Alike
 pub mod Traversal

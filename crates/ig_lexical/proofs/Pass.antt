@@ -24,17 +24,13 @@ use Rattle.ig_lexical.proofs.Traversal.{Throughout, ThroughoutSymbols, Admits, s
 use Rattle.ig_lexical.proofs.Instances.{Low, LowInstances, AlternativeToo, low_instances}
 use Rattle.ig_lexical.proofs.Leaves.{SameEnv, SameStarts, SameKind, IsCallOf, fits_same, leaf_follows}
 use Rattle.ig_text.proofs.Lists.{contains_from_at, at_from_contains, mapped_at, from_map}
-use Rattle.ig_lexical.proofs.Listing.{listed_gathered}
+use Rattle.ig_rewrite.specs.Gathered.{listed_gathered, symbols_gathered}
 
 map_crossed : {X Y V W : Type 0} (f : X → Y) (r : Y → W) (s : X → V) (t : V → W) → ((x : X) → r (f x) ≡ t (s x)) → (xs : List X) → map r (map f xs) ≡ map t (map s xs)
 map_crossed f r s t e [] = refl
 map_crossed f r s t e (x ∷ xs) = rw (e x, map_crossed f r s t e xs) refl
 
 module _ (own : Symbol → Symbol) where
-  pub gathered_rewritten : (xs : List Symbol) → gathered (map (rewritten own) xs) ≡ rewritten_symbols own (gathered xs)
-  gathered_rewritten [] = refl
-  gathered_rewritten (x ∷ xs) = rw (gathered_rewritten xs) refl
-
   abbrev pub rewritten_by_level : Levelled → Levelled
   rewritten_by_level a = record { alternative = rewritten_alternative own a.alternative; level = a.level; assoc = a.assoc }
 
@@ -105,7 +101,7 @@ module _ (own : Decl → Symbol → Symbol) (g : Grammar) (shapes : List Shape) 
           (gathered xs) (rewritten_symbols (own decl) (gathered xs)) each in
           let C : List Symbol → List Symbol → Type 0 = sim.CoversToo g shapes h shapes text SameEnv (Low n) SameStarts decl.kind decl.kind in
           subst (λ ys. C ys (map (rewritten (own decl)) xs)) (listed_gathered xs)
-          (subst (λ ys. C (listed (gathered xs)) ys) (ap listed (sym (gathered_rewritten (own decl) xs)) ∙ listed_gathered (map (rewritten (own decl)) xs)) too)
+          (subst (λ ys. C (listed (gathered xs)) ys) (ap listed (sym (symbols_gathered (own decl) xs)) ∙ listed_gathered (map (rewritten (own decl)) xs)) too)
 
     -- and back
     module _ (n : ℕ) (known : LowInstances h shapes g shapes text SameEnv SameStarts SameKind (λ name. Unit {0}) n) (decl : Decl) (among : Contains g.decls decl) where
@@ -136,7 +132,7 @@ module _ (own : Decl → Symbol → Symbol) (g : Grammar) (shapes : List Shape) 
           (rewritten_symbols (own decl) (gathered xs)) (gathered xs) (turned_each L2 P2 L P (Unit {0}) (λ bs. Unit {0}) weaker on_leaf turns (gathered xs) (rewritten_symbols (own decl) (gathered xs)) each) in
           let C : List Symbol → List Symbol → Type 0 = sim.CoversToo h shapes g shapes text SameEnv (Low n) SameStarts decl.kind decl.kind in
           subst (λ ys. C (map (rewritten (own decl)) xs) ys) (listed_gathered xs)
-          (subst (λ ys. C ys (listed (gathered xs))) (ap listed (sym (gathered_rewritten (own decl) xs)) ∙ listed_gathered (map (rewritten (own decl)) xs)) too)
+          (subst (λ ys. C ys (listed (gathered xs))) (ap listed (sym (symbols_gathered (own decl) xs)) ∙ listed_gathered (map (rewritten (own decl)) xs)) too)
 
     there : (name : List ℕ) (d : ℕ) (decl : Decl) (s : Shape) → Declares g shapes name d decl s → Declares h shapes name d (rewritten_declaration own decl) s
     there name d decl s a =

@@ -12,8 +12,7 @@ use Rattle.ig_lexical.proofs.Traversal.{ThroughoutSymbols, symbols_alike, turned
 use Rattle.ig_lexical.proofs.Instances.{Low, LowInstances}
 use Rattle.ig_lexical.proofs.Leaves.{SameEnv, AnyStarts, fits_any}
 use Rattle.ig_lexical.proofs.LayoutChain.{BecomesPlain}
-use Rattle.ig_lexical.proofs.Listing.{listed_gathered}
-use Rattle.ig_lexical.proofs.Pass.{gathered_rewritten}
+use Rattle.ig_rewrite.specs.Gathered.{listed_gathered, symbols_gathered}
 use Rattle.ig_lexical.specs.Layout.{laid}
 use Rattle.ig_lexical.proofs.Tight.{AnyName, IsTight, leaf_there}
 use Rattle.ig_lexical.proofs.Kept.{SameLeaf, leaf_kept}
@@ -47,13 +46,13 @@ module _ (g : Grammar) (shapes : List Shape) (h : Grammar) (forms : List Shape) 
   pub covers_listed : (own : Symbol → Symbol) (xs : List Symbol) → EachSymbol L R (⊥) AnyEntry (gathered xs) (rewritten_symbols own (gathered xs)) → C xs (map (rewritten own) xs)
   covers_listed own xs each =
       subst (λ ys. C ys (map (rewritten own) xs)) (listed_gathered xs)
-      (subst (λ ys. C (listed (gathered xs)) ys) (ap listed (sym (gathered_rewritten own xs)) ∙ listed_gathered (map (rewritten own) xs))
+      (subst (λ ys. C (listed (gathered xs)) ys) (ap listed (sym (symbols_gathered own xs)) ∙ listed_gathered (map (rewritten own) xs))
       (each_covers (gathered xs) (rewritten_symbols own (gathered xs)) each))
 
   pub covers_listed_back : (own : Symbol → Symbol) (xs : List Symbol) → EachSymbol L Turned (⊥) AnyEntry (gathered xs) (rewritten_symbols own (gathered xs)) → C (map (rewritten own) xs) xs
   covers_listed_back own xs each =
       subst (λ ys. C (map (rewritten own) xs) ys) (listed_gathered xs)
-      (subst (λ ys. C ys (listed (gathered xs))) (ap listed (sym (gathered_rewritten own xs)) ∙ listed_gathered (map (rewritten own) xs))
+      (subst (λ ys. C ys (listed (gathered xs))) (ap listed (sym (symbols_gathered own xs)) ∙ listed_gathered (map (rewritten own) xs))
       (each_covers_back (gathered xs) (rewritten_symbols own (gathered xs)) each))
 
 module _ (g : Grammar) (shapes : List Shape) (h : Grammar) (forms : List Shape) (text : List ℕ) (decides : Decides g shapes h forms text)

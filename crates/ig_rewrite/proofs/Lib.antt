@@ -10,10 +10,10 @@ pub mod RootTrees
 pub mod RootScoped
 pub mod RootShaped
 pub mod RootKept
-pub mod RootCode
-pub mod Gathering
 pub mod Counting
 pub mod Asking
 pub mod NamesOnce
 pub mod Passing
 pub mod Multiplying
+pub mod RootCode
+pub mod Gathering

@@ -15,3 +15,6 @@ pub mod Asked
 pub mod Passing
 pub mod EachLevel
 pub mod Counts
+pub mod Gathered
+pub mod Grown
+pub mod Forms
