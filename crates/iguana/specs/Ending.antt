@@ -7,8 +7,8 @@ use Rattle.ig_tool.specs.declared.status.Status.TheVariants.{Usage, NoMemory}
 use Rattle.ig_outside.specs.States.{ShelfState}
 use Rattle.ig_tool.specs.Change.{change}
 use Rattle.ig_tool.specs.Outcome.{Answers}
-use Rattle.iguana.specs.Reading.{shelf_state, told_by}
-use Rattle.iguana.specs.Writing.{sink_state}
+use Rattle.ig_files.specs.Reading.{shelf_state, told_by}
+use Rattle.ig_files.specs.Writing.{sink_state}
 
 -- the status where the system's answer to the question for the words is an error of this kind
 abbrev pub unread_status : ErrorKind → Status

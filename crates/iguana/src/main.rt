@@ -8,13 +8,10 @@
 //! `iguana show GRAMMAR` the canonical text, and `iguana core GRAMMAR` the text of its core
 //! grammar.
 //!
-//! What the program does with its words is the top call of `ig_tool`; here are the adapters that it
-//! runs over: a shelf over files and a sink over a stream, each proved against its trait.
+//! What the program does with its words is the top call of `ig_tool`, over files and streams as
+//! `ig_files` has them.
 #![tactic(auto)]
 
-mod file_shelf;
-mod folder;
-mod stream_sink;
 mod words;
 
 ghost use Rattle.std.specs.Prelude.{◌≡◌, map, string_bytes};
@@ -22,10 +19,8 @@ ghost use Rattle.std.specs.Process.{exit_status};
 ghost use Rattle.ig_tool.specs.Outcome.{number_of};
 ghost use Rattle.iguana.specs.Ending.{MayEnd};
 
-use crate::file_shelf::FileShelf;
-use crate::folder::{Folder, SystemFolder};
-use crate::stream_sink::StreamSink;
 use crate::words::words;
+use ig_files::{FileShelf, Folder, StreamSink, SystemFolder};
 use ig_tool::iguana;
 use ig_tool::status::Status;
 use std::alloc::Global;

@@ -1,8 +1,5 @@
-use Rattle.std.proofs.Common.{◌∙◌, ap, subst, map, string_bytes}
-use Rattle.ig_tool.specs.Change.{change}
-use Rattle.ig_tool.specs.Outcome.{Answers}
-use Rattle.iguana.specs.Reading.{shelf_state}
-use Rattle.iguana.specs.Writing.{sink_state}
+use Rattle.std.proofs.Common.{◌∙◌, ap}
+use Rattle.ig_files.specs.Reading.{shelf_state}
 use Rattle.iguana.proofs.run.Goals as goal
 
 pub returns : goal.returns

@@ -1,13 +1,13 @@
 //! What files are opened from.
 ghost use Rattle.std.specs.Prelude.{ℕ, List, Option, None, IfSome};
-ghost use Rattle.iguana.specs.Reading.{Begins};
+ghost use Rattle.ig_files.specs.Reading.{Begins};
 
 use std::fs;
 use std::io::Read;
 use std::rt::Files;
 
 /// What files are opened from, by their names.
-pub(crate) trait Folder {
+pub trait Folder {
     type File: Read + Drop;
 
     /// What the file of each name has, where that is known. A name is given by its bytes.
@@ -22,8 +22,8 @@ pub(crate) trait Folder {
 
 /// The files of the system, of which nothing is known.
 #[derive(Clone, Copy)]
-pub(crate) struct SystemFolder<'a, R> {
-    pub(crate) files: &'a R,
+pub struct SystemFolder<'a, R> {
+    pub files: &'a R,
 }
 
 impl<R: Files> Folder for SystemFolder<'_, R> {

@@ -2,7 +2,7 @@
 ghost use Rattle.std.specs.Prelude.{◌≡◌, ◌≤◌};
 ghost use Rattle.ig_outside.specs.Counts.{last_count};
 ghost use Rattle.ig_outside.specs.Put.{AnswersPut, CausesPut};
-ghost use Rattle.iguana.specs.Writing.{WritesAll, sink_state};
+ghost use Rattle.ig_files.specs.Writing.{WritesAll, sink_state};
 
 #[cfg(test)]
 mod tests;
@@ -12,14 +12,14 @@ use std::io::Write;
 
 /// A sink that writes to a stream, and tells nothing of what the stream got.
 #[derive(Drop)]
-pub(crate) struct StreamSink<W> {
+pub struct StreamSink<W> {
     stream: W,
     faults: u64,
 }
 
 impl<W: Write> StreamSink<W> {
     /// A sink with the count 0. Takes no memory.
-    pub(crate) fn new(stream: W) -> StreamSink<W>
+    pub fn new(stream: W) -> StreamSink<W>
         ensures { ⟦<StreamSink<W> as Sink>⟧.state result ≡ sink_state 0 }
     {
         StreamSink { stream, faults: 0 }

@@ -1,6 +1,6 @@
 use Rattle.std.proofs.Common.{arith, length-take, length-drop, ℕ}
-use Rattle.iguana.proofs.WrittenParts.{writes_more}
-use Rattle.iguana.proofs.stream_sink.write_all.Goals as goal
+use Rattle.ig_files.proofs.WrittenParts.{writes_more}
+use Rattle.ig_files.proofs.stream_sink.write_all.Goals as goal
 
 pub loop-at-preserved : goal.loop-at-preserved
 loop-at-preserved g c = record {

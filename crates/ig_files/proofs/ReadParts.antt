@@ -1,10 +1,10 @@
 -- What a fetch answers, where its file was opened.
-use Rattle.std.proofs.Common.{◌≡◌, ℕ, ◌≤◌, List, length, Option, None, Some, Result, Ok, Err, Vec, Global, sym, subst}
+use Rattle.std.proofs.Common.{ℕ, ◌≤◌, List, length, Option, None, Some, Result, Ok, Err, Vec, Global, sym, subst}
 use Rattle.ig_outside.specs.Fetch.{AnswersFetch}
 use Rattle.ig_outside.specs.Told.{silent, bytes}
 use Rattle.ig_outside.specs.declared.shelf.FetchFault.{FetchFault}
 use Rattle.ig_outside.specs.declared.shelf.FetchFault.TheVariants.{Failed, Long, Memory, Missing}
-use Rattle.iguana.specs.Reading.{told_by, Begins}
+use Rattle.ig_files.specs.Reading.{told_by, Begins}
 
 -- what is answered of known bytes may be answered where nothing is told
 untold : (xs : List ℕ) (most : ℕ) (r : Result (Vec ℕ Global) FetchFault) → AnswersFetch (bytes xs) most r → AnswersFetch silent most r

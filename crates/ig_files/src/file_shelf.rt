@@ -1,7 +1,7 @@
 //! A shelf over files.
 ghost use Rattle.std.specs.Prelude.{◌≡◌, ◌<◌, IfOk, IfErr, length};
 ghost use Rattle.ig_outside.specs.Fetch.{AnswersFetch};
-ghost use Rattle.iguana.specs.Reading.{told_by, shelf_state, Piece, IsReadFault};
+ghost use Rattle.ig_files.specs.Reading.{told_by, shelf_state, Piece, IsReadFault};
 
 #[cfg(test)]
 mod tests;
@@ -16,7 +16,7 @@ const PIECE: usize = 65536;
 
 /// A shelf that fetches files by their names, and tells what its folder tells.
 #[derive(Drop)]
-pub(crate) struct FileShelf<'a, D> {
+pub struct FileShelf<'a, D> {
     folder: &'a D,
     faults: u64,
     fetches: u64,
@@ -24,7 +24,7 @@ pub(crate) struct FileShelf<'a, D> {
 
 impl<'a, D: Folder> FileShelf<'a, D> {
     /// A shelf with the counts 0. Takes no memory.
-    pub(crate) fn new(folder: &'a D) -> FileShelf<'a, D>
+    pub fn new(folder: &'a D) -> FileShelf<'a, D>
         ensures { ⟦<FileShelf<'a, D> as Shelf>⟧.state result
             ≡ shelf_state (D.content folder.now) 0 0 }
     {
