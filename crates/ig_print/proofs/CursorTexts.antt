@@ -37,7 +37,7 @@ digit_test : (n : ℕ) → n < 10 → is_digit (48 + n) ≡ true
 digit_test n h = grind (arith, nat_tests)
 
 one_digit : (n : ℕ) → n < 10 → list_all is_digit ((48 + n) ∷ []) ≡ true
-one_digit n h = rw digit_test n h refl
+one_digit n h = rw (digit_test n h) refl
 
 one_more_digit : (n : ℕ) (ds : List ℕ) → 10 ≤ n → list_all is_digit ds ≡ true → list_all is_digit (ds ++ (48 + n % 10) ∷ []) ≡ true
 one_more_digit n ds h all = rw (list_all-append is_digit ds ((48 + n % 10) ∷ []), all) (one_digit (n % 10) (omega arith))

@@ -1,9 +1,8 @@
 -- Texts of patterns, sorted by bytes, each once.
-use Rattle.std.proofs.Common.{◌≡◌, ◌↔◌, ℕ, List, [], map, Contains, IsPermutation, IsSorted, sym, subst}
+use Rattle.std.proofs.Common.{◌≡◌, ℕ, List, [], map, Contains, IsPermutation, IsSorted, sym, subst}
 use Rattle.std.specs.Prelude.{string_bytes, String}
-use Rattle.std.specs.Cmp.Lexicographic.{slice_cmp, texts_ties, nat_list_cmp_total}
+use Rattle.std.specs.Cmp.Lexicographic.{texts_ties, nat_list_cmp_total}
 use Rattle.std.specs.List.Retain.{IsFiltered, DiffersFromLast}
-use Rattle.std.specs.Ordering.{nat_cmp}
 use Rattle.std.specs.String.{string_cmp, string_eq}
 use Rattle.std.proofs.lemmas.Map.Lookups.{exact_bytes}
 use Rattle.ig_text.specs.declared.pattern.Pattern.{Pattern}

@@ -7,6 +7,7 @@ mod laws;
 mod spelling;
 mod symbols;
 
-pub use grammar::{push_expression_text, push_pattern_text};
-pub use grammar::{show_expression, show_grammar, show_pattern};
+pub use grammar::{
+    push_expression_text, push_pattern_text, show_expression, show_grammar, show_pattern,
+};
 pub use laws::{canonical_text_reads_back, canonical_tokens_follow};
