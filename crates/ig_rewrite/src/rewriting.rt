@@ -1,13 +1,16 @@
 //! A grammar each of whose symbols is rewritten by a pass's own rule.
 ghost use Rattle.std.specs.Prelude.{◌≡◌, map, IfOk};
+ghost use Rattle.ig_grammar.specs.Symbol.{Entry, Filtered, Label};
 ghost use Rattle.ig_grammar.specs.View.{symbol_of};
 ghost use Rattle.ig_rewrite.specs.Rewriting.{within, rewritten, rewritten_alternative};
 ghost use Rattle.ig_rewrite.specs.Rewriting.{rewritten_level, rewritten_declaration};
 ghost use Rattle.ig_rewrite.specs.Rewriting.{rewritten_grammar};
 
 use crate::growing::{copy_of_start, push_alternative, push_declaration, push_level, push_symbol};
-use ig_grammar::{Alt, Alts, Decl, Decls, Grammar, Inner, Level, Levels, Symbol, Symbols};
-use ig_text::Copied;
+use ig_grammar::{
+    Alt, Alts, Decl, Decls, Filters, Grammar, Inner, Lets, Level, Levels, Symbol, Symbols,
+};
+use ig_text::{Copied, Word};
 use std::alloc::{AllocError, Global};
 
 /// A pass's own rule, for a symbol whose parts are rewritten already.
@@ -51,31 +54,36 @@ fn symbol_within<O: OwnRule>(
         symbol_of r ≡ within (O.rule own.now decl.now) (symbol_of symbol.now)) }
 {
     match symbol {
-        Symbol::Literal(text) => Ok(Symbol::Literal(text.copy(alloc)?)),
-        Symbol::Class(class) => Ok(Symbol::Class(class.copy(alloc)?)),
-        Symbol::Call(name, arguments) => {
-            let name = name.copy(alloc)?;
-            Ok(Symbol::Call(name, arguments.copy(alloc)?))
-        }
+        Symbol::Literal(_) => symbol.copy(alloc),
+        Symbol::Class(_) => symbol.copy(alloc),
+        Symbol::Call(_, _) => symbol.copy(alloc),
         Symbol::Label(name, inner) => {
-            let name = name.copy(alloc)?;
-            Ok(Symbol::Label(name, inner_within(own, alloc, decl, inner)?))
+            labelled(alloc, name, inner_within(own, alloc, decl, inner)?)
         }
-        Symbol::Guard(condition) => Ok(Symbol::Guard(condition.copy(alloc)?)),
-        Symbol::Let(name, value) => {
-            let name = name.copy(alloc)?;
-            Ok(Symbol::Let(name, value.copy(alloc)?))
-        }
+        Symbol::Guard(_) => symbol.copy(alloc),
+        Symbol::Let(_, _) => symbol.copy(alloc),
         Symbol::Opt(inner) => Ok(Symbol::Opt(rewritten_inner(own, alloc, decl, inner)?)),
         Symbol::Star(inner) => Ok(Symbol::Star(rewritten_inner(own, alloc, decl, inner)?)),
         Symbol::Plus(inner) => Ok(Symbol::Plus(rewritten_inner(own, alloc, decl, inner)?)),
         Symbol::SepStar(inner, separator) => {
             let inner = rewritten_inner(own, alloc, decl, inner)?;
-            Ok(Symbol::SepStar(inner, rewritten_inner(own, alloc, decl, separator)?))
+            match rewritten_inner(own, alloc, decl, separator) {
+                Ok(separator) => Ok(Symbol::SepStar(inner, separator)),
+                Err(refused) => {
+                    drop(inner);
+                    Err(refused)
+                }
+            }
         }
         Symbol::SepPlus(inner, separator) => {
             let inner = rewritten_inner(own, alloc, decl, inner)?;
-            Ok(Symbol::SepPlus(inner, rewritten_inner(own, alloc, decl, separator)?))
+            match rewritten_inner(own, alloc, decl, separator) {
+                Ok(separator) => Ok(Symbol::SepPlus(inner, separator)),
+                Err(refused) => {
+                    drop(inner);
+                    Err(refused)
+                }
+            }
         }
         Symbol::Group(choices) => {
             Ok(Symbol::Group(rewritten_alternatives(own, alloc, decl, choices)?))
@@ -84,13 +92,53 @@ fn symbol_within<O: OwnRule>(
         Symbol::Ignore(inner) => Ok(Symbol::Ignore(inner_within(own, alloc, decl, inner)?)),
         Symbol::Align(inner) => Ok(Symbol::Align(inner_within(own, alloc, decl, inner)?)),
         Symbol::Filtered(inner, filters) => {
-            let inner = inner_within(own, alloc, decl, inner)?;
-            Ok(Symbol::Filtered(inner, filters.copy(alloc)?))
+            filtered(alloc, inner_within(own, alloc, decl, inner)?, filters)
         }
         Symbol::Seq(symbols) => Ok(Symbol::Seq(rewritten_sequence(own, alloc, decl, symbols)?)),
         Symbol::Entry(bindings, inner) => {
-            let bindings = bindings.copy(alloc)?;
-            Ok(Symbol::Entry(bindings, inner_within(own, alloc, decl, inner)?))
+            entered(alloc, bindings, inner_within(own, alloc, decl, inner)?)
+        }
+    }
+}
+
+/// The symbol with the label. Refused for want of memory alone.
+///
+/// Here and below a call lets go of the symbol where memory lacks: where `?` does, its proof goes
+/// through all forms.
+pub fn labelled(alloc: Global, name: &Word, inner: Inner) -> Result<Symbol, AllocError>
+    ensures { IfOk result (λ r. symbol_of r ≡ Label name.now inner) }
+{
+    match name.copy(alloc) {
+        Ok(name) => Ok(Symbol::Label(name, inner)),
+        Err(refused) => {
+            drop(inner);
+            Err(refused)
+        }
+    }
+}
+
+/// The symbol with the filters.
+fn filtered(alloc: Global, inner: Inner, filters: &Filters) -> Result<Symbol, AllocError>
+    ensures { IfOk result (λ r. symbol_of r ≡ Filtered inner filters.now) }
+{
+    match filters.copy(alloc) {
+        Ok(filters) => Ok(Symbol::Filtered(inner, filters)),
+        Err(refused) => {
+            drop(inner);
+            Err(refused)
+        }
+    }
+}
+
+/// The symbol with the bindings on its entry.
+fn entered(alloc: Global, bindings: &Lets, inner: Inner) -> Result<Symbol, AllocError>
+    ensures { IfOk result (λ r. symbol_of r ≡ Entry bindings.now inner) }
+{
+    match bindings.copy(alloc) {
+        Ok(bindings) => Ok(Symbol::Entry(bindings, inner)),
+        Err(refused) => {
+            drop(inner);
+            Err(refused)
         }
     }
 }
