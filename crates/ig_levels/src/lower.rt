@@ -9,6 +9,7 @@ ghost use Rattle.ig_rewrite.specs.Unbound.{IsUnbound};
 ghost use Rattle.ig_levels.specs.Levels.{lowered, test_of, symbols_in, added_parameters};
 ghost use Rattle.ig_levels.specs.Levels.{lowered_alternative, lowered_declaration};
 ghost use Rattle.ig_levels.specs.Levels.{is_levelled, lowered_grammar, one_level, LevelsOf};
+ghost use Rattle.ig_levels.specs.Levels.{has_left, has_right};
 ghost use Rattle.ig_meaning.specs.Operands.{more_on_the_left, more_on_the_right};
 ghost use Rattle.ig_levels.specs.Roles.{numbered, place_of};
 ghost use Rattle.ig_levels.specs.Tables.{levelled_by};
@@ -40,8 +41,8 @@ pub fn lower_levels(alloc: Global, checked: &Checked) -> Result<Checked, AllocEr
 {
     levels_keep();
     let rooted = root(alloc, checked)?;
-    let grammar = lower_grammar(alloc, rooted.grammar())?;
     let shapes = copy_of_shapes(alloc, &rooted)?;
+    let grammar = lower_grammar(alloc, rooted.grammar())?;
     Ok(Checked::with_shapes(grammar, shapes))
 }
 
@@ -189,14 +190,32 @@ fn lower_alternative(
 {
     let symbols = alternative.symbols.as_slice();
     let mut all = Symbols::new(alloc);
-    if has_left(bounds, &decl.name, symbols) {
-        push_test(alloc, &mut all, bounds.level, left_word(alloc)?)?;
-    }
-    if has_right(bounds, &decl.name, symbols) {
-        push_test(alloc, &mut all, bounds.level, right_word(alloc)?)?;
-    }
+    add_tests(alloc, bounds, &decl.name, symbols, &mut all)?;
     add_symbols(alloc, table, bounds, decl, symbols, &mut all)?;
     Ok(all)
+}
+
+/// Adds the tests of the level of an alternative, for the operands that it has.
+fn add_tests(
+    alloc: Global,
+    bounds: &Bounds,
+    own: &Word,
+    symbols: &[Symbol],
+    all: &mut Symbols,
+) -> Result<(), AllocError>
+    ensures { OnOk result (all.new ≡ all.old ++
+        test_of (has_left (place_of bounds.now own.now) true (map symbol_of symbols.now))
+        bounds.now.level left_name ++
+        test_of (has_right (place_of bounds.now own.now) true (map symbol_of symbols.now))
+        bounds.now.level right_name) }
+{
+    if has_left(bounds, own, symbols) {
+        push_test(alloc, all, bounds.level, left_word(alloc)?)?;
+    }
+    if has_right(bounds, own, symbols) {
+        push_test(alloc, all, bounds.level, right_word(alloc)?)?;
+    }
+    Ok(())
 }
 
 /// Adds the test that the level is at least the bound.

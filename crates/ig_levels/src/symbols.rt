@@ -1,6 +1,7 @@
 //! Symbols, each call of a levelled nonterminal with two arguments more.
 ghost use Rattle.std.specs.Prelude.{◌≡◌, ◌++◌, IfOk};
 ghost use Rattle.ig_expr.specs.View.{expression_of};
+ghost use Rattle.ig_grammar.specs.Symbol.{Call};
 ghost use Rattle.ig_grammar.specs.View.{symbol_of};
 ghost use Rattle.ig_levels.specs.Levels.{with_pair, pair_arguments};
 ghost use Rattle.ig_levels.specs.Roles.{pair_of, unasked};
@@ -9,7 +10,7 @@ ghost use Rattle.ig_levels.specs.Tables.{levelled_by};
 use crate::naming::{left_word, names_levelled, right_word};
 use ig_expr::{Expr, Exprs};
 use ig_grammar::{Decl, Inner, Symbol};
-use ig_rewrite::{OwnRule, push_expression, rewrite_symbol};
+use ig_rewrite::{OwnRule, labelled, push_expression, rewrite_symbol};
 use ig_text::{Copied, Word};
 use std::alloc::{AllocError, Global};
 use std::collections::BTreeMap;
@@ -100,14 +101,20 @@ fn ask_nothing(
         Symbol::Offside(inner) => Ok(Symbol::Offside(ask_nothing_of(alloc, table, inner)?)),
         Symbol::Ignore(inner) => Ok(Symbol::Ignore(ask_nothing_of(alloc, table, inner)?)),
         Symbol::Align(inner) => Ok(Symbol::Align(ask_nothing_of(alloc, table, inner)?)),
-        Symbol::Filtered(inner, filters) => {
-            let inner = ask_nothing_of(alloc, table, inner)?;
-            Ok(Symbol::Filtered(inner, filters))
-        }
-        Symbol::Entry(bindings, inner) => {
-            let inner = ask_nothing_of(alloc, table, inner)?;
-            Ok(Symbol::Entry(bindings, inner))
-        }
+        Symbol::Filtered(inner, filters) => match ask_nothing_of(alloc, table, inner) {
+            Ok(inner) => Ok(Symbol::Filtered(inner, filters)),
+            Err(refused) => {
+                drop(filters);
+                Err(refused)
+            }
+        },
+        Symbol::Entry(bindings, inner) => match ask_nothing_of(alloc, table, inner) {
+            Ok(inner) => Ok(Symbol::Entry(bindings, inner)),
+            Err(refused) => {
+                drop(bindings);
+                Err(refused)
+            }
+        },
         other => Ok(other),
     }
 }
@@ -140,13 +147,25 @@ pub(crate) fn with_bounds(
         Symbol::Call(name, arguments) => {
             let levelled = names_levelled(table, name);
             let arguments = add_bounds(alloc, arguments.copy(alloc)?, levelled, role)?;
-            Ok(Symbol::Call(name.copy(alloc)?, arguments))
+            called(alloc, name, arguments)
         }
         Symbol::Label(name, inner) => {
-            let name = name.copy(alloc)?;
             let inner = with_bounds(alloc, table, decl, inner.as_symbol(), role)?;
-            Ok(Symbol::Label(name, Inner::new(alloc, inner)?))
+            labelled(alloc, name, Inner::new(alloc, inner)?)
         }
         _ => rewrite_symbol(&Unasked { table }, alloc, decl, symbol),
+    }
+}
+
+/// A call of the nonterminal with the arguments.
+fn called(alloc: Global, name: &Word, arguments: Exprs) -> Result<Symbol, AllocError>
+    ensures { IfOk result (λ r. symbol_of r ≡ Call name.now arguments) }
+{
+    match name.copy(alloc) {
+        Ok(name) => Ok(Symbol::Call(name, arguments)),
+        Err(refused) => {
+            drop(arguments);
+            Err(refused)
+        }
     }
 }
