@@ -124,7 +124,14 @@ fn guard(alloc: Global, filters: &Filters, symbol: Symbol) -> Result<Symbol, All
         return Ok(symbol);
     }
     let mut symbols = Symbols::new(alloc);
-    add_befores(alloc, filters.as_slice(), &mut symbols)?;
+    // A call lets go of the symbol: where `?` does, its proof goes through all forms.
+    match add_befores(alloc, filters.as_slice(), &mut symbols) {
+        Ok(()) => {}
+        Err(refused) => {
+            drop(symbol);
+            return Err(refused);
+        }
+    }
     push_symbol(&mut symbols, symbol)?;
     add_afters(alloc, filters.as_slice(), &mut symbols)?;
     Ok(Symbol::Seq(symbols))
@@ -182,5 +189,11 @@ fn add_afters(alloc: Global, filters: &[Filter], symbols: &mut Symbols) -> Resul
 fn push_filter(all: &mut Filters, filter: Filter) -> Result<(), AllocError>
     ensures { OnOk result (all.new ≡ all.old ++ filter ∷ []) }
 {
-    all.push(filter).map_err(|refused| refused.1)
+    match all.push(filter) {
+        Ok(()) => Ok(()),
+        Err((refused, reason)) => {
+            drop(refused);
+            Err(reason)
+        }
+    }
 }

@@ -1,5 +1,5 @@
 //! Layout called in the open.
-ghost use Rattle.std.specs.Prelude.{◌≡◌, None, IfOk};
+ghost use Rattle.std.specs.Prelude.{◌≡◌, map, None, IfOk};
 ghost use Rattle.ig_grammar.specs.View.{symbol_of};
 ghost use Rattle.ig_grammar.specs.Checked.{FitShapes};
 ghost use Rattle.ig_grammar.specs.WellScoped.{IsWellScoped};
@@ -51,13 +51,25 @@ fn lay_rooted(alloc: Global, checked: &Checked) -> Result<Checked, AllocError>
 fn lay_grammar(alloc: Global, grammar: &Grammar) -> Result<Grammar, AllocError>
     ensures { IfOk result (λ r. r ≡ laid_grammar grammar.now) }
 {
-    let declared = Declarations::new(alloc, grammar.decls.as_slice())?;
-    let mut decls = Decls::new(alloc);
-    for decl in grammar.decls.as_slice() {
-        push_declaration(&mut decls, lay_declaration(alloc, &declared, decl)?)?;
-    }
     let start = copy_of_start(alloc, &grammar.start)?;
+    let declared = Declarations::new(alloc, grammar.decls.as_slice())?;
+    let decls = lay_declarations(alloc, &declared, grammar.decls.as_slice())?;
     Ok(Grammar { start, decls })
+}
+
+/// The declarations, which are plain, with layout called in the open.
+fn lay_declarations(
+    alloc: Global,
+    declared: &Declarations,
+    decls: &[Decl],
+) -> Result<Decls, AllocError>
+    ensures { IfOk result (λ r. r ≡ map (laid_declaration declared.now) decls.now) }
+{
+    let mut all = Decls::new(alloc);
+    for decl in decls {
+        push_declaration(&mut all, lay_declaration(alloc, declared, decl)?)?;
+    }
+    Ok(all)
 }
 
 /// The declaration, which is plain, with layout called in the open.

@@ -1,6 +1,6 @@
 use Rattle.std.proofs.Common.{◌≡◌, map, take}
 use Rattle.ig_lexical.specs.Layout.{laid_declaration}
-use Rattle.ig_lexical.proofs.layout.lay_grammar.Given as goal
+use Rattle.ig_lexical.proofs.layout.lay_declarations.Given as goal
 
 abbrev pub invariant-loop-decl : goal.invariant-loop-decl
-invariant-loop-decl l = l.decls ≡ map (laid_declaration l.grammar.decls) (take l.decl-index l.decl-items)
+invariant-loop-decl l = l.all ≡ map (laid_declaration l.declared) (take l.decl-index l.decls)
