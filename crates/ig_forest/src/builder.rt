@@ -1,7 +1,7 @@
 //! How the reduced forest is made of what was recorded.
 ghost use Rattle.std.specs.Prelude.{◌≡◌, ◌∷◌, [], ◌++◌, IfOk, OnOk, map, length};
 ghost use Rattle.ig_forest.specs.CodeFirstRoot.{IsFirstRoot};
-ghost use Rattle.ig_forest.specs.CodeLiveItems.{AreLiveItems, recording_in};
+ghost use Rattle.ig_forest.specs.CodeLiveItems.{AreFound, AreLiveItems, recording_in};
 ghost use Rattle.ig_forest.specs.Reduced.{IsReduced};
 
 use crate::environments::{lists_of, places_of};
@@ -43,18 +43,33 @@ pub(crate) fn from_recorded(
     ensures { IfOk result (IsReduced recorded.now.core recorded.now.text) }
 {
     let items = recorded.items();
-    let links = Links::of(alloc, recorded)?;
-    let mark_table = marks_of(alloc, &links, root)?;
     let list_table = lists_of(alloc, items)?;
     let lists = list_table.as_slice();
-    let place_table = places_of(alloc, items, lists)?;
+    let places = places_of(alloc, items, lists)?;
     let found = Found {
         items: items.items(),
         keys: items.instance_keys(),
-        places: place_table.as_slice(),
+        places: places.as_slice(),
     };
+    from_found(alloc, recorded, found, lists, root)
+}
+
+/// The same, where the lists of values are in order.
+fn from_found(
+    alloc: Global,
+    recorded: &Recorded,
+    found: Found,
+    lists: &[&[Value]],
+    root: u32,
+) -> Result<Forest, AllocError>
+    requires root { IsFirstRoot recorded.now root }
+    requires found { AreFound recorded.now.tables (map (λ l. l.now) lists.now) found }
+    ensures { IfOk result (IsReduced recorded.now.core recorded.now.text) }
+{
+    let links = Links::of(alloc, recorded)?;
+    let mark_table = marks_of(alloc, &links, root)?;
     let marks = mark_table.as_slice();
-    let order_table = order_of(alloc, &found, marks, recorded.text().len())?;
+    let order = order_of(alloc, &found, marks, recorded.text().len())?;
     let live = LiveItems {
         core: recorded.core(),
         text: recorded.text(),
@@ -62,10 +77,9 @@ pub(crate) fn from_recorded(
         found,
         lists,
         marks,
-        order: order_table.as_slice(),
+        order: order.as_slice(),
     };
-    let forest = live.forest(alloc, root)?;
-    Ok(forest)
+    live.forest(alloc, root)
 }
 
 impl<'a, 'v> LiveItems<'a, 'v> {

@@ -64,7 +64,7 @@ module _ (core : List Nonterminal) (text : List ℕ) (law : ReachableIsClosed) (
   once_none : (xs : List stored.Item) → xs ≡ [] → NoneTwice xs
   once_none xs e i j x p q = absurd (none_of xs e x (contains_from_at xs i x p))
 
-  named_1 : AreNamed s1
+  pub named_1 : AreNamed s1
   named_1 =
       record {
         values = λ x c.

@@ -34,6 +34,25 @@ pub(crate) struct Found {
     pub(crate) keys: InstanceSet,
 }
 
+impl Found {
+    /// No items. Takes no memory.
+    pub(crate) fn new(alloc: Global) -> Found
+        ensures done { result.done.items ≡ [] }
+        ensures here { result.here.items ≡ [] }
+        ensures later { result.later.items ≡ [] }
+        ensures envs { result.envs.keys ≡ [] }
+        ensures keys { result.keys ≡ [] }
+    {
+        Found {
+            done: Vec::new(alloc),
+            here: Vec::new(alloc),
+            later: Vec::new(alloc),
+            envs: IndexSet::new(alloc),
+            keys: InstanceSet::new(alloc),
+        }
+    }
+}
+
 /// `Budget` exactly where there are more items than the budget.
 pub(crate) fn keep_within(found: &Found, budget: u32) -> Result<(), RunFault>
     ensures within { OnOk result (count found.now ≤ budget) }

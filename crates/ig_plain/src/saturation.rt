@@ -13,7 +13,6 @@ ghost use Rattle.ig_plain.specs.Arrival.{ArrivesWith, IsNothing, IsParted};
 ghost use Rattle.ig_plain.specs.Trail.{ArrivesOn, HasTrail, IsUntrodden, PartsTrail};
 
 use crate::found::Found;
-use crate::instance_set::InstanceSet;
 use crate::interning::enter_values;
 use crate::names::{Dots, dots_of_core};
 use crate::run::{add_firsts, keep_well_kinded, take};
@@ -25,7 +24,6 @@ use ig_item::{
     items_are_in_text, reachable_is_closed,
 };
 use ig_text::{Sequence, Text};
-use indexmap::IndexSet;
 use std::alloc::{AllocError, Global};
 
 /// Takes all items at the position.
@@ -170,6 +168,42 @@ fn run_to_end(
     Ok(())
 }
 
+/// A run at the end of the text.
+#[derive(Drop)]
+struct Ended {
+    found: Found,
+    waiting: Waiting,
+    trail: Trail,
+}
+
+/// A run that has taken all items.
+fn completed(alloc: Global, core: &Core, text: &Text, budget: u32) -> Result<Ended, RunFault>
+    ensures run { MatchResult result (λ r. IsRun core.now text.now budget (length text.now) (length
+        r.found.here.items) r.found r.waiting) (Refuses core.now text.now budget) }
+    ensures trail { IfOk result (λ r. HasTrail core.now text.now (length text.now) (length
+        r.found.here.items) r.found r.waiting r.trail) }
+{
+    let dots = dots_of_core(alloc, core)?;
+    let mut trail = Trail::new(alloc)?;
+    let mut found = Found::new(alloc);
+    let mut waiting = Waiting::new(alloc);
+    run_to_end(
+        alloc,
+        core,
+        text,
+        dots.as_slice(),
+        &mut found,
+        &mut waiting,
+        &mut trail,
+        budget,
+    )?;
+    Ok(Ended {
+        found,
+        waiting,
+        trail,
+    })
+}
+
 /// The environments, in a table.
 fn table_of(alloc: Global, envs: &[Values]) -> Result<EnvironmentTable, AllocError>
     ensures { IfOk result (λ t. t ≡ envs.now) }
@@ -183,27 +217,34 @@ fn table_of(alloc: Global, envs: &[Values]) -> Result<EnvironmentTable, AllocErr
 
 /// The items over their tables. Refused where a table has 4,294,967,296 members too, which no
 /// memory holds.
-fn finish(alloc: Global, found: Found) -> Result<Items, AllocError>
+fn finish(alloc: Global, mut found: Found) -> Result<Items, AllocError>
     requires values { HaveValues found.envs.keys found.keys }
     requires named { AllNamed found (found.done.items ++ found.here.items) }
     requires few { length (found.done.items ++ found.here.items) < numbers_end }
     ensures { IfOk result (λ t. t ≡ tables_by found.keys found.envs.keys (found.done.items ++
         found.here.items)) }
 {
-    let Found {
-        mut done,
-        here,
-        later: _,
-        envs,
-        keys,
-    } = found;
-    done.extend_from_slice(here.as_slice())?;
-    let envs = envs.as_slice();
-    let keys = keys.into_vec();
+    let table = close(alloc, &mut found)?;
+    let Found { done, keys, .. } = found;
+    Ok(Items::of(keys.into_vec(), table, done))
+}
+
+/// Puts the items at the position behind those before it, and gives the environments in a table.
+/// Refused where this or the instances have 4,294,967,296 members too.
+fn close(alloc: Global, found: &mut Found) -> Result<EnvironmentTable, AllocError>
+    ensures items { OnOk result
+        (found.new.done.items ≡ found.old.done.items ++ found.old.here.items) }
+    ensures keys { found.new.keys ≡ found.old.keys }
+    ensures table { IfOk result (λ t. t ≡ found.old.envs.keys) }
+    ensures few_envs { OnOk result (length found.old.envs.keys < numbers_end) }
+    ensures few_keys { OnOk result (length found.old.keys < numbers_end) }
+{
+    let here = found.here.as_slice();
+    found.done.extend_from_slice(here)?;
+    let envs = found.envs.as_slice();
     keep_few(envs.len())?;
-    keep_few(keys.len())?;
-    let table = table_of(alloc, envs)?;
-    Ok(Items::of(keys, table, done))
+    keep_few(found.keys.as_slice().len())?;
+    table_of(alloc, envs)
 }
 
 /// Refuses a table whose members 32 bits don't number.
@@ -232,29 +273,8 @@ pub fn saturate_with_ways<'a>(
     ensures fault { IfErr result (Refuses core.now text.now budget) }
 {
     items_are_in_text();
-    let mut found = Found {
-        done: Vec::new(alloc),
-        here: Vec::new(alloc),
-        later: Vec::new(alloc),
-        envs: IndexSet::new(alloc),
-        keys: InstanceSet::new(alloc),
-    };
-    let mut waiting = Waiting {
-        called: Vec::new(alloc),
-        callers: Vec::new(alloc),
-    };
-    let mut trail = Trail::new(alloc)?;
-    let dots = dots_of_core(alloc, core)?;
-    run_to_end(
-        alloc,
-        core,
-        text,
-        dots.as_slice(),
-        &mut found,
-        &mut waiting,
-        &mut trail,
-        budget,
-    )?;
+    let whole = completed(alloc, core, text, budget)?;
+    let Ended { found, trail, .. } = whole;
     let items = finish(alloc, found)?;
     Ok(Recorded::of(core, text, items, trail.ways))
 }

@@ -25,10 +25,11 @@ impl Trail {
         ensures later { IfOk result (λ t. t.later.items ≡ []) }
         ensures returned { IfOk result (λ t. t.returned ≡ []) }
     {
+        let returned = Returned::new(alloc)?;
         Ok(Trail {
             ways: Ways::new(alloc),
             later: Vec::new(alloc),
-            returned: Returned::new(alloc)?,
+            returned,
         })
     }
 }

@@ -6,7 +6,7 @@ ghost use Rattle.ig_plain.specs.Waiting.{called_at, lengthened, linked, not_call
 ghost use Rattle.ig_plain.specs.Waiting.{with_end};
 
 use ig_item::Item;
-use std::alloc::AllocError;
+use std::alloc::{AllocError, Global};
 
 /// What is known of an instance that was called.
 #[derive(Clone, Copy)]
@@ -37,6 +37,19 @@ pub(crate) struct Caller {
 pub(crate) struct Waiting {
     pub(crate) called: Vec<Called>,
     pub(crate) callers: Vec<Caller>,
+}
+
+impl Waiting {
+    /// No instances. Takes no memory.
+    pub(crate) fn new(alloc: Global) -> Waiting
+        ensures called { result.called.items ≡ [] }
+        ensures callers { result.callers.items ≡ [] }
+    {
+        Waiting {
+            called: Vec::new(alloc),
+            callers: Vec::new(alloc),
+        }
+    }
 }
 
 /// Adds an instance, which has no callers and no end yet.

@@ -20,7 +20,10 @@ use Rattle.ig_walker.proofs.Openings.{node_fits, node_needs, no_node_opens, item
 not_both : (b : Bool) → b ≡ false → b ≡ true → ⊥
 not_both b first second = cc
 
-module _ (f : Forest) (h : Heights) (are : AreHeights f h) where
+module _ (inside f : Forest) (h : Heights) (shown : inside ≡ f) (inside_are : AreHeights inside h) where
+  are : AreHeights f h
+  are = subst (λ (z : Forest). AreHeights z h) shown inside_are
+
   pub node_decided : DepthsAreHeights → (v n d : ℕ) → Some n ≡ slice_get h.nodes v → IsTrue (leb n d) ↔ Opens (options f) (Node v d ∷ [])
   node_decided law v n d there = (
     λ fits. node_fits f (law f) v n d (are.node v n (sym there)) (leb-true n d fits),

@@ -2,7 +2,6 @@
 use Rattle.std.specs.Prelude.{◌≡◌, ℕ, ◌<◌, ◌≤◌, List, [], ◌∷◌, ◌++◌, Option, Some, None, Bool, true, false, slice_get}
 use Rattle.ig_forest.specs.Forest.{Forest}
 use Rattle.ig_forest.specs.Unfold.{noted}
-use Rattle.ig_heights.specs.Heights.{Heights, AreHeights}
 use Rattle.ig_walker.specs.Listing.{Listing}
 use Rattle.ig_walker.specs.Options.{options, root_goal}
 use Rattle.ig_walker.specs.Walks.{Walk, Leads, cursor, Opens, Passed, Least, Last, Next}
@@ -80,11 +79,6 @@ module _ (f : Forest) (d : ℕ) where
 
   abbrev pub listing_of : List Visit → Listing
   listing_of vs = record { forest = f; depth = d; last = last_cursor vs }
-
--- what a walker keeps to
-pub record IsWalker (f : Forest) (h : Heights) (d : ℕ) (visits : List Visit) : Type 0 where
-  pub heights : AreHeights f h
-  pub walked : HasWalked f d visits
 
 module _ (opts : Goal → List (List Goal)) where
   -- a walk through the goals has that cursor

@@ -1,14 +1,12 @@
 //! Following a cursor from the root.
 ghost use Rattle.std.specs.Prelude.{[], ◌∷◌, MatchOption, IfOk, drop, vec_items};
-ghost use Rattle.ig_heights.specs.Heights.{AreHeights};
 ghost use Rattle.ig_walker.specs.Options.{options, root_goal};
 ghost use Rattle.ig_walker.specs.States.{EndsAtChoice, IsAlong, IsTold, IsWalkOf};
 
 use crate::goal::{Goal, Visit};
+use crate::measured::Measured;
 use crate::options::{count_options, opening_option};
 use crate::stack::push_behind;
-use ig_forest::Forest;
-use ig_heights::Heights;
 use std::alloc::{AllocError, Global};
 
 /// The number of the option that the cursor tells at that place, and the place behind it: where
@@ -29,12 +27,10 @@ fn told(cursor: &[u32], place: usize, count: usize) -> Option<(u32, usize)>
 /// The walk of the tree with that cursor; `None` exactly where no tree to the depth has it.
 pub fn follow(
     alloc: Global,
-    forest: &Forest,
-    heights: &Heights,
+    forest: &Measured,
     depth: u32,
     cursor: &[u32],
 ) -> Result<Option<Vec<Visit>>, AllocError>
-    requires heights { AreHeights forest.now heights.now }
     ensures { IfOk result (λ found. MatchOption found
         (IsAlong (options forest.now) (root_goal forest.now depth ∷ []) cursor.now → ⊥)
         (λ visits. IsWalkOf (options forest.now) (root_goal forest.now depth ∷ []) cursor.now
@@ -49,7 +45,7 @@ pub fn follow(
         let Some((choice, next)) = told(cursor, place, count_options(forest, goal)) else {
             return Ok(None);
         };
-        let Some(behind) = opening_option(forest, heights, goal, choice as usize) else {
+        let Some(behind) = opening_option(forest, goal, choice as usize) else {
             return Ok(None);
         };
         visits.push(Visit { goal, choice })?;

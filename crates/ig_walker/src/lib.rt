@@ -16,6 +16,7 @@
 mod follow;
 mod goal;
 mod laws;
+mod measured;
 mod options;
 mod parts;
 mod stack;

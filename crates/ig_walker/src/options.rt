@@ -1,20 +1,19 @@
 //! The options of a goal, and which of them lead on.
 ghost use Rattle.std.specs.Prelude.{◌≡◌, ◌↔◌, [], ◌∷◌, IsTrue, MatchOption};
 ghost use Rattle.std.specs.Prelude.{length, map, option_map, slice_get};
-ghost use Rattle.ig_heights.specs.Heights.{AreHeights};
 ghost use Rattle.ig_walker.specs.Behind.{listed};
 ghost use Rattle.ig_walker.specs.Options.{alternatives_of, behind_choice, behind_entry, entries_of};
 ghost use Rattle.ig_walker.specs.Options.{options};
 ghost use Rattle.ig_walker.specs.States.{FirstOption, LeadsOn, LeadsNowhere};
 ghost use Rattle.ig_walker.specs.Walks.{Opens, Passed};
-ghost use Rattle.ig_walker.specs.declared.goal.Goal.TheVariants.{Item, Node};
+ghost use Rattle.ig_walker.specs.declared.goal.Goal.TheVariants.{Node};
 
 use crate::goal::{Behind, Goal};
-use ig_forest::{Child, Choice, Entry, Forest};
-use ig_heights::{Heights, depths_are_heights};
+use crate::measured::Measured;
+use ig_forest::{Child, Choice, Entry};
 
 /// The alternatives of a node; none where it isn't there.
-pub fn alternatives_of(forest: &Forest, node: u32) -> &[Choice]
+pub fn alternatives_of<'f>(forest: &Measured<'f>, node: u32) -> &'f [Choice]
     ensures { result.now ≡ alternatives_of (slice_get forest.now.nodes node) }
 {
     match forest.node(node) {
@@ -24,7 +23,7 @@ pub fn alternatives_of(forest: &Forest, node: u32) -> &[Choice]
 }
 
 /// The entries of an item node; none where it isn't there.
-pub fn entries_of(forest: &Forest, item: u32) -> &[Entry]
+pub fn entries_of<'f>(forest: &Measured<'f>, item: u32) -> &'f [Entry]
     ensures { result.now ≡ entries_of (slice_get forest.now.items item) }
 {
     match forest.item(item) {
@@ -34,7 +33,7 @@ pub fn entries_of(forest: &Forest, item: u32) -> &[Entry]
 }
 
 /// The number of options of a goal.
-pub fn count_options(forest: &Forest, goal: Goal) -> usize
+pub fn count_options(forest: &Measured, goal: Goal) -> usize
     ensures { result ≡ length (options forest.now goal) }
 {
     match goal {
@@ -100,7 +99,7 @@ fn entry_at(entries: &[Entry], number: usize, depth: u32) -> Option<Behind>
 
 /// The goals behind an alternative of a node, by its number; `None` exactly where the number isn't
 /// there, or no depth is left.
-fn node_option(forest: &Forest, node: u32, depth: u32, number: usize) -> Option<Behind>
+fn node_option(forest: &Measured, node: u32, depth: u32, number: usize) -> Option<Behind>
     ensures { option_map listed result ≡ slice_get (options forest.now (Node node depth)) number }
 {
     if depth == 0 {
@@ -111,7 +110,7 @@ fn node_option(forest: &Forest, node: u32, depth: u32, number: usize) -> Option<
 
 /// The goals behind an option of a goal, by its number; `None` exactly where the number isn't
 /// there.
-pub fn option_at(forest: &Forest, goal: Goal, number: usize) -> Option<Behind>
+pub fn option_at(forest: &Measured, goal: Goal, number: usize) -> Option<Behind>
     ensures { option_map listed result ≡ slice_get (options forest.now goal) number }
 {
     match goal {
@@ -127,69 +126,35 @@ pub fn option_at(forest: &Forest, goal: Goal, number: usize) -> Option<Behind>
     }
 }
 
-/// Whether the node has a tree to that depth.
-pub fn node_opens(forest: &Forest, heights: &Heights, node: u32, depth: u32) -> bool
-    requires heights { AreHeights forest.now heights.now }
-    ensures { IsTrue result ↔ Opens (options forest.now) (Node node depth ∷ []) }
-{
-    depths_are_heights();
-    match heights.least(node) {
-        Some(height) => height <= depth,
-        None => false,
-    }
-}
-
-/// Whether the item node has a list of trees to that depth.
-fn item_opens(forest: &Forest, heights: &Heights, item: u32, depth: u32) -> bool
-    requires heights { AreHeights forest.now heights.now }
-    ensures { IsTrue result ↔ Opens (options forest.now) (Item item depth ∷ []) }
-{
-    depths_are_heights();
-    match heights.least_of_item(item) {
-        Some(height) => height <= depth,
-        None => false,
-    }
-}
-
 /// Whether a walk leads through the goal.
-fn goal_opens(forest: &Forest, heights: &Heights, goal: Goal) -> bool
-    requires heights { AreHeights forest.now heights.now }
+fn goal_opens(forest: &Measured, goal: Goal) -> bool
     ensures { IsTrue result ↔ Opens (options forest.now) (goal ∷ []) }
 {
     match goal {
-        Goal::Node { node, depth } => node_opens(forest, heights, node, depth),
-        Goal::Item { item, depth } => item_opens(forest, heights, item, depth),
+        Goal::Node { node, depth } => forest.node_opens(node, depth),
+        Goal::Item { item, depth } => forest.item_opens(item, depth),
         Goal::Leaf(_) => true,
     }
 }
 
 /// Whether a walk leads through the goals.
-fn behind_opens(forest: &Forest, heights: &Heights, behind: Behind) -> bool
-    requires heights { AreHeights forest.now heights.now }
+fn behind_opens(forest: &Measured, behind: Behind) -> bool
     ensures { IsTrue result ↔ Opens (options forest.now) (listed behind) }
 {
     match behind {
         Behind::Nothing => true,
-        Behind::One(goal) => goal_opens(forest, heights, goal),
-        Behind::Two(first, second) => {
-            goal_opens(forest, heights, first) && goal_opens(forest, heights, second)
-        }
+        Behind::One(goal) => goal_opens(forest, goal),
+        Behind::Two(first, second) => goal_opens(forest, first) && goal_opens(forest, second),
     }
 }
 
 /// The goals behind the option of that number; `None` exactly where no walk leads through it.
-pub fn opening_option(
-    forest: &Forest,
-    heights: &Heights,
-    goal: Goal,
-    number: usize,
-) -> Option<Behind>
-    requires heights { AreHeights forest.now heights.now }
+pub fn opening_option(forest: &Measured, goal: Goal, number: usize) -> Option<Behind>
     ensures { MatchOption result (LeadsNowhere forest.now goal number)
         (λ behind. LeadsOn forest.now goal number (listed behind)) }
 {
     let behind = option_at(forest, goal, number)?;
-    if behind_opens(forest, heights, behind) {
+    if behind_opens(forest, behind) {
         Some(behind)
     } else {
         None
@@ -197,19 +162,13 @@ pub fn opening_option(
 }
 
 /// The first option of a goal from this one on through which a walk leads, and the goals behind it.
-pub fn first_option(
-    forest: &Forest,
-    heights: &Heights,
-    goal: Goal,
-    from: usize,
-) -> Option<(usize, Behind)>
-    requires heights { AreHeights forest.now heights.now }
+pub fn first_option(forest: &Measured, goal: Goal, from: usize) -> Option<(usize, Behind)>
     ensures { MatchOption result
         (Passed (options forest.now) goal from (length (options forest.now goal)))
         (λ found. FirstOption forest.now goal from found.0 (listed found.1)) }
 {
     for number in from..count_options(forest, goal) {
-        if let Some(behind) = opening_option(forest, heights, goal, number) {
+        if let Some(behind) = opening_option(forest, goal, number) {
             return Some((number, behind));
         }
     }

@@ -5,8 +5,9 @@ ghost use Rattle.ig_walker.specs.Written.{bump_last, by_choice, by_entry, emits,
 ghost use Rattle.ig_walker.specs.Walks.{cursor};
 
 use crate::goal::{Goal, Visit};
+use crate::measured::Measured;
 use crate::options::{count_options, entries_of};
-use ig_forest::{Cursor, Entry, Forest, Part, Tree};
+use ig_forest::{Cursor, Entry, Part, Tree};
 use ig_text::Sequence;
 use std::alloc::{AllocError, Global};
 
@@ -43,7 +44,7 @@ fn write_entry(parts: &mut Vec<Part>, entries: &[Entry], number: usize) -> Resul
 /// What the visit of a node by an alternative adds to the parts: a part with no child yet.
 fn write_node(
     parts: &mut Vec<Part>,
-    forest: &Forest,
+    forest: &Measured,
     node: u32,
     number: usize,
 ) -> Result<(), AllocError>
@@ -65,7 +66,7 @@ fn write_node(
 }
 
 /// What a visit adds to the parts.
-fn write(parts: &mut Vec<Part>, forest: &Forest, visit: Visit) -> Result<(), AllocError>
+fn write(parts: &mut Vec<Part>, forest: &Measured, visit: Visit) -> Result<(), AllocError>
     ensures { OnOk result (vec_items parts.new ≡
         written forest.now visit.goal visit.choice (vec_items parts.old)) }
 {
@@ -86,7 +87,7 @@ fn write(parts: &mut Vec<Part>, forest: &Forest, visit: Visit) -> Result<(), All
 }
 
 /// The tree of a walk.
-pub fn tree_of(alloc: Global, forest: &Forest, visits: &[Visit]) -> Result<Tree, AllocError>
+pub fn tree_of(alloc: Global, forest: &Measured, visits: &[Visit]) -> Result<Tree, AllocError>
     ensures { IfOk result (λ tree. tree ≡ emits forest.now [] visits.now) }
 {
     let mut parts = Vec::new(alloc);
@@ -97,7 +98,7 @@ pub fn tree_of(alloc: Global, forest: &Forest, visits: &[Visit]) -> Result<Tree,
 }
 
 /// The cursor of a walk.
-pub fn cursor_of(alloc: Global, forest: &Forest, visits: &[Visit]) -> Result<Cursor, AllocError>
+pub fn cursor_of(alloc: Global, forest: &Measured, visits: &[Visit]) -> Result<Cursor, AllocError>
     ensures { IfOk result (λ told. told ≡ cursor (options forest.now) visits.now) }
 {
     let mut numbers = Vec::new(alloc);

@@ -6,8 +6,8 @@ ghost use Rattle.ig_walker.specs.Options.{options};
 ghost use Rattle.ig_walker.specs.declared.goal.Goal.{Goal};
 
 use crate::goal::{Behind, Goal, Visit};
+use crate::measured::Measured;
 use crate::options::option_at;
-use ig_forest::Forest;
 use std::alloc::AllocError;
 
 /// Notes that the goal was visited by the option of that number. Refused also where the number
@@ -55,7 +55,7 @@ fn drop_behind(pending: &mut Vec<Goal>, behind: Behind)
 }
 
 /// Takes the goals behind a visit from the stack again.
-pub fn undo(forest: &Forest, pending: &mut Vec<Goal>, visit: Visit)
+pub fn undo(forest: &Measured, pending: &mut Vec<Goal>, visit: Visit)
     ensures { (part rest : List Goal) →
         slice_get (options forest.now visit.goal) visit.choice ≡ Some part →
         reverse (vec_items pending.old) ≡ part ++ rest → reverse (vec_items pending.new) ≡ rest }

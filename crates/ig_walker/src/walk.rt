@@ -1,33 +1,28 @@
 //! Going on to the least walk, and back to the next option.
 ghost use Rattle.std.specs.Prelude.{◌≡◌, [], ◌∷◌, MatchOption, IfOk, OnOk, reverse, vec_items};
-ghost use Rattle.ig_forest.specs.Unfold.{IsTrim};
-ghost use Rattle.ig_heights.specs.Heights.{AreHeights};
 ghost use Rattle.ig_walker.specs.Options.{options, root_goal};
 ghost use Rattle.ig_walker.specs.States.{BackTo, Completed, HasNoNext, HasWalked, IsNextWalk};
 ghost use Rattle.ig_walker.specs.Walks.{Last, Least, Next, Opens, Walk};
 
 use crate::goal::{Goal, Visit};
-use crate::options::{first_option, node_opens};
+use crate::measured::Measured;
+use crate::options::first_option;
 use crate::stack::{note, push_behind, undo};
-use ig_forest::Forest;
-use ig_heights::Heights;
 use std::alloc::{AllocError, Global};
 
 /// Goes on through the pending goals, each by its first option through which a walk leads.
 fn complete(
-    forest: &Forest,
-    heights: &Heights,
+    forest: &Measured,
     visits: &mut Vec<Visit>,
     pending: &mut Vec<Goal>,
 ) -> Result<(), AllocError>
-    requires trim { IsTrim forest.now }
-    requires heights { AreHeights forest.now heights.now }
-    requires opens { Opens (options forest.now) (reverse (vec_items pending.old)) }
+    requires { Opens (options forest.now) (reverse (vec_items pending.old)) }
     ensures { OnOk result (Completed forest.now (reverse (vec_items pending.old))
         (vec_items visits.old) (vec_items visits.new)) }
 {
+    let _ = forest.root();
     while let Some(goal) = pending.pop() {
-        if let Some((number, behind)) = first_option(forest, heights, goal, 0) {
+        if let Some((number, behind)) = first_option(forest, goal, 0) {
             note(visits, goal, number)?;
             push_behind(pending, behind)?;
         }
@@ -38,13 +33,11 @@ fn complete(
 /// Goes back to the last visit with a later option through which a walk leads, and takes that.
 /// `false` where there is none.
 fn back(
-    forest: &Forest,
-    heights: &Heights,
+    forest: &Measured,
     depth: u32,
     visits: &mut Vec<Visit>,
     pending: &mut Vec<Goal>,
 ) -> Result<bool, AllocError>
-    requires heights { AreHeights forest.now heights.now }
     requires walk { Walk (options forest.now) (root_goal forest.now depth ∷ [])
         (vec_items visits.old) }
     requires empty { vec_items pending.old ≡ [] }
@@ -54,7 +47,7 @@ fn back(
     while let Some(visit) = visits.pop() {
         undo(forest, pending, visit);
         let from = visit.choice as usize + 1;
-        if let Some((number, behind)) = first_option(forest, heights, visit.goal, from) {
+        if let Some((number, behind)) = first_option(forest, visit.goal, from) {
             note(visits, visit.goal, number)?;
             push_behind(pending, behind)?;
             return Ok(true);
@@ -78,49 +71,44 @@ fn copied(alloc: Global, visits: &[Visit]) -> Result<Vec<Visit>, AllocError>
 /// The least walk of all trees to the depth; `None` where there is no tree.
 fn first_walk(
     alloc: Global,
-    forest: &Forest,
-    heights: &Heights,
+    forest: &Measured,
     depth: u32,
 ) -> Result<Option<Vec<Visit>>, AllocError>
-    requires heights { AreHeights forest.now heights.now }
     ensures { IfOk result (λ found. MatchOption found
         (Opens (options forest.now) (root_goal forest.now depth ∷ []) → ⊥)
         (λ visits. Least (options forest.now) (root_goal forest.now depth ∷ [])
         (vec_items visits))) }
 {
     let root = forest.root();
-    if !node_opens(forest, heights, root, depth) {
+    if !forest.node_opens(root, depth) {
         return Ok(None);
     }
     let mut visits = Vec::new(alloc);
     let mut pending = Vec::new(alloc);
     pending.push(Goal::Node { node: root, depth })?;
-    complete(forest, heights, &mut visits, &mut pending)?;
+    complete(forest, &mut visits, &mut pending)?;
     Ok(Some(visits))
 }
 
 /// The walk of the tree that comes next behind this walk; `None` where there is none.
 fn later_walk(
     alloc: Global,
-    forest: &Forest,
-    heights: &Heights,
+    forest: &Measured,
     depth: u32,
     visits: &[Visit],
 ) -> Result<Option<Vec<Visit>>, AllocError>
-    requires heights { AreHeights forest.now heights.now }
-    requires walk { Walk (options forest.now) (root_goal forest.now depth ∷ []) visits.now }
+    requires { Walk (options forest.now) (root_goal forest.now depth ∷ []) visits.now }
     ensures { IfOk result (λ found. MatchOption found
         (Last (options forest.now) (root_goal forest.now depth ∷ []) visits.now)
         (λ next. Next (options forest.now) (root_goal forest.now depth ∷ []) visits.now
         (vec_items next))) }
 {
-    let _ = forest.root();
     let mut copy = copied(alloc, visits)?;
     let mut pending = Vec::new(alloc);
-    if !back(forest, heights, depth, &mut copy, &mut pending)? {
+    if !back(forest, depth, &mut copy, &mut pending)? {
         return Ok(None);
     }
-    complete(forest, heights, &mut copy, &mut pending)?;
+    complete(forest, &mut copy, &mut pending)?;
     Ok(Some(copy))
 }
 
@@ -128,20 +116,18 @@ fn later_walk(
 /// visits yet. `None` where there is none.
 pub fn next_walk(
     alloc: Global,
-    forest: &Forest,
-    heights: &Heights,
+    forest: &Measured,
     depth: u32,
     visits: &[Visit],
 ) -> Result<Option<Vec<Visit>>, AllocError>
-    requires heights { AreHeights forest.now heights.now }
-    requires walked { HasWalked forest.now depth visits.now }
+    requires { HasWalked forest.now depth visits.now }
     ensures { IfOk result (λ found. MatchOption found
         (HasNoNext forest.now depth visits.now)
         (λ next. IsNextWalk forest.now depth visits.now (vec_items next))) }
 {
     if visits.is_empty() {
-        first_walk(alloc, forest, heights, depth)
+        first_walk(alloc, forest, depth)
     } else {
-        later_walk(alloc, forest, heights, depth, visits)
+        later_walk(alloc, forest, depth, visits)
     }
 }

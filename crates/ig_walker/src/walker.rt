@@ -6,6 +6,7 @@ ghost use Rattle.ig_walker.specs.declared.walker.WalkFault.TheVariants.{BadCurso
 
 use crate::follow::follow;
 use crate::goal::Visit;
+use crate::measured::Measured;
 use crate::parts::{cursor_of, tree_of};
 use crate::walk::next_walk;
 use ig_forest::{Cursor, Forest, Tree};
@@ -37,8 +38,7 @@ impl From<AllocError> for WalkFault {
 #[derive(Drop)]
 pub struct Walker<'f> {
     alloc: Global,
-    forest: &'f Forest,
-    heights: &'f Heights,
+    forest: Measured<'f>,
     depth: u32,
     /// The walk of the last tree; empty where no tree was given yet.
     visits: Vec<Visit>,
@@ -49,11 +49,11 @@ impl<'f> Model for Walker<'f> {
 
     ghost Value = { Listing };
 
-    ghost use Rattle.ig_walker.specs.States.{IsWalker, listing_of};
+    ghost use Rattle.ig_walker.specs.States.{HasWalked, listing_of};
 
-    ghost view = { λ w. listing_of w.forest.now w.depth w.visits.items };
+    ghost view = { λ w. listing_of w.forest w.depth w.visits.items };
 
-    ghost invariant = { λ w. IsWalker w.forest.now w.heights.now w.depth w.visits.items };
+    ghost invariant = { λ w. HasWalked w.forest w.depth w.visits.items };
 }
 
 impl<'f> Walker<'f> {
@@ -69,10 +69,10 @@ impl<'f> Walker<'f> {
         ensures { IfOk result (λ walker. walker ≡
             record { forest = forest.now; depth = depth; last = None }) }
     {
+        let forest = Measured { forest, heights };
         Ok(Walker {
             alloc,
             forest,
-            heights,
             depth,
             visits: Vec::new(alloc),
         })
@@ -94,11 +94,11 @@ impl<'f> Walker<'f> {
         ensures refused { IfErr result (λ fault. fault ≡ BadCursor →
             HasNoTree forest.now depth cursor.now) }
     {
-        match follow(alloc, forest, heights, depth, cursor.as_slice())? {
+        let forest = Measured { forest, heights };
+        match follow(alloc, &forest, depth, cursor.as_slice())? {
             Some(visits) => Ok(Walker {
                 alloc,
                 forest,
-                heights,
                 depth,
                 visits,
             }),
@@ -113,17 +113,11 @@ impl<'f> Walker<'f> {
         ensures given { IfOk result (λ given. Gives self.old given self.new) }
         ensures refused { OnErr result (self.new ≡ self.old) }
     {
-        let found = next_walk(
-            self.alloc,
-            self.forest,
-            self.heights,
-            self.depth,
-            self.visits.as_slice(),
-        )?;
+        let found = next_walk(self.alloc, &self.forest, self.depth, self.visits.as_slice())?;
         let Some(visits) = found else {
             return Ok(None);
         };
-        let tree = tree_of(self.alloc, self.forest, visits.as_slice())?;
+        let tree = tree_of(self.alloc, &self.forest, visits.as_slice())?;
         self.visits = visits;
         Ok(Some(tree))
     }
@@ -137,7 +131,7 @@ impl<'f> Walker<'f> {
         if visits.is_empty() {
             return Ok(None);
         }
-        let cursor = cursor_of(self.alloc, self.forest, visits)?;
+        let cursor = cursor_of(self.alloc, &self.forest, visits)?;
         Ok(Some(cursor))
     }
 }

@@ -4,24 +4,24 @@ use Rattle.ig_plain.proofs.Ending.{is_recorded}
 use Rattle.ig_plain.proofs.saturation.saturate_with_ways.Goals as goal
 
 pub finish-requires-clause-values : goal.finish-requires-clause-values
-finish-requires-clause-values c = c.in_ok-run_to_end.ensures.run.taking.stored.named.values
+finish-requires-clause-values c = c.in_ok-whole.ensures.run.taking.stored.named.values
 
 pub finish-requires-clause-named : goal.finish-requires-clause-named
 finish-requires-clause-named c =
-    inside c.args.core.now c.args.text.now c.items_are_in_text.ensures c.args.budget c.run_to_end.new.found c.run_to_end.new.waiting
-    c.in_ok-run_to_end.ensures.run
+    inside c.args.core.now c.args.text.now c.items_are_in_text.ensures c.args.budget c.in_ok-whole.whole.found c.in_ok-whole.whole.waiting
+    c.in_ok-whole.ensures.run
 
 pub finish-requires-clause-few : goal.finish-requires-clause-few
 finish-requires-clause-few c =
-    let l = items_few c.args.core.now c.args.text.now c.items_are_in_text.ensures c.args.budget c.run_to_end.new.found c.run_to_end.new.waiting
-    c.in_ok-run_to_end.ensures.run in omega (arith, l, c.ranges.budget.fits)
+    let l = items_few c.args.core.now c.args.text.now c.items_are_in_text.ensures c.args.budget c.in_ok-whole.whole.found c.in_ok-whole.whole.waiting
+    c.in_ok-whole.ensures.run in omega (arith, l, c.ranges.budget.fits)
 
 pub of-requires : goal.of-requires
 of-requires c =
-    is_recorded c.args.core.now c.args.text.now c.items_are_in_text.ensures c.args.budget c.run_to_end.new.found c.run_to_end.new.waiting
-    c.in_ok-run_to_end.ensures.run c.run_to_end.new.trail c.in_ok-run_to_end.ensures.trail c.in_ok-items.items c.in_ok-items.ensures
+    is_recorded c.args.core.now c.args.text.now c.items_are_in_text.ensures c.args.budget c.in_ok-whole.whole.found c.in_ok-whole.whole.waiting
+    c.in_ok-whole.ensures.run c.in_ok-whole.whole.trail c.in_ok-whole.ensures.trail c.in_ok-items.items c.in_ok-items.ensures
 
 pub returns-clause-exact : goal.returns-clause-exact
 returns-clause-exact c =
-    no_more c.args.core.now c.args.text.now c.items_are_in_text.ensures c.args.budget c.run_to_end.new.found c.run_to_end.new.waiting
-    c.in_ok-run_to_end.ensures.run
+    no_more c.args.core.now c.args.text.now c.items_are_in_text.ensures c.args.budget c.in_ok-whole.whole.found c.in_ok-whole.whole.waiting
+    c.in_ok-whole.ensures.run

@@ -3,9 +3,26 @@ use Rattle.std.proofs.lemmas.Result.{on_ok_weaker}
 use Rattle.ig_item.specs.Tables.{instance_by}
 use Rattle.ig_plain.specs.declared.found.Found.{Found}
 use Rattle.ig_plain.specs.Waiting.{not_called}
-use Rattle.ig_plain.proofs.Starts.{starts, alone}
+use Rattle.ig_plain.proofs.Starts.{starts, alone, named_1}
 use Rattle.ig_plain.proofs.Starting.{nothing_found, none_unfound, starts_on}
 use Rattle.ig_plain.proofs.saturation.start.Goals as goal
+
+pub add_firsts-requires-clause-all_named : goal.add_firsts-requires-clause-all_named
+add_firsts-requires-clause-all_named c =
+    let s : Found = record {
+      done = c.args.found.now.done;
+      here = c.args.found.now.here;
+      later = c.args.found.now.later;
+      envs = c.enter_values.new.envs;
+      keys = c.enter.new.self;
+    } in
+    named_1 c.args.core.now [] c.reachable_is_closed.ensures c.keep_well_kinded.ensures c.args.budget c.args.found.now c.args.waiting.now
+    c.requires.empty s c.in_ok-env.env c.in_ok-env.ensures.once (c.in_ok-env.ensures.enters.there ∙ ap Some c.new.ensures) refl refl refl
+    (alone c.args.found.now.keys _ _ c.in_ok-root.root c.in_ok-root.field-0-1 c.requires.empty.keys c.in_ok-root.ensures.enters.there
+    c.in_ok-root.ensures.new c.in_ok-root.ensures.old)
+
+pub add_firsts-requires-clause-there : goal.add_firsts-requires-clause-there
+add_firsts-requires-clause-there c = c.in_ok-root.ensures.enters.there
 
 pub add_firsts-requires-clause-new : goal.add_firsts-requires-clause-new
 add_firsts-requires-clause-new c =

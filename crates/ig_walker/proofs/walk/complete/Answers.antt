@@ -5,7 +5,7 @@ use Rattle.ig_walker.proofs.walk.complete.Goals as goal
 
 pub loop-goal-smaller-in-Continue-branch-2 : goal.loop-goal-smaller-in-Continue-branch-2
 loop-goal-smaller-in-Continue-branch-2 c =
-    lower_code c.args.forest.now c.requires.trim (vec_items c.loop-goal.pending) (vec_items c.pop.new.self) _ _ c.in-Some.goal c.in-Some-first_option.number
+    lower_code c.args.forest.now c.root.ensures.trim (vec_items c.loop-goal.pending) (vec_items c.pop.new.self) _ _ c.in-Some.goal c.in-Some-first_option.number
     c.in-Some.ensures.items c.in-Some-first_option.ensures c.in_ok-push_behind.ensures
 
 pub loop-goal-preserved-in-Continue-branch-2 : goal.loop-goal-preserved-in-Continue-branch-2

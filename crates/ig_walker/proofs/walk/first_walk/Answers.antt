@@ -6,8 +6,8 @@ pub returns-then-not-node_opens : goal.returns-then-not-node_opens
 returns-then-not-node_opens c =
     root_closed c.args.forest.now c.args.depth c.root-root.result c.node_opens.result c.root-root.ensures.number c.if-not-node_opens.true c.node_opens.ensures
 
-pub complete-requires-clause-opens : goal.complete-requires-clause-opens
-complete-requires-clause-opens c =
+pub complete-requires : goal.complete-requires
+complete-requires c =
     first_opens_code c.args.forest.now c.args.depth c.root-root.result c.node_opens.result (vec_items c.push.new.self) (vec_items c.new-pending.result)
     c.root-root.ensures.number c.if-not-node_opens.false c.node_opens.ensures c.new-pending.ensures.items c.in_ok-push.ensures.items
 

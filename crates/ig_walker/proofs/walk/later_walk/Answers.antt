@@ -7,7 +7,7 @@ use Rattle.ig_walker.proofs.walk.later_walk.Goals as goal
 
 pub back-requires-clause-walk : goal.back-requires-clause-walk
 back-requires-clause-walk c =
-    subst (λ (z : List Visit). Walk (options c.args.forest.now) (root_goal c.args.forest.now c.args.depth ∷ []) z) (sym c.in_ok-copy.ensures) c.requires.walk
+    subst (λ (z : List Visit). Walk (options c.args.forest.now) (root_goal c.args.forest.now c.args.depth ∷ []) z) (sym c.in_ok-copy.ensures) c.requires
 
 pub returns-then-not-branch : goal.returns-then-not-branch
 returns-then-not-branch c =

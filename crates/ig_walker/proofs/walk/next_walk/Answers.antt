@@ -13,10 +13,10 @@ returns-then-is_empty c =
     (λ next. is_first c.args.forest.now c.args.depth c.args.visits.now (vec_items next) empty))
     c.first_walk.ensures
 
-pub later_walk-requires-clause-walk : goal.later_walk-requires-clause-walk
-later_walk-requires-clause-walk c =
+pub later_walk-requires : goal.later_walk-requires
+later_walk-requires c =
     has_walk c.args.forest.now c.args.depth c.args.visits.now
-    (is_something c.args.visits.now c.args.visits.now c.is_empty.result c.is_empty.ensures c.if-is_empty.false refl) c.requires.walked
+    (is_something c.args.visits.now c.args.visits.now c.is_empty.result c.is_empty.ensures c.if-is_empty.false refl) c.requires
 
 pub returns-else-is_empty : goal.returns-else-is_empty
 returns-else-is_empty c =

@@ -5,7 +5,7 @@ use Rattle.ig_walker.proofs.walker.Walker.after.Goals as goal
 
 pub invariant_of-result : goal.invariant_of-result
 invariant_of-result c =
-    after_keeps c.args.forest.now c.args.depth c.args.heights.now (vec_items c.in-Some.visits) _ c.requires.heights (rw c.in-Some.is at c.in_ok-visits.ensures)
+    after_keeps c.args.forest.now c.args.depth (vec_items c.in-Some.visits) _ (rw c.in-Some.is at c.in_ok-visits.ensures)
 
 pub returns-in-Some-clause-there : goal.returns-in-Some-clause-there
 returns-in-Some-clause-there c =
