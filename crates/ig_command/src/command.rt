@@ -31,7 +31,7 @@ const MOST_COUNT: u32 = 100_000;
 pub const MOST_SIZE: u32 = 4000;
 
 /// Which trees are listed.
-#[derive(Clone, Copy, Debug)]
+#[derive(Clone, Copy)]
 pub struct Listing<'a> {
     /// The height that they have at most, where there is a bound.
     pub depth: Option<u32>,
@@ -42,7 +42,7 @@ pub struct Listing<'a> {
 }
 
 /// What is asked of a forest.
-#[derive(Clone, Copy, Debug)]
+#[derive(Clone, Copy)]
 pub enum Question<'a> {
     /// Whether there are two trees, and where they differ.
     Ambiguous,
@@ -55,7 +55,7 @@ pub enum Question<'a> {
 }
 
 /// What the words of a command ask for, with the names of its files.
-#[derive(Clone, Copy, Debug)]
+#[derive(Clone, Copy)]
 pub enum Command<'a> {
     /// That the grammar is checked.
     Check {

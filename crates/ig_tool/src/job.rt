@@ -3,7 +3,7 @@
 use ig_command::{Listing, Question};
 
 /// What is done with a grammar alone.
-#[derive(Clone, Copy, Debug)]
+#[derive(Clone, Copy)]
 pub(crate) enum Task {
     /// It is checked.
     Check,
@@ -14,7 +14,7 @@ pub(crate) enum Task {
 }
 
 /// What is done with the forest of a grammar and an input.
-#[derive(Clone, Copy, Debug)]
+#[derive(Clone, Copy)]
 pub(crate) enum Job<'a> {
     /// It is printed.
     Print,

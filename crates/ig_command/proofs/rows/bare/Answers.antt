@@ -1,0 +1,9 @@
+use Rattle.std.proofs.Common.{◌∙◌, true, ap}
+use Rattle.clap.specs.Words.{App}
+use Rattle.clap.specs.Simple.{app_of_fields}
+use Rattle.ig_command.proofs.rows.bare.Goals as goal
+
+pub returns : goal.returns
+returns c =
+    ap app_of_fields c.disable_help_flag.ensures ∙ ap (λ (a : App). record a { top = record a.top { disable_help_flag = true } })
+    (ap app_of_fields c.no_binary_name.ensures ∙ ap (λ (a : App). record a { top = record a.top { no_binary_name = true } }) c.new.ensures.app)

@@ -1,0 +1,14 @@
+use Rattle.std.proofs.Common.{◌∙◌, ap}
+use Rattle.std.specs.Prelude.{codes}
+use Rattle.std.proofs.lemmas.Result.{IfOk-weaker}
+use Rattle.clap.specs.Words.{App, with_rule}
+use Rattle.ig_command.specs.Rows.{option}
+use Rattle.ig_command.proofs.rows.trees.Goals as goal
+
+pub returns : goal.returns
+returns c =
+    IfOk-weaker c.with_option-3.result _ _
+    (λ r h. h ∙ ap (λ (a : App). with_rule a (option (codes "after"))) (c.in_ok-with_count.ensures ∙
+    ap (λ (a : App). with_rule a (option (codes "count"))) (c.in_ok-with_depth.ensures ∙
+    ap (λ (a : App). with_rule a (option (codes "depth"))) c.in_ok-with_budget.ensures)))
+    c.with_option-3.ensures
