@@ -11,7 +11,7 @@ use Rattle.ig_core.specs.Notation.{unchanged}
 use Rattle.ig_forest.specs.Forest.{Forest}
 use Rattle.ig_parse.specs.Laws.{HasNoHighest, PermitsTwo}
 use Rattle.ig_parse.specs.Parses.{IsForestOf, IsOver}
-use Rattle.ig_show.specs.Listed.{line_end}
+use Rattle.ig_print.specs.Listed.{line_end}
 use Rattle.ig_load.specs.Grammar.{LoadGrammar}
 use Rattle.ig_load.specs.Input.{LoadInput}
 use Rattle.ig_load.specs.declared.fault.LoadFault.{LoadFault}

@@ -23,7 +23,7 @@ use Rattle.ig_forest.specs.Reduced.{IsReduced}
 use Rattle.ig_forest.specs.Unfold.{Unfold}
 use Rattle.ig_plain.specs.Run.{Refuses}
 use Rattle.ig_query.specs.Report.{IsReport}
-use Rattle.ig_show.specs.declared.report.Report.{Report}
+use Rattle.ig_print.specs.declared.report.Report.{Report}
 use Rattle.ig_parse.specs.Faults.{fault_of}
 use Rattle.ig_parse.specs.Parses.{AreReachable, HasNone, IsForestOf, IsParsed, IsUnparsed, MayHaveForest, Parses, Saturates}
 use Rattle.ig_parse.specs.declared.fault.ParseFault.{ParseFault}

@@ -1,5 +1,4 @@
 pub mod Numerals
-pub mod Pieces
 pub mod Steps
 pub mod Falling
 pub mod ReadsBack
@@ -9,8 +8,3 @@ pub mod Written
 pub mod Retokenized
 pub mod ReadBack
 pub mod Bytes
-pub mod Listing
-pub mod Nested
-pub mod CursorTexts
-pub mod SortedTexts
-pub mod Reporting

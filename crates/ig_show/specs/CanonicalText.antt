@@ -1,5 +1,5 @@
 -- The canonical text of a grammar. `x_pieces x ps` are the pieces of x, and then ps.
-use Rattle.std.specs.Prelude.{ℕ, suc, ℤ, pos, negsuc, List, [], ◌∷◌, ◌++◌, Bool, true, false, Option, Some, None, if◌then◌else◌, codes}
+use Rattle.std.specs.Prelude.{ℕ, suc, ℤ, pos, negsuc, List, [], ◌∷◌, ◌++◌, Bool, true, false, Option, Some, None, if◌then◌else◌, codes, encode_utf8_all}
 use Rattle.ig_text.specs.declared.pattern.Pattern.{Pattern}
 use Rattle.ig_text.specs.declared.pattern.Pattern.TheVariants as patterns
 use Rattle.ig_expr.specs.Expression.{Expression, Integer, Truth, Variable, Negative, Binary, Of, Same, Spells, Outer, Inside, FreeBefore, FreeAfter}
@@ -263,3 +263,10 @@ expression_text e = text (expression_pieces e [])
 
 abbrev pub pattern_text : Pattern → List ℕ
 pattern_text p = text (token (pattern_token p) ∷ [])
+
+-- the canonical texts of expressions and patterns, as UTF-8
+abbrev pub expression_bytes : Expression → List ℕ
+expression_bytes e = encode_utf8_all (expression_text e)
+
+abbrev pub pattern_bytes : Pattern → List ℕ
+pattern_bytes p = encode_utf8_all (pattern_text p)

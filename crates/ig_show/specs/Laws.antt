@@ -1,12 +1,10 @@
--- What holds of texts.
-use Rattle.std.specs.Prelude.{◌≡◌, ℕ, List}
+-- What holds of canonical texts.
+use Rattle.std.specs.Prelude.{ℕ, List}
 use Rattle.ig_syntax.specs.Token.{Token}
 use Rattle.ig_syntax.specs.Rules.{FollowsRules}
 use Rattle.ig_syntax.specs.Notation.{Reads}
 use Rattle.ig_grammar.specs.declared.grammar.Grammar.{Grammar}
-use Rattle.ig_forest.specs.Cursors.{IsShortCursor}
 use Rattle.ig_show.specs.CanonicalText.{tokens_of, text_of}
-use Rattle.ig_show.specs.TreeText.{cursor_text}
 
 -- where some tokens follow the rules as a grammar, the tokens of its canonical text do too
 abbrev pub CanonicalTokensFollow : Type 0
@@ -15,8 +13,3 @@ CanonicalTokensFollow = (ts : List Token) (g : Grammar) → FollowsRules ts g �
 -- where some text reads as a grammar, its canonical text does too
 abbrev pub CanonicalTextReadsBack : Type 0
 CanonicalTextReadsBack = (s : List ℕ) (g : Grammar) → Reads s g → Reads (text_of g) g
-
--- a text is that of one cursor at most
-abbrev pub CursorTextsDiffer : Type 0
-CursorTextsDiffer =
-    (cs ds : List ℕ) → IsShortCursor cs → IsShortCursor ds → cursor_text cs ≡ cursor_text ds → cs ≡ ds

@@ -2,13 +2,4 @@ pub mod Spelling
 pub mod Pieces
 pub mod CanonicalText
 pub mod Writing
-pub mod Listed
-pub mod ValueText
-pub mod TagText
-pub mod CoreText
-pub mod ForestText
-pub mod TreeText
-pub mod Nesting
-pub mod ReportText
-pub mod QueryText
 pub mod Laws

@@ -9,7 +9,7 @@ ghost use Rattle.ig_show.specs.CanonicalText.{text_of, expression_text, pattern_
 ghost use Rattle.ig_show.specs.CanonicalText.{associativity_pieces, level_pieces, levels_pieces};
 ghost use Rattle.ig_show.specs.CanonicalText.{parameter_pieces, head_pieces, joined, comma};
 ghost use Rattle.ig_show.specs.CanonicalText.{declaration_token, declaration_pieces, separated};
-ghost use Rattle.ig_show.specs.CanonicalText.{start_pieces};
+ghost use Rattle.ig_show.specs.CanonicalText.{start_pieces, expression_bytes, pattern_bytes};
 ghost use Rattle.ig_show.specs.Writing.{Adds, IsText};
 
 use crate::expressions::push_expression;
@@ -187,4 +187,20 @@ pub fn show_pattern(alloc: Global, pattern: &Pattern) -> Result<Vec<u8>, AllocEr
     let mut out = String::new(alloc);
     push_pattern(&mut out, pattern)?;
     Ok(out.into_bytes())
+}
+
+/// Adds the canonical text of an expression, as UTF-8. Refuses only for want of memory.
+pub fn push_expression_text(out: &mut String, expression: &Expr) -> Result<(), AllocError>
+    ensures { OnOk result (string_bytes out.new ≡ string_bytes out.old ++
+        expression_bytes (expression_of expression.now)) }
+{
+    push_expression(out, expression)
+}
+
+/// Adds the canonical text of a pattern, as UTF-8. Refuses only for want of memory.
+pub fn push_pattern_text(out: &mut String, pattern: &Pattern) -> Result<(), AllocError>
+    ensures { OnOk result (string_bytes out.new ≡ string_bytes out.old ++
+        pattern_bytes pattern.now) }
+{
+    push_pattern(out, pattern)
 }

@@ -1,5 +1,4 @@
 ghost use Rattle.ig_show.specs.Laws.{CanonicalTokensFollow, CanonicalTextReadsBack};
-ghost use Rattle.ig_show.specs.Laws.{CursorTextsDiffer};
 
 /// The tokens of the canonical text of a grammar follow the rules of the notation as that grammar,
 /// where any tokens do. This law, proved of every grammar, computes nothing.
@@ -16,8 +15,3 @@ pub fn canonical_text_reads_back()
     ig_text::normal_form_is_normal();
     ig_text::normal_ranges_stay();
 }
-
-/// A text is that of one cursor at most. This law computes nothing.
-pub fn cursor_texts_differ()
-    ensures { CursorTextsDiffer }
-{}

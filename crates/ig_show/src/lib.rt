@@ -1,28 +1,13 @@
-//! Texts of grammars, core grammars, forests, trees and cursors, of reports and of the answers of
-//! queries. Those of grammars are canonical.
+//! The canonical text of a grammar, of its expressions and of its patterns. It reads back.
 #![tactic(auto)]
 
-mod core_text;
-mod cursor_text;
 mod expressions;
-mod forest_text;
 mod grammar;
 mod laws;
-mod piece;
-mod query_text;
-mod report;
 mod spelling;
 mod symbols;
-mod tags;
-mod tree_text;
-mod value_lists;
-mod values;
 
-pub use core_text::show_core;
-pub use cursor_text::{CursorFault, push_cursor, read_cursor, show_cursor};
-pub use forest_text::show_forest;
-pub use grammar::{show_expression, show_grammar, show_pattern};
-pub use laws::{canonical_text_reads_back, canonical_tokens_follow, cursor_texts_differ};
-pub use query_text::{show_ambiguous, show_cyclic, show_furthest, show_spans};
-pub use report::{Report, show_report};
-pub use tree_text::{push_tree, show_tree};
+pub use grammar::{
+    push_expression_text, push_pattern_text, show_expression, show_grammar, show_pattern,
+};
+pub use laws::{canonical_text_reads_back, canonical_tokens_follow};

@@ -3,7 +3,7 @@ use crate::letters::letter_core;
 use ig_forest::Forest;
 use ig_item::{Core, RunFault};
 use ig_plain::saturate;
-use ig_show::show_forest;
+use ig_print::show_forest;
 use ig_text::Text;
 use std::alloc::Global;
 use std::test::Fail;

@@ -14,7 +14,7 @@ use Rattle.ig_forest.specs.Unfold.{IsTrim}
 use Rattle.ig_forest.specs.TreeLaws.{TagsNameNonterminals, CursorsAreShort}
 use Rattle.ig_parse.specs.Parses.{IsOver, IsUnparsed, IsForestOf, HasForest}
 use Rattle.ig_query.specs.Report.{IsReport}
-use Rattle.ig_show.specs.declared.report.Report.{Report}
+use Rattle.ig_print.specs.declared.report.Report.{Report}
 use Rattle.ig_tool.specs.Refusals.{dots_text}
 use Rattle.ig_tool.specs.declared.stop.Stop.{Stop}
 use Rattle.ig_tool.specs.declared.stop.Stop.TheVariants as halt

@@ -8,8 +8,8 @@ use Rattle.ig_forest.specs.Cursors.{IsShortCursor}
 use Rattle.ig_forest.specs.Flat.{flat}
 use Rattle.ig_forest.specs.Tags.{TagsAreNamed}
 use Rattle.ig_item.specs.declared.core_grammar.Nonterminal.{Nonterminal}
-use Rattle.ig_show.specs.Laws.{CursorTextsDiffer}
-use Rattle.ig_show.specs.TreeText.{cursor_text}
+use Rattle.ig_print.specs.Laws.{CursorTextsDiffer}
+use Rattle.ig_print.specs.TreeText.{cursor_text}
 use Rattle.ig_walker.specs.Listing.{Listing, HasTree, HasNoTree}
 use Rattle.ig_tool.specs.declared.stop.Stop.{Stop}
 use Rattle.ig_tool.specs.declared.stop.Stop.TheVariants as halt

@@ -9,8 +9,8 @@ use Rattle.ig_meaning.specs.Permitted.{Permitted}
 use Rattle.ig_forest.specs.Forest.{Forest}
 use Rattle.ig_forest.specs.Unfold.{Unfold}
 use Rattle.ig_parse.specs.Laws.{HasNoHighest}
-use Rattle.ig_show.specs.Listed.{line_end}
-use Rattle.ig_show.specs.TreeText.{tree_text, cursor_text}
+use Rattle.ig_print.specs.Listed.{line_end}
+use Rattle.ig_print.specs.TreeText.{tree_text, cursor_text}
 use Rattle.ig_walker.specs.Listed.{Listed}
 
 -- the tree is at most so high; without a depth each tree is

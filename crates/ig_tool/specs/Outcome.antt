@@ -17,12 +17,12 @@ use Rattle.ig_parse.specs.Parses.{IsUnparsed, IsOver, HasForest}
 use Rattle.ig_parse.specs.Laws.{HasNoHighest, PermitsTwo}
 use Rattle.ig_query.specs.Ambiguity.{AreAmbiguous}
 use Rattle.ig_query.specs.Report.{IsReport}
-use Rattle.ig_show.specs.declared.report.Report.{Report}
-use Rattle.ig_show.specs.ReportText.{IsPlace}
-use Rattle.ig_show.specs.Listed.{line_end}
-use Rattle.ig_show.specs.CoreText.{core_text}
-use Rattle.ig_show.specs.ForestText.{forest_text}
-use Rattle.ig_show.specs.QueryText.{ambiguous_text, cyclic_text, spans_text, IsFurthestLine}
+use Rattle.ig_print.specs.declared.report.Report.{Report}
+use Rattle.ig_print.specs.ReportText.{IsPlace}
+use Rattle.ig_print.specs.Listed.{line_end}
+use Rattle.ig_print.specs.CoreText.{core_text}
+use Rattle.ig_print.specs.ForestText.{forest_text}
+use Rattle.ig_print.specs.QueryText.{ambiguous_text, cyclic_text, spans_text, IsFurthestLine}
 use Rattle.ig_tool.specs.declared.status.Status.{Status}
 use Rattle.ig_tool.specs.declared.status.Status.TheVariants as status
 use Rattle.ig_tool.specs.Change.{Change, Fetched, IsCalm, FetchFailed, Stood, Got, Failed, Untouched, Noted}

@@ -11,7 +11,7 @@ use Rattle.ig_forest.specs.Flat.{flat}
 use Rattle.ig_forest.specs.Tags.{TagsAreNamed}
 use Rattle.ig_forest.specs.Cursors.{IsShortCursor}
 use Rattle.ig_heights.specs.Heights.{IsCyclic, HasNoHigher}
-use Rattle.ig_show.specs.TreeText.{cursor_text}
+use Rattle.ig_print.specs.TreeText.{cursor_text}
 use Rattle.ig_walker.specs.Listing as walker
 use Rattle.ig_walker.specs.Listing.{HasTree}
 use Rattle.ig_walker.specs.Listed.{Listed, IsListing}

@@ -11,8 +11,8 @@ use Rattle.ig_query.specs.Ambiguity.{AreAmbiguous}
 use Rattle.ig_query.specs.Report.{IsReport}
 use Rattle.ig_query.specs.Spans.{AreSpansOf, span_cmp}
 use Rattle.ig_parse.specs.Laws.{DeclaresSpan}
-use Rattle.ig_show.specs.QueryText.{ambiguous_text, cyclic_text, spans_text, IsFurthestLine}
-use Rattle.ig_show.specs.declared.report.Report.{Report}
+use Rattle.ig_print.specs.QueryText.{ambiguous_text, cyclic_text, spans_text, IsFurthestLine}
+use Rattle.ig_print.specs.declared.report.Report.{Report}
 use Rattle.ig_tool.specs.Commands as asked
 use Rattle.ig_tool.specs.Commands.{Question}
 

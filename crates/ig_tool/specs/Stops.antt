@@ -22,17 +22,17 @@ use Rattle.ig_core.specs.Lowered.{CoreOf}
 use Rattle.ig_core.specs.Notation.{unchanged}
 use Rattle.ig_forest.specs.Forest.{Forest}
 use Rattle.ig_parse.specs.Parses.{IsUnparsed, IsOver, HasForest}
-use Rattle.ig_show.specs.Listed.{line_end}
-use Rattle.ig_show.specs.CoreText.{core_text}
-use Rattle.ig_show.specs.ForestText.{forest_text}
+use Rattle.ig_print.specs.Listed.{line_end}
+use Rattle.ig_print.specs.CoreText.{core_text}
+use Rattle.ig_print.specs.ForestText.{forest_text}
 use Rattle.ig_load.specs.Summary.{Loads, summary_text}
 use Rattle.ig_load.specs.declared.fault.LoadFault.TheVariants.{Budget}
 use Rattle.ig_load.specs.declared.summary.Summary.{Summary}
 use Rattle.ig_tool.specs.Jobs.{Job}
 use Rattle.ig_tool.specs.Accepted.{IsTextOf, HasFewDots}
 use Rattle.ig_tool.specs.Refusals.{IsRefused, dots_text}
-use Rattle.ig_show.specs.declared.report.Report.{Report}
-use Rattle.ig_show.specs.ReportText.{IsPlace}
+use Rattle.ig_print.specs.declared.report.Report.{Report}
+use Rattle.ig_print.specs.ReportText.{IsPlace}
 use Rattle.ig_tool.specs.Outcome.{MayGive, budget_note, cannot_read_note, cannot_write_note, input_note, no_memory_note, no_parse_note, IsNoParseNote, grammar_note, shown_text, ok_text, Decided, Finishes}
 
 -- a line of two pieces

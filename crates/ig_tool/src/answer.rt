@@ -14,8 +14,8 @@ use ig_grammar::Checked;
 use ig_heights::Heights;
 use ig_item::Items;
 use ig_parse::Parser;
+use ig_print::{show_ambiguous, show_cyclic, show_furthest, show_spans};
 use ig_query::{ambiguous_nodes, spans};
-use ig_show::{show_ambiguous, show_cyclic, show_furthest, show_spans};
 use ig_text::Text;
 use std::alloc::{AllocError, Global};
 

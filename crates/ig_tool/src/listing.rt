@@ -22,7 +22,7 @@ use crate::stop::{Stop, stop_with};
 use ig_forest::{Forest, Tree};
 use ig_heights::Heights;
 use ig_item::Core;
-use ig_show::{CursorFault, cursor_texts_differ, push_cursor, push_tree, read_cursor};
+use ig_print::{CursorFault, cursor_texts_differ, push_cursor, push_tree, read_cursor};
 use ig_walker::{WalkFault, Walker, listings_grow};
 use std::alloc::{AllocError, Global};
 

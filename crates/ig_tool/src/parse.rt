@@ -23,7 +23,7 @@ use ig_item::{Items, RunFault};
 use ig_parse::{
     Parser, ambiguity_is_two_permitted, cyclic_is_without_highest, spans_are_of_declarations,
 };
-use ig_show::{Report, show_forest, show_report};
+use ig_print::{Report, show_forest, show_report};
 use ig_text::Text;
 use itoa::Buffer;
 use std::alloc::{AllocError, Global};

@@ -23,7 +23,8 @@ use ig_grammar::Grammar;
 use ig_notation::{one_reading, texts_are_read_or_refused};
 use ig_outside::{Shelf, Sink};
 use ig_parse::Parser;
-use ig_show::{show_core, show_grammar};
+use ig_print::show_core;
+use ig_show::show_grammar;
 use std::alloc::Global;
 
 /// The line of wrong words.

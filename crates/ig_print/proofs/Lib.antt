@@ -1,0 +1,6 @@
+pub mod Pieces
+pub mod Listing
+pub mod Nested
+pub mod CursorTexts
+pub mod SortedTexts
+pub mod Reporting

@@ -1,0 +1,10 @@
+pub mod Listed
+pub mod ValueText
+pub mod TagText
+pub mod CoreText
+pub mod ForestText
+pub mod TreeText
+pub mod Nesting
+pub mod ReportText
+pub mod QueryText
+pub mod Laws

@@ -1,0 +1,6 @@
+ghost use Rattle.ig_print.specs.Laws.{CursorTextsDiffer};
+
+/// A text is that of one cursor at most. This law computes nothing.
+pub fn cursor_texts_differ()
+    ensures { CursorTextsDiffer }
+{}

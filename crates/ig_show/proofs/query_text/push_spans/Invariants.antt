@@ -1,6 +1,0 @@
-use Rattle.std.proofs.Common.{◌≡◌, ◌++◌, take}
-use Rattle.ig_show.specs.QueryText.{spans_text}
-use Rattle.ig_show.proofs.query_text.push_spans.Given as goal
-
-abbrev pub invariant-loop-span : goal.invariant-loop-span
-invariant-loop-span l = l.out.items ≡ l.fn.out.items ++ spans_text (take l.span-index l.spans)
