@@ -20,7 +20,7 @@ use lib.Signed.{mag}
 use Rattle.ig_show.proofs.Numerals.{decimal_is_numeral}
 use Rattle.ig_show.specs.CanonicalText.{integer_pieces}
 use Rattle.ig_show.specs.Spelling.{class_character, range_spelling}
-use Rattle.ig_show.specs.Writing.{Appends, Adds, IsText}
+use Rattle.ig_show.specs.Writing.{Appends, Adds, AddsBehind, AddsBefore, IsText}
 
 pub if_ok : {T E : Type 0} {P Q : Type 0} (r : Result T E) → OnOk r P → (P → Q) → OnOk r Q
 if_ok (Ok v) p f = f p
@@ -40,6 +40,23 @@ none_added = record { grown = λ ps. refl }
 -- a word that is the text of pieces
 pub says : {a b w : List ℕ} (f : List Piece → List Piece) → Appends a b w → ((ps : List Piece) → text (f ps) ≡ w ++ text ps) → Adds a b f
 says f p e = record { grown = λ ps. p.grown (text ps) ∙ (rw (e ps) refl) }
+
+-- a word before pieces, and behind them
+pub adds_behind : {a b c w : List ℕ} {f : List Piece → List Piece} → Appends a b w → Adds b c f → AddsBehind a c w f
+adds_behind {a} {b} {c} {w} {f} p q = record { grown = λ ps. q.grown ps ∙ p.grown (text (f ps)) }
+
+pub adds_before : {a b c w : List ℕ} {f : List Piece → List Piece} → Adds a b f → Appends b c w → AddsBefore a c w f
+adds_before {a} {b} {c} {w} {f} p q =
+    record { grown = λ ps qs e. q.grown (text ps) ∙ ap (λ z. chars b ++ z) (sym e) ∙ p.grown qs }
+
+-- where the word is the text of pieces
+pub says_behind : {a b w : List ℕ} (f : List Piece → List Piece) {g : List Piece → List Piece} → AddsBehind a b w g →
+    ((ps : List Piece) → text (f ps) ≡ w ++ text ps) → Adds a b (λ ps. f (g ps))
+says_behind {a} {b} {w} f {g} p e = record { grown = λ ps. p.grown ps ∙ ap (λ z. chars a ++ z) (sym (e (g ps))) }
+
+pub says_before : {a b w : List ℕ} (f : List Piece → List Piece) {g : List Piece → List Piece} → AddsBefore a b w g →
+    ((ps : List Piece) → text (f ps) ≡ w ++ text ps) → Adds a b (λ ps. g (f ps))
+says_before f p e = record { grown = λ ps. p.grown ps (f ps) (e ps) }
 
 grows : {a b : List ℕ} (t : List ℕ) → IsUtf8 a → b ≡ a ++ t → Appends a b (chars t)
 grows {a} {b} t u e =

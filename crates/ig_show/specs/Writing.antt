@@ -10,6 +10,14 @@ pub record Appends (before after word : List ℕ) : Type 0 where
 pub record Adds (before after : List ℕ) (shown : List Piece → List Piece) : Type 0 where
   pub grown : (ps : List Piece) → chars after ++ text ps ≡ chars before ++ text (shown ps)
 
+-- the characters grew by the word, and by the pieces that `shown` puts before others
+pub record AddsBehind (before after word : List ℕ) (shown : List Piece → List Piece) : Type 0 where
+  pub grown : (ps : List Piece) → chars after ++ text ps ≡ chars before ++ (word ++ text (shown ps))
+
+-- the characters grew by the pieces that `shown` puts before others, and by the word
+pub record AddsBefore (before after word : List ℕ) (shown : List Piece → List Piece) : Type 0 where
+  pub grown : (ps qs : List Piece) → text qs ≡ word ++ text ps → chars after ++ text ps ≡ chars before ++ text (shown qs)
+
 -- the bytes are the characters in UTF-8
 pub record IsText (bytes characters : List ℕ) : Type 0 where
   pub utf8 : IsUtf8 bytes

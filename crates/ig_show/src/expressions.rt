@@ -8,11 +8,11 @@ ghost use Rattle.ig_show.specs.Pieces.{token, blank};
 ghost use Rattle.ig_show.specs.CanonicalText.{expression_pieces, part_pieces, operator_token};
 ghost use Rattle.ig_show.specs.CanonicalText.{function_name, has_operator, joined, separated};
 ghost use Rattle.ig_show.specs.CanonicalText.{comma, call_pieces, pattern_token};
-ghost use Rattle.ig_show.specs.Writing.{Adds, Appends};
+ghost use Rattle.ig_show.specs.Writing.{Adds, AddsBefore};
 
 use crate::spelling::{push_head, push_integer, push_literal, push_name, push_pattern, push_text};
 use ig_expr::{Expr, Function, Op, Operand};
-use ig_text::Word;
+use ig_text::{Pattern, Word};
 use std::alloc::AllocError;
 
 /// Adds an operator with a space on each side.
@@ -69,10 +69,20 @@ fn has_operator(expression: &Expr) -> bool
     ensures { result ≡ has_operator (expression_of expression.now) }
 {
     match expression {
+        Expr::Int(_) => false,
+        Expr::Bool(_) => false,
+        Expr::Here => false,
+        Expr::Var(_) => false,
         Expr::Not(_) => true,
         Expr::Neg(_) => true,
         Expr::Binary(_, _, _) => true,
-        _ => false,
+        Expr::Of(_, _) => false,
+        Expr::Same(_, _) => false,
+        Expr::Spells(_, _) => false,
+        Expr::Outer(_, _) => false,
+        Expr::Inside(_, _) => false,
+        Expr::FreeBefore(_) => false,
+        Expr::FreeAfter(_) => false,
     }
 }
 
@@ -102,44 +112,35 @@ pub(crate) fn push_expression(out: &mut String, expression: &Expr) -> Result<(),
         }
         Expr::Of(function, a) => {
             push_function(out, *function)?;
-            push_expression(out, a.as_expr())?;
-            push_text(out, ")")
+            push_argument(out, a, ")")
         }
         Expr::Same(a, b) => {
             push_text(out, "same(")?;
-            push_expression(out, a.as_expr())?;
-            push_text(out, ", ")?;
-            push_expression(out, b.as_expr())?;
-            push_text(out, ")")
+            push_argument(out, a, ", ")?;
+            push_argument(out, b, ")")
         }
         Expr::Spells(a, word) => {
             push_text(out, "spells(")?;
-            push_expression(out, a.as_expr())?;
-            push_word_behind(out, word)
+            push_argument(out, a, ", ")?;
+            push_last_word(out, word)
         }
         Expr::Outer(a, b) => {
             push_text(out, "outer(")?;
-            push_expression(out, a.as_expr())?;
-            push_text(out, ", ")?;
-            push_expression(out, b.as_expr())?;
-            push_text(out, ")")
+            push_argument(out, a, ", ")?;
+            push_argument(out, b, ")")
         }
         Expr::Inside(a, b) => {
             push_text(out, "inside(")?;
-            push_expression(out, a.as_expr())?;
-            push_text(out, ", ")?;
-            push_expression(out, b.as_expr())?;
-            push_text(out, ")")
+            push_argument(out, a, ", ")?;
+            push_argument(out, b, ")")
         }
         Expr::FreeBefore(pattern) => {
             push_text(out, "free_before(")?;
-            push_pattern(out, pattern)?;
-            push_text(out, ")")
+            push_last_pattern(out, pattern)
         }
         Expr::FreeAfter(pattern) => {
             push_text(out, "free_after(")?;
-            push_pattern(out, pattern)?;
-            push_text(out, ")")
+            push_last_pattern(out, pattern)
         }
     }
 }
@@ -160,13 +161,31 @@ fn push_part(out: &mut String, part: &Operand) -> Result<(), AllocError>
     }
 }
 
-/// Adds `, `, a literal and `)`.
-fn push_word_behind(out: &mut String, word: &Word) -> Result<(), AllocError>
-    ensures { OnOk result (Adds (string_bytes out.old) (string_bytes out.new)
-        (λ ps. token Comma ∷ blank ∷ token (Literal word.now) ∷ token Close ∷ ps)) }
+/// Adds an argument and what ends it.
+#[cycle(expressions)]
+fn push_argument(out: &mut String, argument: &Operand, end: &str) -> Result<(), AllocError>
+    ensures { OnOk result (AddsBefore (string_bytes out.old) (string_bytes out.new)
+        (chars end.now) (expression_pieces argument.now)) }
 {
-    push_text(out, ", ")?;
+    push_expression(out, argument.as_expr())?;
+    push_text(out, end)
+}
+
+/// Adds a literal and `)`.
+fn push_last_word(out: &mut String, word: &Word) -> Result<(), AllocError>
+    ensures { OnOk result (Adds (string_bytes out.old) (string_bytes out.new)
+        (λ ps. token (Literal word.now) ∷ token Close ∷ ps)) }
+{
     push_literal(out, word)?;
+    push_text(out, ")")
+}
+
+/// Adds a pattern and `)`.
+fn push_last_pattern(out: &mut String, pattern: &Pattern) -> Result<(), AllocError>
+    ensures { OnOk result (Adds (string_bytes out.old) (string_bytes out.new)
+        (λ ps. token (pattern_token pattern.now) ∷ token Close ∷ ps)) }
+{
+    push_pattern(out, pattern)?;
     push_text(out, ")")
 }
 

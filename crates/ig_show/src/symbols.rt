@@ -10,14 +10,15 @@ ghost use Rattle.ig_show.specs.Pieces.{token, blank};
 ghost use Rattle.ig_show.specs.CanonicalText.{symbol_pieces, alternative_pieces};
 ghost use Rattle.ig_show.specs.CanonicalText.{alternatives_pieces, filter_pieces, separated};
 ghost use Rattle.ig_show.specs.CanonicalText.{guard_pieces, let_pieces, bindings_pieces};
-ghost use Rattle.ig_show.specs.CanonicalText.{filter_sign};
-ghost use Rattle.ig_show.specs.Writing.{Adds, Appends};
+ghost use Rattle.ig_show.specs.CanonicalText.{filter_pattern, filter_sign};
+ghost use Rattle.ig_syntax.specs.Token.{Colon, Name};
+ghost use Rattle.ig_show.specs.Writing.{Adds, AddsBefore, AddsBehind};
 
 use crate::expressions::{push_call, push_expression};
 use crate::spelling::{push_class, push_literal, push_name, push_pattern, push_text};
 use ig_expr::Expr;
 use ig_grammar::{Alt, Alts, Filter, Inner, Symbol, Symbols};
-use ig_text::Word;
+use ig_text::{Pattern, Word};
 use std::alloc::AllocError;
 
 /// Adds `when (e)`.
@@ -28,6 +29,15 @@ fn push_guard(out: &mut String, condition: &Expr) -> Result<(), AllocError>
     push_text(out, "when (")?;
     push_expression(out, condition)?;
     push_text(out, ")")
+}
+
+/// Adds a label, with `: ` behind it.
+fn push_label(out: &mut String, name: &Word) -> Result<(), AllocError>
+    ensures { OnOk result (Adds (string_bytes out.old) (string_bytes out.new)
+        (λ ps. token (Name name.now) ∷ token Colon ∷ blank ∷ ps)) }
+{
+    push_name(out, name)?;
+    push_text(out, ": ")
 }
 
 /// Adds `let x = (e)`.
@@ -54,25 +64,36 @@ fn push_bindings(out: &mut String, bindings: &[(Word, Expr)]) -> Result<(), Allo
     Ok(())
 }
 
+/// Adds the sign of a filter and a space.
+fn push_filter_sign(out: &mut String, filter: &Filter) -> Result<(), AllocError>
+    ensures { OnOk result (Adds (string_bytes out.old) (string_bytes out.new)
+        (λ ps. token (filter_sign filter.now) ∷ blank ∷ ps)) }
+{
+    match filter {
+        Filter::NotFollowed(_) => push_text(out, "!>> "),
+        Filter::NotPreceded(_) => push_text(out, "!<< "),
+        Filter::Not(_) => push_text(out, "\\ "),
+    }
+}
+
+/// The pattern of a filter.
+fn filter_pattern(filter: &Filter) -> &Pattern
+    ensures { result.now ≡ filter_pattern filter.now }
+{
+    match filter {
+        Filter::NotFollowed(pattern) => pattern,
+        Filter::NotPreceded(pattern) => pattern,
+        Filter::Not(pattern) => pattern,
+    }
+}
+
 /// Adds a filter: its sign, a space and its pattern.
 fn push_filter(out: &mut String, filter: &Filter) -> Result<(), AllocError>
     ensures { OnOk result (Adds (string_bytes out.old) (string_bytes out.new)
         (filter_pieces filter.now)) }
 {
-    match filter {
-        Filter::NotFollowed(pattern) => {
-            push_text(out, "!>> ")?;
-            push_pattern(out, pattern)
-        }
-        Filter::NotPreceded(pattern) => {
-            push_text(out, "!<< ")?;
-            push_pattern(out, pattern)
-        }
-        Filter::Not(pattern) => {
-            push_text(out, "\\ ")?;
-            push_pattern(out, pattern)
-        }
-    }
+    push_filter_sign(out, filter)?;
+    push_pattern(out, filter_pattern(filter))
 }
 
 /// Adds filters, each with a space before it.
@@ -98,55 +119,32 @@ pub(crate) fn push_symbol(out: &mut String, symbol: &Symbol) -> Result<(), Alloc
         Symbol::Class(class) => push_class(out, class),
         Symbol::Call(name, arguments) => push_call(out, name, arguments.as_slice()),
         Symbol::Label(name, inner) => {
-            push_name(out, name)?;
-            push_text(out, ": ")?;
+            push_label(out, name)?;
             push_inner(out, inner)
         }
         Symbol::Guard(condition) => push_guard(out, condition),
         Symbol::Let(name, value) => push_let(out, name, value),
-        Symbol::Opt(inner) => {
-            push_inner(out, inner)?;
-            push_text(out, "?")
-        }
-        Symbol::Star(inner) => {
-            push_inner(out, inner)?;
-            push_text(out, "*")
-        }
-        Symbol::Plus(inner) => {
-            push_inner(out, inner)?;
-            push_text(out, "+")
-        }
+        Symbol::Opt(inner) => push_ended(out, inner, "?"),
+        Symbol::Star(inner) => push_ended(out, inner, "*"),
+        Symbol::Plus(inner) => push_ended(out, inner, "+"),
         Symbol::SepStar(inner, separator) => {
             push_text(out, "{")?;
-            push_inner(out, inner)?;
-            push_text(out, " ")?;
-            push_inner(out, separator)?;
-            push_text(out, "}*")
+            push_ended(out, inner, " ")?;
+            push_ended(out, separator, "}*")
         }
         Symbol::SepPlus(inner, separator) => {
             push_text(out, "{")?;
-            push_inner(out, inner)?;
-            push_text(out, " ")?;
-            push_inner(out, separator)?;
-            push_text(out, "}+")
+            push_ended(out, inner, " ")?;
+            push_ended(out, separator, "}+")
         }
         Symbol::Group(alternatives) => {
             push_text(out, "(")?;
             push_alternatives(out, alternatives)?;
             push_text(out, ")")
         }
-        Symbol::Offside(inner) => {
-            push_text(out, "offside ")?;
-            push_inner(out, inner)
-        }
-        Symbol::Ignore(inner) => {
-            push_text(out, "ignore ")?;
-            push_inner(out, inner)
-        }
-        Symbol::Align(inner) => {
-            push_text(out, "align ")?;
-            push_inner(out, inner)
-        }
+        Symbol::Offside(inner) => push_marked(out, "offside ", inner),
+        Symbol::Ignore(inner) => push_marked(out, "ignore ", inner),
+        Symbol::Align(inner) => push_marked(out, "align ", inner),
         Symbol::Filtered(inner, filters) => {
             push_inner(out, inner)?;
             push_filters(out, filters.as_slice())
@@ -165,6 +163,26 @@ fn push_inner(out: &mut String, inner: &Inner) -> Result<(), AllocError>
     ensures { OnOk result (Adds (string_bytes out.old) (string_bytes out.new)
         (symbol_pieces inner.now)) }
 {
+    push_symbol(out, inner.as_symbol())
+}
+
+/// Adds a symbol inside another one, and what ends it.
+#[cycle(symbols)]
+fn push_ended(out: &mut String, inner: &Inner, end: &str) -> Result<(), AllocError>
+    ensures { OnOk result (AddsBefore (string_bytes out.old) (string_bytes out.new)
+        (chars end.now) (symbol_pieces inner.now)) }
+{
+    push_symbol(out, inner.as_symbol())?;
+    push_text(out, end)
+}
+
+/// Adds a mark, and the symbol behind it.
+#[cycle(symbols)]
+fn push_marked(out: &mut String, mark: &str, inner: &Inner) -> Result<(), AllocError>
+    ensures { OnOk result (AddsBehind (string_bytes out.old) (string_bytes out.new)
+        (chars mark.now) (symbol_pieces inner.now)) }
+{
+    push_text(out, mark)?;
     push_symbol(out, inner.as_symbol())
 }
 

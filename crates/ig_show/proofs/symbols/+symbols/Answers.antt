@@ -8,50 +8,14 @@ use Rattle.ig_grammar.specs.Alternative.{gathered_alternatives}
 use Rattle.ig_grammar.specs.CodingFalls.{symbol_falls, alternative_falls}
 use Rattle.ig_grammar.specs.View.{symbol_of}
 use Rattle.ig_show.specs.Pieces.{token, blank}
-use Rattle.ig_show.specs.CanonicalText.{alternative_pieces, further_symbols, alternatives_pieces, further_alternatives, separated, filter_pieces, bindings_pieces}
+use Rattle.ig_show.specs.CanonicalText.{symbol_pieces, alternative_pieces, further_symbols, alternatives_pieces, further_alternatives, separated, filter_pieces, bindings_pieces}
 use Rattle.ig_show.proofs.Falling.{other_symbol, other_alternative}
-use Rattle.ig_show.proofs.Steps.{if_ok, adds, says, shown_as, Ahead, first_written, less_ahead, none_ahead}
+use Rattle.ig_show.proofs.Steps.{if_ok, adds, says, says_behind, says_before, adds_behind, adds_before, shown_as, Ahead, first_written, less_ahead, none_ahead}
 use Rattle.ig_show.proofs.symbols.+symbols.Goals as goal
-
-pub push_symbol-returns-in_ok-push_text-in-Label : goal.push_symbol-returns-in_ok-push_text-in-Label
-unfolding chars
-push_symbol-returns-in_ok-push_text-in-Label t c = rw c.in-Label.is (if_ok c.push_inner.result c.push_inner.ensures (λ h. adds c.in_ok-push_name-in-Label.ensures (adds (says (λ ps. token sign.Colon ∷ blank ∷ ps) c.in_ok-push_text-in-Label.ensures (λ _. refl)) h)))
-
-pub push_symbol-returns-in_ok-push_inner-in-Opt : goal.push_symbol-returns-in_ok-push_inner-in-Opt
-unfolding chars
-push_symbol-returns-in_ok-push_inner-in-Opt t c = rw c.in-Opt.is (if_ok c.push_text-in-Opt.result c.push_text-in-Opt.ensures (λ h. adds c.in_ok-push_inner-in-Opt.ensures (says (λ ps. token sign.Question ∷ ps) h (λ _. refl))))
-
-pub push_symbol-returns-in_ok-push_inner-in-Star : goal.push_symbol-returns-in_ok-push_inner-in-Star
-unfolding chars
-push_symbol-returns-in_ok-push_inner-in-Star t c = rw c.in-Star.is (if_ok c.push_text-in-Star.result c.push_text-in-Star.ensures (λ h. adds c.in_ok-push_inner-in-Star.ensures (says (λ ps. token sign.Star ∷ ps) h (λ _. refl))))
-
-pub push_symbol-returns-in_ok-push_inner-in-Plus : goal.push_symbol-returns-in_ok-push_inner-in-Plus
-unfolding chars
-push_symbol-returns-in_ok-push_inner-in-Plus t c = rw c.in-Plus.is (if_ok c.push_text-in-Plus.result c.push_text-in-Plus.ensures (λ h. adds c.in_ok-push_inner-in-Plus.ensures (says (λ ps. token sign.Plus ∷ ps) h (λ _. refl))))
-
-pub push_symbol-returns-in_ok-push_inner-in-SepStar-2 : goal.push_symbol-returns-in_ok-push_inner-in-SepStar-2
-unfolding chars
-push_symbol-returns-in_ok-push_inner-in-SepStar-2 t c = rw c.in-SepStar.is (if_ok c.push_text-in-SepStar-3.result c.push_text-in-SepStar-3.ensures (λ h. adds (says (λ ps. token sign.OpenBrace ∷ ps) c.in_ok-push_text-in-SepStar.ensures (λ _. refl)) (adds c.in_ok-push_inner-in-SepStar.ensures (adds (says (λ ps. blank ∷ ps) c.in_ok-push_text-in-SepStar-2.ensures (λ _. refl)) (adds c.in_ok-push_inner-in-SepStar-2.ensures (says (λ ps. token sign.CloseBrace ∷ token sign.Star ∷ ps) h (λ _. refl)))))))
-
-pub push_symbol-returns-in_ok-push_inner-in-SepPlus-2 : goal.push_symbol-returns-in_ok-push_inner-in-SepPlus-2
-unfolding chars
-push_symbol-returns-in_ok-push_inner-in-SepPlus-2 t c = rw c.in-SepPlus.is (if_ok c.push_text-in-SepPlus-3.result c.push_text-in-SepPlus-3.ensures (λ h. adds (says (λ ps. token sign.OpenBrace ∷ ps) c.in_ok-push_text-in-SepPlus.ensures (λ _. refl)) (adds c.in_ok-push_inner-in-SepPlus.ensures (adds (says (λ ps. blank ∷ ps) c.in_ok-push_text-in-SepPlus-2.ensures (λ _. refl)) (adds c.in_ok-push_inner-in-SepPlus-2.ensures (says (λ ps. token sign.CloseBrace ∷ token sign.Plus ∷ ps) h (λ _. refl)))))))
 
 pub push_symbol-returns-in_ok-push_alternatives-in-Group : goal.push_symbol-returns-in_ok-push_alternatives-in-Group
 unfolding chars
 push_symbol-returns-in_ok-push_alternatives-in-Group t c = rw c.in-Group.is (if_ok c.push_text-in-Group-2.result c.push_text-in-Group-2.ensures (λ h. adds (says (λ ps. token Open ∷ ps) c.in_ok-push_text-in-Group.ensures (λ _. refl)) (adds c.in_ok-push_alternatives-in-Group.ensures (says (λ ps. token Close ∷ ps) h (λ _. refl)))))
-
-pub push_symbol-returns-in_ok-push_text-in-Offside : goal.push_symbol-returns-in_ok-push_text-in-Offside
-unfolding chars
-push_symbol-returns-in_ok-push_text-in-Offside t c = rw c.in-Offside.is (if_ok c.push_inner-in-Offside.result c.push_inner-in-Offside.ensures (λ h. adds (says (λ ps. token sign.Offside ∷ blank ∷ ps) c.in_ok-push_text-in-Offside.ensures (λ _. refl)) h))
-
-pub push_symbol-returns-in_ok-push_text-in-Ignore : goal.push_symbol-returns-in_ok-push_text-in-Ignore
-unfolding chars
-push_symbol-returns-in_ok-push_text-in-Ignore t c = rw c.in-Ignore.is (if_ok c.push_inner-in-Ignore.result c.push_inner-in-Ignore.ensures (λ h. adds (says (λ ps. token sign.Ignore ∷ blank ∷ ps) c.in_ok-push_text-in-Ignore.ensures (λ _. refl)) h))
-
-pub push_symbol-returns-in_ok-push_text-in-Align : goal.push_symbol-returns-in_ok-push_text-in-Align
-unfolding chars
-push_symbol-returns-in_ok-push_text-in-Align t c = rw c.in-Align.is (if_ok c.push_inner-in-Align.result c.push_inner-in-Align.ensures (λ h. adds (says (λ ps. token sign.Align ∷ blank ∷ ps) c.in_ok-push_text-in-Align.ensures (λ _. refl)) h))
 
 pub push_symbol-returns-in_ok-push_inner-in-Filtered : goal.push_symbol-returns-in_ok-push_inner-in-Filtered
 unfolding chars
@@ -114,3 +78,50 @@ push_alternatives-push_alternative-requires-in-loop-other t c = (
   ),
   tt,
 )
+
+pub push_symbol-returns-in_ok-push_label-in-Label : goal.push_symbol-returns-in_ok-push_label-in-Label
+push_symbol-returns-in_ok-push_label-in-Label t c = rw c.in-Label.is (if_ok c.push_inner.result c.push_inner.ensures (λ h. adds c.in_ok-push_label-in-Label.ensures h))
+
+pub push_symbol-returns-in-Opt : goal.push_symbol-returns-in-Opt
+unfolding chars
+push_symbol-returns-in-Opt t c = rw c.in-Opt.is (if_ok c.push_ended.result c.push_ended.ensures (λ h. says_before (λ ps. token sign.Question ∷ ps) h (λ _. refl)))
+
+pub push_symbol-returns-in-Star : goal.push_symbol-returns-in-Star
+unfolding chars
+push_symbol-returns-in-Star t c = rw c.in-Star.is (if_ok c.push_ended-in-Star.result c.push_ended-in-Star.ensures (λ h. says_before (λ ps. token sign.Star ∷ ps) h (λ _. refl)))
+
+pub push_symbol-returns-in-Plus : goal.push_symbol-returns-in-Plus
+unfolding chars
+push_symbol-returns-in-Plus t c = rw c.in-Plus.is (if_ok c.push_ended-in-Plus.result c.push_ended-in-Plus.ensures (λ h. says_before (λ ps. token sign.Plus ∷ ps) h (λ _. refl)))
+
+pub push_symbol-returns-in_ok-push_ended-in-SepStar : goal.push_symbol-returns-in_ok-push_ended-in-SepStar
+unfolding chars
+push_symbol-returns-in_ok-push_ended-in-SepStar t c =
+    rw c.in-SepStar.is (if_ok c.push_ended-in-SepStar-2.result c.push_ended-in-SepStar-2.ensures
+    (λ h. adds (says (λ ps. token sign.OpenBrace ∷ ps) c.in_ok-push_text-in-SepStar.ensures (λ _. refl))
+    (adds (says_before (λ ps. blank ∷ ps) c.in_ok-push_ended-in-SepStar.ensures (λ _. refl)) (says_before (λ ps. token sign.CloseBrace ∷ token sign.Star ∷ ps) h (λ _. refl)))))
+
+pub push_symbol-returns-in_ok-push_ended-in-SepPlus : goal.push_symbol-returns-in_ok-push_ended-in-SepPlus
+unfolding chars
+push_symbol-returns-in_ok-push_ended-in-SepPlus t c =
+    rw c.in-SepPlus.is (if_ok c.push_ended-in-SepPlus-2.result c.push_ended-in-SepPlus-2.ensures
+    (λ h. adds (says (λ ps. token sign.OpenBrace ∷ ps) c.in_ok-push_text-in-SepPlus.ensures (λ _. refl))
+    (adds (says_before (λ ps. blank ∷ ps) c.in_ok-push_ended-in-SepPlus.ensures (λ _. refl)) (says_before (λ ps. token sign.CloseBrace ∷ token sign.Plus ∷ ps) h (λ _. refl)))))
+
+pub push_symbol-returns-in-Offside : goal.push_symbol-returns-in-Offside
+unfolding chars
+push_symbol-returns-in-Offside t c = rw c.in-Offside.is (if_ok c.push_marked.result c.push_marked.ensures (λ h. says_behind (λ ps. token sign.Offside ∷ blank ∷ ps) h (λ _. refl)))
+
+pub push_symbol-returns-in-Ignore : goal.push_symbol-returns-in-Ignore
+unfolding chars
+push_symbol-returns-in-Ignore t c = rw c.in-Ignore.is (if_ok c.push_marked-in-Ignore.result c.push_marked-in-Ignore.ensures (λ h. says_behind (λ ps. token sign.Ignore ∷ blank ∷ ps) h (λ _. refl)))
+
+pub push_symbol-returns-in-Align : goal.push_symbol-returns-in-Align
+unfolding chars
+push_symbol-returns-in-Align t c = rw c.in-Align.is (if_ok c.push_marked-in-Align.result c.push_marked-in-Align.ensures (λ h. says_behind (λ ps. token sign.Align ∷ blank ∷ ps) h (λ _. refl)))
+
+pub push_ended-returns : goal.push_ended-returns
+push_ended-returns t c = if_ok c.push_text.result c.push_text.ensures (λ h. adds_before (shown_as symbol_pieces c.as_symbol.ensures c.in_ok-push_symbol.ensures) h)
+
+pub push_marked-returns : goal.push_marked-returns
+push_marked-returns t c = if_ok c.push_symbol.result c.push_symbol.ensures (λ h. adds_behind c.in_ok-push_text.ensures (shown_as symbol_pieces c.as_symbol.ensures h))

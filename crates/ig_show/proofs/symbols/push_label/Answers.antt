@@ -1,0 +1,10 @@
+use Rattle.std.proofs.Common.{◌∷◌, refl}
+use Rattle.std.specs.Str.{chars}
+use Rattle.ig_syntax.specs.Token.{Colon}
+use Rattle.ig_show.specs.Pieces.{token, blank}
+use Rattle.ig_show.proofs.Steps.{if_ok, adds, says}
+use Rattle.ig_show.proofs.symbols.push_label.Goals as goal
+
+pub returns : goal.returns
+unfolding chars
+returns c = if_ok c.push_text.result c.push_text.ensures (λ h. adds c.in_ok-push_name.ensures (says (λ ps. token Colon ∷ blank ∷ ps) h (λ _. refl)))
