@@ -37,6 +37,9 @@ appends {a} {b} {c} {u} {v} p q = record { grown = λ s. q.grown s ∙ p.grown (
 pub none_added : {a : List ℕ} → Adds a a (λ ps. ps)
 none_added = record { grown = λ ps. refl }
 
+pub nothing_appended : {a : List ℕ} → Appends a a []
+nothing_appended = record { grown = λ s. refl }
+
 -- a word that is the text of pieces
 pub says : {a b w : List ℕ} (f : List Piece → List Piece) → Appends a b w → ((ps : List Piece) → text (f ps) ≡ w ++ text ps) → Adds a b f
 says f p e = record { grown = λ ps. p.grown (text ps) ∙ (rw (e ps) refl) }

@@ -3,12 +3,12 @@
 ghost use Rattle.std.specs.Prelude.{◌≡◌, ◌++◌, ◌∷◌, [], OnOk, IfOk, Some, IsUtf8, map, chars};
 ghost use Rattle.std.specs.Prelude.{string_bytes};
 ghost use Rattle.ig_expr.specs.View.{expression_of};
-ghost use Rattle.ig_syntax.specs.Token.{Name, Head, Semicolon};
+ghost use Rattle.ig_syntax.specs.Token.{Name, Head, Semicolon, Colon};
 ghost use Rattle.ig_show.specs.Pieces.{token, blank, line_end};
 ghost use Rattle.ig_show.specs.CanonicalText.{text_of, expression_text, pattern_text};
 ghost use Rattle.ig_show.specs.CanonicalText.{associativity_pieces, level_pieces, levels_pieces};
 ghost use Rattle.ig_show.specs.CanonicalText.{parameter_pieces, head_pieces, joined, comma};
-ghost use Rattle.ig_show.specs.CanonicalText.{declaration_token, declaration_pieces, separated};
+ghost use Rattle.ig_show.specs.CanonicalText.{declaration_token, declaration_pieces, kind_token, separated};
 ghost use Rattle.ig_show.specs.CanonicalText.{start_pieces, expression_bytes, pattern_bytes};
 ghost use Rattle.ig_show.specs.Writing.{Adds, IsText};
 
@@ -58,17 +58,25 @@ fn push_levels(out: &mut String, levels: &[Level]) -> Result<(), AllocError>
     Ok(())
 }
 
+/// Adds `: ` and the kind of a parameter.
+fn push_parameter_kind(out: &mut String, kind: Kind) -> Result<(), AllocError>
+    ensures { OnOk result (Adds (string_bytes out.old) (string_bytes out.new)
+        (λ ps. token Colon ∷ blank ∷ token (kind_token kind) ∷ ps)) }
+{
+    match kind {
+        Kind::Int => push_text(out, ": int"),
+        Kind::Bool => push_text(out, ": bool"),
+        Kind::Span => push_text(out, ": span"),
+    }
+}
+
 /// Adds a parameter: its name, `: ` and its kind.
 fn push_parameter(out: &mut String, param: &Param) -> Result<(), AllocError>
     ensures { OnOk result (Adds (string_bytes out.old) (string_bytes out.new)
         (parameter_pieces param.now)) }
 {
     push_name(out, &param.name)?;
-    match param.kind {
-        Kind::Int => push_text(out, ": int"),
-        Kind::Bool => push_text(out, ": bool"),
-        Kind::Span => push_text(out, ": span"),
-    }
+    push_parameter_kind(out, param.kind)
 }
 
 /// Adds parameters, with `, ` between two.

@@ -11,7 +11,7 @@ ghost use Rattle.ig_show.specs.CanonicalText.{symbol_pieces, alternative_pieces}
 ghost use Rattle.ig_show.specs.CanonicalText.{alternatives_pieces, filter_pieces, separated};
 ghost use Rattle.ig_show.specs.CanonicalText.{guard_pieces, let_pieces, bindings_pieces};
 ghost use Rattle.ig_show.specs.CanonicalText.{filter_pattern, filter_sign};
-ghost use Rattle.ig_syntax.specs.Token.{Colon, Name};
+ghost use Rattle.ig_syntax.specs.Token.{Colon, Name, OpenBrace};
 ghost use Rattle.ig_show.specs.Writing.{Adds, AddsBefore, AddsBehind};
 
 use crate::expressions::{push_call, push_expression};
@@ -128,13 +128,11 @@ pub(crate) fn push_symbol(out: &mut String, symbol: &Symbol) -> Result<(), Alloc
         Symbol::Star(inner) => push_ended(out, inner, "*"),
         Symbol::Plus(inner) => push_ended(out, inner, "+"),
         Symbol::SepStar(inner, separator) => {
-            push_text(out, "{")?;
-            push_ended(out, inner, " ")?;
+            push_opened(out, inner)?;
             push_ended(out, separator, "}*")
         }
         Symbol::SepPlus(inner, separator) => {
-            push_text(out, "{")?;
-            push_ended(out, inner, " ")?;
+            push_opened(out, inner)?;
             push_ended(out, separator, "}+")
         }
         Symbol::Group(alternatives) => {
@@ -174,6 +172,17 @@ fn push_ended(out: &mut String, inner: &Inner, end: &str) -> Result<(), AllocErr
 {
     push_symbol(out, inner.as_symbol())?;
     push_text(out, end)
+}
+
+/// Adds `{`, a symbol inside another one and a space.
+#[cycle(symbols)]
+fn push_opened(out: &mut String, inner: &Inner) -> Result<(), AllocError>
+    ensures { OnOk result (Adds (string_bytes out.old) (string_bytes out.new)
+        (λ ps. token OpenBrace ∷ symbol_pieces inner.now (blank ∷ ps))) }
+{
+    push_text(out, "{")?;
+    push_symbol(out, inner.as_symbol())?;
+    push_text(out, " ")
 }
 
 /// Adds a mark, and the symbol behind it.

@@ -15,7 +15,7 @@ use Rattle.ig_show.proofs.symbols.+symbols.Goals as goal
 
 pub push_symbol-returns-in_ok-push_alternatives-in-Group : goal.push_symbol-returns-in_ok-push_alternatives-in-Group
 unfolding chars
-push_symbol-returns-in_ok-push_alternatives-in-Group t c = rw c.in-Group.is (if_ok c.push_text-in-Group-2.result c.push_text-in-Group-2.ensures (λ h. adds (says (λ ps. token Open ∷ ps) c.in_ok-push_text-in-Group.ensures (λ _. refl)) (adds c.in_ok-push_alternatives-in-Group.ensures (says (λ ps. token Close ∷ ps) h (λ _. refl)))))
+push_symbol-returns-in_ok-push_alternatives-in-Group t c = rw c.in-Group.is (if_ok c.push_text-in-Group.result c.push_text-in-Group.ensures (λ h. adds (says (λ ps. token Open ∷ ps) c.in_ok-push_text-in-Group.ensures (λ _. refl)) (adds c.in_ok-push_alternatives-in-Group.ensures (says (λ ps. token Close ∷ ps) h (λ _. refl)))))
 
 pub push_symbol-returns-in_ok-push_inner-in-Filtered : goal.push_symbol-returns-in_ok-push_inner-in-Filtered
 unfolding chars
@@ -94,19 +94,17 @@ pub push_symbol-returns-in-Plus : goal.push_symbol-returns-in-Plus
 unfolding chars
 push_symbol-returns-in-Plus t c = rw c.in-Plus.is (if_ok c.push_ended-in-Plus.result c.push_ended-in-Plus.ensures (λ h. says_before (λ ps. token sign.Plus ∷ ps) h (λ _. refl)))
 
-pub push_symbol-returns-in_ok-push_ended-in-SepStar : goal.push_symbol-returns-in_ok-push_ended-in-SepStar
+pub push_symbol-returns-in_ok-push_opened-in-SepStar : goal.push_symbol-returns-in_ok-push_opened-in-SepStar
 unfolding chars
-push_symbol-returns-in_ok-push_ended-in-SepStar t c =
-    rw c.in-SepStar.is (if_ok c.push_ended-in-SepStar-2.result c.push_ended-in-SepStar-2.ensures
-    (λ h. adds (says (λ ps. token sign.OpenBrace ∷ ps) c.in_ok-push_text-in-SepStar.ensures (λ _. refl))
-    (adds (says_before (λ ps. blank ∷ ps) c.in_ok-push_ended-in-SepStar.ensures (λ _. refl)) (says_before (λ ps. token sign.CloseBrace ∷ token sign.Star ∷ ps) h (λ _. refl)))))
+push_symbol-returns-in_ok-push_opened-in-SepStar t c =
+    rw c.in-SepStar.is (if_ok c.push_ended-in-SepStar.result c.push_ended-in-SepStar.ensures
+    (λ h. adds c.in_ok-push_opened-in-SepStar.ensures (says_before (λ ps. token sign.CloseBrace ∷ token sign.Star ∷ ps) h (λ _. refl))))
 
-pub push_symbol-returns-in_ok-push_ended-in-SepPlus : goal.push_symbol-returns-in_ok-push_ended-in-SepPlus
+pub push_symbol-returns-in_ok-push_opened-in-SepPlus : goal.push_symbol-returns-in_ok-push_opened-in-SepPlus
 unfolding chars
-push_symbol-returns-in_ok-push_ended-in-SepPlus t c =
-    rw c.in-SepPlus.is (if_ok c.push_ended-in-SepPlus-2.result c.push_ended-in-SepPlus-2.ensures
-    (λ h. adds (says (λ ps. token sign.OpenBrace ∷ ps) c.in_ok-push_text-in-SepPlus.ensures (λ _. refl))
-    (adds (says_before (λ ps. blank ∷ ps) c.in_ok-push_ended-in-SepPlus.ensures (λ _. refl)) (says_before (λ ps. token sign.CloseBrace ∷ token sign.Plus ∷ ps) h (λ _. refl)))))
+push_symbol-returns-in_ok-push_opened-in-SepPlus t c =
+    rw c.in-SepPlus.is (if_ok c.push_ended-in-SepPlus.result c.push_ended-in-SepPlus.ensures
+    (λ h. adds c.in_ok-push_opened-in-SepPlus.ensures (says_before (λ ps. token sign.CloseBrace ∷ token sign.Plus ∷ ps) h (λ _. refl))))
 
 pub push_symbol-returns-in-Offside : goal.push_symbol-returns-in-Offside
 unfolding chars
@@ -125,3 +123,10 @@ push_ended-returns t c = if_ok c.push_text.result c.push_text.ensures (λ h. add
 
 pub push_marked-returns : goal.push_marked-returns
 push_marked-returns t c = if_ok c.push_symbol.result c.push_symbol.ensures (λ h. adds_behind c.in_ok-push_text.ensures (shown_as symbol_pieces c.as_symbol.ensures h))
+
+pub push_opened-returns : goal.push_opened-returns
+unfolding chars
+push_opened-returns t c =
+    if_ok c.push_text-2.result c.push_text-2.ensures
+    (λ h. adds (says (λ ps. token sign.OpenBrace ∷ ps) c.in_ok-push_text.ensures (λ _. refl))
+    (adds (shown_as symbol_pieces c.as_symbol.ensures c.in_ok-push_symbol.ensures) (says (λ ps. blank ∷ ps) h (λ _. refl))))
