@@ -1,7 +1,7 @@
 -- Texts of lists that a loop writes.
 use Rattle.std.proofs.Common.{◌≡◌, ◌∙◌, ap, sym, ℕ, suc, ◌+◌, ◌≤◌, List, [], ◌∷◌, ◌++◌, Some, refl, length, take, drop, append_assoc, map, slice_get, arith}
 use Rattle.std.specs.Prelude.{flat_map, codes}
-use Rattle.std.proofs.lemmas.List.{take_all, at_drop_more}
+use Rattle.std.proofs.lemmas.List.{take_all, at_drop_more, append-nil, drop_all}
 use Rattle.std.proofs.lemmas.Option.{slice_get_within, get_or_from_slice_get}
 use Rattle.ig_print.specs.Listed.{comma_separated, numbered_texts}
 
@@ -44,3 +44,9 @@ next_numbered shown xs k x a {b} {whole} there left written =
     ap (λ n. b ++ numbered_texts shown n (drop (k + 1) xs)) more ∙
     ap (λ z. z ++ numbered_texts shown (suc k) (drop (k + 1) xs)) written ∙ append_assoc a (shown k x) (numbered_texts shown (suc k) (drop (k + 1) xs)) ∙
     ap (λ z. a ++ z) (sym (next (numbered_texts shown k) xs k x there)) ∙ left
+
+-- where nothing is left, all is written
+pub none_numbered : {A : Type 0} (shown : ℕ → A → List ℕ) (xs : List A) (k : ℕ) (a : List ℕ) {whole : List ℕ} → length xs ≤ k →
+    a ++ numbered_texts shown k (drop k xs) ≡ whole → a ≡ whole
+none_numbered shown xs k a all left =
+    sym (append-nil a) ∙ ap (λ z. a ++ numbered_texts shown k z) (sym (drop_all k xs all)) ∙ left

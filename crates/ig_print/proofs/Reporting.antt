@@ -1,5 +1,6 @@
 -- The list of what is expected.
 use Rattle.std.proofs.Common.{◌≡◌, ◌∙◌, ap, sym, ℕ, List, [], ◌∷◌, ◌++◌, refl, map, length, append_assoc, subst}
+use Rattle.std.proofs.lemmas.Grind.{flat_map-append}
 use Rattle.std.specs.Prelude.{flat_map, codes, Bool, false, ◌==◌}
 use Rattle.ig_text.specs.declared.pattern.Pattern.{Pattern}
 use Rattle.ig_print.specs.ReportText.{AddsPlace, AreTextsOf, end_texts, list_text, place_text}
@@ -9,10 +10,6 @@ use Rattle.ig_print.specs.declared.report.Report.{Report}
 
 abbrev pub behind_comma : List ℕ → List ℕ
 behind_comma text = codes ", " ++ text
-
-flat_map-append : {A B : Type 0} (f : A → List B) (xs ys : List A) → flat_map f (xs ++ ys) ≡ flat_map f xs ++ flat_map f ys
-flat_map-append f [] ys = refl
-flat_map-append f (x ∷ xs) ys = ap (λ z. f x ++ z) (flat_map-append f xs ys) ∙ sym (append_assoc (f x) (flat_map f xs) (flat_map f ys))
 
 -- no texts, and maybe the end
 pub none_listed : {A : Type 0} (shown : A → List ℕ) (xs : List A) (a : List ℕ) {b : List ℕ} (end : Bool) → length xs ≡ 0 →

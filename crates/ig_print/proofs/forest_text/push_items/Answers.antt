@@ -1,11 +1,16 @@
-use Rattle.std.proofs.Common.{◌∙◌, ap, sym}
+use Rattle.std.proofs.Common.{◌∙◌, ◌≤◌, ap, sym, subst}
 use Rattle.std.specs.Prelude.{option_map}
 use Rattle.ig_forest.specs.CodeViews.{item_node_view}
 use Rattle.ig_print.specs.ForestText.{item_text}
-use Rattle.ig_print.proofs.Listing.{next_numbered}
+use Rattle.ig_print.proofs.Listing.{next_numbered, none_numbered}
 use Rattle.ig_print.proofs.forest_text.push_items.Goals as goal
 
 pub loop-number-preserved : goal.loop-number-preserved
 loop-number-preserved c =
     next_numbered item_text c.args.forest.now.items c.loop-number.number (item_node_view c.in-Some.item) c.loop-number.out.items
     (sym c.item.ensures ∙ ap (option_map item_node_view) c.in-Some.is) c.loop-number.invariant c.in_ok-push_item.ensures
+
+pub returns : goal.returns
+returns c =
+    none_numbered item_text c.args.forest.now.items c.loop-number.number c.loop-number.out.items
+    (subst (λ n. n ≤ c.loop-number.number) c.items-number-end.ensures c.loop-number-test.false) c.loop-number.invariant
