@@ -2,8 +2,9 @@
 use Rattle.std.proofs.Common.{◌≡◌, ◌↔◌, ⊎_elim, inl, inr, ℕ, zero, suc, ◌+◌, ◌≤◌, List, [], ◌∷◌, Option, Some, None, take, Bool, true, false, if◌then◌else◌, IsTrue, length, Contains, refl, sym, ap, ◌∙◌, subst, arith}
 use Rattle.std.specs.List.{filter_map}
 use Rattle.std.specs.Prelude.{ℤ, pos, nat_le}
+use Rattle.std.proofs.lemmas.Bool.Decides.{nat_tests}
 use Rattle.std.proofs.lemmas.Option.{same_Some}
-use Rattle.ig_text.specs.Lines.{since_line_feed, is_line_feed, line_of, column_at, column_of}
+use Rattle.ig_text.specs.Lines.{since_line_feed, is_line_feed, line_at, line_of, column_at, column_of}
 use Rattle.ig_text.specs.declared.pattern.Pattern.{Pattern}
 use Rattle.ig_item.specs.Items.{Item}
 use Rattle.ig_item.specs.Laws.{BehindIsLookedUp, ItemsAreInText}
@@ -83,6 +84,21 @@ since_step n c cs false again later = omega (arith, later)
 since_small : (n : ℕ) (xs : List ℕ) → since_line_feed n xs ≤ n + length xs
 since_small n [] = omega arith
 since_small n (c ∷ cs) = since_step n c cs (is_line_feed c) (since_small 0 cs) (since_small (n + 1) cs)
+
+-- a position within the text has a line, which is the one that is read
+pub line_there : (text : List ℕ) (p : ℕ) (o : Option ℕ) → p ≤ length text → o ≡ line_at text p → o ≡ None → ⊥
+line_there text p o within read none = by (nat_le p (length text)) refl (sym read ∙ none)
+  where
+    by : (b : Bool) → nat_le p (length text) ≡ b → (if b then Some (line_of text p) else None) ≡ None → ⊥
+    by true e same = cc
+    by false e same = grind (arith, nat_tests)
+
+pub line_number : (text : List ℕ) (p line : ℕ) (o : Option ℕ) → o ≡ line_at text p → o ≡ Some line → line ≡ line_of text p
+line_number text p line o read some = by (nat_le p (length text)) (sym read ∙ some)
+  where
+    by : (b : Bool) → (if b then Some (line_of text p) else None) ≡ Some line → line ≡ line_of text p
+    by true e = sym (same_Some _ line e)
+    by false e = cc
 
 -- the column that is read
 pub column_number : (text : List ℕ) (p : ℕ) (z column : ℤ) (o : Option ℤ) → z ≡ pos p → o ≡ column_at text z → o ≡ Some column →

@@ -17,7 +17,7 @@ use indexmap::IndexSet;
 use std::alloc::{AllocError, Global};
 
 /// A dot, from 0, of an alternative, from 1, of a nonterminal, from 0.
-#[derive(Clone, Copy, PartialEq, Eq, Hash, Debug)]
+#[derive(Clone, Copy, PartialEq, Eq, Hash)]
 pub(crate) struct Dot {
     pub nonterminal: u32,
     pub alternative: u32,
