@@ -1,7 +1,7 @@
 -- The table of the kinds of declarations, from the last declaration to the first.
 use Rattle.std.proofs.Common.{◌≡◌, ◌∙◌, ℕ, suc, ◌≤◌, List, ◌∷◌, Option, Some, Bool, cond, true, false, ◌&&◌, not, refl, sym, ap, ap₂, arith, length, drop, get_or, if◌then◌else◌, drop-cons}
 use Rattle.std.specs.Prelude.{bytes_eq, encode_utf8_all}
-use Rattle.std.specs.Cmp.Lexicographic.{slice_cmp}
+use Rattle.std.specs.Cmp.Lexicographic.{bytes_decides, slice_cmp}
 use Rattle.std.specs.Ordering.{nat_cmp}
 use Rattle.std.specs.BTreeMap as tree
 use Rattle.std.specs.BTreeMap.{BTreeMap}
@@ -15,9 +15,8 @@ use Rattle.ig_grammar.specs.declared.declaration.Decl.{Decl}
 use Rattle.ig_grammar.specs.declared.declaration.DeclKind.{DeclKind}
 use Rattle.ig_grammar.specs.declared.place.Shape.{Shape}
 use Rattle.ig_rewrite.specs.Rooted.{is_root}
-use Rattle.ig_blocks.specs.Blocks.{kind_called}
+use Rattle.ig_blocks_laws.specs.Blocks.{kind_called}
 use Rattle.ig_blocks.specs.Code.{kind_by}
-use Rattle.ig_blocks.proofs.Looking.{if_true, if_false, same_word}
 
 -- the table, and the kinds of the declarations from a place on
 abbrev pub Has : BTreeMap (Bor (List ℕ)) DeclKind → List Decl → List Shape → Type 0
@@ -36,14 +35,14 @@ has_more m t d ds shape shapes bytes w h plain b v u =
         let p : encode_utf8_all d.name ≡ encode_utf8_all name = sym b ∙ (bytes_eq-Decides bytes (encode_utf8_all name)).0 q in
         let y : kind_by t name ≡ w = rw q at s in
         let here : (is_word d.name name && not (is_root shape)) ≡ true =
-        ap₂ (λ u v. u && not v) (same_word d.name name (encodes_same d.name name p)) plain in
-        y ∙ v ∙ sym (if_true (is_word d.name name && not (is_root shape)) (Some d.kind) (kind_called ds shapes name) here)
+        ap₂ (λ u v. u && not v) ((bytes_decides d.name name).1 (encodes_same d.name name p)) plain in
+        y ∙ v ∙ sym (ap (λ z. if z then Some d.kind else kind_called ds shapes name) here)
     go name false q s =
         let y : kind_by t name ≡ kind_by m name = rw q at s in
         let other : is_word d.name name ≡ false =
         differs d.name name (λ p. let z : bytes_eq bytes (encode_utf8_all name) ≡ true = (bytes_eq-Decides bytes (encode_utf8_all name)).1 (b ∙ ap encode_utf8_all p) in cc) in
         let there : (is_word d.name name && not (is_root shape)) ≡ false = ap (λ u. u && not (is_root shape)) other in
-        y ∙ h name ∙ sym (if_false (is_word d.name name && not (is_root shape)) (Some d.kind) (kind_called ds shapes name) there)
+        y ∙ h name ∙ sym (ap (λ z. if z then Some d.kind else kind_called ds shapes name) there)
 
 -- the root in front is not called
 root_passed : (d : Decl) (ds : List Decl) (shape : Shape) (shapes : List Shape) (name : List ℕ) → is_root shape ≡ true →
@@ -55,7 +54,7 @@ root_passed d ds shape shapes name root = go (is_word d.name name)
     there false = refl
 
     go : (b : Bool) → (if b && not (is_root shape) then Some d.kind else kind_called ds shapes name) ≡ kind_called ds shapes name
-    go b = if_false (b && not (is_root shape)) (Some d.kind) (kind_called ds shapes name) (there b)
+    go b = ap (λ z. if z then Some d.kind else kind_called ds shapes name) (there b)
 
 module _ (decls : List Decl) (shapes : List Shape) (n i : ℕ) (d : Decl) (r shape : Shape) (beside : length shapes ≡ length decls) (next : n ≡ suc i) (within : n ≤ length decls)
     (read : d ≡ get_or decls i d) (shaped : shape ≡ get_or shapes i r) where

@@ -9,10 +9,10 @@ use Rattle.ig_expr.specs.Expression.{Expression}
 use Rattle.ig_grammar.specs.Binding.{Binding}
 use Rattle.ig_grammar.specs.declared.declaration.DeclKind.{DeclKind}
 use Rattle.ig_grammar.specs.declared.place.Shape.{Shape}
-use Rattle.ig_blocks.specs.Setting as setting
-use Rattle.ig_blocks.specs.Setting.{Setting}
+use Rattle.ig_blocks_laws.specs.Setting as setting
+use Rattle.ig_blocks_laws.specs.Setting.{Setting}
 use Rattle.ig_rewrite.specs.Rooted.{is_root}
-use Rattle.ig_blocks.specs.Blocks.{paired_by}
+use Rattle.ig_blocks_laws.specs.Blocks.{paired_by}
 use Rattle.ig_blocks.specs.declared.guide.Guide.{Guide}
 use Rattle.ig_blocks.specs.declared.pairs.Pair.{Pair}
 use Rattle.ig_blocks.specs.declared.pairs.Pair.TheVariants.{Lacking, Carried, Opened, Cleared}

@@ -1,6 +1,1 @@
-pub mod Allowed
-pub mod Setting
-pub mod Body
-pub mod Blocks
 pub mod Code
-pub mod Laws

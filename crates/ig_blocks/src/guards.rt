@@ -3,8 +3,8 @@ ghost use Rattle.std.specs.Prelude.{◌≡◌, [], ◌∷◌, ◌++◌, IfOk, On
 ghost use Rattle.ig_expr.specs.View.{expression_of};
 ghost use Rattle.ig_grammar.specs.View.{symbol_of};
 ghost use Rattle.ig_grammar.specs.Symbol as tree;
-ghost use Rattle.ig_blocks.specs.Setting.{guards, column_guards, wrapped};
-ghost use Rattle.ig_blocks.specs.Body.{tests_of};
+ghost use Rattle.ig_blocks_laws.specs.Setting.{guards, column_guards, wrapped};
+ghost use Rattle.ig_blocks_laws.specs.Body.{tests_of};
 ghost use Rattle.ig_blocks.specs.Code.{pair_of, setting_by};
 
 use crate::guide::{Guide, kind_of};

@@ -3,7 +3,7 @@
 ghost use Rattle.std.specs.Prelude.{◌≡◌, ℕ, List, length, IfOk};
 ghost use Rattle.ig_rewrite.specs.Added.{margin_name, first_name, column_name};
 ghost use Rattle.ig_rewrite.specs.Rooted.{is_root};
-ghost use Rattle.ig_blocks.specs.Blocks.{kind_called, paired_by, setting_of};
+ghost use Rattle.ig_blocks_laws.specs.Blocks.{kind_called, paired_by, setting_of};
 ghost use Rattle.ig_blocks.specs.Code.{kind_by, setting_by};
 
 use crate::marks::is_marked;

@@ -4,23 +4,23 @@ ghost use Rattle.ig_rewrite.specs.Added.{margin_name, first_name, column_name};
 ghost use Rattle.ig_rewrite.specs.Rooted.{is_root};
 ghost use Rattle.ig_rewrite.specs.Sound.{IsSound, IsFree};
 ghost use Rattle.ig_rewrite.specs.Unbound.{IsUnbound};
-ghost use Rattle.ig_blocks.specs.Setting.{extra_by, pair_by};
-ghost use Rattle.ig_blocks.specs.Blocks.{alternative_by, level_by, int_param, BlocksOf};
-ghost use Rattle.ig_blocks.specs.Blocks.{lowered_declaration, lowered_declarations};
-ghost use Rattle.ig_blocks.specs.Blocks.{lowered_grammar};
+ghost use Rattle.ig_blocks_laws.specs.Setting.{extra_by, pair_by};
+ghost use Rattle.ig_blocks_laws.specs.Blocks.{alternative_by, level_by, int_param, BlocksOf};
+ghost use Rattle.ig_blocks_laws.specs.Blocks.{lowered_declaration, lowered_declarations};
+ghost use Rattle.ig_blocks_laws.specs.Blocks.{lowered_grammar};
 ghost use Rattle.ig_blocks.specs.Code.{setting_by, has_pair};
-ghost use Rattle.ig_blocks.specs.Laws.{PlainIsUnmarked};
+ghost use Rattle.ig_blocks_laws.specs.Laws.{PlainIsUnmarked};
 
 use crate::guide::{Guide, guide_of, is_paired, is_root};
-use crate::laws::blocks_keep;
 use crate::pairs::Pair;
 use crate::symbols::choices;
+use ig_blocks_laws::blocks_keep;
 use ig_grammar::{Alts, Checked, Decl, DeclKind, Decls, Grammar, Level, Levels, Params, Shape};
 use ig_rewrite::{copy_of_shapes, copy_of_start, push_declaration, push_integer, push_level, root};
 use ig_text::Copied;
 use std::alloc::{AllocError, Global};
 
-/// The grammar without `offside`, `ignore` and `align`, exactly as `specs/Blocks.antt` says;
+/// The grammar without `offside`, `ignore` and `align`, exactly as `ig_blocks_laws` says;
 /// `$root` is its last declaration where none stood for the root. Refused for want of memory alone.
 /// No declaration of the grammar has operators, nothing in it has the names of the pair or of the
 /// column, and where some declaration is plain it has no mark.

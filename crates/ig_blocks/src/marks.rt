@@ -3,8 +3,8 @@ ghost use Rattle.std.specs.Prelude.{◌≡◌};
 ghost use Rattle.ig_grammar.specs.Alternative.{gathered_alternatives};
 ghost use Rattle.ig_grammar.specs.Symbol.{gathered};
 ghost use Rattle.ig_grammar.specs.View.{symbol_of};
-ghost use Rattle.ig_blocks.specs.Blocks.{has_block, symbols_have_block, choices_have_block};
-ghost use Rattle.ig_blocks.specs.Blocks.{levels_have_block, is_marked};
+ghost use Rattle.ig_blocks_laws.specs.Blocks.{has_block, symbols_have_block, choices_have_block};
+ghost use Rattle.ig_blocks_laws.specs.Blocks.{levels_have_block, is_marked};
 
 use ig_grammar::{Alts, Decl, Level, Symbol, Symbols};
 

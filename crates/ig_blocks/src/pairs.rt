@@ -1,8 +1,8 @@
 //! The pair of a column and a start under which a symbol stands.
 ghost use Rattle.std.specs.Prelude.{◌≡◌, [], ◌∷◌, ◌++◌, IfOk, OnOk};
 ghost use Rattle.ig_expr.specs.View.{expression_of};
-ghost use Rattle.ig_blocks.specs.Setting.{m_of, f_of, opened_by, cleared_by, inner};
-ghost use Rattle.ig_blocks.specs.Setting.{pair_bindings, column_bindings};
+ghost use Rattle.ig_blocks_laws.specs.Setting.{m_of, f_of, opened_by, cleared_by, inner};
+ghost use Rattle.ig_blocks_laws.specs.Setting.{pair_bindings, column_bindings};
 ghost use Rattle.ig_blocks.specs.Code.{pair_of, setting_by, bound_to};
 
 use crate::guide::Guide;

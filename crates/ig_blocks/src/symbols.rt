@@ -1,9 +1,9 @@
 //! What the pass makes of symbols.
 ghost use Rattle.std.specs.Prelude.{◌≡◌, ◌++◌, map, IfOk, false};
 ghost use Rattle.ig_grammar.specs.View.{symbol_of};
-ghost use Rattle.ig_blocks.specs.Setting.{column_guards, wrapped, entered};
-ghost use Rattle.ig_blocks.specs.Body.{tests_of, arguments_of, body_of};
-ghost use Rattle.ig_blocks.specs.Blocks.{symbols_by, alternative_by};
+ghost use Rattle.ig_blocks_laws.specs.Setting.{column_guards, wrapped, entered};
+ghost use Rattle.ig_blocks_laws.specs.Body.{tests_of, arguments_of, body_of};
+ghost use Rattle.ig_blocks_laws.specs.Blocks.{symbols_by, alternative_by};
 ghost use Rattle.ig_blocks.specs.Code.{pair_of, setting_by, kind_by};
 
 use crate::guards::{behind, push_column_test, push_tests};
@@ -11,6 +11,7 @@ use crate::guide::{Guide, is_paired, kind_of};
 use crate::pairs::{
     Pair, bindings_of, cleared_by, column_of, inner_of, opened_by, push_pair, start_of,
 };
+use ig_blocks_laws::all_are_gathered;
 use ig_expr::Exprs;
 use ig_grammar::{Alt, Alts, Inner, Lets, Symbol, Symbols};
 use ig_rewrite::{push_alternative, push_expression, push_symbol};
@@ -19,7 +20,6 @@ use std::alloc::{AllocError, Global};
 
 /// A symbol under a pair, without its tests; a list under `align` is aligned.
 #[cycle(bodies)]
-#[tactic(auto, using(crate::proofs::Gathering::gathered_by, crate::proofs::Gathering::choices_by))]
 fn body(
     symbol: &Symbol,
     aligned: bool,
@@ -79,6 +79,7 @@ fn body(
             entered_by(alloc, bindings, Symbol::SepPlus(first, second))
         }
         Symbol::Group(alternatives) => {
+            all_are_gathered();
             let bindings = bindings_of(alloc, guide, pair, false)?;
             let inside = inner_of(pair);
             let lowered = choices(alternatives, alloc, guide, &inside)?;
@@ -97,7 +98,10 @@ fn body(
             let inner = body_inner(inner, aligned, alloc, guide, pair)?;
             Ok(Symbol::Filtered(inner, filters.copy(alloc)?))
         }
-        Symbol::Seq(symbols) => Ok(Symbol::Seq(sequence(symbols, alloc, guide, pair)?)),
+        Symbol::Seq(symbols) => {
+            all_are_gathered();
+            Ok(Symbol::Seq(sequence(symbols, alloc, guide, pair)?))
+        }
         Symbol::Entry(bindings, inner) => {
             let mut bindings = bindings.copy(alloc)?;
             push_pair(alloc, guide, pair, &mut bindings)?;

@@ -12,7 +12,7 @@ use Rattle.ig_grammar.specs.declared.place.Shape.{Shape}
 use Rattle.ig_grammar.specs.declared.place.Shape.TheVariants as shape
 use Rattle.ig_grammar.specs.declared.place.Shape.TheVariants.{Rule}
 use Rattle.ig_grammar.specs.declared.symbol.Alt.{Alt}
-use Rattle.ig_ebnf.specs.Lists.{Made, forms_of, count, count_symbols, count_alts, added, added_symbols, added_alternatives, added_alts, added_levels, added_by, all_added}
+use Rattle.ig_ebnf_laws.specs.Lists.{Made, forms_of, count, count_symbols, count_alts, added, added_symbols, added_alternatives, added_alts, added_levels, added_by, all_added}
 
 -- none of the shapes is that of a rule
 abbrev pub HasNoRule : List Shape → Type 0

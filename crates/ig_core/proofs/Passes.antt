@@ -13,13 +13,13 @@ use Rattle.ig_rewrite.specs.Sound.{IsSound, IsFree, IsUnmarked, HasExclusionsAlo
 use Rattle.ig_rewrite.specs.Unbound.{IsUnbound}
 use Rattle.ig_levels.specs.Levels.{LevelsOf}
 use Rattle.ig_levels.specs.Laws.{LevelsKeep, KeptByLevels}
-use Rattle.ig_blocks.specs.Blocks.{BlocksOf}
-use Rattle.ig_blocks.specs.Laws.{BlocksKeep, KeptByBlocks, PlainIsUnmarked}
+use Rattle.ig_blocks_laws.specs.Blocks.{BlocksOf}
+use Rattle.ig_blocks_laws.specs.Laws.{BlocksKeep, KeptByBlocks, PlainIsUnmarked}
 use Rattle.ig_lexical.specs.Layout.{LayoutOf}
 use Rattle.ig_lexical.specs.Filters.{FiltersOf}
 use Rattle.ig_lexical.specs.Laws.{LayoutKeeps, KeptByLayout, FiltersKeep, KeptByFilters}
-use Rattle.ig_ebnf.specs.Lists.{ListsOf, HasFewLists}
-use Rattle.ig_ebnf.specs.Laws.{ListsKeep, KeptByLists}
+use Rattle.ig_ebnf_laws.specs.Lists.{ListsOf, HasFewLists}
+use Rattle.ig_ebnf_laws.specs.Laws.{ListsKeep, KeptByLists}
 use Rattle.ig_core.specs.CoreOf.{core_of}
 use Rattle.ig_core.specs.Lowered.{IsBuildable, BeforeLists, Lowered, CoreOf, IsNumbered}
 use Rattle.ig_core.specs.Laws.{ArePassed, IsLeft, PassesInTurn, PassesKeep, CoreTreesArePermitted, CoresAreNamed, TagsRiseInCores}

@@ -16,12 +16,12 @@ use Rattle.ig_rewrite.specs.Remaining.{IsRemaining, IsTerm, IsExcluding, Remains
 use Rattle.ig_rewrite.specs.Sound.{IsUnmarked}
 use Rattle.ig_levels.specs.Levels.{LevelsOf}
 use Rattle.ig_levels.specs.Laws.{LevelsMultiply}
-use Rattle.ig_blocks.specs.Blocks.{BlocksOf}
-use Rattle.ig_blocks.specs.Laws.{BlocksMultiply, PlainIsUnmarked}
+use Rattle.ig_blocks_laws.specs.Blocks.{BlocksOf}
+use Rattle.ig_blocks_laws.specs.Laws.{BlocksMultiply, PlainIsUnmarked}
 use Rattle.ig_lexical.specs.Layout.{LayoutOf}
 use Rattle.ig_lexical.specs.Laws.{LayoutMultiplies, FiltersMultiply}
-use Rattle.ig_ebnf.specs.Lists.{ListsOf, HasFewLists}
-use Rattle.ig_ebnf.specs.Laws.{ListsAreFew, ListsMultiply}
+use Rattle.ig_ebnf_laws.specs.Lists.{ListsOf, HasFewLists}
+use Rattle.ig_ebnf_laws.specs.Laws.{ListsAreFew, ListsMultiply}
 use Rattle.ig_core.specs.Laws.{ArePassed, AreRegular, PassesInTurn, PassesAreRegular}
 use Rattle.ig_core.specs.Limits.{counts_before_passes}
 use Rattle.ig_core.specs.Lowered.{BeforeLists, IsNumbered, Lowered}

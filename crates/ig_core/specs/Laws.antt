@@ -28,11 +28,11 @@ use Rattle.ig_rewrite.specs.Sound.{RootIsNamed}
 use Rattle.ig_rewrite.specs.Unbound.{IsUnbound}
 use Rattle.ig_levels.specs.Levels.{LevelsOf}
 use Rattle.ig_levels.specs.Laws.{KeptByLevels}
-use Rattle.ig_blocks.specs.Blocks.{BlocksOf}
-use Rattle.ig_blocks.specs.Laws.{KeptByBlocks}
+use Rattle.ig_blocks_laws.specs.Blocks.{BlocksOf}
+use Rattle.ig_blocks_laws.specs.Laws.{KeptByBlocks}
 use Rattle.ig_lexical.specs.Layout.{LayoutOf}
 use Rattle.ig_lexical.specs.Laws.{KeptByFilters, KeptByLayout}
-use Rattle.ig_ebnf.specs.Laws.{KeptByLists}
+use Rattle.ig_ebnf_laws.specs.Laws.{KeptByLists}
 use Rattle.ig_core.specs.CoreOf.{core_of}
 use Rattle.ig_core.specs.Limits.{counts_before_passes, most_declarations}
 use Rattle.ig_core.specs.Lowered.{BeforeLists, IsBuildable, Lowered, CoreOf, IsNumbered}

@@ -6,11 +6,11 @@ use Rattle.ig_rewrite.specs.Added.{left_name, right_name, margin_name, first_nam
 use Rattle.ig_rewrite.specs.Sound.{IsSound}
 use Rattle.ig_rewrite.specs.Unbound.{IsUnbound}
 use Rattle.ig_levels.specs.Levels.{LevelsOf}
-use Rattle.ig_blocks.specs.Blocks.{BlocksOf}
-use Rattle.ig_blocks.specs.Laws.{PlainIsUnmarked}
+use Rattle.ig_blocks_laws.specs.Blocks.{BlocksOf}
+use Rattle.ig_blocks_laws.specs.Laws.{PlainIsUnmarked}
 use Rattle.ig_lexical.specs.Layout.{LayoutOf}
 use Rattle.ig_lexical.specs.Filters.{FiltersOf}
-use Rattle.ig_ebnf.specs.Lists.{ListsOf, HasFewLists}
+use Rattle.ig_ebnf_laws.specs.Lists.{ListsOf, HasFewLists}
 use Rattle.ig_core.specs.CoreOf.{core_of}
 
 -- what a grammar keeps to that the passes take: it is sound, no mark is left where some declaration is plain, and none of

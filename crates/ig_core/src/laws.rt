@@ -6,8 +6,8 @@ ghost use Rattle.ig_core.specs.Laws.{CoreTreesArePermitted, PassesAreRegular};
 ghost use Rattle.ig_core.specs.Laws.{DeclarationsKeepNumbers, NotationIsBuildable, PassesInTurn};
 ghost use Rattle.ig_core.specs.Laws.{PassesKeep, TagsRiseInCores, ValuesAreThoseOfCore};
 
-use ig_blocks::{blocks_keep, blocks_multiply};
-use ig_ebnf::{lists_are_few, lists_keep, lists_multiply};
+use ig_blocks_laws::{blocks_keep, blocks_multiply};
+use ig_ebnf_laws::{lists_are_few, lists_keep, lists_multiply};
 use ig_grammar::regularity_by_form;
 use ig_item::{names_differ, steps_fit};
 use ig_levels::{levels_keep, levels_multiply};

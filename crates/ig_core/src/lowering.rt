@@ -2,7 +2,8 @@
 ghost use Rattle.std.specs.Prelude.{◌≡◌, IfOk};
 ghost use Rattle.ig_core.specs.Lowered.{IsBuildable, IsNumbered, Lowered};
 
-use ig_blocks::{blocks_keep, lower_blocks};
+use ig_blocks::lower_blocks;
+use ig_blocks_laws::blocks_keep;
 use ig_ebnf::lower_ebnf;
 use ig_grammar::{Checked, regularity_by_form};
 use ig_levels::{levels_keep, lower_levels};

@@ -16,10 +16,11 @@ use Rattle.ig_grammar.specs.declared.place.Shape.{Shape}
 use Rattle.ig_grammar.specs.declared.place.Shape.TheVariants as shape
 use Rattle.ig_rewrite.specs.Added.{added_name}
 use Rattle.ig_rewrite.specs.Needs.{needs}
-use Rattle.ig_ebnf.specs.Lists.{Made, made, alts_of, params_of, decls_of, forms_of, params_for, count, added, added_alts, new_alts}
+use Rattle.ig_ebnf_laws.specs.Laws.{IsGathered}
+use Rattle.ig_ebnf_laws.specs.Lists.{Made, made, alts_of, params_of, decls_of, forms_of, params_for, count, added, added_alts, new_alts}
 use Rattle.ig_ebnf.specs.Growing.{Grows, option_made, star_made, plus_made, sep_star_made, sep_plus_made}
 use Rattle.ig_ebnf.specs.declared.growing.Lowered.{Lowered}
-use Rattle.ig_ebnf.proofs.CodeOfForms.{params_forth, alternatives_back, lowered_group, added_group}
+use Rattle.ig_ebnf.proofs.CodeOfForms.{params_forth}
 
 -- those that are still to be added
 pub record Leads (before : Lowered) (ms : List Made) (after : Lowered) (rest : List Made) : Type 0 where
@@ -77,27 +78,27 @@ module _ (of : List ℕ) (v : Visible) (k : ℕ) (x : Stored) (n : ℕ) where
       ap (λ s. added of v k (symbol_of s)) e ∙ (λ i. sep_star_made of v k (symbol_of (sym e i)) ∷ separated (sym f i)
       (sym e i) y separator)
 
-  pub group_adds : (choices : List Alt) → x ≡ Group choices → n ≡ suc k →
+  pub group_adds : (choices : List Alt) → IsGathered choices → x ≡ Group choices → n ≡ suc k →
       added of v k (symbol_of x) ≡
       made (added_name of k) (params_for v (λ m. needs m (symbol_of x))) shape.Group
       (map (λ (a : Alt). a.symbols) (new_alts of v (suc k) choices)) ∷ added_alts of v n choices
-  group_adds choices e f =
+  group_adds choices gathers e f =
       ap (λ s. added of v k (symbol_of s)) e ∙
       (λ i. made (added_name of k) (params_for v (λ m. needs m (symbol_of (sym e i)))) shape.Group
-      (sym (lowered_group of v (suc k) choices) i) ∷
-      (added_group of v (suc k) choices ∙ ap (λ j. added_alts of v j choices) (sym f)) i)
+      (sym (gathers.lowered of v (suc k)) i) ∷
+      (gathers.added of v (suc k) ∙ ap (λ j. added_alts of v j choices) (sym f)) i)
 
 -- a declaration and its shape, pushed
 pub on_ok_pushed : {E : Type 0} (r : Result (Unit {0}) E) (before after : Lowered) (name word : List ℕ)
     (params kept : List Param) (s : Shape) (alts : List Alt)
-    (levels : List Level) → word ≡ name → kept ≡ params → levels ≡ record { assoc = Free; alts = alts } ∷ [] →
+    (levels : List Level) → IsGathered alts → word ≡ name → kept ≡ params → levels ≡ record { assoc = Free; alts = alts } ∷ [] →
     after.decls ≡ before.decls ++ record { kind = Plain; name = word; params = kept; levels = levels } ∷ [] →
     OnOk r (after.shapes ≡ before.shapes ++ s ∷ []) →
     OnOk r (Grows before after (made name (parameters params) s (map (λ (a : Alt). a.symbols) alts) ∷ []))
-on_ok_pushed (Err f) before after name word params kept s alts levels n p l d h = tt
-on_ok_pushed (Ok u) before after name word params kept s alts levels n p l d h =
+on_ok_pushed (Err f) before after name word params kept s alts levels gathers n p l d h = tt
+on_ok_pushed (Ok u) before after name word params kept s alts levels gathers n p l d h =
     let one : levels ≡ record { assoc = Free; alts = alts_of (map (λ (a : Alt). a.symbols) alts) } ∷ [] =
-    l ∙ ap (λ z. record { assoc = Free; alts = z } ∷ []) (sym (alternatives_back alts)) in
+    l ∙ ap (λ z. record { assoc = Free; alts = z } ∷ []) (sym gathers.stored) in
     let all : kept ≡ params_of (parameters params) = p ∙ sym (params_forth params) in
     record {
       decls = d ∙ (λ i. before.decls ++ record { kind = Plain; name = n i; params = all i; levels = one i } ∷ []);

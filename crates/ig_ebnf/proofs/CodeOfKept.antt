@@ -6,7 +6,7 @@ use Rattle.std.proofs.lemmas.List.{append-nil, map-append}
 use Rattle.ig_expr.specs.declared.kind.Kind.{Kind}
 use Rattle.ig_grammar.specs.Visible.{Visible, parameters}
 use Rattle.ig_grammar.specs.declared.declaration.Param.{Param}
-use Rattle.ig_ebnf.specs.Lists.{keep}
+use Rattle.ig_ebnf_laws.specs.Lists.{keep}
 
 -- the first of the variables behind a place
 drop_zip : (i : ℕ) (ns : List (List ℕ)) (ks : List Kind) (n : List ℕ) (k : Kind) → length ns ≡ length ks →

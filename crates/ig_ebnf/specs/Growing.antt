@@ -5,7 +5,7 @@ use Rattle.ig_grammar.specs.Visible.{Visible}
 use Rattle.ig_grammar.specs.declared.place.Shape.TheVariants as shape
 use Rattle.ig_rewrite.specs.Added.{added_name}
 use Rattle.ig_rewrite.specs.Needs.{needs}
-use Rattle.ig_ebnf.specs.Lists.{Made, made, decls_of, forms_of, params_for, entering, new, count}
+use Rattle.ig_ebnf_laws.specs.Lists.{Made, made, decls_of, forms_of, params_for, entering, new, count}
 use Rattle.ig_ebnf.specs.declared.growing.Lowered.{Lowered}
 
 -- these stand behind what stood there

@@ -1,3 +1,1 @@
-pub mod Lists
-pub mod Laws
 pub mod Growing

@@ -1,5 +1,5 @@
 //! Calls of added declarations.
-ghost use Rattle.std.specs.Prelude.{◌≡◌, map, IfOk};
+ghost use Rattle.std.specs.Prelude.{◌≡◌, [], map, IfOk};
 ghost use Rattle.ig_expr.specs.View.{expression_of};
 ghost use Rattle.ig_grammar.specs.Binding.{binding_of};
 ghost use Rattle.ig_grammar.specs.Symbol.{Call};
@@ -7,7 +7,7 @@ ghost use Rattle.ig_grammar.specs.View.{symbol_of};
 ghost use Rattle.ig_grammar.specs.Visible.{parameters};
 ghost use Rattle.ig_rewrite.specs.Added.{added_name};
 ghost use Rattle.ig_rewrite.specs.Needs.{needs};
-ghost use Rattle.ig_ebnf.specs.Lists.{argument, arguments, entering};
+ghost use Rattle.ig_ebnf_laws.specs.Lists.{argument, arguments, entering};
 
 use crate::variables::Variables;
 use ig_expr::{Expr, Exprs};
@@ -39,6 +39,21 @@ pub(crate) fn entering(
 {
     let params = variables.params_for(alloc, symbol)?;
     call(alloc, of, k, bindings, params.as_slice())
+}
+
+/// The call of the k-th declaration that is added, which stands for the symbol: a list, an option
+/// or a group.
+pub(crate) fn entering_list(
+    alloc: Global,
+    of: &Word,
+    variables: &Variables,
+    k: u64,
+    symbol: &Symbol,
+) -> Result<Symbol, AllocError>
+    ensures { IfOk result (λ r. symbol_of r ≡
+        entering of.now k [] variables.now (λ n. needs n (symbol_of symbol.now))) }
+{
+    entering(alloc, of, variables, k, &Lets::new(alloc), symbol)
 }
 
 /// The call of the k-th declaration that is added, with an argument for each parameter.

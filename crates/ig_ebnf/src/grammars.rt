@@ -5,16 +5,16 @@ ghost use Rattle.ig_grammar.specs.Visible.{parameters};
 ghost use Rattle.ig_grammar.specs.declared.declaration.Decl as declared;
 ghost use Rattle.ig_rewrite.specs.Added.{numbers_bound};
 ghost use Rattle.ig_rewrite.specs.Sound.{IsSound, IsFree, IsUnmarked, HasExclusionsAlone};
-ghost use Rattle.ig_ebnf.specs.Lists.{new_levels, new_declaration, added_by, all_added};
-ghost use Rattle.ig_ebnf.specs.Lists.{count_levels, HasFewLists, ListsOf};
-ghost use Rattle.ig_ebnf.specs.Lists.{lowered_grammar, lowered};
+ghost use Rattle.ig_ebnf_laws.specs.Lists.{new_levels, new_declaration, added_by, all_added};
+ghost use Rattle.ig_ebnf_laws.specs.Lists.{count_levels, HasFewLists, ListsOf};
+ghost use Rattle.ig_ebnf_laws.specs.Lists.{lowered_grammar, lowered};
 ghost use Rattle.ig_ebnf.specs.Growing.{Grows};
 
 use crate::growing::{Lowered, add_alternatives};
-use crate::laws::lowering_keeps;
 use crate::numbering::{count_alternatives, sum};
 use crate::placing::new_alternatives;
 use crate::variables::Variables;
+use ig_ebnf_laws::lowering_keeps;
 use ig_grammar::{Checked, Decl, Decls, Grammar, Level, Levels};
 use ig_rewrite::{copy_of_shapes, copy_of_start, has_root, push_declaration, push_level, root};
 use ig_text::Copied;
@@ -126,7 +126,7 @@ fn lowered(alloc: Global, checked: &Checked) -> Result<Checked, AllocError>
 }
 
 /// The grammar with a call in place of each list, option and group, and with the declarations that
-/// are added for these, exactly as `specs/Lists.antt` says; `$root` is its last declaration where
+/// are added for these, exactly as `ig_ebnf_laws` says; `$root` is its last declaration where
 /// none stood for the root. Refused for want of memory alone: that is said of a declaration, too,
 /// for which more are added than 64 bits count. The grammar is sound, as passes leave it: no layout
 /// is declared, no declaration has operators, no mark is left, and of filters only exclusions are.

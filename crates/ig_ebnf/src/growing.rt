@@ -5,8 +5,8 @@ ghost use Rattle.ig_grammar.specs.Symbol.{gathered};
 ghost use Rattle.ig_grammar.specs.Visible.{parameters};
 ghost use Rattle.ig_rewrite.specs.Added.{added_name};
 ghost use Rattle.ig_rewrite.specs.Needs.{needs};
-ghost use Rattle.ig_ebnf.specs.Lists.{count, made, params_for, arguments, new_alts};
-ghost use Rattle.ig_ebnf.specs.Lists.{added, added_symbols, added_alts};
+ghost use Rattle.ig_ebnf_laws.specs.Lists.{count, made, params_for, arguments, new_alts};
+ghost use Rattle.ig_ebnf_laws.specs.Lists.{added, added_symbols, added_alts};
 ghost use Rattle.ig_ebnf.specs.Growing.{Grows, option_made, star_made, plus_made};
 ghost use Rattle.ig_ebnf.specs.Growing.{sep_star_made, sep_plus_made};
 ghost use Rattle.ig_grammar.specs.Symbol.{Call};
@@ -16,6 +16,7 @@ use crate::entries::{added_name, call};
 use crate::numbering::{count, count_symbols, successor, sum};
 use crate::placing::{new_alternatives, new_part, push_copies, push_new};
 use crate::variables::{Variables, bind};
+use ig_ebnf_laws::groups_are_gathered;
 use ig_grammar::{
     Alt, Alts, Assoc, Decl, DeclKind, Decls, Inner, Lets, Level, Levels, Params, Shape, Shapes,
     Symbol, Symbols,
@@ -80,6 +81,7 @@ fn add(
             add_separated(alloc, of, variables, k, symbol, inner, separator, all)
         }
         Symbol::Group(choices) => {
+            groups_are_gathered();
             push_group(alloc, of, variables, k, symbol, choices, all)?;
             add_alternatives(alloc, of, variables, successor(k)?, choices, all)
         }
@@ -177,10 +179,11 @@ fn push_option(
     ensures { OnOk result (Grows all.old all.new
         (option_made of.now variables.now k (symbol_of symbol.now) item.now ∷ [])) }
 {
+    let inside = successor(k)?;
     let params = variables.params_for(alloc, symbol)?;
-    let one = new_part(alloc, of, variables, successor(k)?, item.as_symbol())?;
-    let alts = alternatives(alloc, Symbols::new(alloc), one)?;
-    push_made(alloc, of, k, params, Shape::Opt, alts, all)
+    let one = new_part(alloc, of, variables, inside, item.as_symbol())?;
+    let none = Symbols::new(alloc);
+    push_two(alloc, of, k, params, Shape::Opt, none, one, all)
 }
 
 /// Adds the declaration for `X*`: nothing, or the list and one more item.
@@ -196,18 +199,12 @@ fn push_star(
     ensures { OnOk result (Grows all.old all.new
         (star_made of.now variables.now k (symbol_of symbol.now) item.now ∷ [])) }
 {
+    let inside = successor(k)?;
     let params = variables.params_for(alloc, symbol)?;
     let mut more = call_alone(alloc, of, k, &params)?;
-    push_new(
-        alloc,
-        of,
-        variables,
-        successor(k)?,
-        item.as_symbol(),
-        &mut more,
-    )?;
-    let alts = alternatives(alloc, Symbols::new(alloc), more)?;
-    push_made(alloc, of, k, params, Shape::Star, alts, all)
+    push_new(alloc, of, variables, inside, item.as_symbol(), &mut more)?;
+    let none = Symbols::new(alloc);
+    push_two(alloc, of, k, params, Shape::Star, none, more, all)
 }
 
 /// Adds the declaration for `X+`: one item, or the list and one more.
@@ -223,12 +220,12 @@ fn push_plus(
     ensures { OnOk result (Grows all.old all.new
         (plus_made of.now variables.now k (symbol_of symbol.now) item.now ∷ [])) }
 {
+    let inside = successor(k)?;
     let params = variables.params_for(alloc, symbol)?;
-    let one = new_part(alloc, of, variables, successor(k)?, item.as_symbol())?;
+    let one = new_part(alloc, of, variables, inside, item.as_symbol())?;
     let mut more = call_alone(alloc, of, k, &params)?;
     push_copies(alloc, &mut more, &one)?;
-    let alts = alternatives(alloc, one, more)?;
-    push_made(alloc, of, k, params, Shape::Plus, alts, all)
+    push_two(alloc, of, k, params, Shape::Plus, one, more, all)
 }
 
 /// Adds the declaration for `{X S}*`: nothing, or the list that isn't empty, whose declaration is
@@ -244,10 +241,11 @@ fn push_sep_star(
     ensures { OnOk result (Grows all.old all.new
         (sep_star_made of.now variables.now k (symbol_of symbol.now) ∷ [])) }
 {
+    let next = successor(k)?;
     let params = variables.params_for(alloc, symbol)?;
-    let more = call_alone(alloc, of, successor(k)?, &params)?;
-    let alts = alternatives(alloc, Symbols::new(alloc), more)?;
-    push_made(alloc, of, k, params, Shape::SepStar, alts, all)
+    let more = call_alone(alloc, of, next, &params)?;
+    let none = Symbols::new(alloc);
+    push_two(alloc, of, k, params, Shape::SepStar, none, more, all)
 }
 
 /// Adds the declaration for `{X S}+`: one item, or the list, a separator and one more item.
@@ -264,11 +262,11 @@ fn push_sep_plus(
     ensures { OnOk result (Grows all.old all.new
         (sep_plus_made of.now variables.now k (symbol_of symbol.now) item.now separator.now ∷ [])) }
 {
-    let params = variables.params_for(alloc, symbol)?;
     let inside = successor(k)?;
+    let behind = sum(inside, count(item.as_symbol())?)?;
+    let params = variables.params_for(alloc, symbol)?;
     let one = new_part(alloc, of, variables, inside, item.as_symbol())?;
     let mut longer = call_alone(alloc, of, k, &params)?;
-    let behind = sum(inside, count(item.as_symbol())?)?;
     push_new(
         alloc,
         of,
@@ -278,8 +276,7 @@ fn push_sep_plus(
         &mut longer,
     )?;
     push_copies(alloc, &mut longer, &one)?;
-    let alts = alternatives(alloc, one, longer)?;
-    push_made(alloc, of, k, params, Shape::SepPlus, alts, all)
+    push_two(alloc, of, k, params, Shape::SepPlus, one, longer, all)
 }
 
 /// Adds the declaration for a group, with its alternatives.
@@ -324,6 +321,24 @@ fn alternatives(alloc: Global, first: Symbols, second: Symbols) -> Result<Alts, 
     Ok(alts)
 }
 
+/// Adds the k-th declaration, of the shape, with two alternatives.
+fn push_two(
+    alloc: Global,
+    of: &Word,
+    k: u64,
+    params: Params,
+    shape: Shape,
+    first: Symbols,
+    second: Symbols,
+    all: &mut Lowered,
+) -> Result<(), AllocError>
+    ensures { OnOk result (Grows all.old all.new
+        (made (added_name of.now k) (parameters params) shape (first ∷ second ∷ []) ∷ [])) }
+{
+    let alts = alternatives(alloc, first, second)?;
+    push_made(alloc, of, k, params, shape, alts, all)
+}
+
 /// Adds the k-th declaration, of the shape: a plain one of one level.
 fn push_made(
     alloc: Global,
@@ -337,6 +352,7 @@ fn push_made(
     ensures { OnOk result (Grows all.old all.new
         (made (added_name of.now k) (parameters params) shape (map (λ a. a.symbols) alts) ∷ [])) }
 {
+    groups_are_gathered();
     let name = added_name(alloc, of, k)?;
     let decl = Decl {
         kind: DeclKind::Plain,

@@ -2,8 +2,9 @@
 ghost use Rattle.std.specs.Prelude.{◌≡◌, ◌+◌, suc, IfOk};
 ghost use Rattle.ig_grammar.specs.View.{symbol_of};
 ghost use Rattle.ig_grammar.specs.Symbol.{gathered};
-ghost use Rattle.ig_ebnf.specs.Lists.{count, count_symbols, count_alts};
+ghost use Rattle.ig_ebnf_laws.specs.Lists.{count, count_symbols, count_alts};
 
+use ig_ebnf_laws::groups_are_gathered;
 use ig_grammar::{Alts, Inner, Symbol, Symbols};
 use std::alloc::AllocError;
 
@@ -44,7 +45,10 @@ pub(crate) fn count(symbol: &Symbol) -> Result<u64, AllocError>
             successor(one)
         }
         Symbol::SepPlus(inner, separator) => successor(count_both(inner, separator)?),
-        Symbol::Group(choices) => successor(count_alternatives(choices)?),
+        Symbol::Group(choices) => {
+            groups_are_gathered();
+            successor(count_alternatives(choices)?)
+        }
         Symbol::Offside(inner) => count(inner.as_symbol()),
         Symbol::Ignore(inner) => count(inner.as_symbol()),
         Symbol::Align(inner) => count(inner.as_symbol()),

@@ -2,12 +2,12 @@
 ghost use Rattle.std.specs.Prelude.{◌≡◌, ◌++◌, IfOk, OnOk};
 ghost use Rattle.ig_grammar.specs.View.{symbol_of};
 ghost use Rattle.ig_grammar.specs.Symbol.{gathered, Label};
-ghost use Rattle.ig_ebnf.specs.Lists.{new_symbol, new, new_symbols, new_alts};
+ghost use Rattle.ig_ebnf_laws.specs.Lists.{new_symbol, new, new_symbols, new_alts};
 
-use crate::entries::entering;
+use crate::entries::{entering, entering_list};
 use crate::numbering::{count, count_symbols, sum};
 use crate::variables::{Variables, bind};
-use ig_grammar::{Alt, Alts, Inner, Lets, Symbol, Symbols};
+use ig_grammar::{Alt, Alts, Inner, Symbol, Symbols};
 use ig_rewrite::{push_alternative, push_symbol};
 use ig_text::{Copied, Word};
 use std::alloc::{AllocError, Global};
@@ -29,18 +29,18 @@ fn new_symbol(
         Symbol::Class(_) => symbol.copy(alloc),
         Symbol::Call(_, _) => symbol.copy(alloc),
         Symbol::Label(name, inner) => {
-            let inside = new_symbol(alloc, of, variables, k, inner.as_symbol())?;
             let name = name.copy(alloc)?;
+            let inside = new_symbol(alloc, of, variables, k, inner.as_symbol())?;
             Ok(Symbol::Label(name, Inner::new(alloc, inside)?))
         }
         Symbol::Guard(_) => symbol.copy(alloc),
         Symbol::Let(_, _) => symbol.copy(alloc),
-        Symbol::Opt(_) => entering(alloc, of, variables, k, &Lets::new(alloc), symbol),
-        Symbol::Star(_) => entering(alloc, of, variables, k, &Lets::new(alloc), symbol),
-        Symbol::Plus(_) => entering(alloc, of, variables, k, &Lets::new(alloc), symbol),
-        Symbol::SepStar(_, _) => entering(alloc, of, variables, k, &Lets::new(alloc), symbol),
-        Symbol::SepPlus(_, _) => entering(alloc, of, variables, k, &Lets::new(alloc), symbol),
-        Symbol::Group(_) => entering(alloc, of, variables, k, &Lets::new(alloc), symbol),
+        Symbol::Opt(_) => entering_list(alloc, of, variables, k, symbol),
+        Symbol::Star(_) => entering_list(alloc, of, variables, k, symbol),
+        Symbol::Plus(_) => entering_list(alloc, of, variables, k, symbol),
+        Symbol::SepStar(_, _) => entering_list(alloc, of, variables, k, symbol),
+        Symbol::SepPlus(_, _) => entering_list(alloc, of, variables, k, symbol),
+        Symbol::Group(_) => entering_list(alloc, of, variables, k, symbol),
         Symbol::Offside(_) => symbol.copy(alloc),
         Symbol::Ignore(_) => symbol.copy(alloc),
         Symbol::Align(_) => symbol.copy(alloc),

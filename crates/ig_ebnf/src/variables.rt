@@ -7,7 +7,7 @@ ghost use Rattle.ig_grammar.specs.Symbol.{gathered};
 ghost use Rattle.ig_grammar.specs.Visible.{kind_at, parameters, replaced, with_kind};
 ghost use Rattle.ig_grammar.specs.Visible.{binds, all_bind};
 ghost use Rattle.ig_rewrite.specs.Needs.{is_added, needs};
-ghost use Rattle.ig_ebnf.specs.Lists.{keep, params_for};
+ghost use Rattle.ig_ebnf_laws.specs.Lists.{keep, params_for};
 
 use crate::wanting::{is_added, needs};
 use ig_expr::{Expr, Kind, kind_of};

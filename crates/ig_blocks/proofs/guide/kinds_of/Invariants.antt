@@ -1,5 +1,5 @@
 use Rattle.std.proofs.Common.{◌≡◌, ℕ, List, drop}
-use Rattle.ig_blocks.specs.Blocks.{kind_called}
+use Rattle.ig_blocks_laws.specs.Blocks.{kind_called}
 use Rattle.ig_blocks.specs.Code.{kind_by}
 use Rattle.ig_blocks.proofs.guide.kinds_of.Given as goal
 

@@ -1,5 +1,5 @@
 use Rattle.std.proofs.Common.{◌≡◌, ◌++◌, drop}
-use Rattle.ig_blocks.specs.Blocks.{lowered_declarations}
+use Rattle.ig_blocks_laws.specs.Blocks.{lowered_declarations}
 use Rattle.ig_blocks.specs.Code.{setting_by}
 use Rattle.ig_blocks.proofs.lowering.lower_declarations.Given as goal
 

@@ -1,7 +1,7 @@
 use Rattle.std.proofs.Common.{◌≡◌, ◌+◌, ◌*◌, drop, map}
 use Rattle.ig_grammar.specs.Alternative.{gathered_alternatives}
 use Rattle.ig_grammar.specs.Symbol.{gathered}
-use Rattle.ig_blocks.specs.Blocks.{symbols_have_block, choices_have_block}
+use Rattle.ig_blocks_laws.specs.Blocks.{symbols_have_block, choices_have_block}
 use Rattle.ig_grammar.specs.CodingAlternatives.{alternatives_nodes}
 use Rattle.ig_grammar.specs.CodingSizes.{nodes, list_nodes}
 use Rattle.ig_grammar.specs.View.{symbol_of}

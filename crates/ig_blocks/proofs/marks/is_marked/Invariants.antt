@@ -1,5 +1,5 @@
 use Rattle.std.proofs.Common.{◌≡◌, drop}
-use Rattle.ig_blocks.specs.Blocks.{is_marked}
+use Rattle.ig_blocks_laws.specs.Blocks.{is_marked}
 use Rattle.ig_blocks.proofs.marks.is_marked.Given as goal
 
 abbrev pub invariant-loop-decl : goal.invariant-loop-decl

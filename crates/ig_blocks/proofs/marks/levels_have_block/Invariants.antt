@@ -1,5 +1,5 @@
 use Rattle.std.proofs.Common.{◌≡◌, drop}
-use Rattle.ig_blocks.specs.Blocks.{levels_have_block}
+use Rattle.ig_blocks_laws.specs.Blocks.{levels_have_block}
 use Rattle.ig_blocks.proofs.marks.levels_have_block.Given as goal
 
 abbrev pub invariant-loop-level : goal.invariant-loop-level

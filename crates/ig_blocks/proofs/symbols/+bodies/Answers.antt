@@ -1,10 +1,11 @@
-use Rattle.std.proofs.Common.{◌≡◌, IfOk, arith, subst, ap₂}
+use Rattle.std.proofs.Common.{◌≡◌, ◌∙◌, IfOk, arith, subst, ap, ap₂}
+use Rattle.ig_grammar.specs.Symbol.{Seq, gathered}
 use Rattle.ig_grammar.specs.View.{symbol_of}
 use Rattle.ig_grammar.specs.CodingFalls.{symbol_falls, alternative_falls}
-use Rattle.ig_blocks.specs.Body.{body_of}
+use Rattle.ig_blocks_laws.specs.Body.{body_of}
 use Rattle.ig_blocks.specs.Code.{pair_of, setting_by}
 use Rattle.ig_blocks.proofs.Falling.{listed_symbol, listed_alternative}
-use Rattle.ig_blocks.proofs.Gathering.{grouped, separated_star, separated_plus, one_more}
+use Rattle.ig_blocks.proofs.Bodies.{grouped, separated_star, separated_plus, one_more}
 use Rattle.ig_blocks.proofs.symbols.+bodies.Goals as goal
 
 pub body-returns-in-Ignore : goal.body-returns-in-Ignore
@@ -59,5 +60,9 @@ sequence-loop-symbol-preserved t c =
 pub body-returns-in_ok-lowered-in-Group : goal.body-returns-in_ok-lowered-in-Group
 body-returns-in_ok-lowered-in-Group t c =
     rw c.in-Group.is (subst (λ z. IfOk c.entered_by-in-Group.result (λ r. symbol_of r ≡ z))
-    (grouped (setting_by c.args.guide.now) c.args.aligned (pair_of c.args.pair.now) (pair_of c.inner_of-inside-in-Group.result) c.in_ok-bindings-in-Group.bindings
+    (grouped (setting_by c.args.guide.now) c.args.aligned (pair_of c.args.pair.now) (pair_of c.inner_of-inside-in-Group.result) (c.all_are_gathered.ensures _ _) c.in_ok-bindings-in-Group.bindings
     c.in-Group.alternatives c.in_ok-lowered-in-Group.lowered c.in_ok-bindings-in-Group.ensures c.inner_of-inside-in-Group.ensures c.in_ok-lowered-in-Group.ensures) c.entered_by-in-Group.ensures)
+
+pub body-returns-in_ok-sequence-in-Seq : goal.body-returns-in_ok-sequence-in-Seq
+body-returns-in_ok-sequence-in-Seq t c =
+    rw c.in-Seq.is (ap Seq (ap gathered c.in_ok-sequence-in-Seq.ensures ∙ (c.all_are_gathered-in-Seq.ensures _ _).symbols _))

@@ -1,6 +1,6 @@
 use Rattle.std.proofs.Common.{◌≡◌, drop, map}
 use Rattle.ig_grammar.specs.Binding.{binding_of}
-use Rattle.ig_ebnf.specs.Lists.{argument}
+use Rattle.ig_ebnf_laws.specs.Lists.{argument}
 use Rattle.ig_ebnf.proofs.entries.argument.Given as goal
 
 abbrev pub invariant-loop-bound : goal.invariant-loop-bound

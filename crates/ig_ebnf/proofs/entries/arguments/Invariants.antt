@@ -1,6 +1,6 @@
 use Rattle.std.proofs.Common.{◌≡◌, ◌++◌, drop}
 use Rattle.ig_grammar.specs.Visible.{parameters}
-use Rattle.ig_ebnf.specs.Lists.{arguments}
+use Rattle.ig_ebnf_laws.specs.Lists.{arguments}
 use Rattle.ig_ebnf.proofs.entries.arguments.Given as goal
 
 abbrev pub invariant-loop-param : goal.invariant-loop-param

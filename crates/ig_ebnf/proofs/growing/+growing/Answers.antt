@@ -54,4 +54,4 @@ add-returns-in_ok-successor-in-Group t c =
     on_ok_then c.add_alternatives.result c.args.all.now c.push_group.new.all c.add_alternatives.new.all _ _ _
     c.in_ok-push_group-in-Group.ensures c.add_alternatives.ensures
     (group_adds c.args.of.now c.args.variables.now c.args.k c.args.symbol.now c.in_ok-successor-in-Group.field-0
-    c.in-Group.choices c.in-Group.is c.in_ok-successor-in-Group.ensures)
+    c.in-Group.choices (c.groups_are_gathered.ensures _) c.in-Group.is c.in_ok-successor-in-Group.ensures)

@@ -1,6 +1,5 @@
 use Rattle.std.proofs.Common.{arith, IfOk, suc, subst, sym, ◌∙◌, ◌≡◌}
 use Rattle.ig_ebnf.proofs.CodeOfSizes.{node_below, choice_below}
-use Rattle.ig_ebnf.proofs.CodeOfForms.{counted}
 use Rattle.ig_ebnf.proofs.numbering.+numbering.Goals as goal
 
 pub count_symbols-count-requires : goal.count_symbols-count-requires
@@ -19,4 +18,4 @@ count_alternatives-count_symbols-requires t c =
 pub count-returns-in_ok-count_alternatives-in-Group : goal.count-returns-in_ok-count_alternatives-in-Group
 count-returns-in_ok-count_alternatives-in-Group t c =
     rw c.in-Group.is (subst (λ z. IfOk c.successor-in-Group.result (λ n. n ≡ suc z))
-    (c.in_ok-count_alternatives-in-Group.ensures ∙ sym (counted _)) c.successor-in-Group.ensures)
+    (c.in_ok-count_alternatives-in-Group.ensures ∙ sym (c.groups_are_gathered.ensures _).counted) c.successor-in-Group.ensures)

@@ -3,7 +3,7 @@ use Rattle.ig_grammar.specs.View.{symbol_of}
 use Rattle.ig_grammar.specs.CodingSizes.{nodes, nodes_of_symbols, nodes_of_alternatives}
 use Rattle.ig_grammar.specs.Symbol.{gathered}
 use Rattle.ig_grammar.specs.Alternative.{gathered_alternatives}
-use Rattle.ig_ebnf.specs.Lists.{count_symbols, count_alts}
+use Rattle.ig_ebnf_laws.specs.Lists.{count_symbols, count_alts}
 use Rattle.ig_ebnf.proofs.numbering.+numbering.Given as goal
 
 abbrev pub decreases-count : goal.decreases-count

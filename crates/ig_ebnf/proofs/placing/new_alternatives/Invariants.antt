@@ -1,5 +1,5 @@
 use Rattle.std.proofs.Common.{◌≡◌, ◌++◌, drop}
-use Rattle.ig_ebnf.specs.Lists.{new_alts}
+use Rattle.ig_ebnf_laws.specs.Lists.{new_alts}
 use Rattle.ig_ebnf.proofs.placing.new_alternatives.Given as goal
 
 abbrev pub invariant-loop-alternative : goal.invariant-loop-alternative

@@ -2,7 +2,7 @@ use Rattle.std.proofs.Common.{◌≡◌, ◌++◌, ◌&&◌, not, drop}
 use Rattle.ig_grammar.specs.View.{symbol_of}
 use Rattle.ig_grammar.specs.Visible.{parameters}
 use Rattle.ig_rewrite.specs.Needs.{needs, is_added}
-use Rattle.ig_ebnf.specs.Lists.{keep}
+use Rattle.ig_ebnf_laws.specs.Lists.{keep}
 use Rattle.ig_ebnf.proofs.variables.Variables.keep_source.Given as goal
 
 abbrev pub invariant-loop-place : goal.invariant-loop-place

@@ -1,0 +1,5 @@
+pub mod Allowed
+pub mod Setting
+pub mod Body
+pub mod Blocks
+pub mod Laws
