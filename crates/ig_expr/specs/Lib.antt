@@ -1,6 +1,7 @@
 pub mod Expression
 pub mod Stored
 pub mod View
+pub mod Falling
 pub mod Names
 pub mod Kinds
 pub mod Operations

@@ -1,5 +1,6 @@
 //! The pair of a column and a block's start, which is carried down to the tokens of a block.
-ghost use Rattle.std.specs.Prelude.{◌≡◌};
+ghost use Rattle.std.specs.Prelude.{◌≡◌, ◌&&◌, ◌||◌, pos, int_lt};
+ghost use Rattle.std.specs.Ordering.{int_eq};
 ghost use Rattle.ig_expr.specs.Blocks as spec;
 
 use crate::value::Value;
@@ -43,8 +44,13 @@ fn outer_by(column: Option<i64>, here: u32, a: i64, b: i64) -> Option<Value>
 fn inside_by(column: Option<i64>, start: Option<i64>, here: u32, a: i64, b: i64) -> Option<Value>
     ensures { result ≡ spec.inside_by column start here a b }
 {
-    let column = column?;
-    let start = start?;
+    Some(Value::Bool(is_inside(column?, start?, here, a, b)))
+}
+
+/// Whether `a` is less than the column, and `here` is `b` or `start` is less than the column.
+fn is_inside(column: i64, start: i64, here: u32, a: i64, b: i64) -> bool
+    ensures { result ≡ (int_lt a column && (int_eq (pos here) b || int_lt start column)) }
+{
     let is_behind = i64::from(here) == b || start < column;
-    Some(Value::Bool(a < column && is_behind))
+    a < column && is_behind
 }

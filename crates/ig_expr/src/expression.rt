@@ -59,13 +59,14 @@ impl Model for Operand {
     ghost coded = { expression_code };
 
     ghost use Rattle.ig_expr.specs.View.{expression_of};
-    ghost use Rattle.std.proofs.Common.{arith};
 
     ghost view = { λ o. expression_of o.expression.value };
 
     ghost size = { nodes };
 
-    ghost size_decreases = { λ a h. Prim.grind arith };
+    ghost use Rattle.ig_expr.specs.Falling.{depth_le-nodes};
+
+    ghost size_decreases = { λ a h. depth_le-nodes a.expression.value };
 }
 
 impl Operand {

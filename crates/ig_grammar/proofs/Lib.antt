@@ -1,2 +1,3 @@
 pub mod ByForm
 pub mod KeywordTexts
+pub mod NamePlaces

@@ -16,6 +16,7 @@ mod laws;
 mod lets;
 mod place;
 mod symbol;
+mod variables;
 
 pub use checked::Checked;
 pub use declaration::{Assoc, Decl, DeclKind, Decls, Level, Levels, Param, Params};
@@ -26,3 +27,4 @@ pub use laws::{counts_by_form, regularity_by_form};
 pub use lets::Lets;
 pub use place::{Place, Shape, Shapes};
 pub use symbol::{Alt, Alts, Inner, Symbol, Symbols};
+pub use variables::Variables;

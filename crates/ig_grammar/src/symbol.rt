@@ -270,19 +270,10 @@ fn copy_of(symbol: &Symbol, alloc: Global) -> Result<Symbol, AllocError>
     match symbol {
         Symbol::Literal(text) => Ok(Symbol::Literal(text.copy(alloc)?)),
         Symbol::Class(class) => Ok(Symbol::Class(class.copy(alloc)?)),
-        Symbol::Call(name, arguments) => {
-            let name = name.copy(alloc)?;
-            Ok(Symbol::Call(name, arguments.copy(alloc)?))
-        }
-        Symbol::Label(name, inner) => {
-            let name = name.copy(alloc)?;
-            Ok(Symbol::Label(name, copy_of_inner(inner, alloc)?))
-        }
+        Symbol::Call(name, arguments) => copy_of_call(name, arguments, alloc),
+        Symbol::Label(name, inner) => label(name, copy_of_inner(inner, alloc)?, alloc),
         Symbol::Guard(condition) => Ok(Symbol::Guard(condition.copy(alloc)?)),
-        Symbol::Let(name, value) => {
-            let name = name.copy(alloc)?;
-            Ok(Symbol::Let(name, value.copy(alloc)?))
-        }
+        Symbol::Let(name, value) => copy_of_let(name, value, alloc),
         Symbol::Opt(inner) => Ok(Symbol::Opt(copy_of_inner(inner, alloc)?)),
         Symbol::Star(inner) => Ok(Symbol::Star(copy_of_inner(inner, alloc)?)),
         Symbol::Plus(inner) => Ok(Symbol::Plus(copy_of_inner(inner, alloc)?)),
@@ -300,15 +291,9 @@ fn copy_of(symbol: &Symbol, alloc: Global) -> Result<Symbol, AllocError>
         Symbol::Offside(inner) => Ok(Symbol::Offside(copy_of_inner(inner, alloc)?)),
         Symbol::Ignore(inner) => Ok(Symbol::Ignore(copy_of_inner(inner, alloc)?)),
         Symbol::Align(inner) => Ok(Symbol::Align(copy_of_inner(inner, alloc)?)),
-        Symbol::Filtered(inner, filters) => {
-            let inner = copy_of_inner(inner, alloc)?;
-            Ok(Symbol::Filtered(inner, filters.copy(alloc)?))
-        }
+        Symbol::Filtered(inner, filters) => filtered(copy_of_inner(inner, alloc)?, filters, alloc),
         Symbol::Seq(symbols) => Ok(Symbol::Seq(copy_of_symbols(symbols, alloc)?)),
-        Symbol::Entry(bindings, inner) => {
-            let bindings = bindings.copy(alloc)?;
-            Ok(Symbol::Entry(bindings, copy_of_inner(inner, alloc)?))
-        }
+        Symbol::Entry(bindings, inner) => entry(bindings, copy_of_inner(inner, alloc)?, alloc),
     }
 }
 
@@ -351,4 +336,41 @@ fn copy_of_alternatives(alternatives: &Alts, alloc: Global) -> Result<Alts, Allo
         cells.push(copy_of_alternative(cell, alloc)?)?;
     }
     Ok(Alts { cells })
+}
+
+/// An equal call.
+fn copy_of_call(name: &Word, arguments: &Exprs, alloc: Global) -> Result<Symbol, AllocError>
+    ensures { IfOk result (λ r. r ≡ Symbol.Call name.now arguments.now) }
+{
+    let name = name.copy(alloc)?;
+    Ok(Symbol::Call(name, arguments.copy(alloc)?))
+}
+
+/// An equal let.
+fn copy_of_let(name: &Word, value: &Expr, alloc: Global) -> Result<Symbol, AllocError>
+    ensures { IfOk result (λ r. r ≡ Symbol.Let name.now value.now) }
+{
+    let name = name.copy(alloc)?;
+    Ok(Symbol::Let(name, value.copy(alloc)?))
+}
+
+/// The symbol with a copy of the label.
+fn label(name: &Word, inner: Inner, alloc: Global) -> Result<Symbol, AllocError>
+    ensures { IfOk result (λ r. r ≡ Symbol.Label name.now inner) }
+{
+    Ok(Symbol::Label(name.copy(alloc)?, inner))
+}
+
+/// The symbol with a copy of the filters.
+fn filtered(inner: Inner, filters: &Filters, alloc: Global) -> Result<Symbol, AllocError>
+    ensures { IfOk result (λ r. r ≡ Symbol.Filtered inner filters.now) }
+{
+    Ok(Symbol::Filtered(inner, filters.copy(alloc)?))
+}
+
+/// The symbol with a copy of the bindings.
+fn entry(bindings: &Lets, inner: Inner, alloc: Global) -> Result<Symbol, AllocError>
+    ensures { IfOk result (λ r. r ≡ Symbol.Entry bindings.now inner) }
+{
+    Ok(Symbol::Entry(bindings.copy(alloc)?, inner))
 }

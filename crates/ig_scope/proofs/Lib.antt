@@ -1,5 +1,4 @@
 pub mod FirstPlaces
-pub mod NamePlaces
 pub mod Firsts
 pub mod Walks
 pub mod Sequences

@@ -18,7 +18,7 @@ use Rattle.ig_grammar.specs.Visible.{names, parameters}
 use Rattle.ig_grammar.specs.declared.declaration.Param.{Param}
 use Rattle.ig_grammar.specs.declared.declaration.Decl.{Decl}
 use Rattle.ig_scope.specs.Heads.{HasRepeated}
-use Rattle.ig_scope.proofs.NamePlaces.{place_of_cons, sees_by_place}
+use Rattle.ig_text.proofs.WordPlaces.{word_place-cons, placed_where_contained}
 
 -- a place is before n
 abbrev pub before : Option ℕ → ℕ → Bool
@@ -47,14 +47,14 @@ place_take : (n : ℕ) (ns : List (List ℕ)) (name : List ℕ) → is_some (pla
 place_take zero ns name = never (place_of ns name)
 place_take (suc n) [] name = refl
 place_take (suc n) (x ∷ ns) name =
-    ap is_some (place_of_cons x (take n ns) name) ∙
+    ap is_some (word_place-cons x (take n ns) name) ∙
     behind_step (is_word x name) (place_of (take n ns) name) (place_of ns name) n (place_take n ns name) ∙
-    ap (λ r. before r (suc n)) (sym (place_of_cons x ns name))
+    ap (λ r. before r (suc n)) (sym (word_place-cons x ns name))
 
 pub before_told : (decls : List Decl) (n : ℕ) (name : List ℕ) (r : Option ℕ) (b : Bool) → r ≡ place_of (declared_names decls) name → b ≡ before r n →
     IsTrue b ↔ Contains (declared_names (take n decls)) name
 before_told decls n name r b e h =
-    sees_by_place (declared_names (take n decls)) name b
+    placed_where_contained (declared_names (take n decls)) name b
     (ap (λ z. is_some (place_of z name)) (sym (take-map (λ (d : Decl). d.name) n decls)) ∙ place_take n (declared_names decls) name ∙
     ap (λ z. before z n) (sym e) ∙ sym h)
 

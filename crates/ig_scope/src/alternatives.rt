@@ -12,9 +12,8 @@ use crate::binders::leave_sequence;
 use crate::fault::{Many, ScopeCause, ScopeFault};
 use crate::numbered::Numbered;
 use crate::places::Surroundings;
-use crate::variables::Variables;
 use crate::walk::walk_sequence;
-use ig_grammar::{Alt, Place};
+use ig_grammar::{Alt, Place, Variables};
 use std::alloc::Global;
 
 /// The alternatives of the declaration.

@@ -43,7 +43,20 @@ fn check_grammar(alloc: Global, grammar: &Grammar) -> Result<(), ScopeFault>
     ensures { TellsGrammar grammar.now result }
 {
     let declarations = Declarations::new(alloc, grammar.decls.as_slice())?;
-    if let Some(cause) = start_cause(&declarations, grammar) {
+    check_declared(alloc, &declarations, grammar)
+}
+
+/// The first fault of the grammar of these declarations.
+fn check_declared(
+    alloc: Global,
+    declarations: &Declarations,
+    grammar: &Grammar,
+) -> Result<(), ScopeFault>
+    requires same { declarations.now ≡ grammar.now.decls }
+    requires regular { IsRegular grammar.now }
+    ensures { TellsGrammar grammar.now result }
+{
+    if let Some(cause) = start_cause(declarations, grammar) {
         let place = Place {
             decl: 0,
             alt: 0,
@@ -51,7 +64,7 @@ fn check_grammar(alloc: Global, grammar: &Grammar) -> Result<(), ScopeFault>
         };
         return Err(ScopeFault::Broken { cause, place });
     }
-    check_declarations(alloc, &declarations)
+    check_declarations(alloc, declarations)
 }
 
 /// The first fault of the declarations.

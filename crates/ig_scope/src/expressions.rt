@@ -1,11 +1,12 @@
 //! What is asked of an expression where it stands.
 
-ghost use Rattle.std.specs.Prelude.{◌≡◌, ◌↔◌, IsTrue};
+ghost use Rattle.std.specs.Prelude.{◌≡◌, ◌↔◌, IsTrue, Some};
 ghost use Rattle.ig_expr.specs.View.{expression_of};
 ghost use Rattle.ig_grammar.specs.Condition.{NamesUnknown};
+ghost use Rattle.ig_grammar.specs.Visible.{kind_at};
 
-use crate::variables::Variables;
-use ig_expr::Expr;
+use ig_expr::{Expr, Kind};
+use ig_grammar::Variables;
 
 /// Whether the expression names a variable that isn't visible.
 pub(crate) fn names_unknown(variables: &Variables, e: &Expr) -> bool
@@ -34,5 +35,15 @@ pub(crate) fn names_unknown(variables: &Variables, e: &Expr) -> bool
         }
         Expr::FreeBefore(_) => false,
         Expr::FreeAfter(_) => false,
+    }
+}
+
+/// Whether the expression has this kind.
+pub(crate) fn has_kind(variables: &Variables, e: &Expr, kind: Kind) -> bool
+    ensures { IsTrue result ↔ (kind_at variables.now (expression_of e.now) ≡ Some kind) }
+{
+    match variables.kind_of(e) {
+        Some(found) => found == kind,
+        None => false,
     }
 }

@@ -1,6 +1,6 @@
 //! What holds at the head of a declaration.
 
-ghost use Rattle.std.specs.Prelude.{◌≡◌, ◌↔◌, IsTrue, IfOk, Contains, Some, take, slice_get};
+ghost use Rattle.std.specs.Prelude.{◌≡◌, ◌↔◌, [], IsTrue, IfOk, Contains, Some, take, slice_get};
 ghost use Rattle.ig_grammar.specs.Names.{names};
 ghost use Rattle.ig_grammar.specs.Condition.{HeadMeets, IsNotPlain};
 ghost use Rattle.ig_scope.specs.Causes.{Tells};
@@ -135,6 +135,14 @@ fn has_repeated(alloc: Global, params: &[Param]) -> Result<bool, AllocError>
     ensures { IfOk result (λ b. IsTrue b ↔ HasRepeated params.now) }
 {
     let mut names = IndexSet::with_capacity(alloc, params.len())?;
+    repeats(&mut names, params)
+}
+
+/// Whether a parameter has the name of an earlier one, where no name was collected yet.
+fn repeats<'a>(names: &mut IndexSet<&'a [char]>, params: &'a [Param]) -> Result<bool, AllocError>
+    requires { names.old.keys ≡ [] }
+    ensures { IfOk result (λ b. IsTrue b ↔ HasRepeated params.now) }
+{
     for param in params {
         if !names.insert(param.name.as_chars())? {
             return Ok(true);

@@ -18,7 +18,6 @@ mod numbered;
 mod places;
 mod starts;
 mod symbols;
-mod variables;
 mod walk;
 
 pub use checking::check;

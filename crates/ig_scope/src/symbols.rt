@@ -8,12 +8,11 @@ ghost use Rattle.ig_grammar.specs.Condition.{IsInLexical, IsListed};
 ghost use Rattle.ig_scope.specs.Told.{HasUnknown, HasUnkinded, IsMismatched};
 ghost use Rattle.ig_scope.specs.Told.{TellsMark, TellsSymbol};
 
-use crate::expressions::names_unknown;
+use crate::expressions::{has_kind, names_unknown};
 use crate::fault::ScopeCause;
 use crate::places::Surroundings;
-use crate::variables::Variables;
 use ig_expr::{Expr, Exprs, Kind};
-use ig_grammar::{DeclKind, Lets, Param, Symbol};
+use ig_grammar::{DeclKind, Lets, Param, Symbol, Variables};
 use ig_text::Word;
 
 /// Of the conditions that hold at the symbol itself the one of the least number; `None` exactly
@@ -87,7 +86,7 @@ fn guard_cause(around: &Surroundings, variables: &Variables, condition: &Expr) -
     if names_unknown(variables, condition) {
         return Some(ScopeCause::UnknownVariable);
     }
-    if !variables.gives(condition, Kind::Bool) {
+    if !has_kind(variables, condition, Kind::Bool) {
         return Some(ScopeCause::KindMismatch);
     }
     None
@@ -224,7 +223,7 @@ fn are_mismatched(variables: &Variables, arguments: &[Expr], params: &[Param]) -
         ↔ IsMismatched variables.now (map expression_of arguments.now) params.now }
 {
     for (place, argument) in arguments.iter().enumerate() {
-        if !variables.gives(argument, params[place].kind) {
+        if !has_kind(variables, argument, params[place].kind) {
             return true;
         }
     }

@@ -14,9 +14,8 @@ ghost use Rattle.ig_scope.specs.Told.{Walked, from};
 use crate::fault::ScopeFault;
 use crate::places::Surroundings;
 use crate::symbols::symbol_cause;
-use crate::variables::Variables;
 use ig_expr::Kind;
-use ig_grammar::{Alts, Inner, Symbol, Symbols};
+use ig_grammar::{Alts, Inner, Symbol, Symbols, Variables};
 use std::alloc::Global;
 
 /// The symbol and those inside it; what it binds is added to the variables.

@@ -63,7 +63,7 @@ fn joined(alloc: Global, pairs: &[(char, char)]) -> Result<Vec<(char, char)>, Al
     };
     let mut open = *first;
     for pair in rest {
-        if is_apart(open, *pair) {
+        if is_apart(open.1, pair.0) {
             ranges.push(open)?;
             open = *pair;
         } else if pair.1 > open.1 {
@@ -74,11 +74,11 @@ fn joined(alloc: Global, pairs: &[(char, char)]) -> Result<Vec<(char, char)>, Al
     Ok(ranges)
 }
 
-/// Whether some number lies between the end of the first range and the begin of the second.
-fn is_apart(first: (char, char), second: (char, char)) -> bool
-    ensures { IsTrue result ↔ (first.1 + 1 < second.0) }
+/// Whether some number lies between the end of one range and the begin of another one.
+fn is_apart(end: char, begin: char) -> bool
+    ensures { IsTrue result ↔ (end + 1 < begin) }
 {
-    first.1 as u32 + 1 < second.0 as u32
+    end as u32 + 1 < begin as u32
 }
 
 impl Copied for Class {

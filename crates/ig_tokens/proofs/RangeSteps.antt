@@ -1,5 +1,6 @@
 -- The ranges of a class, read character by character.
 use Rattle.std.proofs.Common.{◌≡◌, ◌∙◌, ℕ, ◌≤◌, List, [], ◌∷◌, ◌++◌, Bool, true, false, not, ◌&&◌, ◌==◌, Option, Some, None, option_map, option_and_then, is_some, nat_le, cond, length, chars, refl, sym, ap, subst, arith}
+use Rattle.std.specs.Prelude.{option_to_list}
 use Rattle.std.proofs.lemmas.Bool.Decides.{nat_tests}
 use Rattle.std.proofs.lemmas.List.Elements.{All-nil, All-cons}
 use Rattle.ig_text.specs.Ranges.{NoneFalls}
@@ -7,7 +8,7 @@ use Rattle.ig_syntax.specs.Spelling.{class_signs}
 use Rattle.ig_tokens.specs.Scanner as scanner
 use Rattle.ig_tokens.specs.Scanner.{letter, ranges_of, ranges_behind, class_step, class_with, class_of, dash, character, placed, with_range, between, behind_character, behind_dash, backslash, stands_for}
 use Rattle.ig_tokens.specs.Steps.{AddsRanges, IsNegation}
-use Rattle.std.proofs.lemmas.List.{nil_from_length}
+use Rattle.std.proofs.lemmas.List.{append-nil, append_assoc, nil_from_length}
 use Rattle.std.proofs.lemmas.Str.{chars-nil}
 use Rattle.std.proofs.lemmas.Option.{same_Some}
 use Rattle.ig_tokens.proofs.LetterSteps.{no_bytes}
@@ -17,6 +18,57 @@ pub record IsAdded (all : Option (List (ℕ × ℕ))) (old new : List (ℕ × �
   pub added : List (ℕ × ℕ)
   pub grown : new ≡ old ++ added
   pub same : all ≡ option_map (λ rs. added ++ rs) rest
+
+-- nothing was added yet
+pub nothing_added : (all : Option (List (ℕ × ℕ))) (old : List (ℕ × ℕ)) → IsAdded all old old all
+nothing_added all old = record { added = []; grown = sym (append-nil old); same = none all }
+  where
+    none : (r : Option (List (ℕ × ℕ))) → r ≡ option_map (λ rs. [] ++ rs) r
+    none None = refl
+    none (Some rs) = refl
+
+-- what a step ends stands in front of the rest
+in_front : (added : List (ℕ × ℕ)) (range : Option (ℕ × ℕ)) (r : Option (List (ℕ × ℕ))) →
+    option_map (λ rs. added ++ rs) (option_map (with_range range) r) ≡ option_map (λ rs. (added ++ option_to_list range) ++ rs) r
+in_front added range None = refl
+in_front added None (Some qs) = ap (λ z. Some (z ++ qs)) (sym (append-nil added))
+in_front added (Some x) (Some qs) = ap Some (sym (append_assoc added (x ∷ []) qs))
+
+-- one character more was read
+pub added_more : (all : Option (List (ℕ × ℕ))) (old mid new : List (ℕ × ℕ)) (e : Bool) (p : scanner.Place) (c : ℕ) (cs rest : List ℕ)
+    (s : scanner.ClassStep) → IsAdded all old mid (ranges_of e p cs) → cs ≡ c ∷ rest → class_step e p c ≡ Some s →
+    new ≡ mid ++ option_to_list s.range → IsAdded all old new (ranges_of s.is_escaped s.place rest)
+added_more all old mid new e p c cs rest s h q t n =
+    record {
+      added = h.added ++ option_to_list s.range;
+      grown = n ∙ ap (λ z. z ++ option_to_list s.range) h.grown ∙ append_assoc old h.added (option_to_list s.range);
+      same =
+          h.same ∙ ap (λ z. option_map (λ rs. h.added ++ rs) (ranges_of e p z)) q ∙
+          ap (λ z. option_map (λ rs. h.added ++ rs) (ranges_behind z (λ e p. ranges_of e p rest))) t ∙
+          in_front h.added s.range (ranges_of s.is_escaped s.place rest);
+    }
+
+-- where a character stands for no step, the whole has no ranges
+pub added_none : (all : Option (List (ℕ × ℕ))) (old mid : List (ℕ × ℕ)) (e : Bool) (p : scanner.Place) (c : ℕ) (cs rest : List ℕ) →
+    IsAdded all old mid (ranges_of e p cs) → cs ≡ c ∷ rest → class_step e p c ≡ None → all ≡ None
+added_none all old mid e p c cs rest h q t =
+    h.same ∙ ap (λ z. option_map (λ rs. h.added ++ rs) (ranges_of e p z)) q ∙
+    ap (λ z. option_map (λ rs. h.added ++ rs) (ranges_behind z (λ e p. ranges_of e p rest))) t
+
+-- the whole was read
+pub added_all : (all : Option (List (ℕ × ℕ))) (old mid new : List (ℕ × ℕ)) (e : Bool) (p : scanner.Place) (cs : List ℕ) (xs : List (ℕ × ℕ)) →
+    IsAdded all old mid (ranges_of e p cs) → cs ≡ [] → ranges_of e p [] ≡ Some xs → new ≡ mid ++ xs → AddsRanges all old new true
+added_all all old mid new e p cs xs h q t n = (
+  h.added ++ xs,
+  h.same ∙ ap (λ z. option_map (λ rs. h.added ++ rs) (ranges_of e p z)) q ∙ ap (option_map (λ rs. h.added ++ rs)) t,
+  n ∙ ap (λ z. z ++ xs) h.grown ∙ append_assoc old h.added xs,
+)
+
+-- it ends where no class can end
+pub added_open : (all : Option (List (ℕ × ℕ))) (old mid : List (ℕ × ℕ)) (e : Bool) (p : scanner.Place) (cs : List ℕ) →
+    IsAdded all old mid (ranges_of e p cs) → cs ≡ [] → ranges_of e p [] ≡ None → all ≡ None
+added_open all old mid e p cs h q t =
+    h.same ∙ ap (λ z. option_map (λ rs. h.added ++ rs) (ranges_of e p z)) q ∙ ap (option_map (λ rs. h.added ++ rs)) t
 
 -- what is known of each step
 pub record Known (s : scanner.ClassStep) : Type 0 where

@@ -1,15 +1,5 @@
-use Rattle.std.proofs.Common.{sym, subst, ◌∙◌}
-use Rattle.ig_scope.specs.Places.{AreNumbered}
-use Rattle.ig_scope.specs.Told.{TellsDeclarations}
-use Rattle.ig_scope.proofs.Bounds.{are_numbered}
-use Rattle.ig_scope.proofs.Checks.{grammar_told}
+use Rattle.std.proofs.Common.{◌∙◌}
 use Rattle.ig_scope.proofs.checking.check_grammar.Goals as goal
 
-pub check_declarations-requires : goal.check_declarations-requires
-check_declarations-requires c =
-    subst AreNumbered (sym (c.in_ok-declarations.ensures ∙ c.as_slice.ensures)) (are_numbered c.args.grammar.now c.requires)
-
-pub returns : goal.returns
-returns c =
-    grammar_told c.args.grammar.now c.check_declarations.result c.in_default.ensures
-    (subst (λ z. TellsDeclarations z c.check_declarations.result) (c.in_ok-declarations.ensures ∙ c.as_slice.ensures) c.check_declarations.ensures)
+pub check_declared-requires : goal.check_declared-requires
+check_declared-requires c = record { same = c.in_ok-declarations.ensures ∙ c.as_slice.ensures; regular = c.requires }
