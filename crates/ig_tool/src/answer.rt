@@ -7,8 +7,8 @@ ghost use Rattle.ig_tool.specs.Pages.{GivesAnswer};
 ghost use Rattle.ig_tool.specs.Questions.{IsWanted, Tells, TellsAmbiguous, TellsCyclic};
 ghost use Rattle.ig_tool.specs.Questions.{TellsReport, TellsSpans};
 
-use ig_command::Question;
 use crate::stop::Stop;
+use ig_command::Question;
 use ig_forest::Forest;
 use ig_grammar::Checked;
 use ig_heights::Heights;

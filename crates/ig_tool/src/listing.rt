@@ -16,9 +16,9 @@ ghost use Rattle.ig_tool.specs.Pages.{Starts};
 ghost use Rattle.ig_tool.specs.Stops.{StopsWith};
 ghost use Rattle.ig_tool.specs.declared.status.Status.TheVariants as status;
 
-use ig_command::Listing;
 use crate::status::Status;
 use crate::stop::{Stop, stop_with};
+use ig_command::Listing;
 use ig_forest::{Forest, Tree};
 use ig_heights::Heights;
 use ig_item::Core;

@@ -11,7 +11,6 @@ ghost use Rattle.ig_tool.specs.Stops.{Decides, GivesUp, RunsJob, SaysOk, ShowsCo
 ghost use Rattle.ig_tool.specs.Stops.{ShowsGrammar, StopsWith, WritesNote, WritesText};
 ghost use Rattle.ig_tool.specs.declared.status.Status.TheVariants.{Usage};
 
-use ig_command::{Command, command_of, load_sizes_are_few};
 use crate::job::{Job, Task};
 use crate::laws::read_grammars_are_buildable;
 use crate::load::{load_grammar, load_input};
@@ -19,6 +18,7 @@ use crate::parse::{parse, parser_of};
 use crate::status::Status;
 use crate::stop::{Stop, stop_with};
 use crate::summary::summary_line;
+use ig_command::{Command, command_of, load_sizes_are_few};
 use ig_grammar::Grammar;
 use ig_notation::{one_reading, texts_are_read_or_refused};
 use ig_outside::{Shelf, Sink};
