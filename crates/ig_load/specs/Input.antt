@@ -2,9 +2,9 @@
 use Rattle.std.specs.Prelude.{ℕ, zero, suc, ◌+◌, ◌-◌, ◌*◌, ◌/◌, ◌%◌, ◌^◌, List, [], ◌∷◌}
 use Rattle.ig_load.specs.Operators.{Operator, power, times, plus, minus, Step, letters, chain}
 
--- the most operands
-abbrev pub most_size : ℕ
-most_size = 4000
+-- the most operands, by the characters that a text may have
+abbrev pub most_operands : ℕ
+most_operands = 524288
 
 -- a draw replaces the state by this one
 abbrev pub next_state : ℕ → ℕ

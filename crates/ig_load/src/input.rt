@@ -1,14 +1,15 @@
 //! The input of a load.
 ghost use Rattle.std.specs.Prelude.{◌≡◌, ◌≤◌, IfOk};
 ghost use Rattle.ig_load.specs.Operators.{letter, sign};
-ghost use Rattle.ig_load.specs.Input.{LoadInput, drawn, most_size, next_state};
+ghost use Rattle.ig_load.specs.Input.{LoadInput, drawn, most_operands, next_state};
 ghost use Rattle.ig_load.specs.Input.{operand_at, operator_at};
 
 use ig_text::{Text, TextFault};
 use std::alloc::{AllocError, Global};
 
-/// The most operands that an input may have.
-pub const MOST_SIZE: u32 = 4000;
+/// The most operands that an input may have: more, with an operator between each two, are more
+/// characters than a text may have.
+pub const MOST_OPERANDS: u32 = 524_288;
 
 /// A draw multiplies the state by this number, and adds the next one.
 const MULTIPLIER: u64 = 6_364_136_223_846_793_005;
@@ -20,11 +21,11 @@ const LETTERS: u64 = 26;
 
 const OPERATORS: u64 = 4;
 
-/// The input of that many operands, from 1 to [`MOST_SIZE`]: letters from `a` to `z` with an
+/// The input of that many operands, from 1 to [`MOST_OPERANDS`]: letters from `a` to `z` with an
 /// operator between each two. All are drawn one by one, from the number on. Refuses only for want
 /// of memory.
 pub fn load_input(alloc: Global, size: u32, number: u64) -> Result<Text, AllocError>
-    requires { size ≤ most_size }
+    requires { size ≤ most_operands }
     ensures { IfOk result (λ text. text ≡ LoadInput size number) }
 {
     let bytes = bytes_of(alloc, size, number)?;

@@ -6,7 +6,7 @@ ghost use Rattle.ig_item.specs.Tables.{items_of};
 ghost use Rattle.ig_item.specs.WellKinded.{NoneTwice};
 ghost use Rattle.ig_parse.specs.Parses.{AreReachable, IsParsed};
 ghost use Rattle.ig_load.specs.Grammar.{LoadGrammar};
-ghost use Rattle.ig_load.specs.Input.{most_size};
+ghost use Rattle.ig_load.specs.Input.{most_operands};
 ghost use Rattle.ig_load.specs.Summary.{IsSummaryOf, Loads};
 
 use crate::fault::LoadFault;
@@ -24,10 +24,11 @@ use ig_query::is_ambiguous;
 use std::alloc::{AllocError, Global};
 
 /// What the forest of the load's grammar and the input of this size and number has, where no more
-/// items than the budget are reachable. The size is the number of operands, from 1 to 4,000.
-/// `Budget` comes exactly where more items are reachable, if memory doesn't run out before.
+/// items than the budget are reachable. The size is the number of operands, from 1 to
+/// [`MOST_OPERANDS`](crate::MOST_OPERANDS). `Budget` comes exactly where more items are reachable,
+/// if memory doesn't run out before.
 pub fn load(alloc: Global, size: u32, number: u64, budget: u32) -> Result<Summary, LoadFault>
-    requires { size ≤ most_size }
+    requires { size ≤ most_operands }
     ensures { Loads size number budget result }
 {
     load_inputs_are_permitted();

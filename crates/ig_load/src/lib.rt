@@ -17,7 +17,7 @@ mod summary;
 
 pub use fault::LoadFault;
 pub use grammar::load_grammar;
-pub use input::{MOST_SIZE, load_input};
+pub use input::{MOST_OPERANDS, load_input};
 pub use job::load;
 pub use laws::{chains_are_permitted, load_inputs_are_permitted, load_text_reads};
 pub use summary::{Summary, show_summary};

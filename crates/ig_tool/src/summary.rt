@@ -1,6 +1,6 @@
 //! The command `load`.
 ghost use Rattle.std.specs.Prelude.{◌≤◌};
-ghost use Rattle.ig_load.specs.Input.{most_size};
+ghost use Rattle.ig_command.specs.Commands.{most_size};
 ghost use Rattle.ig_tool.specs.Stops.{LoadsText};
 
 use crate::parse::over_budget;
