@@ -17,6 +17,7 @@ pub mod RootNames
 pub mod CoreNames
 pub mod Unmarked
 pub mod Passes
+pub mod InTurn
 pub mod RegularCores
 pub mod RegularResults
 pub mod Noted

@@ -1,26 +1,23 @@
 -- What the passes keep, one behind the other.
-use Rattle.std.proofs.Common.{◌≡◌, ◌∙◌, ℕ, List, ◌∷◌, Result, Ok, Err, None, refl, sym, ap, subst, arith}
-use Rattle.std.specs.Prelude.{◌≢◌, IfOk}
+use Rattle.std.proofs.Common.{◌≡◌, ℕ, List, ◌∷◌, ap, arith}
+use Rattle.std.specs.Prelude.{◌≢◌}
 use Rattle.ig_grammar.specs.Checked.{CheckedGrammar}
-use Rattle.ig_grammar.specs.Numbering.{layout_among}
 use Rattle.ig_grammar.specs.Laws.{RegularityByForm}
 use Rattle.ig_meaning.specs.Laws.{TreesWithoutOperatorsAreClean}
 use Rattle.ig_rewrite.specs.Added.{left_name, right_name, margin_name, first_name, column_name}
 use Rattle.ig_rewrite.specs.Rooted.{RootedIsTheSame}
 use Rattle.ig_rewrite.specs.SameTrees.{PermitSame, SameTreesIsAnEquivalence}
 use Rattle.ig_rewrite.specs.SameValues.{KeepsValues}
-use Rattle.ig_rewrite.specs.Sound.{IsSound, IsFree, IsUnmarked, HasExclusionsAlone}
+use Rattle.ig_rewrite.specs.Sound.{IsSound}
 use Rattle.ig_rewrite.specs.Unbound.{IsUnbound}
 use Rattle.ig_levels.specs.Levels.{LevelsOf}
 use Rattle.ig_levels.specs.Laws.{LevelsKeep, KeptByLevels}
 use Rattle.ig_blocks_laws.specs.Blocks.{BlocksOf}
 use Rattle.ig_blocks_laws.specs.Laws.{BlocksKeep, KeptByBlocks, PlainIsUnmarked}
 use Rattle.ig_lexical.specs.Layout.{LayoutOf}
-use Rattle.ig_lexical.specs.Filters.{FiltersOf}
 use Rattle.ig_lexical.specs.Laws.{LayoutKeeps, KeptByLayout, FiltersKeep, KeptByFilters}
-use Rattle.ig_ebnf_laws.specs.Lists.{ListsOf, HasFewLists}
+use Rattle.ig_ebnf_laws.specs.Lists.{ListsOf}
 use Rattle.ig_ebnf_laws.specs.Laws.{ListsKeep, KeptByLists}
-use Rattle.ig_core.specs.CoreOf.{core_of}
 use Rattle.ig_core.specs.Lowered.{IsBuildable, BeforeLists, Lowered, CoreOf, IsNumbered}
 use Rattle.ig_core.specs.Laws.{ArePassed, IsLeft, PassesInTurn, PassesKeep, CoreTreesArePermitted, CoresAreNamed, TagsRiseInCores}
 use Rattle.ig_core.specs.Laws.{ValuesAreThoseOfCore}
@@ -98,6 +95,7 @@ passes_in_turn law keep c can =
       margin = margin law c can;
       first = first law c can;
       column = column law c can;
+      plain = plain law c can;
       blocks = blocks law c can;
       layout = layout law c can;
       filters = filters law c can;
@@ -163,102 +161,3 @@ cores_named keep c can numbered =
 pub core_tags : PassesKeep → TagsRiseInCores
 unfolding CoreOf
 core_tags keep c can numbered = tags_rise (Lowered c).grammar (Lowered c).shapes (keep c can numbered).ready
-
--- the same of the grammars that the code made
-pub record AtLevels (x : CheckedGrammar) : Type 0 where
-  pub sound : IsSound x
-  pub free : IsFree x.grammar
-  pub margin : IsUnbound x.grammar margin_name
-  pub first : IsUnbound x.grammar first_name
-  pub column : IsUnbound x.grammar column_name
-  pub plain : PlainIsUnmarked x.grammar
-
-pub record AtBlocks (x : CheckedGrammar) : Type 0 where
-  pub sound : IsSound x
-  pub free : IsFree x.grammar
-  pub unmarked : IsUnmarked x.grammar
-
-pub record AtLayout (x : CheckedGrammar) : Type 0 where
-  pub sound : IsSound x
-  pub free : IsFree x.grammar
-  pub unmarked : IsUnmarked x.grammar
-  pub no_layout : layout_among x.grammar.decls ≡ None
-
-pub record AtFilters (c x : CheckedGrammar) : Type 0 where
-  pub is : x ≡ BeforeLists c
-  pub sound : IsSound x
-  pub free : IsFree x.grammar
-  pub unmarked : IsUnmarked x.grammar
-  pub no_layout : layout_among x.grammar.decls ≡ None
-  pub excluding : HasExclusionsAlone x.grammar
-
-module _ (law : Before) (c : CheckedGrammar) (can : IsBuildable c) where
-  pub at_levels : (x : CheckedGrammar) → x ≡ LevelsOf c → AtLevels x
-  at_levels x is =
-      let kept = levels law c can in
-      subst AtLevels (sym is)
-      (record {
-        sound = kept.sound;
-        free = kept.free;
-        margin = margin law c can;
-        first = first law c can;
-        column = column law c can;
-        plain = plain law c can;
-      })
-
-  pub at_blocks : (x y : CheckedGrammar) → x ≡ LevelsOf c → y ≡ BlocksOf x → AtBlocks y
-  at_blocks x y is made =
-      let kept = blocks law c can in
-      subst AtBlocks (sym (made ∙ ap BlocksOf is))
-      (record { sound = kept.sound; free = kept.free; unmarked = kept.unmarked })
-
-  pub at_layout : (x y z : CheckedGrammar) → x ≡ LevelsOf c → y ≡ BlocksOf x → z ≡ LayoutOf y → AtLayout z
-  at_layout x y z is made laid =
-      let kept = layout law c can in
-      subst AtLayout (sym (laid ∙ ap LayoutOf (made ∙ ap BlocksOf is)))
-      (record {
-        sound = kept.sound;
-        free = kept.free;
-        unmarked = kept.unmarked;
-        no_layout = kept.no_layout;
-      })
-
-  at_last : AtFilters c (BeforeLists c)
-  unfolding BeforeLists
-  at_last =
-      let kept = filters law c can in
-      record {
-        is = refl;
-        sound = kept.sound;
-        free = kept.free;
-        unmarked = kept.unmarked;
-        no_layout = kept.no_layout;
-        excluding = kept.excluding;
-      }
-
-  last_is : FiltersOf (LayoutOf (BlocksOf (LevelsOf c))) ≡ BeforeLists c
-  unfolding BeforeLists
-  last_is = refl
-
-  pub at_filters : (x y z w : CheckedGrammar) → x ≡ LevelsOf c → y ≡ BlocksOf x → z ≡ LayoutOf y → w ≡ FiltersOf z → AtFilters c w
-  at_filters x y z w is made laid guarded =
-      subst (AtFilters c) (sym (guarded ∙ ap FiltersOf (laid ∙ ap LayoutOf (made ∙ ap BlocksOf is)) ∙ last_is)) at_last
-
-lists_are : (c w : CheckedGrammar) → w ≡ BeforeLists c → ListsOf w ≡ Lowered c
-unfolding Lowered
-lists_are c w is = ap ListsOf is
-
--- what the last pass gives
-module _ {R E : Type 0} (c w : CheckedGrammar) (is : w ≡ BeforeLists c) where
-  pub lowered_by : (view : R → CheckedGrammar) (r : Result R E) → IfOk r (λ x. view x ≡ ListsOf w) → IfOk r (λ x. view x ≡ Lowered c)
-  lowered_by view (Ok x) made = made ∙ lists_are c w is
-  lowered_by view (Err e) made = tt
-
-  pub numbered_by : (r : Result R E) → IfOk r (λ x. HasFewLists w.grammar) → IfOk r (λ x. IsNumbered c)
-  numbered_by (Ok x) few = record { few_lists = subst (λ (z : CheckedGrammar). HasFewLists z.grammar) is few }
-  numbered_by (Err e) few = tt
-
--- the core grammar of what the passes left
-pub core_is : (c lowered : CheckedGrammar) → lowered ≡ Lowered c → core_of lowered.grammar lowered.shapes ≡ CoreOf c
-unfolding CoreOf
-core_is c lowered is = ap (λ (z : CheckedGrammar). core_of z.grammar z.shapes) is

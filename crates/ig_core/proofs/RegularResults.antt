@@ -11,7 +11,6 @@ use Rattle.ig_grammar.specs.declared.declaration.Decl.{Decl}
 use Rattle.ig_grammar.specs.declared.grammar.Grammar.{Grammar}
 use Rattle.ig_grammar.specs.declared.symbol.Alt.{Alt}
 use Rattle.ig_rewrite.specs.EachLevel.{of_each_level}
-use Rattle.ig_rewrite.specs.Rooted.{RootedIsTheSame}
 use Rattle.ig_rewrite.specs.Remaining.{IsRemaining, IsTerm, IsExcluding, Remains}
 use Rattle.ig_rewrite.specs.Sound.{IsUnmarked}
 use Rattle.ig_levels.specs.Levels.{LevelsOf}
@@ -25,7 +24,6 @@ use Rattle.ig_ebnf_laws.specs.Laws.{ListsAreFew, ListsMultiply}
 use Rattle.ig_core.specs.Laws.{ArePassed, AreRegular, PassesInTurn, PassesAreRegular}
 use Rattle.ig_core.specs.Limits.{counts_before_passes}
 use Rattle.ig_core.specs.Lowered.{BeforeLists, IsNumbered, Lowered}
-use Rattle.ig_core.proofs.Unmarked.{levels_plain}
 
 -- how much each pass adds, and how few lists few symbols have
 pub record Multiply : Type 0 where
@@ -105,10 +103,10 @@ nowhere_marked g unmarked decl among plain = unmarked
 numbered : ListsAreFew → (g : Grammar) → HasFewerThan behind_filters g → HasFewLists g
 numbered law g few decl among = let h : _ < 2 * behind_filters = law g behind_filters few decl among in omega (arith, h)
 
-behind : RegularityByForm → Multiply → (c : CheckedGrammar) → ArePassed c → PlainIsUnmarked (LevelsOf c).grammar →
+behind : RegularityByForm → Multiply → (c : CheckedGrammar) → ArePassed c →
     HasFewerThan counts_before_passes c.grammar → AreRegular c
 unfolding BeforeLists Lowered
-behind forms law c at plain few =
+behind forms law c at few =
     let levels = law.levels c counts_before_passes few in
     let blocks = law.blocks (LevelsOf c) behind_levels levels in
     let layout = law.layout (BlocksOf (LevelsOf c)) behind_blocks blocks in
@@ -117,7 +115,7 @@ behind forms law c at plain few =
     let named : IsNumbered c = record { few_lists = numbered law.few_lists (BeforeLists c).grammar filters } in
     let last = at.lists named in
     record {
-      levels = regular (LevelsOf c).grammar behind_levels (omega arith) at.levels.sound.well plain levels;
+      levels = regular (LevelsOf c).grammar behind_levels (omega arith) at.levels.sound.well at.plain levels;
       blocks =
           regular (BlocksOf (LevelsOf c)).grammar behind_blocks (omega arith) at.blocks.sound.well
           (nowhere_marked (BlocksOf (LevelsOf c)).grammar at.blocks.unmarked) blocks;
@@ -134,6 +132,5 @@ behind forms law c at plain few =
     }
 
 -- where the counts are small
-pub passes_are_regular : RegularityByForm → RootedIsTheSame → Multiply → PassesInTurn → PassesAreRegular
-passes_are_regular forms root law turn c can few =
-    behind forms law c (turn c can) (levels_plain forms root c can.sound can.plain) few
+pub passes_are_regular : RegularityByForm → Multiply → PassesInTurn → PassesAreRegular
+passes_are_regular forms law turn c can few = behind forms law c (turn c can) few

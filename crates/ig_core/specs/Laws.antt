@@ -29,7 +29,7 @@ use Rattle.ig_rewrite.specs.Unbound.{IsUnbound}
 use Rattle.ig_levels.specs.Levels.{LevelsOf}
 use Rattle.ig_levels.specs.Laws.{KeptByLevels}
 use Rattle.ig_blocks_laws.specs.Blocks.{BlocksOf}
-use Rattle.ig_blocks_laws.specs.Laws.{KeptByBlocks}
+use Rattle.ig_blocks_laws.specs.Laws.{KeptByBlocks, PlainIsUnmarked}
 use Rattle.ig_lexical.specs.Layout.{LayoutOf}
 use Rattle.ig_lexical.specs.Laws.{KeptByFilters, KeptByLayout}
 use Rattle.ig_ebnf_laws.specs.Laws.{KeptByLists}
@@ -46,6 +46,8 @@ pub record ArePassed (c : CheckedGrammar) : Type 0 where
   pub margin : IsUnbound (LevelsOf c).grammar margin_name
   pub first : IsUnbound (LevelsOf c).grammar first_name
   pub column : IsUnbound (LevelsOf c).grammar column_name
+  -- and no mark is left where a declaration is plain
+  pub plain : PlainIsUnmarked (LevelsOf c).grammar
   pub blocks : KeptByBlocks (LevelsOf c)
   pub layout : KeptByLayout (BlocksOf (LevelsOf c))
   pub filters : KeptByFilters (LayoutOf (BlocksOf (LevelsOf c)))

@@ -43,7 +43,6 @@ pub fn passes_are_regular()
     lists_multiply();
     lists_are_few();
     regularity_by_form();
-    rooted_is_the_same();
 }
 
 /// What the passes leave of a grammar permits the same trees, binds the same values in them, has

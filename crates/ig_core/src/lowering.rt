@@ -2,13 +2,12 @@
 ghost use Rattle.std.specs.Prelude.{◌≡◌, IfOk};
 ghost use Rattle.ig_core.specs.Lowered.{IsBuildable, IsNumbered, Lowered};
 
+use crate::laws::passes_in_turn;
 use ig_blocks::lower_blocks;
-use ig_blocks_laws::blocks_keep;
 use ig_ebnf::lower_ebnf;
-use ig_grammar::{Checked, regularity_by_form};
-use ig_levels::{levels_keep, lower_levels};
-use ig_lexical::{add_layout, attach_filters, filters_keep, layout_keeps};
-use ig_rewrite::rooted_is_the_same;
+use ig_grammar::Checked;
+use ig_levels::lower_levels;
+use ig_lexical::{add_layout, attach_filters};
 use std::alloc::{AllocError, Global};
 
 /// What the passes leave of a grammar: levels, blocks, layout, filters and lists, in this order.
@@ -18,12 +17,7 @@ pub(crate) fn lower(alloc: Global, checked: &Checked) -> Result<Checked, AllocEr
     ensures lowered { IfOk result (λ r. r ≡ Lowered checked.now) }
     ensures numbered { IfOk result (λ r. IsNumbered checked.now) }
 {
-    levels_keep();
-    blocks_keep();
-    layout_keeps();
-    filters_keep();
-    regularity_by_form();
-    rooted_is_the_same();
+    passes_in_turn();
     let level = lower_levels(alloc, checked)?;
     let unblocked = lower_blocks(alloc, &level)?;
     let laid_out = add_layout(alloc, &unblocked)?;

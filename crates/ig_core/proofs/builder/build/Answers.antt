@@ -3,7 +3,7 @@ use Rattle.std.specs.Prelude.{IfOk, IfErr}
 use Rattle.ig_item.specs.Core.{dots}
 use Rattle.ig_item.specs.Limits.{most_dots}
 use Rattle.ig_core.specs.declared.fault.CoreFault.TheVariants.{TooManyDots}
-use Rattle.ig_core.proofs.Passes.{core_is}
+use Rattle.ig_core.proofs.InTurn.{core_is}
 use Rattle.ig_core.proofs.builder.build.Goals as goal
 
 pub returns-clause-core : goal.returns-clause-core

@@ -3,7 +3,7 @@ use Rattle.ig_core.proofs.laws.passes_are_regular.Goals as goal
 
 pub returns : goal.returns
 returns c =
-    passes_are_regular c.regularity_by_form.ensures c.rooted_is_the_same.ensures
+    passes_are_regular c.regularity_by_form.ensures
     (record {
       levels = c.levels_multiply.ensures;
       blocks = c.blocks_multiply.ensures;
