@@ -1,5 +1,5 @@
 -- A grammar that the notation can say is buildable.
-use Rattle.std.proofs.Common.{◌≡◌, ◌∙◌, ℕ, List, [], ◌∷◌, map, All, Contains, Some, slice_get, length, false, true, refl, sym, ap, subst}
+use Rattle.std.proofs.Common.{◌≡◌, ◌∙◌, ℕ, List, [], ◌∷◌, All, Contains, Some, slice_get, false, true, refl, sym, subst}
 use Rattle.std.proofs.lemmas.List.{length-map}
 use Rattle.std.proofs.lemmas.List.Elements.{All-weaker, All-contains}
 use Rattle.ig_text.proofs.Lists.{unmapped_at, unmapped_in}
@@ -7,16 +7,15 @@ use Rattle.ig_grammar.specs.Name.{is_name, IsName}
 use Rattle.ig_grammar.specs.Names.{names}
 use Rattle.ig_grammar.specs.Numbering.{as_written}
 use Rattle.ig_grammar.specs.Alternative.{gathered_alternatives}
-use Rattle.ig_grammar.specs.Regular.{OfEachLevel}
 use Rattle.ig_grammar.specs.Subterms.{subterms_of_alternatives}
 use Rattle.ig_grammar.specs.Symbol.{Symbol, Entry}
-use Rattle.ig_grammar.specs.Checked.{FitShapes, FitsShape}
+use Rattle.ig_grammar.specs.Checked.{FitsShape}
 use Rattle.ig_grammar.specs.declared.declaration.Param.{Param}
 use Rattle.ig_grammar.specs.declared.declaration.Decl.{Decl}
 use Rattle.ig_grammar.specs.declared.grammar.Grammar.{Grammar}
 use Rattle.ig_grammar.specs.declared.place.Shape.{Shape}
 use Rattle.ig_grammar.specs.declared.place.Shape.TheVariants.{Rule}
-use Rattle.ig_rewrite.specs.Added.{AddedNamesAreNew, dot, root_name, left_name, right_name, margin_name, first_name, column_name}
+use Rattle.ig_rewrite.specs.Added.{AddedNamesAreNew, dot, root_name}
 use Rattle.ig_rewrite.specs.Needs.{IsEntered}
 use Rattle.ig_rewrite.specs.Sound.{IsSound}
 use Rattle.ig_rewrite.specs.Unbound.{IsUnbound, LacksName, own_variables}

@@ -8,7 +8,6 @@ use Rattle.ig_rewrite.specs.Added.{left_name, right_name, margin_name, first_nam
 use Rattle.ig_rewrite.specs.Rooted.{RootedIsTheSame}
 use Rattle.ig_rewrite.specs.SameTrees.{PermitSame, SameTreesIsAnEquivalence}
 use Rattle.ig_rewrite.specs.SameValues.{KeepsValues}
-use Rattle.ig_rewrite.specs.Sound.{IsSound}
 use Rattle.ig_rewrite.specs.Unbound.{IsUnbound}
 use Rattle.ig_levels.specs.Levels.{LevelsOf}
 use Rattle.ig_levels.specs.Laws.{LevelsKeep, KeptByLevels}

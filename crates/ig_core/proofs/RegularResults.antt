@@ -1,15 +1,12 @@
 -- Behind each pass the grammar is regular, where it has few declarations, levels, alternatives and symbols before.
-use Rattle.std.proofs.Common.{◌≡◌, ℕ, ◌+◌, ◌*◌, ◌<◌, ◌≤◌, List, [], ◌∷◌, arith}
-use Rattle.std.specs.Prelude.{All, Contains}
+use Rattle.std.proofs.Common.{ℕ, ◌+◌, ◌*◌, ◌<◌, ◌≤◌, List, [], ◌∷◌, arith}
+use Rattle.std.specs.Prelude.{All}
 use Rattle.std.proofs.lemmas.List.Elements.{All-head, All-tail}
 use Rattle.ig_grammar.specs.Checked.{CheckedGrammar}
 use Rattle.ig_grammar.specs.Laws.{RegularityByForm}
-use Rattle.ig_grammar.specs.Numbering.{alternatives}
 use Rattle.ig_grammar.specs.Regular.{AlternativesStandWell, OfEachLevel, IsNoMark, HasNoMark, SymbolsHaveNoMark, HasFewerThan, IsRegular, counts_bound}
 use Rattle.ig_grammar.specs.Symbol.{Symbol, Literal, OneOf, Call, Label, Guard, Let, Filtered, gathered}
-use Rattle.ig_grammar.specs.declared.declaration.Decl.{Decl}
 use Rattle.ig_grammar.specs.declared.grammar.Grammar.{Grammar}
-use Rattle.ig_grammar.specs.declared.symbol.Alt.{Alt}
 use Rattle.ig_rewrite.specs.EachLevel.{of_each_level}
 use Rattle.ig_rewrite.specs.Remaining.{IsRemaining, IsTerm, IsExcluding, Remains}
 use Rattle.ig_rewrite.specs.Sound.{IsUnmarked}
@@ -19,7 +16,7 @@ use Rattle.ig_blocks_laws.specs.Blocks.{BlocksOf}
 use Rattle.ig_blocks_laws.specs.Laws.{BlocksMultiply, PlainIsUnmarked}
 use Rattle.ig_lexical.specs.Layout.{LayoutOf}
 use Rattle.ig_lexical.specs.Laws.{LayoutMultiplies, FiltersMultiply}
-use Rattle.ig_ebnf_laws.specs.Lists.{ListsOf, HasFewLists}
+use Rattle.ig_ebnf_laws.specs.Lists.{HasFewLists}
 use Rattle.ig_ebnf_laws.specs.Laws.{ListsAreFew, ListsMultiply}
 use Rattle.ig_core.specs.Laws.{ArePassed, AreRegular, PassesInTurn, PassesAreRegular}
 use Rattle.ig_core.specs.Limits.{counts_before_passes}
