@@ -22,7 +22,7 @@ use Rattle.ig_notation.specs.declared.fault.RuleFault.{RuleFault}
 use Rattle.ig_notation.specs.declared.fault.RuleFault.TheVariants.{Unexpected, Memory}
 use Rattle.ig_notation.specs.Readers.{Stands, Takes, Misses, MissesAt, StopsAt, FailsAt, Runs, Finds, Closed, Front, ReadsHeading, ReadsParameter, ReadsFirst}
 use Rattle.ig_notation.proofs.Lists.{one_more, the_last, no_more_parameters, snoc}
-use Rattle.ig_notation.proofs.Steps.{passed, missed, stands_some, stop_first, stop_past, stop_token, by_token, by_itself, in_turn, nothing, ReadsToken, the_token, the_sign, After, sign_then, then_sign}
+use Rattle.ig_notation.proofs.Steps.{passed, missed, some_there, stop_first, stop_past, stop_token, by_token, by_itself, in_turn, nothing, ReadsToken, the_token, the_sign, After, sign_then, then_sign}
 
 -- kinds
 kind_row : (t : Token) (k : Kind) → IsKind t k → after_kind t ≡ Some []
@@ -197,16 +197,16 @@ one_of_them : (o other : Option (List Want)) (u : List Token) (n : ℕ) →
 one_of_them None other u n = refl
 one_of_them (Some row) other u n = ap (λ z. run (suc n) z u) (append-nil (row ++ want.declarations ∷ []))
 
-one_first : (T : List Token) (j : ℕ) (t : Token) → Stands T j t →
+one_first : (T : List Token) (j : ℕ) (t : Token) → drop j T ≡ t ∷ drop (j + 1) T →
     run j (want.declarations ∷ []) (drop j T) ≡ run j (want.declaration ∷ want.declarations ∷ []) (drop j T)
 one_first T j t h =
-    subst (λ z. run j (want.declarations ∷ []) z ≡ run j (want.declaration ∷ want.declarations ∷ []) z) (sym h.there)
+    subst (λ z. run j (want.declarations ∷ []) z ≡ run j (want.declaration ∷ want.declarations ∷ []) z) (sym h)
     (one_of_them (after_declaration t) (step (want.declarations ∷ []) t) (drop (j + 1) T) j)
 
 pub one_declared : (T : List Token) (i j k : ℕ) (ds es : List Decl) (d : Decl) → Declared T i j ds → j < length T →
     Goes Decl ReadsDeclaration (want.declaration ∷ []) [] T j k d → es ≡ ds ++ d ∷ [] → Declared T i k es
 one_declared T i j k ds es d g l h e =
-    let s = stands_some T j l in
+    let s = some_there T j l in
     record {
       reading = λ more r. subst (ReadsDeclarations (drop i T)) (snoc ds es more d e)
           (g.reading (d ∷ more) (rule.further_declaration (drop j T) (drop k T) d more h.reading r));
@@ -216,7 +216,7 @@ one_declared T i j k ds es d g l h e =
 pub declaration_fails : (T : List Token) (i j : ℕ) (ds : List Decl) (e : RuleFault) → Declared T i j ds → j < length T →
     StopsAt (want.declaration ∷ []) T j e → FailsAt want.declarations T i e
 declaration_fails T i j ds (Unexpected n) g l h =
-    let s = stands_some T j l in
+    let s = some_there T j l in
     g.runs ∙ one_first T j s.0 s.1 ∙ h.stops (want.declarations ∷ [])
 declaration_fails T i j ds Memory g l h = tt
 

@@ -117,7 +117,7 @@ numeral T i n z h e =
     (by_itself ReadsTerm want.term [] (Number n) T i (Integer (pos n)) h refl (λ r. rule.number n r))
 
 pub no_larger : (T : List Token) (i n : ℕ) → All NumberFits T → Stands T i (Number n) → number_bound ≤ n → ⊥
-no_larger T i n a h l = let m : n < number_bound = each_there NumberFits T i (Number n) a h in omega arith
+no_larger T i n a h l = let m : n < number_bound = each_there NumberFits T i (Number n) a (record { there = h.there; within = h.within }) in omega arith
 
 pub variable : (T : List Token) (i : ℕ) (x y : List ℕ) → Stands T i (Name x) → y ≡ x → Goes Expression ReadsTerm (want.term ∷ []) [] T i (i + 1) (Variable y)
 variable T i x y h e =

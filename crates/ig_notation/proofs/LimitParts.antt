@@ -5,8 +5,7 @@ use Rattle.std.proofs.lemmas.List.{take_all}
 use Rattle.std.proofs.lemmas.List.Elements.{All-more}
 use Rattle.ig_syntax.specs.Token.{Token}
 use Rattle.ig_notation.specs.Limits.{NumberFits, NumbersFit, opened, open_behind, IsShallowFrom, IsShallow, most_open}
-use Rattle.ig_notation.specs.Readers.{Stands}
-use Rattle.ig_notation.proofs.Steps.{there}
+use Rattle.ig_notation.proofs.Steps.{IsAt, one_there}
 
 -- what a test says
 pub untrue : (P : Type 0) → (P → ⊥) → IsTrue false ↔ P
@@ -22,8 +21,8 @@ pub misses : (b : Bool) (P : Type 0) → (IsTrue b ↔ P) → b ≡ false → P 
 misses b P h e p = let t : b ≡ true = h.1 p in cc
 
 -- numbers
-pub one_fits : (T : List Token) (i : ℕ) (t : Token) → All NumberFits (take i T) → Stands T i t → NumberFits t → All NumberFits (take (i + 1) T)
-one_fits T i t a h f = All-more NumberFits T i t h.within a (subst NumberFits (sym (there T i t h)) f)
+pub one_fits : (T : List Token) (i : ℕ) (t : Token) → All NumberFits (take i T) → IsAt T i t → NumberFits t → All NumberFits (take (i + 1) T)
+one_fits T i t a h f = All-more NumberFits T i t h.within a (subst NumberFits (sym (one_there T i t h)) f)
 
 pub all_fit : (T : List Token) (i : ℕ) → All NumberFits (take i T) → length T ≤ i → NumbersFit T
 all_fit T i a l = subst (All NumberFits) (take_all i T l) a
@@ -47,14 +46,14 @@ shallow_before n t u l f = cases
         let others : u ≡ xs ++ rest = cc in
         subst (λ z. open_behind (opened n z) xs ≤ most_open) same (f xs rest others)
 
-pub one_opened : (T : List Token) (i n m : ℕ) (t : Token) → Open T i n → Stands T i t → m ≡ opened n t → m ≤ most_open → Open T (i + 1) m
+pub one_opened : (T : List Token) (i n m : ℕ) (t : Token) → Open T i n → IsAt T i t → m ≡ opened n t → m ≤ most_open → Open T (i + 1) m
 one_opened T i n m t o h e l = record {
   few = l;
   back = λ f. o.back (subst (IsShallowFrom n) (sym h.there) (shallow_before n t (drop (i + 1) T) o.few (subst (λ z. IsShallowFrom z (drop (i + 1) T)) e f)));
   forth = λ f. subst (λ z. IsShallowFrom z (drop (i + 1) T)) (sym e) (shallow_next n t (drop (i + 1) T) (subst (IsShallowFrom n) h.there (o.forth f)));
 }
 
-pub too_many : (T : List Token) (i n m : ℕ) (t : Token) → Open T i n → Stands T i t → m ≡ opened n t → 64 < m → IsShallow T → ⊥
+pub too_many : (T : List Token) (i n m : ℕ) (t : Token) → Open T i n → IsAt T i t → m ≡ opened n t → 64 < m → IsShallow T → ⊥
 too_many T i n m t o h e l f =
     let g : IsShallowFrom (opened n t) (drop (i + 1) T) = shallow_next n t (drop (i + 1) T) (subst (IsShallowFrom n) h.there (o.forth f)) in
     let k : opened n t ≤ most_open = g [] (drop (i + 1) T) refl in

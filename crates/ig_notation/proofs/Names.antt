@@ -1,71 +1,89 @@
 -- The names of functions.
-use Rattle.std.proofs.Common.{◌≡◌, ℕ, zero, suc, List, [], ◌∷◌, true, false, refl, sym, ap, subst, ◌∙◌, lit<, arith}
-use Rattle.std.proofs.lemmas.Bool.{and_parts, false_from_ne_true}
-use Rattle.std.specs.Str.{chars, IsAscii}
-use Rattle.std.specs.Prelude.{Some, None, codes, IsUtf8, encode_utf8_all, nat_lt, ◌&&◌}
+use Rattle.std.proofs.Common.{◌≡◌, ◌∙◌, ℕ, List, [], ◌∷◌, Bool, true, false, cond, refl, sym, ap, subst}
+use Rattle.std.proofs.lemmas.Bool.{and_parts}
+use Rattle.std.specs.Prelude.{Option, Some, None, MatchOption, chars, codes, IsUtf8, ◌&&◌, ◌||◌, if◌then◌else◌}
+use Rattle.std.specs.Map.{lookup}
 use Rattle.std.specs.Cmp.Lexicographic.{bytes_decides}
-use Rattle.std.proofs.lemmas.Str.{encodes-chars, IsUtf8-from_ascii}
-use Rattle.std.proofs.lemmas.Bool.Decides.{nat_tests}
-use Rattle.ig_text.proofs.Characters.{ascii, ascii_at}
+use Rattle.ig_text.proofs.Characters.{ascii, chars_of_word}
 use Rattle.ig_text.specs.Words.{is_word}
 use Rattle.ig_expr.specs.declared.operator.Function.{Function}
+use Rattle.ig_expr.specs.declared.operator.Function.TheVariants as functions
 use Rattle.ig_syntax.specs.Rules as rule
 use Rattle.ig_syntax.specs.Rules.{IsFunction}
+use Rattle.ig_syntax.specs.Spelling.{entry}
 use Rattle.ig_rules.specs.Machine as want
-use Rattle.ig_rules.specs.Machine.{Want, after_function}
+use Rattle.ig_rules.specs.Machine.{after_function}
 use Rattle.ig_notation.specs.declared.expressions.Named.{Named}
 use Rattle.ig_notation.specs.declared.expressions.Named.TheVariants as named
 use Rattle.ig_notation.specs.Readers.{IsNamed, named_wants}
 
--- a text that isn't an ASCII word has other characters
-other : (text word : List ℕ) → IsUtf8 text → ascii word ≡ true → chars word ≡ word → (text ≡ word → ⊥) → is_word (chars text) word ≡ false
-other text word u a e f =
-    false_from_ne_true (is_word (chars text) word) (λ h.
-    f (sym (encodes-chars text u) ∙ ap encode_utf8_all ((bytes_decides (chars text) word).0 h ∙ sym e) ∙ encodes-chars word (IsUtf8-from_ascii word (ascii_at word a))))
+abbrev table : List (List ℕ × Named)
+table =
+    (codes "begin", named.One functions.Begin) ∷ (codes "end", named.One functions.End) ∷ (codes "size", named.One functions.Size) ∷
+    (codes "column", named.One functions.Column) ∷ (codes "line", named.One functions.Line) ∷
+    (codes "number", named.One functions.Number) ∷ (codes "same", named.Same) ∷ (codes "spells", named.Spells) ∷ []
 
-none_of : (x : List ℕ) → is_word x (codes "begin") ≡ false → is_word x (codes "end") ≡ false → is_word x (codes "size") ≡ false →
-    is_word x (codes "column") ≡ false → is_word x (codes "line") ≡ false → is_word x (codes "number") ≡ false →
-    is_word x (codes "same") ≡ false → is_word x (codes "spells") ≡ false → after_function x ≡ None
-none_of x a b c d e f g h = rw (a, b, c, d, e, f, g, h) refl
+abbrev all_ascii : List (List ℕ × Named) → Bool
+all_ascii [] = true
+all_ascii (row ∷ rows) = ascii row.0 && all_ascii rows
 
-pub chars_of_begin : chars (codes "begin") ≡ codes "begin"
-unfolding chars
-chars_of_begin = refl
+abbrev AreNamed : List (List ℕ × Named) → Type 0
+AreNamed [] = Unit {0}
+AreNamed (row ∷ rows) = IsNamed row.0 row.1 × AreNamed rows
 
-pub chars_of_end : chars (codes "end") ≡ codes "end"
-unfolding chars
-chars_of_end = refl
+all_named : AreNamed table
+all_named = (rule.begin, (rule.end, (rule.size, (rule.column, (rule.line, (rule.number_of, (refl, (refl, tt))))))))
 
-pub chars_of_size : chars (codes "size") ≡ codes "size"
-unfolding chars
-chars_of_size = refl
+-- what a table has beside a text, by the characters of the text
+by_characters : (rows : List (List ℕ × Named)) (text : List ℕ) → all_ascii rows ≡ true → IsUtf8 text →
+    entry rows text ≡ lookup (λ w. is_word (chars text) w) rows
+by_characters [] text a u = refl
+by_characters (row ∷ rows) text a u =
+    let p = and_parts (ascii row.0) (all_ascii rows) a in
+    rw (chars_of_word row.0 text p.0 u, by_characters rows text p.1 u) refl
 
-pub chars_of_column : chars (codes "column") ≡ codes "column"
-unfolding chars
-chars_of_column = refl
+-- what stands there is what the name says
+first_named : (x w : List ℕ) (n m : Named) (rest : Option Named) (b : Bool) → is_word x w ≡ b → IsNamed w n → cond b (Some n) rest ≡ Some m →
+    (rest ≡ Some m → IsNamed x m) → IsNamed x m
+first_named x w n m rest true h is e k =
+    let same : n ≡ m = cc in
+    subst (IsNamed x) same (subst (λ z. IsNamed z n) (sym ((bytes_decides x w).0 h)) is)
+first_named x w n m rest false h is e k = k e
 
-pub chars_of_line : chars (codes "line") ≡ codes "line"
-unfolding chars
-chars_of_line = refl
+named_there : (rows : List (List ℕ × Named)) (x : List ℕ) (m : Named) → AreNamed rows → lookup (λ w. is_word x w) rows ≡ Some m → IsNamed x m
+named_there [] x m a e = absurd (cc)
+named_there (row ∷ rows) x m a e =
+    first_named x row.0 row.1 m (lookup (λ w. is_word x w) rows) (is_word x row.0) refl a.0 e (named_there rows x m a.1)
 
-pub chars_of_number : chars (codes "number") ≡ codes "number"
-unfolding chars
-chars_of_number = refl
+-- and where nothing does, no function has that name
+none_named : (a b c d e f g h : Bool) →
+    None ≡ cond a (Some (named.One functions.Begin)) (cond b (Some (named.One functions.End)) (cond c (Some (named.One functions.Size))
+    (cond d (Some (named.One functions.Column)) (cond e (Some (named.One functions.Line)) (cond f (Some (named.One functions.Number))
+    (cond g (Some named.Same) (cond h (Some named.Spells) None))))))) →
+    (if a || b || c || d || e || f then Some (want.expression ∷ want.close_bracket ∷ []) else
+    if g then Some (want.expression ∷ want.comma ∷ want.expression ∷ want.close_bracket ∷ []) else
+    if h then Some (want.expression ∷ want.comma ∷ want.literal ∷ want.close_bracket ∷ []) else None) ≡ None
+none_named true b c d e f g h q = absurd (cc)
+none_named false true c d e f g h q = absurd (cc)
+none_named false false true d e f g h q = absurd (cc)
+none_named false false false true e f g h q = absurd (cc)
+none_named false false false false true f g h q = absurd (cc)
+none_named false false false false false true g h q = absurd (cc)
+none_named false false false false false false true h q = absurd (cc)
+none_named false false false false false false false true q = absurd (cc)
+none_named false false false false false false false false q = refl
 
-pub chars_of_same : chars (codes "same") ≡ codes "same"
-unfolding chars
-chars_of_same = refl
+no_function : (x : List ℕ) → None ≡ lookup (λ w. is_word x w) table → after_function x ≡ None
+no_function x e =
+    none_named (is_word x (codes "begin")) (is_word x (codes "end")) (is_word x (codes "size")) (is_word x (codes "column"))
+    (is_word x (codes "line")) (is_word x (codes "number")) (is_word x (codes "same")) (is_word x (codes "spells")) e
 
-pub chars_of_spells : chars (codes "spells") ≡ codes "spells"
-unfolding chars
-chars_of_spells = refl
-
-pub no_function : (x : List ℕ) → IsUtf8 x → (x ≡ codes "begin" → ⊥) → (x ≡ codes "end" → ⊥) → (x ≡ codes "size" → ⊥) → (x ≡ codes "column" → ⊥) →
-    (x ≡ codes "line" → ⊥) → (x ≡ codes "number" → ⊥) → (x ≡ codes "same" → ⊥) → (x ≡ codes "spells" → ⊥) → after_function (chars x) ≡ None
-no_function x u a b c d e f g h =
-    none_of (chars x) (other x (codes "begin") u refl chars_of_begin a) (other x (codes "end") u refl chars_of_end b) (other x (codes "size") u refl chars_of_size c)
-    (other x (codes "column") u refl chars_of_column d) (other x (codes "line") u refl chars_of_line e) (other x (codes "number") u refl chars_of_number f)
-    (other x (codes "same") u refl chars_of_same g) (other x (codes "spells") u refl chars_of_spells h)
+pub function_is : (rows : List (List ℕ × Named)) (text : List ℕ) (r : Option Named) → rows ≡ table → IsUtf8 text → r ≡ entry rows text →
+    MatchOption r (after_function (chars text) ≡ None) (IsNamed (chars text))
+function_is rows text None e u h =
+    no_function (chars text) (h ∙ ap (λ z. entry z text) e ∙ by_characters table text refl u)
+function_is rows text (Some n) e u h =
+    named_there table (chars text) n all_named (sym (h ∙ ap (λ z. entry z text) e ∙ by_characters table text refl u))
 
 named_function : (x : List ℕ) (f : Function) → IsFunction x f → after_function x ≡ Some (want.expression ∷ want.close_bracket ∷ [])
 named_function x f rule.begin = refl

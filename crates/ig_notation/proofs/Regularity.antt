@@ -4,7 +4,7 @@ use Rattle.std.specs.Prelude.{chars, IsUtf8, All}
 use Rattle.std.proofs.lemmas.List.{length-map}
 use Rattle.std.proofs.lemmas.List.Elements.{All-nil, All-cons}
 use Rattle.std.proofs.lemmas.Str.{encodes-chars, length-le-encodes}
-use Rattle.ig_text.proofs.Tables.{found_row}
+use Rattle.ig_text.proofs.Tables.{all_rows, found_row}
 use Rattle.ig_text.specs.Words.{is_word}
 use Rattle.ig_syntax.specs.Token as token
 use Rattle.ig_syntax.specs.Token.{Token}
@@ -27,13 +27,19 @@ bare_text : (t : Token) → is_bare t ≡ true → HasText t
 bare_text (token.Literal word) e = absurd (cc)
 bare_text t e = tt
 
-sign_text : (cs : List ℕ) (t : Token) → entry signs cs ≡ Some t → HasText t
+bare_signs : all_rows (λ w t. is_bare t) signs ≡ true
 unfolding signs
-sign_text cs t e = bare_text t (found_row (λ w. is_word w cs) (λ w u. is_bare u) signs t refl e).passes
+bare_signs = refl
+
+sign_text : (cs : List ℕ) (t : Token) → entry signs cs ≡ Some t → HasText t
+sign_text cs t e = bare_text t (found_row (λ w. is_word w cs) (λ w u. is_bare u) signs t bare_signs e).passes
+
+bare_keywords : all_rows (λ w t. is_bare t) keywords ≡ true
+unfolding keywords
+bare_keywords = refl
 
 keyword_text : (cs : List ℕ) (t : Token) → entry keywords cs ≡ Some t → HasText t
-unfolding keywords
-keyword_text cs t e = bare_text t (found_row (λ w. is_word w cs) (λ w u. is_bare u) keywords t refl e).passes
+keyword_text cs t e = bare_text t (found_row (λ w. is_word w cs) (λ w u. is_bare u) keywords t bare_keywords e).passes
 
 -- a literal has at least one character
 token_text : {front : List ℕ} {t : Token} → IsToken front t → HasText t
@@ -64,13 +70,19 @@ no_name (token.Name x) e = absurd (cc)
 no_name (token.Head x) e = absurd (cc)
 no_name t e = tt
 
-sign_name : (cs : List ℕ) (t : Token) → entry signs cs ≡ Some t → HasName t
+nameless_signs : all_rows (λ w t. is_nameless t) signs ≡ true
 unfolding signs
-sign_name cs t e = no_name t (found_row (λ w. is_word w cs) (λ w u. is_nameless u) signs t refl e).passes
+nameless_signs = refl
+
+sign_name : (cs : List ℕ) (t : Token) → entry signs cs ≡ Some t → HasName t
+sign_name cs t e = no_name t (found_row (λ w. is_word w cs) (λ w u. is_nameless u) signs t nameless_signs e).passes
+
+nameless_keywords : all_rows (λ w t. is_nameless t) keywords ≡ true
+unfolding keywords
+nameless_keywords = refl
 
 keyword_name : (cs : List ℕ) (t : Token) → entry keywords cs ≡ Some t → HasName t
-unfolding keywords
-keyword_name cs t e = no_name t (found_row (λ w. is_word w cs) (λ w u. is_nameless u) keywords t refl e).passes
+keyword_name cs t e = no_name t (found_row (λ w. is_word w cs) (λ w u. is_nameless u) keywords t nameless_keywords e).passes
 
 token_name : {front : List ℕ} {t : Token} → IsToken front t → HasName t
 token_name (name cs n) = n

@@ -11,21 +11,29 @@ use Rattle.ig_rules.specs.Machine.{Want, may_lack, all_may_lack, after, before, 
 use Rattle.ig_rules.specs.Reading.{Goes}
 use Rattle.ig_notation.specs.declared.fault.RuleFault.{RuleFault}
 use Rattle.ig_notation.specs.declared.fault.RuleFault.TheVariants.{Unexpected, Memory}
-use Rattle.ig_notation.specs.Readers.{meanings, Stands, Takes, Misses, at_end, at_token, MissesAt, EndsAt, StopsAt, Runs, Finds}
+use Rattle.ig_notation.specs.Readers.{meanings, IsPlace, Stands, Takes, Misses, at_end, at_token, MissesAt, EndsAt, StopsAt, Runs, Finds, Behind}
 
 -- the token of a number
-further : (t u : Token) (T : List Token) (i : ℕ) → Stands T i t → Stands (u ∷ T) (suc i) t
-further t u T i s =
-    let w : i < length T = s.within in
-    record { there = rw add-one (rw add-one at s.there); within = omega arith }
+further : (t u : Token) (T : List Token) (i : ℕ) → drop i T ≡ t ∷ drop (i + 1) T → drop (suc i) (u ∷ T) ≡ t ∷ drop (suc i + 1) (u ∷ T)
+further t u T i e = rw add-one (rw add-one at e)
 
-pub stands : (placed : List Placed) (i : ℕ) (p : Placed) → i < length placed → ((d : Placed) → p ≡ get_or placed i d) →
+placed_there : (placed : List Placed) (i : ℕ) (p : Placed) → i < length placed → ((d : Placed) → p ≡ get_or placed i d) →
+    drop i (meanings placed) ≡ token_of p.token ∷ drop (i + 1) (meanings placed)
+placed_there [] i p l e = absurd (omega arith)
+placed_there (q ∷ qs) zero p l e = ap (λ z. token_of z.token ∷ meanings qs) (sym (e q))
+placed_there (q ∷ qs) (suc i) p l e =
+    further (token_of p.token) (token_of q.token) (meanings qs) i (placed_there qs i p (omega arith) e)
+
+within_meanings : (placed : List Placed) (i : ℕ) → i < length placed → i < length (meanings placed)
+within_meanings placed i l = rw (length-map placed (λ p. token_of p.token)) l
+
+pub stands : (placed : List Placed) (i : ℕ) (p : Placed) → i < length placed → IsPlace i → ((d : Placed) → p ≡ get_or placed i d) →
     Stands (meanings placed) i (token_of p.token)
-stands [] i p l e = absurd (omega arith)
-stands (q ∷ qs) zero p l e =
-    let same : p ≡ q = e q in
-    record { there = ap (λ z. token_of z.token ∷ meanings qs) (sym same); within = omega arith }
-stands (q ∷ qs) (suc i) p l e = further (token_of p.token) (token_of q.token) (meanings qs) i (stands qs i p (omega arith) e)
+stands placed i p l f e = record {
+  there = placed_there placed i p l e;
+  within = within_meanings placed i l;
+  place = f;
+}
 
 -- a token that the want begins with, and none where it may lack
 step_taken : (w : Want) (row behind : List Want) (t : Token) (u : List Token) (n : ℕ) → after w t ≡ Some row →
@@ -123,6 +131,24 @@ pub stop_token : (w : Want) (row : List Want) (t : Token) (T : List Token) (i : 
     StopsAt row T (i + 1) e → StopsAt (w ∷ []) T i e
 stop_token w row t T i e h f s = stop_later (w ∷ []) row T i (i + 1) e (taken w row t T i h f) s
 
+-- a sign that is wanted, and a stop behind it
+stop_behind : (w : Want) (t : Token) (more : List Want) (T : List Token) (i j : ℕ) (e : RuleFault) → Stands T i t → j ≡ i + 1 → after w t ≡ Some [] →
+    StopsAt more T j e → StopsAt (w ∷ more) T i e
+stop_behind w t more T i j e h n f s =
+    stop_later (w ∷ more) more T i j e
+    (front (w ∷ []) [] more T i j (subst (λ z. Runs (w ∷ []) [] T i z) (sym n) (taken w [] t T i h f))) s
+
+pub stop_sign : (w : Want) (t : Token) (more : List Want) (T : List Token) (i j : ℕ) (e : RuleFault) → Takes t T i j → after w t ≡ Some [] →
+    StopsAt more T j e → StopsAt (w ∷ more) T i e
+stop_sign w t more T i j e h f s = stop_behind w t more T i j e h.stands h.next f s
+
+pub stop_next : (w : Want) (t : Token) (more : List Want) (T : List Token) (i : ℕ) (e : RuleFault) → Stands T i t → after w t ≡ Some [] →
+    StopsAt more T (i + 1) e → StopsAt (w ∷ more) T i e
+stop_next w t more T i e h f s = stop_behind w t more T i (i + 1) e h refl f s
+
+pub stop_end : (w : Want) (more : List Want) (T : List Token) (i : ℕ) (e : RuleFault) → may_lack w ≡ false → EndsAt T i e → StopsAt (w ∷ more) T i e
+stop_end w more T i e f h = missed w more T i e f (ended w T i e h)
+
 -- a token, then a part
 pub by_token : {V W : Type 0} (P : List Token → List Token → V → Type 0) (Q : List Token → List Token → W → Type 0) (w : Want) (row p : List Want)
     (t : Token) (T : List Token) (i j : ℕ) (v : V) (x : W) → Stands T i t → after w t ≡ Some row →
@@ -135,6 +161,15 @@ by_token P Q w row p t T i j v x h f reads g =
       onward = omega arith;
       runs = (joined (w ∷ []) row p T i (i + 1) j (taken w row t T i h f) (runs_of Q row p T (i + 1) j x g)).go_on;
     }
+
+-- a part that is said to stand behind a token
+pub behind : {V : Type 0} (P : List Token → List Token → V → Type 0) (w : Want) (row p : List Want) (t : Token) (T : List Token) (i j : ℕ) (v : V) →
+    Stands T i t → after w t ≡ Some row → Goes V (Behind t P) row p T (i + 1) j v → Goes V P (w ∷ []) p T i j v
+behind P w row p t T i j v h f g = by_token P (Behind t P) w row p t T i j v v h f (λ s r x. x) g
+
+pub farther : {V : Type 0} (P : List Token → List Token → V → Type 0) (a b : List Want) (T : List Token) (i j : ℕ) (v : V) →
+    Goes V P a b T (i + 1) j v → i < j
+farther P a b T i j v g = let l : i + 1 ≤ j = g.onward in omega arith
 
 -- a token alone
 pub by_itself : {V : Type 0} (P : List Token → List Token → V → Type 0) (w : Want) (row : List Want) (t : Token) (T : List Token) (i : ℕ) (v : V) →
@@ -286,6 +321,11 @@ then_sign R w t a T i j k v g h e =
     in_turn R ReadsToken (λ s r x. R s (t ∷ r) x) a (w ∷ []) [] T i j k v t v g (the_sign w t T j k h e)
     (λ s m r x y. subst (λ z. R s z v) y x)
 
+-- the token of number i is t
+pub record IsAt (T : List Token) (i : ℕ) (t : Token) : Type 0 where
+  pub there : drop i T ≡ t ∷ drop (i + 1) T
+  pub within : i < length T
+
 -- what holds of each token holds of one that stands somewhere
 read_there : (T rest : List Token) (i : ℕ) (t : Token) → drop i T ≡ t ∷ rest → get_or T i t ≡ t
 read_there [] rest zero t e = absurd (cc)
@@ -293,24 +333,38 @@ read_there [] rest (suc i) t e = absurd (cc)
 read_there (u ∷ T) rest zero t e = cc
 read_there (u ∷ T) rest (suc i) t e = read_there T rest i t e
 
-pub there : (T : List Token) (i : ℕ) (t : Token) → Stands T i t → get_or T i t ≡ t
-there T i t h = read_there T (drop (i + 1) T) i t h.there
+pub one_there : (T : List Token) (i : ℕ) (t : Token) → IsAt T i t → get_or T i t ≡ t
+one_there T i t h = read_there T (drop (i + 1) T) i t h.there
 
-pub each_there : (P : Token → Type 0) (T : List Token) (i : ℕ) (t : Token) → All P T → Stands T i t → P t
+pub each_there : (P : Token → Type 0) (T : List Token) (i : ℕ) (t : Token) → All P T → IsAt T i t → P t
 each_there P T i t a h = subst P (read_there T (drop (i + 1) T) i t h.there) (a i t h.within)
 
 -- some token stands before the end
-pub stands_some : (T : List Token) (i : ℕ) → i < length T → (t : Token) × Stands T i t
-stands_some [] i l = absurd (omega arith)
-stands_some (t ∷ T) zero l = (t, record { there = refl; within = l })
-stands_some (t ∷ T) (suc i) l = let h = stands_some T i (omega arith) in (h.0, further h.0 t T i h.1)
+pub some_there : (T : List Token) (i : ℕ) → i < length T → (t : Token) × (drop i T ≡ t ∷ drop (i + 1) T)
+some_there [] i l = absurd (omega arith)
+some_there (t ∷ T) zero l = (t, refl)
+some_there (t ∷ T) (suc i) l = let h = some_there T i (omega arith) in (h.0, further h.0 t T i h.1)
 
 -- there are as many meanings as tokens
-pub within_meanings : (placed : List Placed) (i : ℕ) → i < length placed → i < length (meanings placed)
-within_meanings placed i l = rw (length-map placed (λ p. token_of p.token)) l
+behind_all : (placed : List Placed) (i : ℕ) → length placed ≤ i → drop i (meanings placed) ≡ []
+behind_all [] zero l = refl
+behind_all [] (suc i) l = refl
+behind_all (p ∷ placed) zero l = absurd (omega arith)
+behind_all (p ∷ placed) (suc i) l = behind_all placed i (omega arith)
 
 pub behind_meanings : (placed : List Placed) (i : ℕ) → length placed ≤ i → length (meanings placed) ≤ i
 behind_meanings placed i l = rw (length-map placed (λ p. token_of p.token)) l
+
+-- tokens as contracts see them
+pub seen : (placed : List Placed) (T : List Token) (i : ℕ) (p : Placed) → meanings placed ≡ T → i < length placed → IsPlace i →
+    ((d : Placed) → p ≡ get_or placed i d) → Stands T i (token_of p.token)
+seen placed T i p e l f g = subst (λ z. Stands z i (token_of p.token)) e (stands placed i p l f g)
+
+pub seen_past : (placed : List Placed) (T : List Token) (i : ℕ) → meanings placed ≡ T → length placed ≤ i → drop i T ≡ []
+seen_past placed T i e l = subst (λ z. drop i z ≡ []) e (behind_all placed i l)
+
+pub as_many : (placed : List Placed) (T : List Token) → meanings placed ≡ T → length placed ≡ length T
+as_many placed T e = subst (λ z. length placed ≡ length z) e (sym (length-map placed (λ p. token_of p.token)))
 
 -- a token that a loop reads
 read_any : (placed : List Placed) (i : ℕ) (d e : Placed) → i < length placed → get_or placed i d ≡ get_or placed i e
@@ -318,5 +372,9 @@ read_any [] i d e l = absurd (omega arith)
 read_any (p ∷ placed) zero d e l = refl
 read_any (p ∷ placed) (suc i) d e l = read_any placed i d e (omega arith)
 
-pub stands_read : (placed : List Placed) (i : ℕ) (d : Placed) → i < length placed → Stands (meanings placed) i (token_of (get_or placed i d).token)
-stands_read placed i d l = stands placed i (get_or placed i d) l (λ e. read_any placed i d e l)
+pub stands_read : (placed : List Placed) (i : ℕ) (d : Placed) → i < length placed →
+    IsAt (meanings placed) i (token_of (get_or placed i d).token)
+stands_read placed i d l = record {
+  there = placed_there placed i (get_or placed i d) l (λ e. read_any placed i d e l);
+  within = within_meanings placed i l;
+}

@@ -21,7 +21,7 @@ use Rattle.ig_notation.specs.declared.symbols.ListSign.{ListSign}
 use Rattle.ig_notation.specs.declared.symbols.ListSign.TheVariants as lists
 use Rattle.ig_notation.specs.Readers.{Stands, Takes, Misses, at_end, at_token, StopsAt, Runs, Finds, Behind, Closed, Front, ReadsBare, terminal_of, repetition_token, repeated_of, list_token, separated_of}
 use Rattle.ig_notation.proofs.Lists.{one_more, the_last, finish, snoc}
-use Rattle.ig_notation.proofs.Steps.{taken, passed, front, joined, in_row, stop_later, stop_first, runs_of, by_token, by_itself, in_turn, otherwise, the_same, ReadsToken, the_token, alike_at, rows_alike, rows_same, and_none, relay, reread, After, token_then, sign_then, then_sign, row_more}
+use Rattle.ig_notation.proofs.Steps.{taken, passed, front, joined, in_row, stop_later, stop_first, stop_token, runs_of, by_token, by_itself, in_turn, otherwise, the_same, ReadsToken, the_token, alike_at, rows_alike, rows_same, and_none, relay, reread, After, token_then, sign_then, then_sign, row_more}
 
 -- guards and lets
 pub guard : (T : List Token) (i j k : ℕ) (e : Expression) → Takes Open T i j →
@@ -185,6 +185,13 @@ labelled T i j n m x y h c g e f =
     subst (λ z. Goes Symbol ReadsSymbol (want.symbol ∷ []) [] T i j (tree.Label z y)) (sym e)
     (subst (λ z. Goes Symbol ReadsSymbol (want.symbol ∷ []) [] T i j (tree.Label n z)) (sym f) w)
 
+pub labelled_stops : (T : List Token) (i : ℕ) (n : List ℕ) (e : RuleFault) → Stands T i (Name n) → Stands T (i + 1) Colon →
+    StopsAt (want.marked ∷ []) T (i + 2) e → StopsAt (want.symbol ∷ []) T i e
+labelled_stops T i n e h c s =
+    let k : i + 2 ≡ i + 1 + 1 = omega arith in
+    stop_token want.symbol (want.name_rest ∷ []) (Name n) T i e h refl
+    (stop_token want.name_rest (want.marked ∷ []) Colon T (i + 1) e c refl (subst (λ z. StopsAt (want.marked ∷ []) T z e) k s))
+
 -- marks
 pub offside : (T : List Token) (i j : ℕ) (x y : Symbol) → Stands T i token.Offside → Goes Symbol ReadsPost (want.post ∷ []) [] T (i + 1) j x → y ≡ x →
     Goes Symbol ReadsMarked (want.marked ∷ []) [] T i j (tree.Offside y)
@@ -237,6 +244,21 @@ pub no_braces_stop : (T : List Token) (i : ℕ) (e : RuleFault) → Runs (want.p
     StopsAt (want.atom ∷ want.sign ∷ []) T i e → StopsAt (want.post ∷ []) T i e
 no_braces_stop T i e r s =
     stop_later (want.post ∷ []) (want.atom ∷ want.sign ∷ want.filters ∷ []) T i i e r (stop_first (want.atom ∷ want.sign ∷ []) (want.filters ∷ []) T i e s)
+
+pub in_braces : (T : List Token) (i j : ℕ) (x : Symbol) → Stands T i OpenBrace →
+    Goes Symbol (Behind OpenBrace ReadsBare) (want.marked ∷ want.marked ∷ want.close_brace ∷ want.list_sign ∷ []) [] T (i + 1) j x →
+    Goes Symbol ReadsBare (want.post ∷ []) (want.filters ∷ []) T i j x
+in_braces T i j x h g =
+    by_token ReadsBare (Behind OpenBrace ReadsBare) want.post
+    (want.marked ∷ want.marked ∷ want.close_brace ∷ want.list_sign ∷ want.filters ∷ []) (want.filters ∷ []) OpenBrace T i j x x h refl
+    (λ s r v. v)
+    (with_rest (Behind OpenBrace ReadsBare) (want.marked ∷ want.marked ∷ want.close_brace ∷ want.list_sign ∷ []) (want.filters ∷ []) T (i + 1) j x g)
+
+pub in_braces_stop : (T : List Token) (i : ℕ) (e : RuleFault) → Stands T i OpenBrace →
+    StopsAt (want.marked ∷ want.marked ∷ want.close_brace ∷ want.list_sign ∷ []) T (i + 1) e → StopsAt (want.post ∷ []) T i e
+in_braces_stop T i e h s =
+    stop_token want.post (want.marked ∷ want.marked ∷ want.close_brace ∷ want.list_sign ∷ want.filters ∷ []) OpenBrace T i e h refl
+    (stop_first (want.marked ∷ want.marked ∷ want.close_brace ∷ want.list_sign ∷ []) (want.filters ∷ []) T (i + 1) e s)
 
 -- an atom and its sign
 pub once : (T : List Token) (i j : ℕ) (x : Symbol) → Goes Symbol ReadsAtom (want.atom ∷ []) [] T i j x → Misses want.sign T j →

@@ -1,5 +1,6 @@
 -- What the readers of parts of the rules promise.
-use Rattle.std.specs.Prelude.{◌≡◌, ℕ, ◌+◌, ◌<◌, List, [], ◌∷◌, ◌++◌, length, drop, map, Some, None, codes}
+use Rattle.std.specs.Prelude.{◌≡◌, ℕ, ◌+◌, ◌^◌, ◌<◌, List, [], ◌∷◌, ◌++◌, length, drop, map, Some, None, codes}
+use Rattle.std.specs.Borrow.{Bor}
 use Rattle.ig_text.specs.declared.pattern.Pattern.{Pattern}
 use Rattle.ig_text.specs.declared.pattern.Pattern.TheVariants.{Literal as Spelled, OneOf as AnyOf}
 use Rattle.ig_expr.specs.Expression.{Expression}
@@ -36,10 +37,15 @@ use Rattle.ig_grammar.specs.declared.filter.Filter.TheVariants as filters
 abbrev pub meanings : List Placed → List Token
 meanings placed = map (λ p. token_of p.token) placed
 
+-- a place in a list that the machine holds
+pub record IsPlace (i : ℕ) : Type 0 where
+  pub below : i < 2 ^ 63
+
 -- the token of number i is t
 pub record Stands (tokens : List Token) (i : ℕ) (t : Token) : Type 0 where
   pub there : drop i tokens ≡ t ∷ drop (i + 1) tokens
   pub within : i < length tokens
+  pub place : IsPlace i
 
 -- the token of number i is t, and j is the number behind it
 pub record Takes (t : Token) (tokens : List Token) (i j : ℕ) : Type 0 where
@@ -116,6 +122,10 @@ abbrev pub IsNamed : List ℕ → Named → Type 0
 IsNamed name (named.One f) = IsFunction name f
 IsNamed name named.Same = name ≡ codes "same"
 IsNamed name named.Spells = name ≡ codes "spells"
+
+-- a table of names as it is stored
+abbrev pub rows_of : List (Bor (List ℕ) × Named) → List (List ℕ × Named)
+rows_of table = map (λ row. (row.0.now, row.1)) table
 
 -- what is wanted in its brackets, with the `)`
 abbrev pub named_wants : Named → List Want

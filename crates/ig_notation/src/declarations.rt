@@ -16,25 +16,24 @@ ghost use Rattle.ig_rules.specs.Machine as want;
 ghost use Rattle.ig_rules.specs.Machine.{after_grammar, after_declarations, level_wants};
 ghost use Rattle.ig_rules.specs.Machine.{levels_wants, parameters_wants};
 ghost use Rattle.ig_rules.specs.Reading.{Goes};
-ghost use Rattle.ig_notation.specs.Limits.{NumbersFit};
-ghost use Rattle.ig_notation.specs.Readers.{meanings, Stands, Misses, MissesAt, Finds, StopsAt};
+ghost use Rattle.ig_notation.specs.Readers.{Stands, Misses, MissesAt, Finds, StopsAt};
 ghost use Rattle.ig_notation.specs.Readers.{FailsAt, Runs, Closed, ReadsHeading, ReadsParameter};
 ghost use Rattle.ig_notation.specs.Readers.{IsAssociativity};
 
 use crate::fault::{RuleFault, add};
-use crate::signs::{Sign, ahead, read_name, read_sign, stands_at, token_at};
+use crate::signs::{Sign, read_name, read_sign, stands_at};
 use crate::symbols::read_alternatives;
+use crate::tokens::Tokens;
 use ig_expr::Kind;
 use ig_grammar::{Assoc, Decl, DeclKind, Decls, Grammar, Level, Levels, Param, Params};
 use ig_text::Word;
-use ig_tokens::{Placed, Token};
+use ig_tokens::Token;
 use std::alloc::Global;
 
 /// Reads all tokens as a grammar.
-pub(crate) fn read_grammar(alloc: Global, tokens: &[Placed]) -> Result<Grammar, RuleFault>
-    requires { NumbersFit (meanings tokens.now) }
-    ensures ok { IfOk result (FollowsRules (meanings tokens.now)) }
-    ensures err { IfErr result (FailsAt want.grammar (meanings tokens.now) 0) }
+pub(crate) fn read_grammar(alloc: Global, tokens: &Tokens) -> Result<Grammar, RuleFault>
+    ensures ok { IfOk result (FollowsRules tokens.now) }
+    ensures err { IfErr result (FailsAt want.grammar tokens.now 0) }
 {
     if is_started(tokens) {
         return read_started(alloc, tokens);
@@ -44,12 +43,11 @@ pub(crate) fn read_grammar(alloc: Global, tokens: &[Placed]) -> Result<Grammar, 
 }
 
 /// Whether the tokens begin with a start line.
-fn is_started(tokens: &[Placed]) -> bool
-    ensures yes { result ≡ true → Stands (meanings tokens.now) 0 spec.Start }
-    ensures no { result ≡ false → Runs (want.grammar ∷ []) (want.declarations ∷ [])
-        (meanings tokens.now) 0 0 }
+fn is_started(tokens: &Tokens) -> bool
+    ensures yes { result ≡ true → Stands tokens.now 0 spec.Start }
+    ensures no { result ≡ false → Runs (want.grammar ∷ []) (want.declarations ∷ []) tokens.now 0 0 }
 {
-    match token_at(tokens, 0) {
+    match tokens.get(0) {
         Some(token) => is_start(token),
         None => false,
     }
@@ -64,11 +62,10 @@ fn is_start(token: Token) -> bool
 }
 
 /// Reads all tokens as a grammar with a start line.
-fn read_started(alloc: Global, tokens: &[Placed]) -> Result<Grammar, RuleFault>
-    requires fit { NumbersFit (meanings tokens.now) }
-    requires start { Stands (meanings tokens.now) 0 spec.Start }
-    ensures ok { IfOk result (FollowsRules (meanings tokens.now)) }
-    ensures err { IfErr result (FailsAt want.grammar (meanings tokens.now) 0) }
+fn read_started(alloc: Global, tokens: &Tokens) -> Result<Grammar, RuleFault>
+    requires { Stands tokens.now 0 spec.Start }
+    ensures ok { IfOk result (FollowsRules tokens.now) }
+    ensures err { IfErr result (FailsAt want.grammar tokens.now 0) }
 {
     let name = read_name(tokens, 1)?;
     let end = read_sign(tokens, 2, Sign::Semicolon)?;
@@ -81,10 +78,9 @@ fn read_started(alloc: Global, tokens: &[Placed]) -> Result<Grammar, RuleFault>
 }
 
 /// Reads declarations up to the last token.
-fn read_declarations(alloc: Global, tokens: &[Placed], at: usize) -> Result<Decls, RuleFault>
-    requires { NumbersFit (meanings tokens.now) }
-    ensures ok { IfOk result (ReadsDeclarations (drop at (meanings tokens.now))) }
-    ensures err { IfErr result (FailsAt want.declarations (meanings tokens.now) at) }
+fn read_declarations(alloc: Global, tokens: &Tokens, at: usize) -> Result<Decls, RuleFault>
+    ensures ok { IfOk result (ReadsDeclarations (drop at tokens.now)) }
+    ensures err { IfErr result (FailsAt want.declarations tokens.now at) }
 {
     let mut declarations = Vec::new(alloc);
     let mut end = at;
@@ -97,12 +93,11 @@ fn read_declarations(alloc: Global, tokens: &[Placed], at: usize) -> Result<Decl
 }
 
 /// Reads a declaration.
-fn read_declaration(alloc: Global, tokens: &[Placed], at: usize) -> Result<(Decl, usize), RuleFault>
-    requires { NumbersFit (meanings tokens.now) }
+fn read_declaration(alloc: Global, tokens: &Tokens, at: usize) -> Result<(Decl, usize), RuleFault>
     ensures ok { IfOk result (λ r. Goes SpecDecl ReadsDeclaration (want.declaration ∷ []) []
-        (meanings tokens.now) at r.1 r.0) }
+        tokens.now at r.1 r.0) }
     ensures progress { IfOk result (λ r. at < r.1) }
-    ensures err { IfErr result (StopsAt (want.declaration ∷ []) (meanings tokens.now) at) }
+    ensures err { IfErr result (StopsAt (want.declaration ∷ []) tokens.now at) }
 {
     let kind = read_decl_kind(tokens, at)?;
     let (name, params, equals) = read_heading(alloc, tokens, at + 1)?;
@@ -121,14 +116,14 @@ fn read_declaration(alloc: Global, tokens: &[Placed], at: usize) -> Result<(Decl
 /// Reads the name of a declaration, with its parameters where it has any.
 fn read_heading(
     alloc: Global,
-    tokens: &[Placed],
+    tokens: &Tokens,
     at: usize,
 ) -> Result<(Word, Params, usize), RuleFault>
     ensures ok { IfOk result (λ r. Goes (List SpecParam) (ReadsHeading r.0) (want.heading ∷ []) []
-        (meanings tokens.now) at r.2 r.1) }
-    ensures err { IfErr result (StopsAt (want.heading ∷ []) (meanings tokens.now) at) }
+        tokens.now at r.2 r.1) }
+    ensures err { IfErr result (StopsAt (want.heading ∷ []) tokens.now at) }
 {
-    match ahead(tokens, at)? {
+    match tokens.ahead(at)? {
         Token::Name(name) => Ok((Word::new(alloc, name)?, Params::new(alloc), at + 1)),
         Token::Head(name) => {
             let name = Word::new(alloc, name)?;
@@ -140,16 +135,11 @@ fn read_heading(
 }
 
 /// Reads parameters and the `)` behind them.
-fn read_parameters(
-    alloc: Global,
-    tokens: &[Placed],
-    at: usize,
-) -> Result<(Params, usize), RuleFault>
-    requires { at ≤ length (meanings tokens.now) }
-    ensures ok { IfOk result (λ r. Goes (List SpecParam) (Closed ReadsParameters)
-        (parameters_wants ++ want.close_bracket ∷ []) [] (meanings tokens.now) at r.1 r.0) }
-    ensures err { IfErr result (StopsAt (parameters_wants ++ want.close_bracket ∷ [])
-        (meanings tokens.now) at) }
+fn read_parameters(alloc: Global, tokens: &Tokens, at: usize) -> Result<(Params, usize), RuleFault>
+    requires { at ≤ length tokens.now }
+    ensures ok { IfOk result (λ r. Goes (List SpecParam) (Closed ReadsParameters) (parameters_wants
+        ++ want.close_bracket ∷ []) [] tokens.now at r.1 r.0) }
+    ensures err { IfErr result (StopsAt (parameters_wants ++ want.close_bracket ∷ []) tokens.now at) }
 {
     let mut parameters = Vec::new(alloc);
     let mut end = at;
@@ -165,10 +155,10 @@ fn read_parameters(
 }
 
 /// Reads a parameter: a name, `:` and a kind.
-fn read_parameter(alloc: Global, tokens: &[Placed], at: usize) -> Result<(Param, usize), RuleFault>
-    ensures ok { IfOk result (λ r. Goes SpecParam ReadsParameter (want.parameter ∷ []) []
-        (meanings tokens.now) at r.1 r.0) }
-    ensures err { IfErr result (StopsAt (want.parameter ∷ []) (meanings tokens.now) at) }
+fn read_parameter(alloc: Global, tokens: &Tokens, at: usize) -> Result<(Param, usize), RuleFault>
+    ensures ok { IfOk result (λ r. Goes SpecParam ReadsParameter (want.parameter ∷ []) [] tokens.now
+        at r.1 r.0) }
+    ensures err { IfErr result (StopsAt (want.parameter ∷ []) tokens.now at) }
 {
     let name = read_name(tokens, at)?;
     let next = read_sign(tokens, at + 1, Sign::Colon)?;
@@ -178,12 +168,11 @@ fn read_parameter(alloc: Global, tokens: &[Placed], at: usize) -> Result<(Param,
 }
 
 /// Reads levels, with `>` between them.
-fn read_levels(alloc: Global, tokens: &[Placed], at: usize) -> Result<(Levels, usize), RuleFault>
-    requires fit { NumbersFit (meanings tokens.now) }
-    requires within { at ≤ length (meanings tokens.now) }
-    ensures ok { IfOk result (λ r. Goes (List SpecLevel) ReadsLevels levels_wants []
-        (meanings tokens.now) at r.1 r.0) }
-    ensures err { IfErr result (StopsAt levels_wants (meanings tokens.now) at) }
+fn read_levels(alloc: Global, tokens: &Tokens, at: usize) -> Result<(Levels, usize), RuleFault>
+    requires { at ≤ length tokens.now }
+    ensures ok { IfOk result (λ r. Goes (List SpecLevel) ReadsLevels levels_wants [] tokens.now at
+        r.1 r.0) }
+    ensures err { IfErr result (StopsAt levels_wants tokens.now at) }
 {
     let mut levels = Vec::new(alloc);
     let mut end = at;
@@ -198,12 +187,10 @@ fn read_levels(alloc: Global, tokens: &[Placed], at: usize) -> Result<(Levels, u
 }
 
 /// Reads a level: its associativity, where it has one, and its alternatives.
-fn read_level(alloc: Global, tokens: &[Placed], at: usize) -> Result<(Level, usize), RuleFault>
-    requires fit { NumbersFit (meanings tokens.now) }
-    requires within { at ≤ length (meanings tokens.now) }
-    ensures ok { IfOk result (λ r. Goes SpecLevel ReadsLevel level_wants [] (meanings tokens.now) at
-        r.1 r.0) }
-    ensures err { IfErr result (StopsAt level_wants (meanings tokens.now) at) }
+fn read_level(alloc: Global, tokens: &Tokens, at: usize) -> Result<(Level, usize), RuleFault>
+    requires { at ≤ length tokens.now }
+    ensures ok { IfOk result (λ r. Goes SpecLevel ReadsLevel level_wants [] tokens.now at r.1 r.0) }
+    ensures err { IfErr result (StopsAt level_wants tokens.now at) }
 {
     let (assoc, next) = read_associativity(tokens, at);
     let (alts, end) = read_alternatives(alloc, tokens, next)?;
@@ -211,10 +198,10 @@ fn read_level(alloc: Global, tokens: &[Placed], at: usize) -> Result<(Level, usi
 }
 
 /// Reads to which side the alternatives of a level group; to either where no token says it.
-fn read_associativity(tokens: &[Placed], at: usize) -> (Assoc, usize)
-    requires { at ≤ length (meanings tokens.now) }
-    ensures { Goes SpecAssoc ReadsAssociativity (want.associativity ∷ []) [] (meanings tokens.now)
-        at result.1 result.0 }
+fn read_associativity(tokens: &Tokens, at: usize) -> (Assoc, usize)
+    requires { at ≤ length tokens.now }
+    ensures { Goes SpecAssoc ReadsAssociativity (want.associativity ∷ []) [] tokens.now at result.1
+        result.0 }
 {
     match associativity_at(tokens, at) {
         Some(assoc) => (assoc, at + 1),
@@ -223,11 +210,11 @@ fn read_associativity(tokens: &[Placed], at: usize) -> (Assoc, usize)
 }
 
 /// The associativity that stands there; `None` exactly where none does.
-fn associativity_at(tokens: &[Placed], at: usize) -> Option<Assoc>
-    ensures { MatchOption result (Misses want.associativity (meanings tokens.now) at)
-        (λ a. Finds (IsAssociativity a) (meanings tokens.now) at) }
+fn associativity_at(tokens: &Tokens, at: usize) -> Option<Assoc>
+    ensures { MatchOption result (Misses want.associativity tokens.now at) (λ a. Finds
+        (IsAssociativity a) tokens.now at) }
 {
-    match token_at(tokens, at)? {
+    match tokens.get(at)? {
         Token::Left => Some(Assoc::Left),
         Token::Right => Some(Assoc::Right),
         Token::Nonassoc => Some(Assoc::Nonassoc),
@@ -236,11 +223,11 @@ fn associativity_at(tokens: &[Placed], at: usize) -> Option<Assoc>
 }
 
 /// The kind of declaration that stands there, in front of the token of the next number.
-fn read_decl_kind(tokens: &[Placed], at: usize) -> Result<DeclKind, RuleFault>
-    ensures ok { IfOk result (λ k. Finds (λ t. IsDeclKind t k) (meanings tokens.now) at) }
-    ensures err { IfErr result (MissesAt want.declaration (meanings tokens.now) at) }
+fn read_decl_kind(tokens: &Tokens, at: usize) -> Result<DeclKind, RuleFault>
+    ensures ok { IfOk result (λ k. Finds (λ t. IsDeclKind t k) tokens.now at) }
+    ensures err { IfErr result (MissesAt want.declaration tokens.now at) }
 {
-    match ahead(tokens, at)? {
+    match tokens.ahead(at)? {
         Token::Syntax => Ok(DeclKind::Syntax),
         Token::Lexical => Ok(DeclKind::Lexical),
         Token::Layout => Ok(DeclKind::Layout),
@@ -249,11 +236,11 @@ fn read_decl_kind(tokens: &[Placed], at: usize) -> Result<DeclKind, RuleFault>
 }
 
 /// The kind of values that stands there, in front of the token of the next number.
-fn read_kind(tokens: &[Placed], at: usize) -> Result<Kind, RuleFault>
-    ensures ok { IfOk result (λ k. Finds (λ t. IsKind t k) (meanings tokens.now) at) }
-    ensures err { IfErr result (MissesAt want.kind (meanings tokens.now) at) }
+fn read_kind(tokens: &Tokens, at: usize) -> Result<Kind, RuleFault>
+    ensures ok { IfOk result (λ k. Finds (λ t. IsKind t k) tokens.now at) }
+    ensures err { IfErr result (MissesAt want.kind tokens.now at) }
 {
-    match ahead(tokens, at)? {
+    match tokens.ahead(at)? {
         Token::Int => Ok(Kind::Int),
         Token::Bool => Ok(Kind::Bool),
         Token::Span => Ok(Kind::Span),

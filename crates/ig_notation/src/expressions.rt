@@ -7,20 +7,21 @@ ghost use Rattle.ig_tokens.specs.View.{token_of};
 ghost use Rattle.ig_expr.specs.View.{expression_of};
 ghost use Rattle.ig_expr.specs.Expression.{Expression};
 ghost use Rattle.ig_syntax.specs.Token as spec;
+ghost use Rattle.ig_syntax.specs.Spelling.{entry};
 ghost use Rattle.ig_syntax.specs.Rules.{IsOperator, ReadsExpression, ReadsTerm, ReadsArguments};
 ghost use Rattle.ig_rules.specs.Machine as want;
 ghost use Rattle.ig_rules.specs.Machine.{after_function, arguments_wants};
 ghost use Rattle.ig_rules.specs.Reading.{Goes};
-ghost use Rattle.ig_notation.specs.Limits.{NumbersFit};
-ghost use Rattle.ig_notation.specs.Readers.{meanings, Stands, Misses, Finds, StopsAt, Closed};
-ghost use Rattle.ig_notation.specs.Readers.{IsNamed, named_wants, ReadsNamed};
+ghost use Rattle.ig_notation.specs.Readers.{Stands, Misses, Finds, StopsAt, Closed};
+ghost use Rattle.ig_notation.specs.Readers.{IsNamed, named_wants, ReadsNamed, rows_of};
 ghost use Rattle.ig_notation.specs.declared.expressions.Named.TheVariants as named;
 
 use crate::fault::RuleFault;
-use crate::signs::{Sign, ahead, read_sign, stands_at, token_at};
+use crate::signs::{Sign, read_sign, stands_at};
+use crate::tokens::Tokens;
 use ig_expr::{Expr, Exprs, Function, Op, Operand};
 use ig_text::Word;
-use ig_tokens::{Placed, Token, literal_text, number_of};
+use ig_tokens::{Token, literal_text, number_of};
 use std::alloc::Global;
 
 /// What the name of a head says of an expression.
@@ -34,19 +35,30 @@ pub(crate) enum Named {
     Spells,
 }
 
+// The names of functions.
+static FUNCTIONS: [(&str, Named); 8] = [
+    ("begin", Named::One(Function::Begin)),
+    ("end", Named::One(Function::End)),
+    ("size", Named::One(Function::Size)),
+    ("column", Named::One(Function::Column)),
+    ("line", Named::One(Function::Line)),
+    ("number", Named::One(Function::Number)),
+    ("same", Named::Same),
+    ("spells", Named::Spells),
+];
+
 /// Reads an expression.
 #[cycle(expressions)]
 pub(crate) fn read_expression(
     alloc: Global,
-    tokens: &[Placed],
+    tokens: &Tokens,
     at: usize,
 ) -> Result<(Expr, usize), RuleFault>
-    requires { NumbersFit (meanings tokens.now) }
     ensures ok { IfOk result (λ r. Goes Expression ReadsExpression (want.expression ∷ []) []
-        (meanings tokens.now) at r.1 (expression_of r.0)) }
-    ensures err { IfErr result (StopsAt (want.expression ∷ []) (meanings tokens.now) at) }
+        tokens.now at r.1 (expression_of r.0)) }
+    ensures err { IfErr result (StopsAt (want.expression ∷ []) tokens.now at) }
 {
-    match ahead(tokens, at)? {
+    match tokens.ahead(at)? {
         Token::Not => {
             let (operand, end) = read_term(alloc, tokens, at + 1)?;
             Ok((Expr::Not(Operand::new(alloc, operand)?), end))
@@ -61,12 +73,10 @@ pub(crate) fn read_expression(
 
 /// Reads a term, and an operator and a term behind it where there is an operator.
 #[cycle(expressions)]
-fn read_operation(alloc: Global, tokens: &[Placed], at: usize) -> Result<(Expr, usize), RuleFault>
-    requires { NumbersFit (meanings tokens.now) }
-    ensures ok { IfOk result (λ r. Goes Expression ReadsExpression
-        (want.term ∷ want.operator_rest ∷ []) [] (meanings tokens.now) at r.1 (expression_of r.0)) }
-    ensures err { IfErr result (StopsAt (want.term ∷ want.operator_rest ∷ []) (meanings tokens.now)
-        at) }
+fn read_operation(alloc: Global, tokens: &Tokens, at: usize) -> Result<(Expr, usize), RuleFault>
+    ensures ok { IfOk result (λ r. Goes Expression ReadsExpression (want.term ∷ want.operator_rest ∷
+        []) [] tokens.now at r.1 (expression_of r.0)) }
+    ensures err { IfErr result (StopsAt (want.term ∷ want.operator_rest ∷ []) tokens.now at) }
 {
     let (left, end) = read_term(alloc, tokens, at)?;
     let Some(operator) = operator_at(tokens, end) else {
@@ -80,17 +90,19 @@ fn read_operation(alloc: Global, tokens: &[Placed], at: usize) -> Result<(Expr, 
 
 /// Reads a term.
 #[cycle(expressions)]
-fn read_term(alloc: Global, tokens: &[Placed], at: usize) -> Result<(Expr, usize), RuleFault>
-    requires { NumbersFit (meanings tokens.now) }
-    ensures ok { IfOk result (λ r. Goes Expression ReadsTerm (want.term ∷ []) []
-        (meanings tokens.now) at r.1 (expression_of r.0)) }
-    ensures err { IfErr result (StopsAt (want.term ∷ []) (meanings tokens.now) at) }
+fn read_term(alloc: Global, tokens: &Tokens, at: usize) -> Result<(Expr, usize), RuleFault>
+    ensures ok { IfOk result (λ r. Goes Expression ReadsTerm (want.term ∷ []) [] tokens.now at r.1
+        (expression_of r.0)) }
+    ensures err { IfErr result (StopsAt (want.term ∷ []) tokens.now at) }
 {
-    match ahead(tokens, at)? {
-        Token::Number(digits) => match number_of(digits) {
-            Some(number) => Ok((Expr::Int(number), at + 1)),
-            None => unreachable!(),
-        },
+    match tokens.ahead(at)? {
+        Token::Number(digits) => {
+            tokens.numbers_fit();
+            match number_of(digits) {
+                Some(number) => Ok((Expr::Int(number), at + 1)),
+                None => unreachable!(),
+            }
+        }
         Token::True => Ok((Expr::Bool(true), at + 1)),
         Token::False => Ok((Expr::Bool(false), at + 1)),
         Token::Here => Ok((Expr::Here, at + 1)),
@@ -108,15 +120,12 @@ fn read_term(alloc: Global, tokens: &[Placed], at: usize) -> Result<(Expr, usize
 #[cycle(expressions)]
 pub(crate) fn read_closed(
     alloc: Global,
-    tokens: &[Placed],
+    tokens: &Tokens,
     at: usize,
 ) -> Result<(Expr, usize), RuleFault>
-    requires { NumbersFit (meanings tokens.now) }
-    ensures ok { IfOk result (λ r. Goes Expression (Closed ReadsExpression)
-        (want.expression ∷ want.close_bracket ∷ []) [] (meanings tokens.now) at r.1
-        (expression_of r.0)) }
-    ensures err { IfErr result (StopsAt (want.expression ∷ want.close_bracket ∷ [])
-        (meanings tokens.now) at) }
+    ensures ok { IfOk result (λ r. Goes Expression (Closed ReadsExpression) (want.expression ∷
+        want.close_bracket ∷ []) [] tokens.now at r.1 (expression_of r.0)) }
+    ensures err { IfErr result (StopsAt (want.expression ∷ want.close_bracket ∷ []) tokens.now at) }
 {
     let (expression, end) = read_expression(alloc, tokens, at)?;
     let end = read_sign(tokens, end, Sign::Close)?;
@@ -127,14 +136,13 @@ pub(crate) fn read_closed(
 #[cycle(expressions)]
 fn read_function(
     alloc: Global,
-    tokens: &[Placed],
+    tokens: &Tokens,
     at: usize,
     function: Named,
 ) -> Result<(Expr, usize), RuleFault>
-    requires { NumbersFit (meanings tokens.now) }
     ensures ok { IfOk result (λ r. Goes Expression (ReadsNamed function) (named_wants function) []
-        (meanings tokens.now) at r.1 (expression_of r.0)) }
-    ensures err { IfErr result (StopsAt (named_wants function) (meanings tokens.now) at) }
+        tokens.now at r.1 (expression_of r.0)) }
+    ensures err { IfErr result (StopsAt (named_wants function) tokens.now at) }
 {
     match function {
         Named::One(function) => {
@@ -148,11 +156,10 @@ fn read_function(
 
 /// Reads what stands in the brackets of `same`: two expressions.
 #[cycle(expressions)]
-fn read_same(alloc: Global, tokens: &[Placed], at: usize) -> Result<(Expr, usize), RuleFault>
-    requires { NumbersFit (meanings tokens.now) }
+fn read_same(alloc: Global, tokens: &Tokens, at: usize) -> Result<(Expr, usize), RuleFault>
     ensures ok { IfOk result (λ r. Goes Expression (ReadsNamed named.Same) (named_wants named.Same)
-        [] (meanings tokens.now) at r.1 (expression_of r.0)) }
-    ensures err { IfErr result (StopsAt (named_wants named.Same) (meanings tokens.now) at) }
+        [] tokens.now at r.1 (expression_of r.0)) }
+    ensures err { IfErr result (StopsAt (named_wants named.Same) tokens.now at) }
 {
     let (first, end) = read_expression(alloc, tokens, at)?;
     let first = Operand::new(alloc, first)?;
@@ -164,11 +171,10 @@ fn read_same(alloc: Global, tokens: &[Placed], at: usize) -> Result<(Expr, usize
 
 /// Reads what stands in the brackets of `spells`: an expression and a literal.
 #[cycle(expressions)]
-fn read_spells(alloc: Global, tokens: &[Placed], at: usize) -> Result<(Expr, usize), RuleFault>
-    requires { NumbersFit (meanings tokens.now) }
-    ensures ok { IfOk result (λ r. Goes Expression (ReadsNamed named.Spells)
-        (named_wants named.Spells) [] (meanings tokens.now) at r.1 (expression_of r.0)) }
-    ensures err { IfErr result (StopsAt (named_wants named.Spells) (meanings tokens.now) at) }
+fn read_spells(alloc: Global, tokens: &Tokens, at: usize) -> Result<(Expr, usize), RuleFault>
+    ensures ok { IfOk result (λ r. Goes Expression (ReadsNamed named.Spells) (named_wants
+        named.Spells) [] tokens.now at r.1 (expression_of r.0)) }
+    ensures err { IfErr result (StopsAt (named_wants named.Spells) tokens.now at) }
 {
     let (operand, end) = read_expression(alloc, tokens, at)?;
     let operand = Operand::new(alloc, operand)?;
@@ -179,11 +185,11 @@ fn read_spells(alloc: Global, tokens: &[Placed], at: usize) -> Result<(Expr, usi
 }
 
 /// The text of the literal that stands there, in front of the token of the next number.
-fn read_literal(alloc: Global, tokens: &[Placed], at: usize) -> Result<Word, RuleFault>
-    ensures ok { IfOk result (λ w. Stands (meanings tokens.now) at (spec.Literal w)) }
-    ensures err { IfErr result (StopsAt (want.literal ∷ []) (meanings tokens.now) at) }
+fn read_literal(alloc: Global, tokens: &Tokens, at: usize) -> Result<Word, RuleFault>
+    ensures ok { IfOk result (λ w. Stands tokens.now at (spec.Literal w)) }
+    ensures err { IfErr result (StopsAt (want.literal ∷ []) tokens.now at) }
 {
-    match ahead(tokens, at)? {
+    match tokens.ahead(at)? {
         Token::Literal(inside) => Ok(literal_text(alloc, inside)?),
         _ => Err(RuleFault::Unexpected { token: at }),
     }
@@ -192,15 +198,13 @@ fn read_literal(alloc: Global, tokens: &[Placed], at: usize) -> Result<Word, Rul
 /// Reads arguments and the `)` behind them.
 pub(crate) fn read_arguments(
     alloc: Global,
-    tokens: &[Placed],
+    tokens: &Tokens,
     at: usize,
 ) -> Result<(Exprs, usize), RuleFault>
-    requires fit { NumbersFit (meanings tokens.now) }
-    requires within { at ≤ length (meanings tokens.now) }
-    ensures ok { IfOk result (λ r. Goes (List Expression) (Closed ReadsArguments)
-        (arguments_wants ++ want.close_bracket ∷ []) [] (meanings tokens.now) at r.1 r.0) }
-    ensures err { IfErr result (StopsAt (arguments_wants ++ want.close_bracket ∷ [])
-        (meanings tokens.now) at) }
+    requires { at ≤ length tokens.now }
+    ensures ok { IfOk result (λ r. Goes (List Expression) (Closed ReadsArguments) (arguments_wants
+        ++ want.close_bracket ∷ []) [] tokens.now at r.1 r.0) }
+    ensures err { IfErr result (StopsAt (arguments_wants ++ want.close_bracket ∷ []) tokens.now at) }
 {
     let mut arguments = Exprs::new(alloc);
     let mut end = at;
@@ -225,11 +229,11 @@ fn add_argument(arguments: &mut Exprs, argument: Expr) -> Result<(), RuleFault>
 }
 
 /// The operator that stands there; `None` exactly where none does.
-fn operator_at(tokens: &[Placed], at: usize) -> Option<Op>
-    ensures { MatchOption result (Misses want.operator_rest (meanings tokens.now) at)
-        (λ o. Finds (λ t. IsOperator t o) (meanings tokens.now) at) }
+fn operator_at(tokens: &Tokens, at: usize) -> Option<Op>
+    ensures { MatchOption result (Misses want.operator_rest tokens.now at) (λ o. Finds (λ t.
+        IsOperator t o) tokens.now at) }
 {
-    match token_at(tokens, at)? {
+    match tokens.get(at)? {
         Token::Plus => Some(Op::Add),
         Token::Minus => Some(Op::Sub),
         Token::Star => Some(Op::Mul),
@@ -252,15 +256,17 @@ fn function_named(name: &str) -> Option<Named>
     ensures { MatchOption result (after_function (chars name.now) ≡ None)
         (IsNamed (chars name.now)) }
 {
-    match name {
-        "begin" => Some(Named::One(Function::Begin)),
-        "end" => Some(Named::One(Function::End)),
-        "size" => Some(Named::One(Function::Size)),
-        "column" => Some(Named::One(Function::Column)),
-        "line" => Some(Named::One(Function::Line)),
-        "number" => Some(Named::One(Function::Number)),
-        "same" => Some(Named::Same),
-        "spells" => Some(Named::Spells),
-        _ => None,
+    entry(&FUNCTIONS, name)
+}
+
+/// What the table has beside the word; `None` exactly where it hasn't the word.
+fn entry(table: &[(&str, Named)], word: &str) -> Option<Named>
+    ensures { result ≡ entry (rows_of table.now) word.now }
+{
+    for (key, named) in table {
+        if *key == word {
+            return Some(*named);
+        }
     }
+    None
 }

@@ -45,7 +45,7 @@ impl From<TokenFault> for ReadFault {
 }
 
 /// Why tokens gave no part of a grammar.
-#[derive(Clone, Copy, PartialEq, Eq, Debug)]
+#[derive(Clone, Copy)]
 pub(crate) enum RuleFault {
     /// The token of this number, counted from 0, can't stand here; or the tokens end, and theirs is
     /// the number.

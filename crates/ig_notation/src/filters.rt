@@ -9,14 +9,14 @@ ghost use Rattle.ig_grammar.specs.declared.filter.Filter.{Filter as SpecFilter};
 ghost use Rattle.ig_rules.specs.Machine as want;
 ghost use Rattle.ig_rules.specs.Machine.{after_pattern};
 ghost use Rattle.ig_rules.specs.Reading.{Goes};
-ghost use Rattle.ig_notation.specs.Readers.{meanings, Stands, Misses, Finds, StopsAt, filter_token};
+ghost use Rattle.ig_notation.specs.Readers.{Stands, Misses, Finds, StopsAt, filter_token};
 ghost use Rattle.ig_notation.specs.Readers.{filter_of};
 
 use crate::fault::{RuleFault, add};
-use crate::signs::{ahead, token_at};
+use crate::tokens::Tokens;
 use ig_grammar::{Filter, Filters};
 use ig_text::{Class, Pattern};
-use ig_tokens::{Placed, Token, class_of, literal_text};
+use ig_tokens::{Token, class_of, literal_text};
 use std::alloc::{AllocError, Global};
 
 /// The signs of filters.
@@ -30,13 +30,13 @@ pub(crate) enum FilterSign {
 /// Reads filters, maybe none.
 pub(crate) fn read_filters(
     alloc: Global,
-    tokens: &[Placed],
+    tokens: &Tokens,
     at: usize,
 ) -> Result<(Filters, usize), RuleFault>
-    requires { at ≤ length (meanings tokens.now) }
+    requires { at ≤ length tokens.now }
     ensures ok { IfOk result (λ r. Goes (List SpecFilter) ReadsFilters (want.filters ∷ []) []
-        (meanings tokens.now) at r.1 r.0) }
-    ensures err { IfErr result (StopsAt (want.filters ∷ []) (meanings tokens.now) at) }
+        tokens.now at r.1 r.0) }
+    ensures err { IfErr result (StopsAt (want.filters ∷ []) tokens.now at) }
 {
     let mut filters = Vec::new(alloc);
     let mut end = at;
@@ -49,11 +49,11 @@ pub(crate) fn read_filters(
 }
 
 /// The pattern of a filter that stands there, in front of the token of the next number.
-fn read_pattern(alloc: Global, tokens: &[Placed], at: usize) -> Result<Pattern, RuleFault>
-    ensures ok { IfOk result (λ p. Finds (λ t. IsPattern t p) (meanings tokens.now) at) }
-    ensures err { IfErr result (StopsAt (want.pattern ∷ []) (meanings tokens.now) at) }
+fn read_pattern(alloc: Global, tokens: &Tokens, at: usize) -> Result<Pattern, RuleFault>
+    ensures ok { IfOk result (λ p. Finds (λ t. IsPattern t p) tokens.now at) }
+    ensures err { IfErr result (StopsAt (want.pattern ∷ []) tokens.now at) }
 {
-    match pattern_of(alloc, ahead(tokens, at)?)? {
+    match pattern_of(alloc, tokens.ahead(at)?)? {
         Some(pattern) => Ok(pattern),
         None => Err(RuleFault::Unexpected { token: at }),
     }
@@ -75,11 +75,11 @@ pub(crate) fn pattern_of(alloc: Global, token: Token) -> Result<Option<Pattern>,
 }
 
 /// The sign of a filter that stands there; `None` exactly where none does.
-fn filter_sign_at(tokens: &[Placed], at: usize) -> Option<FilterSign>
-    ensures { MatchOption result (Misses want.filters (meanings tokens.now) at)
-        (λ s. Stands (meanings tokens.now) at (filter_token s)) }
+fn filter_sign_at(tokens: &Tokens, at: usize) -> Option<FilterSign>
+    ensures { MatchOption result (Misses want.filters tokens.now at) (λ s. Stands tokens.now at
+        (filter_token s)) }
 {
-    match token_at(tokens, at)? {
+    match tokens.get(at)? {
         Token::NotFollowedBy => Some(FilterSign::NotFollowed),
         Token::NotPrecededBy => Some(FilterSign::NotPreceded),
         Token::Backslash => Some(FilterSign::Not),

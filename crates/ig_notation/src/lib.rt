@@ -17,6 +17,7 @@ mod limits;
 mod signs;
 mod source;
 mod symbols;
+mod tokens;
 
 pub use fault::{Large, ReadFault};
 pub use ig_tokens::MOST_BYTES;

@@ -1,15 +1,15 @@
 //! Single tokens.
 
-ghost use Rattle.std.specs.Prelude.{◌≡◌, [], true, false, drop, chars, IfOk, IfErr, None};
-ghost use Rattle.std.specs.Prelude.{MatchOption};
+ghost use Rattle.std.specs.Prelude.{◌≡◌, true, false, chars, IfOk, IfErr, None};
 ghost use Rattle.ig_tokens.specs.View.{token_of};
 ghost use Rattle.ig_syntax.specs.Token as spec;
 ghost use Rattle.ig_rules.specs.Machine.{after, name};
-ghost use Rattle.ig_notation.specs.Readers.{meanings, Stands, Takes, Misses, EndsAt, MissesAt};
+ghost use Rattle.ig_notation.specs.Readers.{Stands, Takes, Misses, MissesAt};
 ghost use Rattle.ig_notation.specs.Readers.{sign_token, want_of};
 
 use crate::fault::RuleFault;
-use ig_tokens::{Placed, Token};
+use crate::tokens::Tokens;
+use ig_tokens::Token;
 
 /// A sign that the rules ask for.
 #[derive(Clone, Copy)]
@@ -25,43 +25,21 @@ pub(crate) enum Sign {
     CloseBrace,
 }
 
-/// The token of this number, counted from 0; `None` exactly where there are no more.
-pub(crate) fn token_at<'a>(tokens: &[Placed<'a>], at: usize) -> Option<Token<'a>>
-    ensures { MatchOption result (drop at (meanings tokens.now) ≡ [])
-        (λ t. Stands (meanings tokens.now) at (token_of t)) }
+/// Whether the token of this number is the sign.
+pub(crate) fn stands_at(tokens: &Tokens, at: usize, wanted: Sign) -> bool
+    ensures yes { result ≡ true → Stands tokens.now at (sign_token wanted) }
+    ensures no { result ≡ false → Misses (want_of wanted) tokens.now at }
 {
     match tokens.get(at) {
-        Some(placed) => Some(placed.token),
-        None => None,
-    }
-}
-
-/// The token of this number; refused exactly where there are no more.
-pub(crate) fn ahead<'a>(tokens: &[Placed<'a>], at: usize) -> Result<Token<'a>, RuleFault>
-    ensures ok { IfOk result (λ t. Stands (meanings tokens.now) at (token_of t)) }
-    ensures err { IfErr result (EndsAt (meanings tokens.now) at) }
-{
-    match token_at(tokens, at) {
-        Some(token) => Ok(token),
-        None => Err(RuleFault::Unexpected { token: at }),
-    }
-}
-
-/// Whether the token of this number is the sign.
-pub(crate) fn stands_at(tokens: &[Placed], at: usize, wanted: Sign) -> bool
-    ensures yes { result ≡ true → Stands (meanings tokens.now) at (sign_token wanted) }
-    ensures no { result ≡ false → Misses (want_of wanted) (meanings tokens.now) at }
-{
-    match token_at(tokens, at) {
         Some(token) => is_sign(token, wanted),
         None => false,
     }
 }
 
 /// The number of the token behind the sign, which stands there.
-pub(crate) fn read_sign(tokens: &[Placed], at: usize, wanted: Sign) -> Result<usize, RuleFault>
-    ensures ok { IfOk result (Takes (sign_token wanted) (meanings tokens.now) at) }
-    ensures err { IfErr result (MissesAt (want_of wanted) (meanings tokens.now) at) }
+pub(crate) fn read_sign(tokens: &Tokens, at: usize, wanted: Sign) -> Result<usize, RuleFault>
+    ensures ok { IfOk result (Takes (sign_token wanted) tokens.now at) }
+    ensures err { IfErr result (MissesAt (want_of wanted) tokens.now at) }
 {
     if stands_at(tokens, at, wanted) {
         Ok(at + 1)
@@ -89,11 +67,11 @@ fn is_sign(token: Token, sign: Sign) -> bool
 }
 
 /// The name that stands there, in front of the token of the next number.
-pub(crate) fn read_name<'a>(tokens: &[Placed<'a>], at: usize) -> Result<&'a str, RuleFault>
-    ensures ok { IfOk result (λ x. Stands (meanings tokens.now) at (spec.Name (chars x.now))) }
-    ensures err { IfErr result (MissesAt name (meanings tokens.now) at) }
+pub(crate) fn read_name<'a>(tokens: &Tokens<'a>, at: usize) -> Result<&'a str, RuleFault>
+    ensures ok { IfOk result (λ x. Stands tokens.now at (spec.Name (chars x.now))) }
+    ensures err { IfErr result (MissesAt name tokens.now at) }
 {
-    match ahead(tokens, at)? {
+    match tokens.ahead(at)? {
         Token::Name(name) => Ok(name),
         _ => Err(RuleFault::Unexpected { token: at }),
     }

@@ -8,6 +8,7 @@ ghost use Rattle.ig_notation.specs.Outcome.{IsRead, IsReadFault, byte_of, refusa
 use crate::declarations::read_grammar;
 use crate::fault::{Large, ReadFault, RuleFault};
 use crate::limits::{is_shallow, numbers_fit};
+use crate::tokens::Tokens;
 use ig_grammar::Grammar;
 use ig_tokens::{MOST_BYTES, Placed, tokenize};
 use std::alloc::Global;
@@ -41,7 +42,7 @@ pub fn read(alloc: Global, source: &str) -> Result<Grammar, ReadFault>
         });
     }
     ig_rules::run_stops();
-    match read_grammar(alloc, tokens) {
+    match read_grammar(alloc, &Tokens::new(tokens)) {
         Ok(grammar) => Ok(grammar),
         Err(fault) => Err(refusal(tokens, fault, source)),
     }

@@ -15,19 +15,19 @@ ghost use Rattle.ig_syntax.specs.Rules.{ReadsAlternative, ReadsAlternatives};
 ghost use Rattle.ig_rules.specs.Machine as want;
 ghost use Rattle.ig_rules.specs.Machine.{after_symbol, alternatives_wants};
 ghost use Rattle.ig_rules.specs.Reading.{Goes};
-ghost use Rattle.ig_notation.specs.Limits.{NumbersFit};
-ghost use Rattle.ig_notation.specs.Readers.{meanings, Stands, Misses, MissesAt, Finds, StopsAt};
+ghost use Rattle.ig_notation.specs.Readers.{Stands, Misses, MissesAt, Finds, StopsAt};
 ghost use Rattle.ig_notation.specs.Readers.{Behind, ReadsBare, terminal_of, repetition_token};
 ghost use Rattle.ig_notation.specs.Readers.{repeated_of, list_token, separated_of};
 
 use crate::expressions::{read_arguments, read_closed};
 use crate::fault::RuleFault;
 use crate::filters::{pattern_of, read_filters};
-use crate::signs::{Sign, ahead, read_name, read_sign, stands_at, token_at};
+use crate::signs::{Sign, read_name, read_sign, stands_at};
+use crate::tokens::Tokens;
 use ig_expr::Exprs;
 use ig_grammar::{Alt, Alts, Inner, Symbol, Symbols};
 use ig_text::{Pattern, Word};
-use ig_tokens::{Placed, Token};
+use ig_tokens::Token;
 use std::alloc::Global;
 
 /// What stands behind an option or a list.
@@ -49,14 +49,13 @@ pub(crate) enum ListSign {
 #[cycle(symbols)]
 pub(crate) fn read_alternatives(
     alloc: Global,
-    tokens: &[Placed],
+    tokens: &Tokens,
     at: usize,
 ) -> Result<(Alts, usize), RuleFault>
-    requires fit { NumbersFit (meanings tokens.now) }
-    requires within { at ≤ length (meanings tokens.now) }
+    requires { at ≤ length tokens.now }
     ensures ok { IfOk result (λ r. Goes tree.Alternatives ReadsAlternatives alternatives_wants []
-        (meanings tokens.now) at r.1 (gathered_alternatives r.0)) }
-    ensures err { IfErr result (StopsAt alternatives_wants (meanings tokens.now) at) }
+        tokens.now at r.1 (gathered_alternatives r.0)) }
+    ensures err { IfErr result (StopsAt alternatives_wants tokens.now at) }
 {
     let mut alternatives = Alts::new(alloc);
     let mut end = at;
@@ -74,14 +73,13 @@ pub(crate) fn read_alternatives(
 #[cycle(symbols)]
 fn read_alternative(
     alloc: Global,
-    tokens: &[Placed],
+    tokens: &Tokens,
     at: usize,
 ) -> Result<(Symbols, usize), RuleFault>
-    requires fit { NumbersFit (meanings tokens.now) }
-    requires within { at ≤ length (meanings tokens.now) }
+    requires { at ≤ length tokens.now }
     ensures ok { IfOk result (λ r. Goes tree.Symbols ReadsAlternative (want.alternative ∷ []) []
-        (meanings tokens.now) at r.1 (gathered r.0)) }
-    ensures err { IfErr result (StopsAt (want.alternative ∷ []) (meanings tokens.now) at) }
+        tokens.now at r.1 (gathered r.0)) }
+    ensures err { IfErr result (StopsAt (want.alternative ∷ []) tokens.now at) }
 {
     let mut symbols = Symbols::new(alloc);
     let mut end = at;
@@ -94,12 +92,11 @@ fn read_alternative(
 }
 
 /// Whether a symbol begins with the token that stands there.
-fn begins_symbol(tokens: &[Placed], at: usize) -> bool
-    ensures yes { result ≡ true → Finds (λ t. is_some (after_symbol t) ≡ true) (meanings tokens.now)
-        at }
-    ensures no { result ≡ false → Misses want.alternative (meanings tokens.now) at }
+fn begins_symbol(tokens: &Tokens, at: usize) -> bool
+    ensures yes { result ≡ true → Finds (λ t. is_some (after_symbol t) ≡ true) tokens.now at }
+    ensures no { result ≡ false → Misses want.alternative tokens.now at }
 {
-    match token_at(tokens, at) {
+    match tokens.get(at) {
         Some(token) => begins(token),
         None => false,
     }
@@ -130,14 +127,13 @@ fn begins(token: Token) -> bool
 
 /// Reads a symbol.
 #[cycle(symbols)]
-fn read_symbol(alloc: Global, tokens: &[Placed], at: usize) -> Result<(Symbol, usize), RuleFault>
-    requires { NumbersFit (meanings tokens.now) }
-    ensures ok { IfOk result (λ r. Goes tree.Symbol ReadsSymbol (want.symbol ∷ []) []
-        (meanings tokens.now) at r.1 (symbol_of r.0)) }
+fn read_symbol(alloc: Global, tokens: &Tokens, at: usize) -> Result<(Symbol, usize), RuleFault>
+    ensures ok { IfOk result (λ r. Goes tree.Symbol ReadsSymbol (want.symbol ∷ []) [] tokens.now at
+        r.1 (symbol_of r.0)) }
     ensures progress { IfOk result (λ r. at < r.1) }
-    ensures err { IfErr result (StopsAt (want.symbol ∷ []) (meanings tokens.now) at) }
+    ensures err { IfErr result (StopsAt (want.symbol ∷ []) tokens.now at) }
 {
-    match ahead(tokens, at)? {
+    match tokens.ahead(at)? {
         Token::When => read_guard(alloc, tokens, at + 1),
         Token::Let => read_let(alloc, tokens, at + 1),
         Token::Name(name) => {
@@ -153,13 +149,12 @@ fn read_symbol(alloc: Global, tokens: &[Placed], at: usize) -> Result<(Symbol, u
 }
 
 /// Reads what stands behind `when`: a condition in brackets.
-fn read_guard(alloc: Global, tokens: &[Placed], at: usize) -> Result<(Symbol, usize), RuleFault>
-    requires { NumbersFit (meanings tokens.now) }
+fn read_guard(alloc: Global, tokens: &Tokens, at: usize) -> Result<(Symbol, usize), RuleFault>
     ensures ok { IfOk result (λ r. Goes tree.Symbol (Behind spec.When ReadsSymbol)
-        (want.open_bracket ∷ want.expression ∷ want.close_bracket ∷ []) [] (meanings tokens.now) at
-        r.1 (symbol_of r.0)) }
+        (want.open_bracket ∷ want.expression ∷ want.close_bracket ∷ []) [] tokens.now at r.1
+        (symbol_of r.0)) }
     ensures err { IfErr result (StopsAt (want.open_bracket ∷ want.expression ∷ want.close_bracket ∷
-        []) (meanings tokens.now) at) }
+        []) tokens.now at) }
 {
     let inside = read_sign(tokens, at, Sign::Open)?;
     let (condition, end) = read_closed(alloc, tokens, inside)?;
@@ -167,13 +162,12 @@ fn read_guard(alloc: Global, tokens: &[Placed], at: usize) -> Result<(Symbol, us
 }
 
 /// Reads what stands behind `let`: a name, `=`, and an expression in brackets.
-fn read_let(alloc: Global, tokens: &[Placed], at: usize) -> Result<(Symbol, usize), RuleFault>
-    requires { NumbersFit (meanings tokens.now) }
-    ensures ok { IfOk result (λ r. Goes tree.Symbol (Behind spec.Let ReadsSymbol)
-        (want.name ∷ want.equals ∷ want.open_bracket ∷ want.expression ∷ want.close_bracket ∷ []) []
-        (meanings tokens.now) at r.1 (symbol_of r.0)) }
+fn read_let(alloc: Global, tokens: &Tokens, at: usize) -> Result<(Symbol, usize), RuleFault>
+    ensures ok { IfOk result (λ r. Goes tree.Symbol (Behind spec.Let ReadsSymbol) (want.name ∷
+        want.equals ∷ want.open_bracket ∷ want.expression ∷ want.close_bracket ∷ []) [] tokens.now
+        at r.1 (symbol_of r.0)) }
     ensures err { IfErr result (StopsAt (want.name ∷ want.equals ∷ want.open_bracket ∷
-        want.expression ∷ want.close_bracket ∷ []) (meanings tokens.now) at) }
+        want.expression ∷ want.close_bracket ∷ []) tokens.now at) }
 {
     let name = read_name(tokens, at)?;
     let open = read_sign(tokens, at + 1, Sign::Equals)?;
@@ -185,14 +179,13 @@ fn read_let(alloc: Global, tokens: &[Placed], at: usize) -> Result<(Symbol, usiz
 
 /// Reads a symbol with a mark before it or none.
 #[cycle(symbols)]
-fn read_marked(alloc: Global, tokens: &[Placed], at: usize) -> Result<(Symbol, usize), RuleFault>
-    requires { NumbersFit (meanings tokens.now) }
-    ensures ok { IfOk result (λ r. Goes tree.Symbol ReadsMarked (want.marked ∷ []) []
-        (meanings tokens.now) at r.1 (symbol_of r.0)) }
+fn read_marked(alloc: Global, tokens: &Tokens, at: usize) -> Result<(Symbol, usize), RuleFault>
+    ensures ok { IfOk result (λ r. Goes tree.Symbol ReadsMarked (want.marked ∷ []) [] tokens.now at
+        r.1 (symbol_of r.0)) }
     ensures progress { IfOk result (λ r. at < r.1) }
-    ensures err { IfErr result (StopsAt (want.marked ∷ []) (meanings tokens.now) at) }
+    ensures err { IfErr result (StopsAt (want.marked ∷ []) tokens.now at) }
 {
-    match ahead(tokens, at)? {
+    match tokens.ahead(at)? {
         Token::Offside => {
             let (symbol, end) = read_filtered(alloc, tokens, at + 1)?;
             Ok((Symbol::Offside(Inner::new(alloc, symbol)?), end))
@@ -211,12 +204,11 @@ fn read_marked(alloc: Global, tokens: &[Placed], at: usize) -> Result<(Symbol, u
 
 /// Reads a symbol without a mark, and the filters behind it.
 #[cycle(symbols)]
-fn read_filtered(alloc: Global, tokens: &[Placed], at: usize) -> Result<(Symbol, usize), RuleFault>
-    requires { NumbersFit (meanings tokens.now) }
-    ensures ok { IfOk result (λ r. Goes tree.Symbol ReadsPost (want.post ∷ []) []
-        (meanings tokens.now) at r.1 (symbol_of r.0)) }
+fn read_filtered(alloc: Global, tokens: &Tokens, at: usize) -> Result<(Symbol, usize), RuleFault>
+    ensures ok { IfOk result (λ r. Goes tree.Symbol ReadsPost (want.post ∷ []) [] tokens.now at r.1
+        (symbol_of r.0)) }
     ensures progress { IfOk result (λ r. at < r.1) }
-    ensures err { IfErr result (StopsAt (want.post ∷ []) (meanings tokens.now) at) }
+    ensures err { IfErr result (StopsAt (want.post ∷ []) tokens.now at) }
 {
     let (symbol, behind) = read_bare(alloc, tokens, at)?;
     let (filters, end) = read_filters(alloc, tokens, behind)?;
@@ -228,14 +220,13 @@ fn read_filtered(alloc: Global, tokens: &[Placed], at: usize) -> Result<(Symbol,
 
 /// Reads a separated list, or an atom and the sign behind it.
 #[cycle(symbols)]
-fn read_bare(alloc: Global, tokens: &[Placed], at: usize) -> Result<(Symbol, usize), RuleFault>
-    requires { NumbersFit (meanings tokens.now) }
+fn read_bare(alloc: Global, tokens: &Tokens, at: usize) -> Result<(Symbol, usize), RuleFault>
     ensures ok { IfOk result (λ r. Goes tree.Symbol ReadsBare (want.post ∷ []) (want.filters ∷ [])
-        (meanings tokens.now) at r.1 (symbol_of r.0)) }
+        tokens.now at r.1 (symbol_of r.0)) }
     ensures progress { IfOk result (λ r. at < r.1) }
-    ensures err { IfErr result (StopsAt (want.post ∷ []) (meanings tokens.now) at) }
+    ensures err { IfErr result (StopsAt (want.post ∷ []) tokens.now at) }
 {
-    match ahead(tokens, at)? {
+    match tokens.ahead(at)? {
         Token::OpenBrace => read_separated(alloc, tokens, at + 1),
         _ => read_repeated(alloc, tokens, at),
     }
@@ -243,12 +234,11 @@ fn read_bare(alloc: Global, tokens: &[Placed], at: usize) -> Result<(Symbol, usi
 
 /// Reads an atom and the sign behind it, where there is one.
 #[cycle(symbols)]
-fn read_repeated(alloc: Global, tokens: &[Placed], at: usize) -> Result<(Symbol, usize), RuleFault>
-    requires { NumbersFit (meanings tokens.now) }
+fn read_repeated(alloc: Global, tokens: &Tokens, at: usize) -> Result<(Symbol, usize), RuleFault>
     ensures ok { IfOk result (λ r. Goes tree.Symbol ReadsBare (want.atom ∷ want.sign ∷ []) []
-        (meanings tokens.now) at r.1 (symbol_of r.0)) }
+        tokens.now at r.1 (symbol_of r.0)) }
     ensures progress { IfOk result (λ r. at < r.1) }
-    ensures err { IfErr result (StopsAt (want.atom ∷ want.sign ∷ []) (meanings tokens.now) at) }
+    ensures err { IfErr result (StopsAt (want.atom ∷ want.sign ∷ []) tokens.now at) }
 {
     let (atom, end) = read_atom(alloc, tokens, at)?;
     let Some(repetition) = repetition_at(tokens, end) else {
@@ -260,13 +250,11 @@ fn read_repeated(alloc: Global, tokens: &[Placed], at: usize) -> Result<(Symbol,
 
 /// Reads a separated list behind its `{`.
 #[cycle(symbols)]
-fn read_separated(alloc: Global, tokens: &[Placed], at: usize) -> Result<(Symbol, usize), RuleFault>
-    requires { NumbersFit (meanings tokens.now) }
-    ensures ok { IfOk result (λ r. Goes tree.Symbol (Behind spec.OpenBrace ReadsBare)
-        (want.marked ∷ want.marked ∷ want.close_brace ∷ want.list_sign ∷ []) []
-        (meanings tokens.now) at r.1 (symbol_of r.0)) }
+fn read_separated(alloc: Global, tokens: &Tokens, at: usize) -> Result<(Symbol, usize), RuleFault>
+    ensures ok { IfOk result (λ r. Goes tree.Symbol (Behind spec.OpenBrace ReadsBare) (want.marked ∷
+        want.marked ∷ want.close_brace ∷ want.list_sign ∷ []) [] tokens.now at r.1 (symbol_of r.0)) }
     ensures err { IfErr result (StopsAt (want.marked ∷ want.marked ∷ want.close_brace ∷
-        want.list_sign ∷ []) (meanings tokens.now) at) }
+        want.list_sign ∷ []) tokens.now at) }
 {
     let (item, next) = read_marked(alloc, tokens, at)?;
     let item = Inner::new(alloc, item)?;
@@ -279,14 +267,13 @@ fn read_separated(alloc: Global, tokens: &[Placed], at: usize) -> Result<(Symbol
 
 /// Reads a literal, a class, a call or a group.
 #[cycle(symbols)]
-fn read_atom(alloc: Global, tokens: &[Placed], at: usize) -> Result<(Symbol, usize), RuleFault>
-    requires { NumbersFit (meanings tokens.now) }
-    ensures ok { IfOk result (λ r. Goes tree.Symbol ReadsAtom (want.atom ∷ []) []
-        (meanings tokens.now) at r.1 (symbol_of r.0)) }
+fn read_atom(alloc: Global, tokens: &Tokens, at: usize) -> Result<(Symbol, usize), RuleFault>
+    ensures ok { IfOk result (λ r. Goes tree.Symbol ReadsAtom (want.atom ∷ []) [] tokens.now at r.1
+        (symbol_of r.0)) }
     ensures progress { IfOk result (λ r. at < r.1) }
-    ensures err { IfErr result (StopsAt (want.atom ∷ []) (meanings tokens.now) at) }
+    ensures err { IfErr result (StopsAt (want.atom ∷ []) tokens.now at) }
 {
-    match ahead(tokens, at)? {
+    match tokens.ahead(at)? {
         Token::Name(name) => {
             let name = Word::new(alloc, name)?;
             Ok((Symbol::Call(name, Exprs::new(alloc)), at + 1))
@@ -319,11 +306,11 @@ fn terminal(pattern: Pattern) -> Symbol
 }
 
 /// The sign of an option or a list that stands there; `None` exactly where none does.
-fn repetition_at(tokens: &[Placed], at: usize) -> Option<Repetition>
-    ensures { MatchOption result (Misses want.sign (meanings tokens.now) at)
-        (λ s. Stands (meanings tokens.now) at (repetition_token s)) }
+fn repetition_at(tokens: &Tokens, at: usize) -> Option<Repetition>
+    ensures { MatchOption result (Misses want.sign tokens.now at) (λ s. Stands tokens.now at
+        (repetition_token s)) }
 {
-    match token_at(tokens, at)? {
+    match tokens.get(at)? {
         Token::Question => Some(Repetition::Opt),
         Token::Star => Some(Repetition::Star),
         Token::Plus => Some(Repetition::Plus),
@@ -342,11 +329,11 @@ fn repeated(repetition: Repetition, atom: Inner) -> Symbol
 }
 
 /// The sign of a separated list that stands there, in front of the token of the next number.
-fn read_list_sign(tokens: &[Placed], at: usize) -> Result<ListSign, RuleFault>
-    ensures ok { IfOk result (λ s. Stands (meanings tokens.now) at (list_token s)) }
-    ensures err { IfErr result (MissesAt want.list_sign (meanings tokens.now) at) }
+fn read_list_sign(tokens: &Tokens, at: usize) -> Result<ListSign, RuleFault>
+    ensures ok { IfOk result (λ s. Stands tokens.now at (list_token s)) }
+    ensures err { IfErr result (MissesAt want.list_sign tokens.now at) }
 {
-    match ahead(tokens, at)? {
+    match tokens.ahead(at)? {
         Token::Star => Ok(ListSign::Star),
         Token::Plus => Ok(ListSign::Plus),
         _ => Err(RuleFault::Unexpected { token: at }),

@@ -3,7 +3,7 @@ use Rattle.ig_notation.proofs.ExpressionParts.{more_arguments, closed_arguments}
 use Rattle.ig_notation.proofs.expressions.read_arguments.Goals as goal
 
 pub loop-arguments-init : goal.loop-arguments-init
-loop-arguments-init c = none_yet _ _ _ _ _ c.requires.within c.new-arguments.ensures
+loop-arguments-init c = none_yet _ _ _ _ _ c.requires c.new-arguments.ensures
 
 pub returns-then-not-stands_at-clause-ok : goal.returns-then-not-stands_at-clause-ok
 returns-then-not-stands_at-clause-ok c =

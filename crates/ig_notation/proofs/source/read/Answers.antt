@@ -24,11 +24,11 @@ returns-then-not-is_shallow-clause-fault c =
 pub returns-in-Ok-clause-ok : goal.returns-in-Ok-clause-ok
 returns-in-Ok-clause-ok c =
     let h = has_tokens _ _ _ c.if-source-gt-MOST_BYTES.false c.in_ok-found.ensures.tokens c.as_slice-tokens.ensures.value in
-    is_read _ _ _ h (holds _ _ c.numbers_fit.ensures c.if-not-numbers_fit.false) (holds _ _ c.is_shallow.ensures c.if-not-is_shallow.false) c.in-Ok.ensures.ok
+    is_read _ _ _ h (holds _ _ c.numbers_fit.ensures c.if-not-numbers_fit.false) (holds _ _ c.is_shallow.ensures c.if-not-is_shallow.false) (rw c.new.ensures at c.in-Ok.ensures.ok)
 
 pub returns-clause-fault : goal.returns-clause-fault
 returns-clause-fault c =
     let h = has_tokens _ _ _ c.if-source-gt-MOST_BYTES.false c.in_ok-found.ensures.tokens c.as_slice-tokens.ensures.value in
     subst (IsReadFault c.args.source.now) (sym c.refusal.ensures)
     (rule_fault _ _ _ h (holds _ _ c.numbers_fit.ensures c.if-not-numbers_fit.false) (holds _ _ c.is_shallow.ensures c.if-not-is_shallow.false)
-    c.run_stops.ensures c.in-Err.ensures.err)
+    c.run_stops.ensures (rw c.new.ensures at c.in-Err.ensures.err))

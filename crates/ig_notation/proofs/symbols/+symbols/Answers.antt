@@ -1,7 +1,11 @@
-use Rattle.std.proofs.Common.{rules, arith, ◌∙◌}
+use Rattle.std.proofs.Common.{rules, arith, ◌∙◌, ◌++◌, [], ◌∷◌, refl}
 use Rattle.std.proofs.lemmas.Result.{IfOk-weaker, IfErr-weaker}
-use Rattle.ig_notation.proofs.Steps.{stands_as, stop_later, exits}
-use Rattle.ig_notation.proofs.SymbolParts.{more_symbols, symbol_stops, all_symbols, more_alternatives, all_alternatives, bare_call, call, group, terminal, atom_first, no_braces, no_braces_stop, offside, ignore, align, post_first, unmarked, once, repeated, separated, name_first, marked_first, unlabelled, labelled}
+use Rattle.ig_syntax.specs.Token.{CloseBrace}
+use Rattle.ig_syntax.specs.Rules.{ReadsSymbol, ReadsMarked, ReadsAlternatives}
+use Rattle.ig_rules.specs.Machine as want
+use Rattle.ig_rules.specs.Machine.{arguments_wants, alternatives_wants}
+use Rattle.ig_notation.proofs.Steps.{stands_as, missed, stop_later, stop_first, stop_past, stop_token, stop_sign, stop_end, runs_of, behind, farther, exits}
+use Rattle.ig_notation.proofs.SymbolParts.{more_symbols, symbol_stops, all_symbols, more_alternatives, all_alternatives, bare_call, call, group, terminal, atom_first, no_braces, no_braces_stop, offside, ignore, align, post_first, unmarked, once, repeated, separated, name_first, marked_first, unlabelled, labelled, labelled_stops, in_braces, in_braces_stop}
 use Rattle.ig_notation.proofs.symbols.+symbols.Goals as goal
 
 pub read_alternative-returns-in_err-symbol-clause-err : goal.read_alternative-returns-in_err-symbol-clause-err
@@ -110,3 +114,137 @@ read_symbol-returns-in_default t c =
       progress = c.read_marked-in_default.ensures.progress;
       err = IfErr-weaker _ _ _ (λ e s. stop_later _ _ _ _ _ e r s) c.read_marked-in_default.ensures.err;
     }
+
+pub read_symbol-returns-in_err-ahead-clause-err : goal.read_symbol-returns-in_err-ahead-clause-err
+read_symbol-returns-in_err-ahead-clause-err t c =
+    exits _ _ _ c.from_residual.ensures.1
+    (stop_end want.symbol [] _ _ _ refl c.in_err-ahead.ensures.err)
+
+pub read_symbol-returns-in-When : goal.read_symbol-returns-in-When
+read_symbol-returns-in-When t c =
+    let s = stands_as _ _ _ _ c.in_ok-ahead.ensures.ok c.in-When.is in
+    record {
+      ok = IfOk-weaker _ _ _ (λ x g. behind ReadsSymbol want.symbol _ _ _ _ _ _ _ s refl g) c.read_guard.ensures.ok;
+      progress = IfOk-weaker _ _ _ (λ x g. farther _ _ _ _ _ _ _ g) c.read_guard.ensures.ok;
+      err = IfErr-weaker _ _ _ (λ e h. stop_token want.symbol _ _ _ _ e s refl h) c.read_guard.ensures.err;
+    }
+
+pub read_symbol-returns-in-Let : goal.read_symbol-returns-in-Let
+read_symbol-returns-in-Let t c =
+    let s = stands_as _ _ _ _ c.in_ok-ahead.ensures.ok c.in-Let.is in
+    record {
+      ok = IfOk-weaker _ _ _ (λ x g. behind ReadsSymbol want.symbol _ _ _ _ _ _ _ s refl g) c.read_let.ensures.ok;
+      progress = IfOk-weaker _ _ _ (λ x g. farther _ _ _ _ _ _ _ g) c.read_let.ensures.ok;
+      err = IfErr-weaker _ _ _ (λ e h. stop_token want.symbol _ _ _ _ e s refl h) c.read_let.ensures.err;
+    }
+
+pub read_symbol-returns-in_err-symbol-in-Name-clause-err : goal.read_symbol-returns-in_err-symbol-in-Name-clause-err
+read_symbol-returns-in_err-symbol-in-Name-clause-err t c =
+    exits _ _ _ c.from_residual-in_err-symbol-in-Name.ensures.1
+    (labelled_stops _ _ _ _ (stands_as _ _ _ _ c.in_ok-ahead.ensures.ok c.in-Name.is) (c.stands_at.ensures.yes c.if-not-stands_at.false)
+    c.in_err-symbol-in-Name.ensures.err)
+
+pub read_marked-returns-in_err-ahead-clause-err : goal.read_marked-returns-in_err-ahead-clause-err
+read_marked-returns-in_err-ahead-clause-err t c =
+    exits _ _ _ c.from_residual.ensures.1
+    (stop_end want.marked [] _ _ _ refl c.in_err-ahead.ensures.err)
+
+pub read_marked-returns-in_err-symbol-in-Offside-clause-err : goal.read_marked-returns-in_err-symbol-in-Offside-clause-err
+read_marked-returns-in_err-symbol-in-Offside-clause-err t c =
+    exits _ _ _ c.from_residual-in_err-symbol-in-Offside.ensures.1
+    (stop_token want.marked (want.post ∷ []) _ _ _ _ (stands_as _ _ _ _ c.in_ok-ahead.ensures.ok c.in-Offside.is) refl c.in_err-symbol-in-Offside.ensures.err)
+
+pub read_marked-returns-in_err-symbol-in-Ignore-clause-err : goal.read_marked-returns-in_err-symbol-in-Ignore-clause-err
+read_marked-returns-in_err-symbol-in-Ignore-clause-err t c =
+    exits _ _ _ c.from_residual-in_err-symbol-in-Ignore.ensures.1
+    (stop_token want.marked (want.post ∷ []) _ _ _ _ (stands_as _ _ _ _ c.in_ok-ahead.ensures.ok c.in-Ignore.is) refl c.in_err-symbol-in-Ignore.ensures.err)
+
+pub read_marked-returns-in_err-symbol-in-Align-clause-err : goal.read_marked-returns-in_err-symbol-in-Align-clause-err
+read_marked-returns-in_err-symbol-in-Align-clause-err t c =
+    exits _ _ _ c.from_residual-in_err-symbol-in-Align.ensures.1
+    (stop_token want.marked (want.post ∷ []) _ _ _ _ (stands_as _ _ _ _ c.in_ok-ahead.ensures.ok c.in-Align.is) refl c.in_err-symbol-in-Align.ensures.err)
+
+pub read_filtered-returns-in_err-symbol-clause-err : goal.read_filtered-returns-in_err-symbol-clause-err
+read_filtered-returns-in_err-symbol-clause-err t c =
+    exits _ _ _ c.from_residual.ensures.1
+    (c.in_err-symbol.ensures.err)
+
+pub read_filtered-returns-in_err-filters-clause-err : goal.read_filtered-returns-in_err-filters-clause-err
+read_filtered-returns-in_err-filters-clause-err t c =
+    exits _ _ _ c.from_residual-in_err-filters.ensures.1
+    (stop_later _ _ _ _ _ _ (runs_of _ _ _ _ _ _ _ c.in_ok-symbol.ensures.ok) c.in_err-filters.ensures.err)
+
+pub read_bare-returns-in_err-ahead-clause-err : goal.read_bare-returns-in_err-ahead-clause-err
+read_bare-returns-in_err-ahead-clause-err t c =
+    exits _ _ _ c.from_residual.ensures.1
+    (stop_end want.post [] _ _ _ refl c.in_err-ahead.ensures.err)
+
+pub read_bare-returns-in-OpenBrace : goal.read_bare-returns-in-OpenBrace
+read_bare-returns-in-OpenBrace t c =
+    let s = stands_as _ _ _ _ c.in_ok-ahead.ensures.ok c.in-OpenBrace.is in
+    record {
+      ok = IfOk-weaker _ _ _ (λ x g. in_braces _ _ _ _ s g) c.read_separated.ensures.ok;
+      progress = IfOk-weaker _ _ _ (λ x g. farther _ _ _ _ _ _ _ g) c.read_separated.ensures.ok;
+      err = IfErr-weaker _ _ _ (λ e h. in_braces_stop _ _ e s h) c.read_separated.ensures.err;
+    }
+
+pub read_repeated-returns-in_err-atom-clause-err : goal.read_repeated-returns-in_err-atom-clause-err
+read_repeated-returns-in_err-atom-clause-err t c =
+    exits _ _ _ c.from_residual.ensures.1
+    (stop_first (want.atom ∷ []) (want.sign ∷ []) _ _ _ c.in_err-atom.ensures.err)
+
+pub read_separated-returns-in_err-item-clause-err : goal.read_separated-returns-in_err-item-clause-err
+read_separated-returns-in_err-item-clause-err t c =
+    exits _ _ _ c.from_residual.ensures.1
+    (stop_first (want.marked ∷ []) (want.marked ∷ want.close_brace ∷ want.list_sign ∷ []) _ _ _ c.in_err-item.ensures.err)
+
+pub read_separated-returns-in_err-separator-clause-err : goal.read_separated-returns-in_err-separator-clause-err
+read_separated-returns-in_err-separator-clause-err t c =
+    exits _ _ _ c.from_residual-in_err-separator.ensures.1
+    (stop_past ReadsMarked (want.marked ∷ []) (want.marked ∷ want.close_brace ∷ want.list_sign ∷ []) _ _ _ _ _ c.in_ok-item.ensures.ok
+    (stop_first (want.marked ∷ []) (want.close_brace ∷ want.list_sign ∷ []) _ _ _ c.in_err-separator.ensures.err))
+
+pub read_separated-returns-in_err-end-clause-err : goal.read_separated-returns-in_err-end-clause-err
+read_separated-returns-in_err-end-clause-err t c =
+    exits _ _ _ c.from_residual-in_err-end.ensures.1
+    (stop_past ReadsMarked (want.marked ∷ []) (want.marked ∷ want.close_brace ∷ want.list_sign ∷ []) _ _ _ _ _ c.in_ok-item.ensures.ok
+    (stop_past ReadsMarked (want.marked ∷ []) (want.close_brace ∷ want.list_sign ∷ []) _ _ _ _ _ c.in_ok-separator.ensures.ok
+    (missed want.close_brace (want.list_sign ∷ []) _ _ _ refl c.in_err-end.ensures.err)))
+
+pub read_separated-returns-in_err-sign-clause-err : goal.read_separated-returns-in_err-sign-clause-err
+read_separated-returns-in_err-sign-clause-err t c =
+    exits _ _ _ c.from_residual-in_err-sign.ensures.1
+    (stop_past ReadsMarked (want.marked ∷ []) (want.marked ∷ want.close_brace ∷ want.list_sign ∷ []) _ _ _ _ _ c.in_ok-item.ensures.ok
+    (stop_past ReadsMarked (want.marked ∷ []) (want.close_brace ∷ want.list_sign ∷ []) _ _ _ _ _ c.in_ok-separator.ensures.ok
+    (stop_sign want.close_brace CloseBrace (want.list_sign ∷ []) _ _ _ _ c.in_ok-end.ensures.ok refl
+    (missed want.list_sign [] _ _ _ refl c.in_err-sign.ensures.err))))
+
+pub read_atom-returns-in_err-token-clause-err : goal.read_atom-returns-in_err-token-clause-err
+read_atom-returns-in_err-token-clause-err t c =
+    exits _ _ _ c.from_residual.ensures.1
+    (stop_end want.atom [] _ _ _ refl c.in_err-token.ensures.err)
+
+pub read_atom-returns-in_err-arguments-in-Head-clause-err : goal.read_atom-returns-in_err-arguments-in-Head-clause-err
+read_atom-returns-in_err-arguments-in-Head-clause-err t c =
+    exits _ _ _ c.from_residual-in_err-arguments-in-Head.ensures.1
+    (stop_token want.atom (arguments_wants ++ want.close_bracket ∷ []) _ _ _ _ (stands_as _ _ _ _ c.in_ok-token.ensures.ok c.in-Head.is) refl
+    c.in_err-arguments-in-Head.ensures.err)
+
+pub read_atom-returns-in_err-alternatives-in-Open-clause-err : goal.read_atom-returns-in_err-alternatives-in-Open-clause-err
+read_atom-returns-in_err-alternatives-in-Open-clause-err t c =
+    exits _ _ _ c.from_residual-in_err-alternatives-in-Open.ensures.1
+    (stop_token want.atom (alternatives_wants ++ want.close_bracket ∷ []) _ _ _ _ (stands_as _ _ _ _ c.in_ok-token.ensures.ok c.in-Open.is) refl
+    (stop_first alternatives_wants (want.close_bracket ∷ []) _ _ _ c.in_err-alternatives-in-Open.ensures.err))
+
+pub read_atom-returns-in_err-end-in-Open-clause-err : goal.read_atom-returns-in_err-end-in-Open-clause-err
+read_atom-returns-in_err-end-in-Open-clause-err t c =
+    exits _ _ _ c.from_residual-in_err-end-in-Open.ensures.1
+    (stop_token want.atom (alternatives_wants ++ want.close_bracket ∷ []) _ _ _ _ (stands_as _ _ _ _ c.in_ok-token.ensures.ok c.in-Open.is) refl
+    (stop_past ReadsAlternatives alternatives_wants (want.close_bracket ∷ []) _ _ _ _ _ c.in_ok-alternatives-in-Open.ensures.ok
+    (missed want.close_bracket [] _ _ _ refl c.in_err-end-in-Open.ensures.err)))
+
+pub read_alternatives-returns-in_err-symbols-clause-err : goal.read_alternatives-returns-in_err-symbols-clause-err
+read_alternatives-returns-in_err-symbols-clause-err t c =
+    exits _ _ _ c.from_residual.ensures.1
+    (stop_later alternatives_wants alternatives_wants _ _ _ _ (runs_of _ _ _ _ _ _ _ c.loop-alternatives.invariant)
+    (stop_first (want.alternative ∷ []) (want.alternatives_rest ∷ []) _ _ _ c.in_err-symbols.ensures.err))

@@ -7,49 +7,49 @@ use Rattle.ig_grammar.specs.declared.symbol.Alt.{Alt}
 use Rattle.ig_rules.specs.Machine as want
 use Rattle.ig_rules.specs.Machine.{alternatives_wants}
 use Rattle.ig_rules.specs.Reading.{Goes}
-use Rattle.ig_notation.specs.Readers.{meanings, Front}
+use Rattle.ig_notation.specs.Readers.{Front}
 use Rattle.ig_notation.proofs.symbols.+symbols.Given as goal
 
 -- how many tokens are left, and how deep the function stands among those that read from the same token
 
 abbrev pub decreases-read_atom : goal.decreases-read_atom
-decreases-read_atom l = 8 * (length (meanings l.tokens.now) - l.at) + 0
+decreases-read_atom l = 8 * (length l.tokens.now - l.at) + 0
 
 abbrev pub decreases-read_repeated : goal.decreases-read_repeated
-decreases-read_repeated l = 8 * (length (meanings l.tokens.now) - l.at) + 1
+decreases-read_repeated l = 8 * (length l.tokens.now - l.at) + 1
 
 abbrev pub decreases-read_bare : goal.decreases-read_bare
-decreases-read_bare l = 8 * (length (meanings l.tokens.now) - l.at) + 2
+decreases-read_bare l = 8 * (length l.tokens.now - l.at) + 2
 
 abbrev pub decreases-read_filtered : goal.decreases-read_filtered
-decreases-read_filtered l = 8 * (length (meanings l.tokens.now) - l.at) + 3
+decreases-read_filtered l = 8 * (length l.tokens.now - l.at) + 3
 
 abbrev pub decreases-read_marked : goal.decreases-read_marked
-decreases-read_marked l = 8 * (length (meanings l.tokens.now) - l.at) + 4
+decreases-read_marked l = 8 * (length l.tokens.now - l.at) + 4
 
 abbrev pub decreases-read_symbol : goal.decreases-read_symbol
-decreases-read_symbol l = 8 * (length (meanings l.tokens.now) - l.at) + 5
+decreases-read_symbol l = 8 * (length l.tokens.now - l.at) + 5
 
 abbrev pub decreases-read_separated : goal.decreases-read_separated
-decreases-read_separated l = 8 * (length (meanings l.tokens.now) - l.at) + 5
+decreases-read_separated l = 8 * (length l.tokens.now - l.at) + 5
 
 abbrev pub decreases-read_alternative : goal.decreases-read_alternative
-decreases-read_alternative l = 8 * (length (meanings l.tokens.now) - l.at) + 6
+decreases-read_alternative l = 8 * (length l.tokens.now - l.at) + 6
 
 abbrev pub decreases-read_alternatives : goal.decreases-read_alternatives
-decreases-read_alternatives l = 8 * (length (meanings l.tokens.now) - l.at) + 7
+decreases-read_alternatives l = 8 * (length l.tokens.now - l.at) + 7
 
 -- what is read so far is the front of the symbols, or of the alternatives
 abbrev pub invariant-read_alternatives-loop-alternatives : goal.invariant-read_alternatives-loop-alternatives
 invariant-read_alternatives-loop-alternatives l =
-    Goes (List Alt) (Front (λ s r ys. ReadsAlternatives s r (gathered_alternatives ys))) alternatives_wants alternatives_wants (meanings l.tokens) l.at l.end l.alternatives
+    Goes (List Alt) (Front (λ s r ys. ReadsAlternatives s r (gathered_alternatives ys))) alternatives_wants alternatives_wants l.tokens l.at l.end l.alternatives
 
 abbrev pub decreases-read_alternatives-loop-alternatives : goal.decreases-read_alternatives-loop-alternatives
-decreases-read_alternatives-loop-alternatives l = length (meanings l.tokens) - l.end
+decreases-read_alternatives-loop-alternatives l = length l.tokens - l.end
 
 abbrev pub invariant-read_alternative-loop-alloc : goal.invariant-read_alternative-loop-alloc
 invariant-read_alternative-loop-alloc l =
-    Goes (List tree.Symbol) (Front (λ s r xs. ReadsAlternative s r (gathered xs))) (want.alternative ∷ []) (want.alternative ∷ []) (meanings l.tokens) l.at l.end l.symbols
+    Goes (List tree.Symbol) (Front (λ s r xs. ReadsAlternative s r (gathered xs))) (want.alternative ∷ []) (want.alternative ∷ []) l.tokens l.at l.end l.symbols
 
 abbrev pub decreases-read_alternative-loop-alloc : goal.decreases-read_alternative-loop-alloc
-decreases-read_alternative-loop-alloc l = length (meanings l.tokens) - l.end
+decreases-read_alternative-loop-alloc l = length l.tokens - l.end
