@@ -8,23 +8,12 @@
 //! `iguana show GRAMMAR` the canonical text, and `iguana core GRAMMAR` the text of its core
 //! grammar.
 //!
-//! What the program does with its words is the top call of `ig_tool`, over files and streams as
-//! `ig_files` has them.
+//! What the program does with its words is the top call of `ig_tool`, over files and streams, as
+//! `ig_program` runs it.
 #![tactic(auto)]
 
-mod words;
-
-ghost use Rattle.std.specs.Prelude.{◌≡◌, map, string_bytes};
-ghost use Rattle.std.specs.Process.{exit_status};
-ghost use Rattle.ig_tool.specs.Outcome.{number_of};
-ghost use Rattle.iguana.specs.Ending.{MayEnd};
-
-use crate::words::words;
-use ig_files::{FileShelf, Folder, StreamSink, SystemFolder};
-use ig_tool::iguana;
-use ig_tool::status::Status;
-use std::alloc::Global;
-use std::io::Write;
+use ig_files::SystemFolder;
+use ig_program::{exit_code, run, words};
 use std::process::ExitCode;
 
 fn main(rt: HostRuntime) -> ExitCode {
@@ -37,27 +26,4 @@ fn main(rt: HostRuntime) -> ExitCode {
         Err(status) => status,
     };
     exit_code(status)
-}
-
-/// Runs the top call over files and the two streams.
-fn run<D: Folder, O: Write + Drop, N: Write + Drop>(
-    alloc: Global,
-    words: &[String],
-    folder: &D,
-    out: O,
-    notes: N,
-) -> Status
-    ensures { MayEnd (map string_bytes words.now) (D.content folder.now) result }
-{
-    let mut shelf = FileShelf::new(folder);
-    let mut out = StreamSink::new(out);
-    let mut notes = StreamSink::new(notes);
-    iguana(alloc, words, &mut shelf, &mut out, &mut notes)
-}
-
-/// The exit code with the number of the status.
-fn exit_code(status: Status) -> ExitCode
-    ensures { exit_status result ≡ number_of status }
-{
-    ExitCode::from(status.number())
 }

@@ -2,7 +2,7 @@
 ghost use Rattle.std.specs.Prelude.{◌≡◌, ◌⊎◌, drop, IfOk, IfErr};
 ghost use Rattle.std.specs.Vec.Iter.{into_iter_items};
 ghost use Rattle.std.specs.IoError.{error_kind};
-ghost use Rattle.iguana.specs.Ending.{unread_status};
+ghost use Rattle.ig_program.specs.Ending.{unread_status};
 
 use ig_tool::status::Status;
 use std::alloc::{AllocError, Global};
@@ -14,7 +14,7 @@ use std::rt::Env;
 ///
 /// Refused with the status to end with: `NoMemory` for want of memory, and `Usage` where the system
 /// doesn't give the words, as where one isn't UTF-8.
-pub(crate) fn words<R: Env + AllocGlobal>(rt: &R) -> Result<Vec<String>, Status>
+pub fn words<R: Env + AllocGlobal>(rt: &R) -> Result<Vec<String>, Status>
     ensures { IfErr result (λ s. (s ≡ Status.Usage) ⊎ (s ≡ Status.NoMemory)) }
 {
     match env::args(rt) {

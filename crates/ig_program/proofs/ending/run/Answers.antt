@@ -1,6 +1,6 @@
 use Rattle.std.proofs.Common.{◌∙◌, ap}
 use Rattle.ig_files.specs.Reading.{shelf_state}
-use Rattle.iguana.proofs.run.Goals as goal
+use Rattle.ig_program.proofs.ending.run.Goals as goal
 
 pub returns : goal.returns
 returns g c = record {
