@@ -1,5 +1,5 @@
 -- The tests of a match decide whether there is one.
-use Rattle.std.proofs.Common.{◌≡◌, ℕ, ◌+◌, ◌-◌, ◌≤◌, List, Bool, true, not, Option, Some, None, length, take, drop, refl, ap, subst, arith, leb, length-drop}
+use Rattle.std.proofs.Common.{◌≡◌, ℕ, ◌+◌, ◌-◌, ◌≤◌, List, Bool, true, not, Option, Some, None, length, take, drop, refl, sym, ap, subst, arith, leb, length-drop}
 use Rattle.std.specs.Prelude.{slice_range, slice_get, MatchOption, is_some}
 use Rattle.std.specs.Bool.{Decides}
 use Rattle.std.proofs.Math.ListN.{length-take}
@@ -84,6 +84,11 @@ ends text pattern p =
     let here : i ≡ p - width pattern = omega arith in
     (room, (p, subst (λ (z : ℕ). Matches text pattern z p) here m)))
     (Decides-and (leb (width pattern) p) (matches_at text pattern (p - width pattern)) (Decides-leb (width pattern) p) (begins text pattern (p - width pattern)))
+
+-- what equals the test tells the same
+pub ends_where : (text : List ℕ) (pattern : Pattern) (p : ℕ) (b : Bool) → b ≡ matches_before text pattern p →
+    Decides b (Ends text pattern p)
+ends_where text pattern p b e = subst (λ (z : Bool). Decides z (Ends text pattern p)) (sym e) (ends text pattern p)
 
 pub not_begins : (text : List ℕ) (pattern : Pattern) (p : ℕ) →
     Decides (not (matches_at text pattern p)) ((j : ℕ) → Matches text pattern p j → ⊥)

@@ -1,13 +1,15 @@
 //! The values of expressions.
-ghost use Rattle.std.specs.Prelude.{◌≡◌};
-ghost use Rattle.ig_expr.specs.Evaluation.{value_of};
+ghost use Rattle.std.specs.Prelude.{◌≡◌, Some};
+ghost use Rattle.ig_expr.specs.Evaluation.{value_of, with_two};
 ghost use Rattle.ig_expr.specs.Examples.{WorkedValues};
 ghost use Rattle.ig_expr.specs.Laws.{DigitsGrow, MatchesAreDecided, MatchesHaveTheirWidth};
 ghost use Rattle.ig_expr.specs.Laws.{TestsLookFor, ValuesHaveKinds};
+ghost use Rattle.ig_expr.specs.Operations as spec;
 ghost use Rattle.ig_expr.specs.View.{expression_of};
 
 use crate::expression::Expr;
 use crate::operation::{negation, operation, opposite};
+use crate::operator::Op;
 use crate::value::Value;
 use crate::{blocks, matching, names, reading};
 use ig_text::{Text, Word};
@@ -36,8 +38,7 @@ pub fn evaluate(e: &Expr, names: &[Word], values: &[Value], here: u32, text: &Te
         }
         Expr::Binary(op, a, b) => {
             let a = evaluate(a.as_expr(), names, values, here, text)?;
-            let b = evaluate(b.as_expr(), names, values, here, text)?;
-            operation(*op, a, b)
+            combined(*op, a, evaluate(b.as_expr(), names, values, here, text))
         }
         Expr::Of(function, a) => {
             let a = evaluate(a.as_expr(), names, values, here, text)?;
@@ -66,6 +67,17 @@ pub fn evaluate(e: &Expr, names: &[Word], values: &[Value], here: u32, text: &Te
             Some(Value::Bool(!matching::matches_before(pattern, text, here)))
         }
         Expr::FreeAfter(pattern) => Some(Value::Bool(!matching::matches_at(pattern, text, here))),
+    }
+}
+
+/// What the operator gives at a value and what its second operand gives: none of them, `and` and
+/// `or` included, has a value where the second one has none.
+fn combined(op: Op, a: Value, b: Option<Value>) -> Option<Value>
+    ensures { result ≡ with_two (spec.operation op) (Some a) b }
+{
+    match b {
+        Some(b) => operation(op, a, b),
+        None => None,
     }
 }
 

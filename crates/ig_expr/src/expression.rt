@@ -175,7 +175,7 @@ fn copy_of(expression: &Expr, alloc: Global) -> Result<Expr, AllocError>
         Expr::Neg(a) => Ok(Expr::Neg(copy_of_operand(a, alloc)?)),
         Expr::Binary(op, a, b) => {
             let a = copy_of_operand(a, alloc)?;
-            Ok(Expr::Binary(*op, a, copy_of_operand(b, alloc)?))
+            Ok(binary(*op, a, copy_of_operand(b, alloc)?))
         }
         Expr::Of(function, a) => Ok(Expr::Of(*function, copy_of_operand(a, alloc)?)),
         Expr::Same(a, b) => {
@@ -197,6 +197,13 @@ fn copy_of(expression: &Expr, alloc: Global) -> Result<Expr, AllocError>
         Expr::FreeBefore(pattern) => Ok(Expr::FreeBefore(pattern.copy(alloc)?)),
         Expr::FreeAfter(pattern) => Ok(Expr::FreeAfter(pattern.copy(alloc)?)),
     }
+}
+
+/// The expression of the operator at its operands.
+fn binary(op: Op, first: Operand, second: Operand) -> Expr
+    ensures { result ≡ Expr.Binary op first second }
+{
+    Expr::Binary(op, first, second)
 }
 
 /// An equal operand.

@@ -3,7 +3,7 @@ use ig_text::Sequence;
 /// A place in a grammar. Declarations are numbered from 1, so are the alternatives of a declaration
 /// over all of its levels, and the symbols of an alternative in preorder. The start line is 0, 0,
 /// 0; the head of a declaration has the alternative 0, an alternative as a whole the symbol 0.
-#[derive(Clone, Copy, PartialEq, Eq, Debug)]
+#[derive(Clone, Copy, PartialEq, Eq, PartialOrd, Ord, Debug)]
 pub struct Place {
     pub decl: u32,
     pub alt: u32,

@@ -365,7 +365,13 @@ fn label(name: &Word, inner: Inner, alloc: Global) -> Result<Symbol, AllocError>
 fn filtered(inner: Inner, filters: &Filters, alloc: Global) -> Result<Symbol, AllocError>
     ensures { IfOk result (λ r. r ≡ Symbol.Filtered inner filters.now) }
 {
-    Ok(Symbol::Filtered(inner, filters.copy(alloc)?))
+    match filters.copy(alloc) {
+        Ok(filters) => Ok(Symbol::Filtered(inner, filters)),
+        Err(refused) => {
+            drop(inner);
+            Err(refused)
+        }
+    }
 }
 
 /// The symbol with a copy of the bindings.

@@ -1,0 +1,26 @@
+use Rattle.std.proofs.Common.{rules}
+use Rattle.ig_outside.proofs.memory_shelf.copy_of.Goals as goal
+
+pub returns-in_default-clause-answer : goal.returns-in_default-clause-answer
+returns-in_default-clause-answer c = search rules
+
+pub returns-in_default-clause-no_failure : goal.returns-in_default-clause-no_failure
+returns-in_default-clause-no_failure c = search rules
+
+pub returns-then-len-most-clause-answer : goal.returns-then-len-most-clause-answer
+returns-then-len-most-clause-answer c = search rules
+
+pub returns-then-len-most-clause-no_failure : goal.returns-then-len-most-clause-no_failure
+returns-then-len-most-clause-no_failure c = search rules
+
+pub returns-in-Ok-clause-answer : goal.returns-in-Ok-clause-answer
+returns-in-Ok-clause-answer c = search rules
+
+pub returns-in-Ok-clause-no_failure : goal.returns-in-Ok-clause-no_failure
+returns-in-Ok-clause-no_failure c = search rules
+
+pub returns-in-Err-clause-answer : goal.returns-in-Err-clause-answer
+returns-in-Err-clause-answer c = search rules
+
+pub returns-in-Err-clause-no_failure : goal.returns-in-Err-clause-no_failure
+returns-in-Err-clause-no_failure c = search rules
