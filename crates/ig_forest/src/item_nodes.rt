@@ -1,5 +1,6 @@
 //! The item nodes of a forest with their entries, made from the ways of a run.
 ghost use Rattle.std.specs.Prelude.{◌≡◌, ◌↔◌, ◌<◌, ◌≤◌, ℕ, IfOk, IsTrue, OnOk, Contains, length};
+ghost use Rattle.std.specs.Prelude.{slice_index};
 ghost use Rattle.std.specs.List.{AllAdjacentBelow};
 ghost use Rattle.std.specs.declared.cmp.Ordering.TheVariants.{Less};
 ghost use Rattle.ig_item.specs.WellKinded.{NoneTwice};
@@ -130,9 +131,11 @@ impl<'a> Sources<'a> {
         requires { WayFits self.now (way.Node prev done) }
         ensures { result ≡ entry_by self.now 0 (way.Node prev done) }
     {
+        let number = self.number(done);
+        let node = self.node_at(number);
         Entry::Take {
             prev: self.number(prev),
-            child: Child::Node(self.node(done)),
+            child: Child::Node(node),
         }
     }
 
@@ -142,7 +145,16 @@ impl<'a> Sources<'a> {
         requires number { number_by self.now item < length self.now.nodes.now }
         ensures { result ≡ node_by self.now item }
     {
-        self.nodes[self.number(item) as usize]
+        self.node_at(self.number(item))
+    }
+
+    /// The number of the node of a complete item of the forest.
+    #[inline]
+    fn node_at(&self, number: u32) -> u32
+        requires { number < length self.now.nodes.now }
+        ensures { result ≡ slice_index self.now.nodes.now number }
+    {
+        self.nodes[number as usize]
     }
 
     /// The number in the forest of an item of the run.

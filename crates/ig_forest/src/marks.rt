@@ -8,10 +8,11 @@ ghost use Rattle.ig_forest.specs.CodeLiveOrder.{is_live};
 ghost use Rattle.ig_forest.specs.CodeWayMarks.{AreFound, AreMarks, AreWhole, IsAWay, Leads};
 ghost use Rattle.ig_forest.specs.CodeWayMarks.{LeadsFrom, MarksMore, OfNode};
 ghost use Rattle.ig_forest.specs.Reduced.{root_key};
+ghost use Rattle.ig_forest.specs.declared.mark.Mark.TheVariants.{Complete};
 
 use crate::mark::Mark;
 use crate::ways::Links;
-use ig_item::Way;
+use ig_item::{FurtherEnd, Way};
 use std::alloc::{AllocError, Global};
 
 /// The marks of all items, and the numbers of those that are live, in the order in which they were
@@ -116,9 +117,20 @@ impl Walk {
         }
         self.mark(done, Mark::Complete)?;
         for end in links.ends(done) {
-            self.mark(end.item, Mark::Complete)?;
+            self.mark_end(*end)?;
         }
         Ok(())
+    }
+
+    /// Marks a further complete item of a node.
+    #[inline(always)]
+    fn mark_end(&mut self, end: FurtherEnd) -> Result<(), AllocError>
+        requires found { AreFound self.old (length self.old.marks.items) }
+        requires number { end.item < length self.old.marks.items }
+        ensures { OnOk result
+            (MarksMore self.old self.new (λ k m. (k ≡ end.item) × (m ≡ Complete))) }
+    {
+        self.mark(end.item, Mark::Complete)
     }
 
     /// Marks an item, where it has no mark.

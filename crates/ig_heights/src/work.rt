@@ -109,13 +109,21 @@ impl Work {
             return Ok(());
         }
         if rule.target < nodes {
-            self.heights[rule.target] = self.height + 1;
+            self.heights[rule.target] = self.next_height();
             self.next.push(rule.target)?;
         } else {
             self.heights[rule.target] = self.height;
             self.current.push(rule.target)?;
         }
         Ok(())
+    }
+
+    /// The height of the next round.
+    fn next_height(&self) -> usize
+        requires few { self.now.height < numbers_end }
+        ensures { result ≡ suc self.now.height }
+    {
+        self.height + 1
     }
 
     /// Whether both sources have heights up to that of the round, and the target has none.

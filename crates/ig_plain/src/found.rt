@@ -13,10 +13,10 @@ ghost use Rattle.ig_plain.specs.Trail.{By, ComeByNodes, ComesOnce, IsIndexed, Is
 ghost use Rattle.ig_plain.specs.Trail.{Records, RecordsLater, Unfound};
 
 use crate::instance_set::InstanceSet;
-use crate::interning::{enter_values, number};
+use crate::interning::{enter_values, number, push_value};
 use crate::trail::Trail;
 use ig_expr::{Value, Values};
-use ig_item::{FurtherWay, Item, RunFault, Way};
+use ig_item::{FurtherWay, Item, RunFault, Way, Ways};
 use ig_text::Copied;
 use indexmap::IndexSet;
 use std::alloc::{AllocError, Global};
@@ -133,8 +133,19 @@ fn add_returned(
         let new = item;
         return add_behind_call(found, trail, new, prev, done, budget);
     };
-    trail.ways.push_further(FurtherWay { item, prev, done })?;
+    add_further_way(&mut trail.ways, item, prev, done)?;
     Ok(())
+}
+
+/// Adds that the item of that number came about from the one of number `prev` by a call, too.
+#[inline(always)]
+fn add_further_way(ways: &mut Ways, item: u32, prev: u32, done: u32) -> Result<(), AllocError>
+    ensures { OnOk result (ways.new ≡ record ways.old {
+      further = ways.old.further ++
+          record { item = item; prev = prev; done = done } ∷ [];
+    }) }
+{
+    ways.push_further(FurtherWay { item, prev, done })
 }
 
 /// Adds an item behind a call, which isn't there, and that it came about from the item of number
@@ -332,7 +343,15 @@ fn with_value(
     ensures there { IfOk result (λ k. slice_get envs.new.keys k ≡ Some (slice_index_or
         envs.old.keys env [] ++ value ∷ [])) }
 {
-    let mut values = envs.as_slice()[env as usize].copy(alloc)?;
-    values.push(value).map_err(|refused| refused.1)?;
+    let values = extended(alloc, &envs.as_slice()[env as usize], value)?;
     enter_values(envs, values)
+}
+
+/// The values with one more.
+fn extended(alloc: Global, values: &Values, value: Value) -> Result<Values, AllocError>
+    ensures { IfOk result (λ longer. longer ≡ values.now ++ value ∷ []) }
+{
+    let mut longer = values.copy(alloc)?;
+    push_value(&mut longer, value)?;
+    Ok(longer)
 }

@@ -1,11 +1,11 @@
 //! Tables in which each value stands once, and is named by its number.
-ghost use Rattle.std.specs.Prelude.{◌≡◌, ◌↔◌, ◌<◌, [], length, slice_get, slice_index_or};
-ghost use Rattle.std.specs.Prelude.{IfOk, IsTrue, Some};
+ghost use Rattle.std.specs.Prelude.{◌≡◌, ◌↔◌, ◌<◌, [], ◌∷◌, ◌++◌, length, slice_get};
+ghost use Rattle.std.specs.Prelude.{IfOk, IsTrue, OnOk, Some, slice_index_or};
 ghost use Rattle.ig_item.specs.WellKinded.{NoneTwice};
 ghost use Rattle.ig_plain.specs.Compiled.{values_in};
 ghost use Rattle.ig_plain.specs.Tables.{Enters, Extends};
 
-use ig_expr::Values;
+use ig_expr::{Value, Values};
 use indexmap::IndexSet;
 use std::alloc::AllocError;
 
@@ -67,6 +67,13 @@ fn first_is_empty(envs: &IndexSet<Values>) -> bool
     ensures { IsTrue result ↔ (slice_get envs.now.keys 0 ≡ Some []) }
 {
     envs.as_slice()[0].as_slice().is_empty()
+}
+
+/// Adds a value at the end.
+pub(crate) fn push_value(values: &mut Values, value: Value) -> Result<(), AllocError>
+    ensures { OnOk result (values.new ≡ values.old ++ value ∷ []) }
+{
+    values.push(value).map_err(|refused| refused.1)
 }
 
 /// A number of a table.

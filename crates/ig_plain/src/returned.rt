@@ -31,6 +31,16 @@ pub(crate) struct Cell {
     pub(crate) next: u32,
 }
 
+impl Cell {
+    /// Where the cell before it in its bucket stands.
+    #[inline(always)]
+    fn earlier(self) -> u32
+        ensures { result ≡ self.next }
+    {
+        self.next
+    }
+}
+
 /// Items with their numbers, in the order in which they were added. The places of those that were
 /// there before the set was cleared are at most `base`, so that clearing doesn't touch the buckets.
 #[derive(Drop)]
@@ -105,7 +115,7 @@ impl Returned {
             if cell.item == item {
                 return Some(cell.number);
             }
-            at = cell.next;
+            at = cell.earlier();
         }
         None
     }

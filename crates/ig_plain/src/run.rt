@@ -1,6 +1,7 @@
 //! An item is taken: all that follows from it and those before it is added.
-ghost use Rattle.std.specs.Prelude.{◌≡◌, ◌↔◌, ◌<◌, ◌+◌, ◌++◌, [], Contains, IsTrue, MatchResult};
-ghost use Rattle.std.specs.Prelude.{None, OnOk, Some, length, map, option_map, slice_get};
+ghost use Rattle.std.specs.Prelude.{◌≡◌, ◌↔◌, ◌<◌, ◌+◌, ◌++◌, ◌∷◌, [], Contains, IsTrue};
+ghost use Rattle.std.specs.Prelude.{MatchResult, None, OnOk, Some, length, map, option_map};
+ghost use Rattle.std.specs.Prelude.{slice_get};
 ghost use Rattle.ig_item.specs.Items.{IsComplete};
 ghost use Rattle.ig_item.specs.WellKinded.{NoneTwice};
 ghost use Rattle.ig_item.specs.Tables.{instance_by};
@@ -30,11 +31,11 @@ use crate::trail::Trail;
 use crate::waiting::{Caller, Waiting, add_called, add_caller, add_end, end_at, first_caller};
 use ig_expr::Expr;
 use ig_item::{
-    Core, FurtherEnd, InstanceKey, Item, RunFault, Step, Way, environments_fit, items_are_in_text,
-    reachable_is_closed,
+    Core, FurtherEnd, InstanceKey, Item, RunFault, Step, Way, Ways, environments_fit,
+    items_are_in_text, reachable_is_closed,
 };
 use ig_text::{Pattern, Sequence, Text, Word};
-use std::alloc::Global;
+use std::alloc::{AllocError, Global};
 
 /// Adds the first item of each alternative of an instance that starts at the position. None of them
 /// is there.
@@ -178,6 +179,16 @@ fn item_at(found: &Found, number: usize) -> Item
     found.here[number]
 }
 
+/// Adds that the item of that number is complete, too, behind the first one that is.
+fn add_further_end(ways: &mut Ways, first: u32, item: u32) -> Result<(), AllocError>
+    ensures { OnOk result (ways.new ≡ record ways.old {
+      ends = ways.old.ends ++
+          record { first = first; item = item } ∷ [];
+    }) }
+{
+    ways.push_end(FurtherEnd { first, item })
+}
+
 /// Takes a complete item: each caller of its instance returns, unless another item that is complete
 /// here came before.
 fn take_complete(
@@ -200,10 +211,7 @@ fn take_complete(
 {
     reachable_is_closed();
     if let Some(first) = end_at(waiting, item.instance, item.position) {
-        trail.ways.push_end(FurtherEnd {
-            first,
-            item: number,
-        })?;
+        add_further_end(&mut trail.ways, first, number)?;
         return Ok(());
     }
     add_end(waiting, item.instance, item.position, number);

@@ -137,6 +137,13 @@ fn start(
     add_firsts(core, found, trail, root, key, budget)
 }
 
+/// The last position.
+fn last_position(text: &Text) -> u32
+    ensures { result ≡ length text.now }
+{
+    text.len()
+}
+
 /// Takes all items at all positions.
 fn run_to_end(
     alloc: Global,
@@ -158,7 +165,7 @@ fn run_to_end(
 {
     start(alloc, core, found, waiting, trail, budget)?;
     take_all(alloc, core, text, dots, found, waiting, trail, 0, budget)?;
-    for before in 0..text.len() {
+    for before in 0..last_position(text) {
         let position = before + 1;
         arrive(found, trail, position)?;
         take_all(

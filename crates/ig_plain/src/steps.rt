@@ -11,7 +11,7 @@ ghost use Rattle.ig_plain.specs.Compiled.{form_of, values_in};
 ghost use Rattle.ig_plain.specs.declared.interning.Arguments.{Arguments};
 
 use crate::compiled::{Form, are_own, value};
-use crate::interning::Arguments;
+use crate::interning::{Arguments, push_value};
 use ig_expr::{Expr, Value, Values};
 use ig_text::{Pattern, Span, Text, Word};
 use std::alloc::{AllocError, Global};
@@ -32,10 +32,10 @@ pub(crate) fn matches_none(patterns: &[Pattern], text: &Text, i: u32, j: u32) ->
 fn is_match(pattern: &Pattern, text: &Text, i: u32, j: u32) -> bool
     ensures { IsTrue result ↔ Matches text.now pattern.now i j }
 {
-    match pattern.ends_at(text, i) {
-        Some(end) => end == j,
-        None => false,
-    }
+    let Some(end) = pattern.ends_at(text, i) else {
+        return false;
+    };
+    end == j
 }
 
 /// What the label binds: the span from i to j.
@@ -61,9 +61,17 @@ pub(crate) fn is_true(
     ensures { IsTrue result ↔ (value_of text.now names.now values.now here (expression_of
         condition.now) ≡ Some (truth true)) }
 {
-    match value(form, condition, names, values, here, text) {
+    holds(value(form, condition, names, values, here, text))
+}
+
+/// Whether the value of a condition is there, and true.
+fn holds(value: Option<Value>) -> bool
+    ensures { IsTrue result ↔ (value ≡ Some (truth true)) }
+{
+    match value {
         Some(Value::Bool(b)) => b,
-        _ => false,
+        Some(_) => false,
+        None => false,
     }
 }
 
@@ -88,6 +96,27 @@ pub(crate) fn argument_values(
     if are_own(forms, values, here) {
         return Ok(Some(Arguments::Own));
     }
+    listed(alloc, arguments, forms, names, values, here, text)
+}
+
+/// The values of the arguments, which have these forms, in a list of their own; `None` exactly
+/// where one of them has no value.
+fn listed(
+    alloc: Global,
+    arguments: &[Expr],
+    forms: &[Form],
+    names: &[Word],
+    values: &[Value],
+    here: u32,
+    text: &Text,
+) -> Result<Option<Arguments>, AllocError>
+    requires { forms.now ≡ map (form_of names.now) (map expression_of arguments.now) }
+    ensures none { IfOk result (λ r. r ≡ None → (vs : List Value) → map (value_of text.now
+        names.now values.now here) (map expression_of arguments.now) ≡ map Some vs → ⊥) }
+    ensures some { IfOk result (λ r. (a : Arguments) → r ≡ Some a → map (value_of text.now
+        names.now values.now here) (map expression_of arguments.now)
+        ≡ map Some (values_in values.now a)) }
+{
     match listed_values(alloc, arguments, forms, names, values, here, text)? {
         Some(list) => Ok(Some(Arguments::Listed(list))),
         None => Ok(None),
@@ -114,7 +143,7 @@ fn listed_values(
     let mut list = Values::new(alloc);
     for (place, argument) in arguments.iter().enumerate() {
         match value(&forms[place], argument, names, values, here, text) {
-            Some(value) => list.push(value).map_err(|refused| refused.1)?,
+            Some(value) => push_value(&mut list, value)?,
             None => return Ok(None),
         }
     }

@@ -1,5 +1,6 @@
 //! Following a cursor from the root.
-ghost use Rattle.std.specs.Prelude.{[], ◌∷◌, MatchOption, IfOk, drop, vec_items};
+ghost use Rattle.std.specs.Prelude.{◌≡◌, [], ◌∷◌, ◌++◌, MatchOption, IfOk, OnOk, drop};
+ghost use Rattle.std.specs.Prelude.{vec_items};
 ghost use Rattle.ig_walker.specs.Options.{options, root_goal};
 ghost use Rattle.ig_walker.specs.States.{EndsAtChoice, IsAlong, IsTold, IsWalkOf};
 
@@ -22,6 +23,15 @@ fn told(cursor: &[u32], place: usize, count: usize) -> Option<(u32, usize)>
         Some(number) => Some((*number, place + 1)),
         None => None,
     }
+}
+
+/// Adds the visit of the goal by the option of that number.
+fn add_visit(visits: &mut Vec<Visit>, goal: Goal, choice: u32) -> Result<(), AllocError>
+    ensures { OnOk result (vec_items visits.new ≡
+        vec_items visits.old ++ record { goal = goal; choice = choice } ∷ []) }
+{
+    visits.push(Visit { goal, choice })?;
+    Ok(())
 }
 
 /// The walk of the tree with that cursor; `None` exactly where no tree to the depth has it.
@@ -48,7 +58,7 @@ pub fn follow(
         let Some(behind) = opening_option(forest, goal, choice as usize) else {
             return Ok(None);
         };
-        visits.push(Visit { goal, choice })?;
+        add_visit(&mut visits, goal, choice)?;
         push_behind(&mut pending, behind)?;
         place = next;
     }

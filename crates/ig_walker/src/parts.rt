@@ -1,5 +1,6 @@
 //! The tree of a walk, and its cursor.
-ghost use Rattle.std.specs.Prelude.{◌≡◌, [], IfOk, OnOk, slice_get, vec_items};
+ghost use Rattle.std.specs.Prelude.{◌≡◌, [], ◌++◌, IfOk, OnOk, nat_lt, slice_get, vec_items};
+ghost use Rattle.ig_forest.specs.Unfold.{noted};
 ghost use Rattle.ig_walker.specs.Options.{options};
 ghost use Rattle.ig_walker.specs.Written.{bump_last, by_choice, by_entry, emits, written};
 ghost use Rattle.ig_walker.specs.Walks.{cursor};
@@ -97,15 +98,31 @@ pub fn tree_of(alloc: Global, forest: &Measured, visits: &[Visit]) -> Result<Tre
     Ok(Sequence::from_vec(parts))
 }
 
+/// Whether these are two options or more.
+fn is_choice(count: usize) -> bool
+    ensures { result ≡ nat_lt 1 count }
+{
+    1 < count
+}
+
+/// Adds the number of the option, where there are two or more.
+fn note_choice(numbers: &mut Vec<u32>, count: usize, choice: u32) -> Result<(), AllocError>
+    ensures { OnOk result (vec_items numbers.new ≡ vec_items numbers.old ++ noted count choice) }
+{
+    if is_choice(count) {
+        numbers.push(choice)?;
+    }
+    Ok(())
+}
+
 /// The cursor of a walk.
 pub fn cursor_of(alloc: Global, forest: &Measured, visits: &[Visit]) -> Result<Cursor, AllocError>
     ensures { IfOk result (λ told. told ≡ cursor (options forest.now) visits.now) }
 {
     let mut numbers = Vec::new(alloc);
     for visit in visits {
-        if 1 < count_options(forest, visit.goal) {
-            numbers.push(visit.choice)?;
-        }
+        let count = count_options(forest, visit.goal);
+        note_choice(&mut numbers, count, visit.choice)?;
     }
     Ok(Sequence::from_vec(numbers))
 }

@@ -1,5 +1,6 @@
 //! Going on to the least walk, and back to the next option.
-ghost use Rattle.std.specs.Prelude.{◌≡◌, [], ◌∷◌, MatchOption, IfOk, OnOk, reverse, vec_items};
+ghost use Rattle.std.specs.Prelude.{◌≡◌, [], ◌∷◌, MatchOption, IfOk, OnOk, reverse};
+ghost use Rattle.std.specs.Prelude.{suc, vec_items};
 ghost use Rattle.ig_walker.specs.Options.{options, root_goal};
 ghost use Rattle.ig_walker.specs.States.{BackTo, Completed, HasNoNext, HasWalked, IsNextWalk};
 ghost use Rattle.ig_walker.specs.Walks.{Last, Least, Next, Opens, Walk};
@@ -30,6 +31,13 @@ fn complete(
     Ok(())
 }
 
+/// The number behind this one.
+fn number_behind(choice: u32) -> usize
+    ensures { result ≡ suc choice }
+{
+    choice as usize + 1
+}
+
 /// Goes back to the last visit with a later option through which a walk leads, and takes that.
 /// `false` where there is none.
 fn back(
@@ -46,7 +54,7 @@ fn back(
 {
     while let Some(visit) = visits.pop() {
         undo(forest, pending, visit);
-        let from = visit.choice as usize + 1;
+        let from = number_behind(visit.choice);
         if let Some((number, behind)) = first_option(forest, visit.goal, from) {
             note(visits, visit.goal, number)?;
             push_behind(pending, behind)?;

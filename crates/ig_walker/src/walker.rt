@@ -1,5 +1,5 @@
 //! The walker: the trees of a forest, one by one.
-ghost use Rattle.std.specs.Prelude.{◌≡◌, IfOk, IfErr, OnErr, None, Some};
+ghost use Rattle.std.specs.Prelude.{◌≡◌, IfOk, IfErr, OnErr, None, Some, vec_items};
 ghost use Rattle.ig_heights.specs.Heights.{AreHeights};
 ghost use Rattle.ig_walker.specs.Listing.{Gives, HasTree, HasNoTree};
 ghost use Rattle.ig_walker.specs.declared.walker.WalkFault.TheVariants.{BadCursor};
@@ -54,6 +54,13 @@ impl<'f> Model for Walker<'f> {
     ghost view = { λ w. listing_of w.forest w.depth w.visits.items };
 
     ghost invariant = { λ w. HasWalked w.forest w.depth w.visits.items };
+}
+
+/// Takes this walk in place of the one that was.
+fn go_on(walk: &mut Vec<Visit>, next: Vec<Visit>)
+    ensures { vec_items walk.new ≡ vec_items next }
+{
+    *walk = next;
 }
 
 impl<'f> Walker<'f> {
@@ -118,7 +125,7 @@ impl<'f> Walker<'f> {
             return Ok(None);
         };
         let tree = tree_of(self.alloc, &self.forest, visits.as_slice())?;
-        self.visits = visits;
+        go_on(&mut self.visits, visits);
         Ok(Some(tree))
     }
 

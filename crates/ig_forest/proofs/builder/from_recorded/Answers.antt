@@ -1,4 +1,4 @@
-use Rattle.std.proofs.Common.{List, map, subst}
+use Rattle.std.proofs.Common.{map, subst}
 use Rattle.ig_item.specs.Tables.{Tables}
 use Rattle.ig_forest.specs.CodeLiveItems.{AreFound}
 use Rattle.ig_forest.specs.declared.found.Found.{Found}

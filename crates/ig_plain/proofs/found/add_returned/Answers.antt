@@ -15,8 +15,8 @@ add_behind_call-requires-clause-new c =
     not_indexed c.args.found.now.done.items c.args.found.now.here.items c.args.trail.now.ways.firsts c.args.trail.now.returned c.args.item
     c.requires.indexed c.in_default.ensures.none c.requires.by_node
 
-pub returns-in_err-push_further-clause-adds : goal.returns-in_err-push_further-clause-adds
-returns-in_err-push_further-clause-adds c =
+pub returns-in_err-add_further_way-clause-adds : goal.returns-in_err-add_further_way-clause-adds
+returns-in_err-add_further_way-clause-adds c =
     adds_exit c.args.item.position _ c.args.budget c.args.found.now _ c.from_residual.result c.from_residual.ensures.1
     (grows_not c.args.item.position _ c.args.found.now _ (extends_itself c.args.found.now.envs.keys) (λ h. h) refl refl refl refl)
 
@@ -32,4 +32,4 @@ pub returns-clause-ways : goal.returns-clause-ways
 returns-clause-ways c =
     records_further c.args.found.now c.args.trail.now _ (means c.args.found.now c.args.item) c.in-Some.item c.args.prev c.args.done
     (meant_at c.args.found.now c.in-Some.item c.args.item (c.requires.indexed.sound (entry c.args.item c.in-Some.item) c.in-Some.ensures.some))
-    c.in_ok-push_further.ensures.ok refl refl
+    c.in_ok-add_further_way.ensures refl refl

@@ -33,7 +33,7 @@ returns-in-Some-clause-trail c =
     c.requires.taking.run.taking.stored c.requires.next k e in
     again_on c.args.core.now c.args.text.now c.reachable_is_closed.ensures c.args.budget c.args.item.position k c.args.found.now c.args.waiting.now c.args.trail.now
     c.args.item c.args.number refl (run_at c.args.core.now c.args.text.now c.args.budget c.args.item c.args.found.now c.args.waiting.now c.requires.taking k e) e
-    h.1 h.0 c.requires.complete c.in-Some.first _ c.in-Some.ensures.some.0 c.in-Some.ensures.some.1 c.in_ok-push_end.ensures.ok refl refl
+    h.1 h.0 c.requires.complete c.in-Some.first _ c.in-Some.ensures.some.0 c.in-Some.ensures.some.1 c.in_ok-add_further_end.ensures refl refl
 
 pub add_end-requires : goal.add_end-requires
 add_end-requires c =

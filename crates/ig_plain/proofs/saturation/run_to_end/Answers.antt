@@ -30,14 +30,14 @@ take_all-requires-in-loop-before-clause-trail c =
 pub returns-clause-run : goal.returns-clause-run
 returns-clause-run c =
     let e : c.loop-before.before ≡ length c.args.text.now =
-    omega (arith, c.loop-before-test.false, c.loop-before.auto.before-end, c.len-before-end.ensures.length) in
+    omega (arith, c.loop-before-test.false, c.loop-before.auto.before-end, c.last_position-before-end.ensures) in
     subst (λ z. IsRun c.args.core.now c.args.text.now c.args.budget z (length c.loop-before.found.here.items) c.loop-before.found c.loop-before.waiting) e
     c.loop-before.invariant.run
 
 pub returns-clause-trail : goal.returns-clause-trail
 returns-clause-trail c =
     let e : c.loop-before.before ≡ length c.args.text.now =
-    omega (arith, c.loop-before-test.false, c.loop-before.auto.before-end, c.len-before-end.ensures.length) in
+    omega (arith, c.loop-before-test.false, c.loop-before.auto.before-end, c.last_position-before-end.ensures) in
     subst
     (λ z. HasTrail c.args.core.now c.args.text.now z (length c.loop-before.found.here.items) c.loop-before.found c.loop-before.waiting c.loop-before.trail)
     e c.loop-before.invariant.trail

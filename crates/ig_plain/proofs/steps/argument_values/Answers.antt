@@ -9,3 +9,12 @@ returns-then-are_own-clause-some c =
     λ a is.
     arguments_own c.args.text.now c.args.names.now c.args.values.now c.args.here (map expression_of c.args.arguments.now) c.args.forms.now a
     c.requires (true_at c.are_own.result _ c.are_own.ensures c.if-are_own.true) is
+
+pub returns-then-are_own-clause-none : goal.returns-then-are_own-clause-none
+returns-then-are_own-clause-none c = λ e. absurd (cc)
+
+pub listed-requires : goal.listed-requires
+listed-requires c = c.requires
+
+pub returns : goal.returns
+returns c = c.listed.ensures

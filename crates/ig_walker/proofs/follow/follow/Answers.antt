@@ -34,7 +34,7 @@ loop-goal-preserved c =
     follow_goes_code c.args.forest.now (root_goal c.args.forest.now c.args.depth ∷ []) c.args.cursor.now (vec_items c.loop-goal.visits) _ _ _ _ c.in-Some.goal
     (vec_items c.loop-goal.pending) (vec_items c.pop.new.self) (listed c.in-Some-opening_option.behind) _ c.in-Some-told.choice
     c.loop-goal.invariant c.in-Some.ensures.items c.count_options.ensures c.in-Some-told.ensures c.in-Some-opening_option.ensures
-    c.in_ok-push-2.ensures.items c.in_ok-push_behind.ensures
+    c.in_ok-add_visit.ensures c.in_ok-push_behind.ensures
 
 pub returns-then-place-cursor : goal.returns-then-place-cursor
 returns-then-place-cursor c =

@@ -1,4 +1,4 @@
-use Rattle.std.proofs.Common.{◌≡◌, ℕ, suc, ◌+◌, List, ◌∷◌, [], length, reverse, vec_items, arith, subst, sym}
+use Rattle.std.proofs.Common.{◌≡◌, ℕ, suc, List, ◌∷◌, [], length, reverse, vec_items, subst, sym}
 use Rattle.ig_text.proofs.Emptiness.{emptied}
 use Rattle.ig_walker.specs.Options.{options, root_goal}
 use Rattle.ig_walker.specs.States.{Backs, FirstOption}
@@ -19,7 +19,7 @@ returns-in-Some-first_option c =
     found_code c.args.forest.now _ _ (vec_items c.pop.new.self) (vec_items c.loop-visit.visits) _ c.in-Some.visit.goal c.in-Some.visit.choice c.in-Some-first_option.number
     (vec_items c.loop-visit.pending) (vec_items c.undo.new.pending) (vec_items c.push_behind.new.pending) (listed c.in-Some-first_option.behind)
     c.loop-visit.invariant c.in-Some.ensures.items c.undo.ensures
-    (let e : c.in-Some.visit.choice + 1 ≡ suc c.in-Some.visit.choice = omega arith in
+    (let e : c.number_behind-from.result ≡ suc c.in-Some.visit.choice = c.number_behind-from.ensures in
     subst (λ (n : ℕ). FirstOption c.args.forest.now c.in-Some.visit.goal n c.in-Some-first_option.number (listed c.in-Some-first_option.behind)) e c.in-Some-first_option.ensures)
     c.in_ok-note.ensures c.in_ok-push_behind.ensures
 
@@ -28,7 +28,7 @@ loop-visit-preserved c =
     goes_back_code c.args.forest.now _ _ (vec_items c.pop.new.self) (vec_items c.loop-visit.visits) c.in-Some.visit.goal c.in-Some.visit.choice
     (vec_items c.loop-visit.pending) (vec_items c.undo.new.pending) (vec_items c.push.new.self)
     c.loop-visit.invariant c.in-Some.ensures.items c.undo.ensures c.in_ok-push.ensures.items
-    (let e : c.in-Some.visit.choice + 1 ≡ suc c.in-Some.visit.choice = omega arith in
+    (let e : c.number_behind-from.result ≡ suc c.in-Some.visit.choice = c.number_behind-from.ensures in
     subst (λ (n : ℕ). Passed (options c.args.forest.now) c.in-Some.visit.goal n (length (options c.args.forest.now c.in-Some.visit.goal))) e c.in_default-first_option.ensures)
 
 pub returns : goal.returns

@@ -3,8 +3,8 @@ use Rattle.ig_forest.proofs.CodeWalk.{part_next, part_all, whole_with_node}
 use Rattle.ig_forest.proofs.CodeWayMarks.{end_within, ends_apart}
 use Rattle.ig_forest.proofs.marks.Walk.mark_node.Goals as goal
 
-pub mark-requires-in-loop-end-clause-number : goal.mark-requires-in-loop-end-clause-number
-mark-requires-in-loop-end-clause-number c =
+pub mark_end-requires-clause-number : goal.mark_end-requires-clause-number
+mark_end-requires-clause-number c =
     let lt =
     end_within c.args.links.now c.ends-end-items.ensures.recorded c.ends-end-items.result.now c.args.done c.loop-end.end-index
     (record { first = 0; item = 0 }) c.ends-end-items.ensures.ends c.loop-end-test.true in
@@ -14,8 +14,8 @@ mark-requires-in-loop-end-clause-number c =
 
 pub loop-end-preserved : goal.loop-end-preserved
 loop-end-preserved c =
-    part_next c.args.links.now.ways c.args.self.now c.loop-end.self c.mark-in-loop-end.new.self c.args.done c.loop-end.end-index _
-    c.ends-end-items.result.now (record { first = 0; item = 0 }) c.loop-end-test.true c.loop-end.invariant refl c.in_ok-mark-2.ensures
+    part_next c.args.links.now.ways c.args.self.now c.loop-end.self c.mark_end.new.self c.args.done c.loop-end.end-index _
+    c.ends-end-items.result.now (record { first = 0; item = 0 }) c.loop-end-test.true c.loop-end.invariant refl c.in_ok-mark_end.ensures
 
 pub returns-clause-more : goal.returns-clause-more
 returns-clause-more c =

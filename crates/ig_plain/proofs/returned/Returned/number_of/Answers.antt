@@ -1,5 +1,5 @@
 use Rattle.std.proofs.Common.{◌≡◌, ◌-◌, sym, ◌∙◌, subst, arith, Contains, true, false, slice_index_or}
-use Rattle.ig_plain.specs.Returned.{entry}
+use Rattle.ig_plain.specs.Returned.{Walks, entry}
 use Rattle.ig_plain.proofs.Equality.{item_eq-decides}
 use Rattle.ig_plain.proofs.Chains.{walk_starts, walk_smaller, walk_goes, walk_finds, walk_ends}
 use Rattle.ig_plain.proofs.returned.Returned.number_of.Goals as goal
@@ -13,12 +13,13 @@ pub loop-at-smaller : goal.loop-at-smaller
 loop-at-smaller c =
     let s = walk_smaller c.self.inside.mask c.self.inside.base c.self.inside.heads.items c.self.inside.cells.items c.args.item c.loop-at.at c.index.result.now
     c.self.invariant c.loop-at.invariant c.loop-at-test.true c.index.ensures in
-    omega (arith, s, c.loop-at-test.true)
+    omega (arith, s, c.loop-at-test.true, c.earlier-at.ensures)
 
 pub loop-at-preserved : goal.loop-at-preserved
 loop-at-preserved c =
-    walk_goes _ _ c.self.inside.heads.items _ _ c.loop-at.at _ c.self.invariant c.loop-at.invariant c.loop-at-test.true c.index.ensures
-    (λ e. let no : true ≡ false = sym ((item_eq-decides _ _).1 e) ∙ sym c.eq.ensures ∙ c.if-eq.false in cc)
+    subst (λ z. Walks c.self.inside.mask c.self.inside.base c.self.inside.cells.items c.args.item z) (sym c.earlier-at.ensures)
+    (walk_goes _ _ c.self.inside.heads.items _ _ c.loop-at.at _ c.self.invariant c.loop-at.invariant c.loop-at-test.true c.index.ensures
+    (λ e. let no : true ≡ false = sym ((item_eq-decides _ _).1 e) ∙ sym c.eq.ensures ∙ c.if-eq.false in cc))
 
 pub returns-then-eq-clause-some : goal.returns-then-eq-clause-some
 returns-then-eq-clause-some c =

@@ -1,4 +1,6 @@
-use Rattle.std.proofs.Common.{vec_items, refl}
+use Rattle.std.proofs.Common.{vec_items, refl, sym, subst}
+use Rattle.ig_walker.specs.Listing.{GivesTree}
+use Rattle.ig_walker.specs.States.{HasWalked, listing_of}
 use Rattle.ig_walker.proofs.Closing.{next_keeps, walked_slice, gives_next, gives_none}
 use Rattle.ig_walker.proofs.walker.Walker.next.Goals as goal
 
@@ -13,9 +15,11 @@ returns-in_default-clause-given c =
 
 pub invariant_of-self : goal.invariant_of-self
 invariant_of-self c =
-    next_keeps c.self.inside.forest c.self.inside.depth _ (vec_items c.in-Some.visits) (rw c.in-Some.is at c.in_ok-found.ensures)
+    subst (HasWalked c.self.inside.forest c.self.inside.depth) (sym c.go_on.ensures)
+    (next_keeps c.self.inside.forest c.self.inside.depth _ (vec_items c.in-Some.visits) (rw c.in-Some.is at c.in_ok-found.ensures))
 
 pub returns-clause-given : goal.returns-clause-given
 returns-clause-given c =
-    gives_next c.self.inside.forest c.self.inside.depth (vec_items c.self.inside.visits) _ (vec_items c.in-Some.visits) _ _ _ _
-    c.self.invariant c.as_slice.ensures.value (rw c.in-Some.is at c.in_ok-found.ensures) c.as_slice-2.ensures.value c.in_ok-tree.ensures c.self.view_is refl
+    subst (λ z. GivesTree c.args.self.now c.in_ok-tree.tree (listing_of c.self.inside.forest c.self.inside.depth z)) (sym c.go_on.ensures)
+    (gives_next c.self.inside.forest c.self.inside.depth (vec_items c.self.inside.visits) _ (vec_items c.in-Some.visits) _ _ _ _
+    c.self.invariant c.as_slice.ensures.value (rw c.in-Some.is at c.in_ok-found.ensures) c.as_slice-2.ensures.value c.in_ok-tree.ensures c.self.view_is refl)
