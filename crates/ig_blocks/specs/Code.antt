@@ -1,5 +1,5 @@
 -- What the code holds as a pair and as a setting.
-use Rattle.std.specs.Prelude.{ℕ, List, Bool, not, ◌&&◌, Option, encode_utf8_all}
+use Rattle.std.specs.Prelude.{ℕ, List, ◌++◌, Bool, not, ◌&&◌, Option, encode_utf8_all}
 use Rattle.std.specs.BTreeMap.{BTreeMap, get_by}
 use Rattle.std.specs.Cmp.Lexicographic.{slice_cmp}
 use Rattle.std.specs.Ordering.{nat_cmp}
@@ -7,10 +7,12 @@ use denote.Ref.{Bor}
 use Rattle.ig_expr.specs.View.{expression_of}
 use Rattle.ig_expr.specs.Expression.{Expression}
 use Rattle.ig_grammar.specs.Binding.{Binding}
+use Rattle.ig_grammar.specs.Symbol.{Symbol}
 use Rattle.ig_grammar.specs.declared.declaration.DeclKind.{DeclKind}
 use Rattle.ig_grammar.specs.declared.place.Shape.{Shape}
 use Rattle.ig_blocks_laws.specs.Setting as setting
-use Rattle.ig_blocks_laws.specs.Setting.{Setting}
+use Rattle.ig_blocks_laws.specs.Setting.{Setting, inner, column_guards, pair_bindings, column_bindings, wrapped, entered}
+use Rattle.ig_blocks_laws.specs.Body.{tests_of}
 use Rattle.ig_rewrite.specs.Rooted.{is_root}
 use Rattle.ig_blocks_laws.specs.Blocks.{paired_by}
 use Rattle.ig_blocks.specs.declared.guide.Guide.{Guide}
@@ -39,6 +41,13 @@ setting_by guide =
 
 abbrev pub bound_to : List ℕ → Expression → Binding
 bound_to name value = record { name = name; value = value }
+
+-- an item of a list, from what is made of it, and a list from what it is without bindings
+abbrev pub item_by : Setting → Bool → setting.Pair → Symbol → Symbol → Symbol
+item_by s al p x y = wrapped (column_guards s al ++ tests_of s (inner p) x) y
+
+abbrev pub list_by : Setting → Bool → setting.Pair → Symbol → Symbol
+list_by s al p y = entered (pair_bindings s p ++ column_bindings s al) y
 
 -- whether a declaration of the shape and the kind gets the pair
 abbrev pub has_pair : Setting → Shape → DeclKind → Bool

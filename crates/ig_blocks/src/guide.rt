@@ -1,6 +1,6 @@
 //! What the pass goes by: the names that it adds, whether the grammar is marked, and the kinds of
 //! its declarations.
-ghost use Rattle.std.specs.Prelude.{◌≡◌, ℕ, List, length, IfOk};
+ghost use Rattle.std.specs.Prelude.{◌≡◌, ℕ, List, true, length, IfOk};
 ghost use Rattle.ig_rewrite.specs.Added.{margin_name, first_name, column_name};
 ghost use Rattle.ig_rewrite.specs.Rooted.{is_root};
 ghost use Rattle.ig_blocks_laws.specs.Blocks.{kind_called, paired_by, setting_of};
@@ -83,7 +83,19 @@ pub(crate) fn kind_of(guide: &Guide<'_>, name: &Word) -> Option<DeclKind>
 pub(crate) fn is_paired(guide: &Guide<'_>, kind: DeclKind) -> bool
     ensures { result ≡ paired_by guide.now.marked kind }
 {
-    guide.marked && kind == DeclKind::Syntax
+    guide.marked && may_be_paired(kind)
+}
+
+/// Whether declarations of the kind get the pair in a grammar that is marked.
+fn may_be_paired(kind: DeclKind) -> bool
+    ensures { result ≡ paired_by true kind }
+{
+    match kind {
+        DeclKind::Lexical => false,
+        DeclKind::Syntax => true,
+        DeclKind::Layout => false,
+        DeclKind::Plain => false,
+    }
 }
 
 /// The name of the parameter for the margin.

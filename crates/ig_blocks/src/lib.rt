@@ -4,6 +4,7 @@
 //! is refused for want of memory alone.
 #![tactic(auto)]
 
+mod forms;
 mod guards;
 mod guide;
 mod lowering;

@@ -1,5 +1,5 @@
 //! What the pass makes of declarations and grammars.
-ghost use Rattle.std.specs.Prelude.{◌≡◌, ◌++◌, length, map, IfOk};
+ghost use Rattle.std.specs.Prelude.{◌≡◌, [], ◌∷◌, ◌++◌, length, map, IfOk, OnOk};
 ghost use Rattle.ig_rewrite.specs.Added.{margin_name, first_name, column_name};
 ghost use Rattle.ig_rewrite.specs.Rooted.{is_root};
 ghost use Rattle.ig_rewrite.specs.Sound.{IsSound, IsFree};
@@ -15,9 +15,11 @@ use crate::guide::{Guide, guide_of, is_paired, is_root};
 use crate::pairs::Pair;
 use crate::symbols::choices;
 use ig_blocks_laws::blocks_keep;
-use ig_grammar::{Alts, Checked, Decl, DeclKind, Decls, Grammar, Level, Levels, Params, Shape};
+use ig_grammar::{
+    Alts, Checked, Decl, DeclKind, Decls, Grammar, Level, Levels, Params, Shape, Shapes,
+};
 use ig_rewrite::{copy_of_shapes, copy_of_start, push_declaration, push_integer, push_level, root};
-use ig_text::Copied;
+use ig_text::{Copied, Word};
 use std::alloc::{AllocError, Global};
 
 /// The grammar without `offside`, `ignore` and `align`, exactly as `ig_blocks_laws` says;
@@ -35,9 +37,20 @@ pub fn lower_blocks(alloc: Global, checked: &Checked) -> Result<Checked, AllocEr
 {
     blocks_keep();
     let rooted = root(alloc, checked)?;
-    let grammar = lower_grammar(alloc, &rooted)?;
-    let shapes = copy_of_shapes(alloc, &rooted)?;
+    let lowered = lower_rooted(alloc, &rooted);
+    drop(rooted);
+    let (grammar, shapes) = lowered?;
     Ok(Checked::with_shapes(grammar, shapes))
+}
+
+/// The grammar, in which a declaration may stand for the root, without marks, and its shapes.
+fn lower_rooted(alloc: Global, checked: &Checked) -> Result<(Grammar, Shapes), AllocError>
+    ensures { IfOk result (λ r.
+        (r.0 ≡ lowered_grammar checked.now.grammar checked.now.shapes) ×
+        (r.1 ≡ checked.now.shapes)) }
+{
+    let shapes = copy_of_shapes(alloc, checked)?;
+    Ok((lower_grammar(alloc, checked)?, shapes))
 }
 
 /// The grammar, in which a declaration may stand for the root, without marks.
@@ -46,9 +59,22 @@ fn lower_grammar(alloc: Global, checked: &Checked) -> Result<Grammar, AllocError
 {
     let grammar = checked.grammar();
     let guide = guide_of(alloc, grammar.decls.as_slice(), checked)?;
-    let decls = lower_declarations(alloc, &guide, grammar.decls.as_slice(), checked)?;
-    let start = copy_of_start(alloc, &grammar.start)?;
-    Ok(Grammar { start, decls })
+    let decls = lower_declarations(alloc, &guide, grammar.decls.as_slice(), checked);
+    drop(guide);
+    with_start(alloc, &grammar.start, decls?)
+}
+
+/// The declarations, with the start.
+fn with_start(alloc: Global, start: &Option<Word>, decls: Decls) -> Result<Grammar, AllocError>
+    ensures { IfOk result (λ r. r ≡ record { start = start.now; decls = decls }) }
+{
+    match copy_of_start(alloc, start) {
+        Ok(start) => Ok(Grammar { start, decls }),
+        Err(refused) => {
+            drop(decls);
+            Err(refused)
+        }
+    }
 }
 
 /// The declarations, without marks.
@@ -110,10 +136,18 @@ fn parameters_of(
 {
     let mut params = decl.params.copy(alloc)?;
     if paired {
-        push_integer(&mut params, guide.margin.copy(alloc)?)?;
-        push_integer(&mut params, guide.first.copy(alloc)?)?;
+        push_names(alloc, guide, &mut params)?;
     }
     Ok(params)
+}
+
+/// Adds the parameters of the pair.
+fn push_names(alloc: Global, guide: &Guide<'_>, params: &mut Params) -> Result<(), AllocError>
+    ensures { OnOk result (params.new ≡ params.old ++
+        int_param guide.now.margin ∷ int_param guide.now.first ∷ []) }
+{
+    push_integer(params, guide.margin.copy(alloc)?)?;
+    push_integer(params, guide.first.copy(alloc)?)
 }
 
 /// The levels of a declaration with the pair or without one, without marks.

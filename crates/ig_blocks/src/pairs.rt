@@ -1,8 +1,10 @@
 //! The pair of a column and a start under which a symbol stands.
 ghost use Rattle.std.specs.Prelude.{◌≡◌, [], ◌∷◌, ◌++◌, IfOk, OnOk};
+ghost use Rattle.ig_expr.specs.Expression as expression;
 ghost use Rattle.ig_expr.specs.View.{expression_of};
-ghost use Rattle.ig_blocks_laws.specs.Setting.{m_of, f_of, opened_by, cleared_by, inner};
+ghost use Rattle.ig_blocks_laws.specs.Setting.{m_of, f_of, opened, opened_by, cleared_by, inner};
 ghost use Rattle.ig_blocks_laws.specs.Setting.{pair_bindings, column_bindings};
+ghost use Rattle.ig_blocks_laws.specs.Setting.{two_bindings, column_here};
 ghost use Rattle.ig_blocks.specs.Code.{pair_of, setting_by, bound_to};
 
 use crate::guide::Guide;
@@ -55,9 +57,40 @@ pub(crate) fn opened_by(alloc: Global, guide: &Guide<'_>, pair: &Pair) -> Result
     ensures { IfOk result (λ r.
         pair_of r ≡ opened_by (setting_by guide.now) (pair_of pair.now)) }
 {
-    let column = Operand::new(alloc, column_of(alloc, guide, pair)?)?;
-    let start = Operand::new(alloc, start_of(alloc, guide, pair)?)?;
-    Ok(Pair::Opened(Expr::Outer(column, start), Expr::Here))
+    let column = outer_column(alloc, guide, pair)?;
+    match start_operand(alloc, guide, pair) {
+        Ok(start) => Ok(opened(column, start)),
+        Err(refused) => {
+            drop(column);
+            Err(refused)
+        }
+    }
+}
+
+/// The pair of a block, from the column and the start of that around it.
+fn opened(column: Operand, start: Operand) -> Pair
+    ensures { pair_of result ≡ opened (expression.Outer column start) expression.Here }
+{
+    Pair::Opened(Expr::Outer(column, start), Expr::Here)
+}
+
+/// The column of the pair around a block, as an operand.
+fn outer_column(alloc: Global, guide: &Guide<'_>, pair: &Pair) -> Result<Operand, AllocError>
+    ensures { IfOk result (λ r. r ≡ m_of (setting_by guide.now) (pair_of pair.now)) }
+{
+    let outer = column_of(alloc, guide, pair)?;
+    Operand::new(alloc, outer)
+}
+
+/// The start of a pair, as an operand.
+pub(crate) fn start_operand(
+    alloc: Global,
+    guide: &Guide<'_>,
+    pair: &Pair,
+) -> Result<Operand, AllocError>
+    ensures { IfOk result (λ r. r ≡ f_of (setting_by guide.now) (pair_of pair.now)) }
+{
+    Operand::new(alloc, start_of(alloc, guide, pair)?)
 }
 
 /// The pair directly under `ignore`.
@@ -113,17 +146,32 @@ pub(crate) fn push_pair(
     match pair {
         Pair::Lacking => Ok(()),
         Pair::Carried => Ok(()),
-        Pair::Opened(column, start) => {
-            push_binding(bindings, guide.margin.copy(alloc)?, column.copy(alloc)?)?;
-            push_binding(bindings, guide.first.copy(alloc)?, start.copy(alloc)?)?;
-            Ok(())
-        }
-        Pair::Cleared => {
-            push_binding(bindings, guide.margin.copy(alloc)?, Expr::Int(0))?;
-            push_binding(bindings, guide.first.copy(alloc)?, Expr::Int(-1))?;
-            Ok(())
-        }
+        Pair::Opened(_, _) => push_both(alloc, guide, pair, bindings),
+        Pair::Cleared => push_both(alloc, guide, pair, bindings),
     }
+}
+
+/// Adds the bindings of a pair.
+fn push_both(
+    alloc: Global,
+    guide: &Guide<'_>,
+    pair: &Pair,
+    bindings: &mut Lets,
+) -> Result<(), AllocError>
+    ensures { OnOk result (bindings.new ≡ bindings.old ++ two_bindings (setting_by guide.now)
+        (m_of (setting_by guide.now) (pair_of pair.now))
+        (f_of (setting_by guide.now) (pair_of pair.now))) }
+{
+    push_binding(
+        bindings,
+        guide.margin.copy(alloc)?,
+        column_of(alloc, guide, pair)?,
+    )?;
+    push_binding(
+        bindings,
+        guide.first.copy(alloc)?,
+        start_of(alloc, guide, pair)?,
+    )
 }
 
 /// Adds the binding of an aligned list.
@@ -139,9 +187,15 @@ fn push_column(
     if !aligned {
         return Ok(());
     }
+    push_binding(bindings, guide.column.copy(alloc)?, column_here(alloc)?)
+}
+
+/// The column of this position.
+pub(crate) fn column_here(alloc: Global) -> Result<Expr, AllocError>
+    ensures { IfOk result (λ r. expression_of r ≡ column_here) }
+{
     let here = Operand::new(alloc, Expr::Here)?;
-    let column = Expr::Of(Function::Column, here);
-    push_binding(bindings, guide.column.copy(alloc)?, column)
+    Ok(Expr::Of(Function::Column, here))
 }
 
 /// Adds the binding at the end.
@@ -149,5 +203,11 @@ fn push_binding(bindings: &mut Lets, name: Word, value: Expr) -> Result<(), Allo
     ensures { OnOk result (bindings.new ≡
         bindings.old ++ bound_to name (expression_of value) ∷ []) }
 {
-    bindings.push((name, value)).map_err(|refused| refused.1)
+    match bindings.push((name, value)) {
+        Ok(()) => Ok(()),
+        Err((refused, reason)) => {
+            drop(refused);
+            Err(reason)
+        }
+    }
 }

@@ -1,24 +1,25 @@
 //! What the pass makes of symbols.
-ghost use Rattle.std.specs.Prelude.{◌≡◌, ◌++◌, map, IfOk, false};
+ghost use Rattle.std.specs.Prelude.{◌≡◌, map, IfOk, false};
 ghost use Rattle.ig_grammar.specs.View.{symbol_of};
-ghost use Rattle.ig_blocks_laws.specs.Setting.{column_guards, wrapped, entered};
-ghost use Rattle.ig_blocks_laws.specs.Body.{tests_of, arguments_of, body_of};
+ghost use Rattle.ig_blocks_laws.specs.Setting.{inner, wrapped};
+ghost use Rattle.ig_blocks_laws.specs.Body.{tests_of, body_of};
 ghost use Rattle.ig_blocks_laws.specs.Blocks.{symbols_by, alternative_by};
-ghost use Rattle.ig_blocks.specs.Code.{pair_of, setting_by, kind_by};
+ghost use Rattle.ig_blocks.specs.Code.{pair_of, setting_by, item_by};
 
-use crate::guards::{behind, push_column_test, push_tests};
-use crate::guide::{Guide, is_paired, kind_of};
-use crate::pairs::{
-    Pair, bindings_of, cleared_by, column_of, inner_of, opened_by, push_pair, start_of,
+use crate::forms::{
+    behind_tests, both, called, entered_again, entered_by, filtered, item_of, optional, repeated,
+    starred,
 };
+use crate::guide::Guide;
+use crate::pairs::{Pair, cleared_by, inner_of, opened_by};
 use ig_blocks_laws::all_are_gathered;
-use ig_expr::Exprs;
-use ig_grammar::{Alt, Alts, Inner, Lets, Symbol, Symbols};
-use ig_rewrite::{push_alternative, push_expression, push_symbol};
-use ig_text::{Copied, Word};
+use ig_grammar::{Alt, Alts, Inner, Symbol, Symbols};
+use ig_rewrite::{labelled, push_alternative, push_symbol};
+use ig_text::Copied;
 use std::alloc::{AllocError, Global};
 
-/// A symbol under a pair, without its tests; a list under `align` is aligned.
+/// A symbol under a pair, without its tests; a list under `align` is aligned. What is made of a
+/// form, from what is inside it, stands outside of this cycle.
 #[cycle(bodies)]
 fn body(
     symbol: &Symbol,
@@ -31,82 +32,70 @@ fn body(
         body_of (setting_by guide.now) aligned (pair_of pair.now) (symbol_of symbol.now)) }
 {
     match symbol {
-        Symbol::Literal(text) => Ok(Symbol::Literal(text.copy(alloc)?)),
-        Symbol::Class(class) => Ok(Symbol::Class(class.copy(alloc)?)),
-        Symbol::Call(name, arguments) => {
-            let all = arguments_of(alloc, guide, pair, name, arguments)?;
-            Ok(Symbol::Call(name.copy(alloc)?, all))
-        }
+        Symbol::Literal(_) => symbol.copy(alloc),
+        Symbol::Class(_) => symbol.copy(alloc),
+        Symbol::Call(name, arguments) => called(alloc, guide, pair, name, arguments),
         Symbol::Label(name, inner) => {
-            let name = name.copy(alloc)?;
-            Ok(Symbol::Label(name, body_inner(inner, false, alloc, guide, pair)?))
+            labelled(alloc, name, body_inner(inner, false, alloc, guide, pair)?)
         }
-        Symbol::Guard(condition) => Ok(Symbol::Guard(condition.copy(alloc)?)),
-        Symbol::Let(name, value) => {
-            let name = name.copy(alloc)?;
-            Ok(Symbol::Let(name, value.copy(alloc)?))
-        }
+        Symbol::Guard(_) => symbol.copy(alloc),
+        Symbol::Let(_, _) => symbol.copy(alloc),
         Symbol::Opt(inner) => {
-            let bindings = bindings_of(alloc, guide, pair, false)?;
-            let inside = inner_of(pair);
-            let item = item(inner, false, alloc, guide, &inside)?;
-            entered_by(alloc, bindings, Symbol::Opt(item))
+            let item = inside(inner, alloc, guide, pair)?;
+            optional(alloc, guide, pair, inner.as_symbol(), item)
         }
         Symbol::Star(inner) => {
-            let bindings = bindings_of(alloc, guide, pair, aligned)?;
-            let inside = inner_of(pair);
-            let item = item(inner, aligned, alloc, guide, &inside)?;
-            entered_by(alloc, bindings, Symbol::Star(item))
+            let item = inside(inner, alloc, guide, pair)?;
+            starred(alloc, guide, pair, aligned, inner.as_symbol(), item)
         }
         Symbol::Plus(inner) => {
-            let bindings = bindings_of(alloc, guide, pair, aligned)?;
-            let inside = inner_of(pair);
-            let item = item(inner, aligned, alloc, guide, &inside)?;
-            entered_by(alloc, bindings, Symbol::Plus(item))
+            let item = inside(inner, alloc, guide, pair)?;
+            repeated(alloc, guide, pair, aligned, inner.as_symbol(), item)
         }
         Symbol::SepStar(inner, separator) => {
-            let bindings = bindings_of(alloc, guide, pair, aligned)?;
-            let inside = inner_of(pair);
-            let first = item(inner, aligned, alloc, guide, &inside)?;
-            let second = separator_of(separator, alloc, guide, &inside)?;
-            entered_by(alloc, bindings, Symbol::SepStar(first, second))
+            let item = inside(inner, alloc, guide, pair)?;
+            let head = item_of(alloc, guide, pair, aligned, inner.as_symbol(), item)?;
+            let (first, second) = with_separator(separator, alloc, guide, pair, head)?;
+            entered_by(alloc, guide, pair, aligned, Symbol::SepStar(first, second))
         }
         Symbol::SepPlus(inner, separator) => {
-            let bindings = bindings_of(alloc, guide, pair, aligned)?;
-            let inside = inner_of(pair);
-            let first = item(inner, aligned, alloc, guide, &inside)?;
-            let second = separator_of(separator, alloc, guide, &inside)?;
-            entered_by(alloc, bindings, Symbol::SepPlus(first, second))
+            let item = inside(inner, alloc, guide, pair)?;
+            let head = item_of(alloc, guide, pair, aligned, inner.as_symbol(), item)?;
+            let (first, second) = with_separator(separator, alloc, guide, pair, head)?;
+            entered_by(alloc, guide, pair, aligned, Symbol::SepPlus(first, second))
         }
         Symbol::Group(alternatives) => {
             all_are_gathered();
-            let bindings = bindings_of(alloc, guide, pair, false)?;
-            let inside = inner_of(pair);
-            let lowered = choices(alternatives, alloc, guide, &inside)?;
-            entered_by(alloc, bindings, Symbol::Group(lowered))
+            let lowered = choices_inside(alternatives, alloc, guide, pair)?;
+            entered_by(alloc, guide, pair, false, Symbol::Group(lowered))
         }
         Symbol::Offside(inner) => {
             let pair = opened_by(alloc, guide, pair)?;
-            body(inner.as_symbol(), aligned, alloc, guide, &pair)
+            let made = body(inner.as_symbol(), aligned, alloc, guide, &pair);
+            drop(pair);
+            made
         }
         Symbol::Ignore(inner) => {
             let pair = cleared_by(pair);
-            body(inner.as_symbol(), aligned, alloc, guide, &pair)
+            let made = body(inner.as_symbol(), aligned, alloc, guide, &pair);
+            drop(pair);
+            made
         }
         Symbol::Align(inner) => body(inner.as_symbol(), true, alloc, guide, pair),
         Symbol::Filtered(inner, filters) => {
-            let inner = body_inner(inner, aligned, alloc, guide, pair)?;
-            Ok(Symbol::Filtered(inner, filters.copy(alloc)?))
+            filtered(
+                alloc,
+                body_inner(inner, aligned, alloc, guide, pair)?,
+                filters,
+            )
         }
         Symbol::Seq(symbols) => {
             all_are_gathered();
             Ok(Symbol::Seq(sequence(symbols, alloc, guide, pair)?))
         }
         Symbol::Entry(bindings, inner) => {
-            let mut bindings = bindings.copy(alloc)?;
-            push_pair(alloc, guide, pair, &mut bindings)?;
-            let inside = inner_of(pair);
-            Ok(Symbol::Entry(bindings, body_inner(inner, false, alloc, guide, &inside)?))
+            let made = inside(inner, alloc, guide, pair)?;
+            entered_again(alloc, guide, pair, bindings, made)
         }
     }
 }
@@ -126,39 +115,38 @@ fn body_inner(
     Inner::new(alloc, body(inner.as_symbol(), aligned, alloc, guide, pair)?)
 }
 
-/// A symbol alone, with its tests.
+/// A symbol inside a list, an option, a group or an entry, under the pair there.
 #[cycle(bodies)]
-fn item(
-    inner: &Inner,
-    aligned: bool,
-    alloc: Global,
-    guide: &Guide<'_>,
-    pair: &Pair,
-) -> Result<Inner, AllocError>
-    ensures { IfOk result (λ r. r ≡ wrapped (column_guards (setting_by guide.now) aligned ++
-        tests_of (setting_by guide.now) (pair_of pair.now) inner.now)
-        (body_of (setting_by guide.now) false (pair_of pair.now) inner.now)) }
+fn inside(part: &Inner, alloc: Global, guide: &Guide<'_>, pair: &Pair) -> Result<Symbol, AllocError>
+    ensures { IfOk result (λ r. symbol_of r ≡
+        body_of (setting_by guide.now) false (inner (pair_of pair.now)) part.now) }
 {
-    let mut tests = Symbols::new(alloc);
-    push_column_test(alloc, guide, aligned, &mut tests)?;
-    push_tests(inner.as_symbol(), alloc, guide, pair, &mut tests)?;
-    let symbol = body(inner.as_symbol(), false, alloc, guide, pair)?;
-    Inner::new(alloc, behind(tests, symbol)?)
+    let within = inner_of(pair);
+    let made = body(part.as_symbol(), false, alloc, guide, &within);
+    drop(within);
+    made
 }
 
-/// A separator, with its tests; it may stand in any column.
+/// The item of a list, which is made already, and its separator, with its tests.
 #[cycle(bodies)]
-fn separator_of(
+fn with_separator(
     separator: &Inner,
     alloc: Global,
     guide: &Guide<'_>,
     pair: &Pair,
-) -> Result<Inner, AllocError>
-    ensures { IfOk result (λ r.
-        r ≡ wrapped (tests_of (setting_by guide.now) (pair_of pair.now) separator.now)
-        (body_of (setting_by guide.now) false (pair_of pair.now) separator.now)) }
+    first: Inner,
+) -> Result<(Inner, Inner), AllocError>
+    ensures { IfOk result (λ r. (r.0 ≡ first) ×
+        (r.1 ≡ item_by (setting_by guide.now) false (pair_of pair.now) separator.now
+        (body_of (setting_by guide.now) false (inner (pair_of pair.now)) separator.now))) }
 {
-    item(separator, false, alloc, guide, pair)
+    match inside(separator, alloc, guide, pair) {
+        Ok(between) => both(alloc, guide, pair, first, separator.as_symbol(), between),
+        Err(refused) => {
+            drop(first);
+            Err(refused)
+        }
+    }
 }
 
 /// A symbol of a sequence, with its tests.
@@ -173,10 +161,8 @@ fn in_sequence(
         wrapped (tests_of (setting_by guide.now) (pair_of pair.now) (symbol_of symbol.now))
         (body_of (setting_by guide.now) false (pair_of pair.now) (symbol_of symbol.now))) }
 {
-    let mut tests = Symbols::new(alloc);
-    push_tests(symbol, alloc, guide, pair, &mut tests)?;
-    let symbol = body(symbol, false, alloc, guide, pair)?;
-    behind(tests, symbol)
+    let made = body(symbol, false, alloc, guide, pair)?;
+    behind_tests(alloc, guide, pair, false, symbol, made)
 }
 
 /// The symbols of a sequence.
@@ -230,33 +216,19 @@ pub(crate) fn choices(
     Ok(done)
 }
 
-/// The arguments of a call, with the pair where its declaration gets it.
-fn arguments_of(
+/// The alternatives of a group, under the pair there.
+#[cycle(bodies)]
+fn choices_inside(
+    alternatives: &Alts,
     alloc: Global,
     guide: &Guide<'_>,
     pair: &Pair,
-    name: &Word,
-    arguments: &Exprs,
-) -> Result<Exprs, AllocError>
-    ensures { IfOk result (λ r. r ≡ arguments_of (setting_by guide.now) (pair_of pair.now)
-        (kind_by guide.now.kinds name.now) arguments.now) }
+) -> Result<Alts, AllocError>
+    ensures { IfOk result (λ r. r ≡
+        map (alternative_by (setting_by guide.now) (inner (pair_of pair.now))) alternatives.now) }
 {
-    let mut all = arguments.copy(alloc)?;
-    if let Some(kind) = kind_of(guide, name) {
-        if is_paired(guide, kind) {
-            push_expression(&mut all, column_of(alloc, guide, pair)?)?;
-            push_expression(&mut all, start_of(alloc, guide, pair)?)?;
-        }
-    }
-    Ok(all)
-}
-
-/// A list, an option or a group with bindings, where there are any.
-fn entered_by(alloc: Global, bindings: Lets, symbol: Symbol) -> Result<Symbol, AllocError>
-    ensures { IfOk result (λ r. symbol_of r ≡ entered bindings (symbol_of symbol)) }
-{
-    if bindings.as_slice().is_empty() {
-        return Ok(symbol);
-    }
-    Ok(Symbol::Entry(bindings, Inner::new(alloc, symbol)?))
+    let within = inner_of(pair);
+    let made = choices(alternatives, alloc, guide, &within);
+    drop(within);
+    made
 }

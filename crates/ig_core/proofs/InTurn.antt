@@ -29,12 +29,6 @@ pub record AtBlocks (x : CheckedGrammar) : Type 0 where
   pub free : IsFree x.grammar
   pub unmarked : IsUnmarked x.grammar
 
-pub record AtLayout (x : CheckedGrammar) : Type 0 where
-  pub sound : IsSound x
-  pub free : IsFree x.grammar
-  pub unmarked : IsUnmarked x.grammar
-  pub no_layout : layout_among x.grammar.decls ≡ None
-
 pub record AtFilters (c x : CheckedGrammar) : Type 0 where
   pub is : x ≡ BeforeLists c
   pub sound : IsSound x
@@ -61,17 +55,6 @@ module _ (c : CheckedGrammar) (at : ArePassed c) where
       let kept = at.blocks in
       subst AtBlocks (sym (made ∙ ap BlocksOf is))
       (record { sound = kept.sound; free = kept.free; unmarked = kept.unmarked })
-
-  pub at_layout : (x y z : CheckedGrammar) → x ≡ LevelsOf c → y ≡ BlocksOf x → z ≡ LayoutOf y → AtLayout z
-  at_layout x y z is made laid =
-      let kept = at.layout in
-      subst AtLayout (sym (laid ∙ ap LayoutOf (made ∙ ap BlocksOf is)))
-      (record {
-        sound = kept.sound;
-        free = kept.free;
-        unmarked = kept.unmarked;
-        no_layout = kept.no_layout;
-      })
 
   at_last : AtFilters c (BeforeLists c)
   unfolding BeforeLists

@@ -125,6 +125,10 @@ fresh decls shapes i decl distinct within read = go (found_from 1 (unrooted (tak
         let less = w.0 in
         absurd (omega (arith, same, less))
 
+-- a table without entries has no names
+pub numbers_begin : (m : BTreeMap (Bor (List ℕ)) ℕ) → m.entries ≡ [] → Numbers m []
+numbers_begin m empty name = rw empty refl
+
 pub names_more : (decls : List Decl) (shapes : List Shape) (i : ℕ) (decl : Decl) (r : Shape) (m t u : BTreeMap (Bor (List ℕ)) ℕ) (bytes : List ℕ) (next : ℕ) →
     length shapes ≡ length decls → AreDistinct (names decls) → i < length decls → decl ≡ get_or decls i decl → is_root (get_or shapes i r) ≡ false →
     Numbers m (unrooted (take i decls) (take i shapes)) → next ≡ suc (length (unrooted (take i decls) (take i shapes))) → bytes ≡ encode_utf8_all decl.name →

@@ -2,6 +2,7 @@
 ghost use Rattle.std.specs.Prelude.{◌≡◌, ◌+◌, ◌≤◌, ◌++◌, length, map, IfOk, OnOk, Contains, suc};
 ghost use Rattle.ig_grammar.specs.Numbering.{alternatives, tag_of, tag_among};
 ghost use Rattle.ig_grammar.specs.declared.declaration.Decl.{Decl};
+ghost use Rattle.ig_grammar.specs.declared.place.Shape.TheVariants.{Rule};
 ghost use Rattle.ig_item.specs.Limits.{most_dots};
 ghost use Rattle.ig_core.specs.CoreOf.{alternatives_of, nonterminal_of, nonterminals_of};
 ghost use Rattle.ig_core.specs.CoreOf.{shaped, unrooted};
@@ -46,15 +47,22 @@ fn tag_among(first: Tag, second: Tag, alternative: u32) -> Tag
     if alternative == 1 { first } else { second }
 }
 
+/// The tag of an alternative of a rule.
+fn rule_tag(nonterminal: u32, alternative: u32) -> Tag
+    ensures { result ≡ tag_of Rule nonterminal alternative }
+{
+    Tag::Rule {
+        nonterminal,
+        alternative,
+    }
+}
+
 /// The tag of an alternative of a nonterminal of this shape.
 fn tag_of(shape: Shape, nonterminal: u32, alternative: u32) -> Tag
     ensures { result ≡ tag_of shape nonterminal alternative }
 {
     match shape {
-        Shape::Rule => Tag::Rule {
-            nonterminal,
-            alternative,
-        },
+        Shape::Rule => rule_tag(nonterminal, alternative),
         Shape::Opt => tag_among(Tag::Absent, Tag::Present, alternative),
         Shape::Star => tag_among(Tag::Nil, Tag::Snoc, alternative),
         Shape::Plus => tag_among(Tag::One, Tag::More, alternative),

@@ -1,8 +1,8 @@
 //! The root: a declaration that stands for it, or one that is made and calls the start.
-ghost use Rattle.std.specs.Prelude.{◌≡◌, ◌≤◌, length, IfOk, None};
+ghost use Rattle.std.specs.Prelude.{◌≡◌, ◌<◌, ◌≤◌, length, slice_index_or, IfOk, None};
 ghost use Rattle.std.specs.Option.{option_copied};
 ghost use Rattle.ig_grammar.specs.Numbering.{alternatives, layout_among};
-ghost use Rattle.ig_grammar.specs.declared.place.Shape.TheVariants.{Root};
+ghost use Rattle.ig_grammar.specs.declared.place.Shape.TheVariants.{Root, Rule};
 ghost use Rattle.ig_item.specs.Limits.{most_dots};
 ghost use Rattle.ig_core.specs.CoreOf.{root_among, root_of, written_root, call_of};
 ghost use Rattle.ig_rewrite.specs.Rooted.{is_root};
@@ -29,13 +29,21 @@ pub(crate) fn is_root(shape: Shape) -> bool
     }
 }
 
+/// Whether the declaration at this index stands for the root.
+fn stands_for_root(checked: &Checked, index: usize) -> bool
+    requires { index < length checked.now.shapes }
+    ensures { result ≡ is_root (slice_index_or checked.now.shapes index Rule) }
+{
+    is_root(checked.shape_behind(index))
+}
+
 /// The declaration that stands for the root.
 pub(crate) fn find_root<'a>(decls: &'a [Decl], checked: &Checked) -> Option<&'a Decl>
     requires beside { length checked.now.shapes ≡ length decls.now }
     ensures { option_copied result ≡ root_among decls.now checked.now.shapes }
 {
     for (index, decl) in decls.iter().enumerate() {
-        if is_root(checked.shape_behind(index)) {
+        if stands_for_root(checked, index) {
             return Some(decl);
         }
     }

@@ -1,17 +1,20 @@
 //! The steps of symbols.
 ghost use Rattle.std.specs.Prelude.{◌≡◌, map, IfOk, option_map};
 ghost use Rattle.std.specs.Option.{option_copied};
+ghost use Rattle.ig_expr.specs.View.{expression_of};
 ghost use Rattle.ig_grammar.specs.View.{symbol_of};
+ghost use Rattle.ig_item.specs.Step as item;
+ghost use Rattle.ig_text.specs.declared.pattern.Pattern.TheVariants as pattern;
 ghost use Rattle.ig_item.specs.View.{step_of};
 ghost use Rattle.ig_rewrite.specs.Remaining.{label_of, unlabelled, unfiltered};
 ghost use Rattle.ig_rewrite.specs.Remaining.{excluded_of, exclusions};
 ghost use Rattle.ig_core.specs.Steps as steps;
 ghost use Rattle.ig_core.specs.Tables.{lookup, number_by};
 
-use ig_expr::Expr;
+use ig_expr::{Expr, Exprs};
 use ig_grammar::{Filter, Symbol};
 use ig_item::{Step, Steps};
-use ig_text::{Copied, Pattern, Patterns, Sequence, Word};
+use ig_text::{Class, Copied, Pattern, Patterns, Sequence, Word};
 use std::alloc::{AllocError, Global};
 use std::collections::BTreeMap;
 
@@ -105,6 +108,13 @@ fn copy_label(alloc: Global, label: Option<&Word>) -> Result<Option<Word>, Alloc
     }
 }
 
+/// A copy of the label of the symbol.
+fn own_label(alloc: Global, symbol: &Symbol) -> Result<Option<Word>, AllocError>
+    ensures { IfOk result (λ r. r ≡ label_of (symbol_of symbol.now)) }
+{
+    copy_label(alloc, label_of(symbol))
+}
+
 /// The step of a symbol with this label and these excluded patterns.
 fn build_main(
     alloc: Global,
@@ -118,31 +128,113 @@ fn build_main(
         steps.step_with (number_by numbers.now missing) label not (symbol_of symbol.now)) }
 {
     match symbol {
-        Symbol::Literal(word) => {
-            let what = Pattern::Literal(word.copy(alloc)?);
-            Ok(Step::Term { what, label, not })
-        }
-        Symbol::Class(class) => {
-            let what = Pattern::OneOf(class.copy(alloc)?);
-            Ok(Step::Term { what, label, not })
-        }
+        Symbol::Literal(word) => literal_step(alloc, label, not, word),
+        Symbol::Class(class) => class_step(alloc, label, not, class),
         Symbol::Call(name, arguments) => {
-            let args = arguments.copy(alloc)?;
             let nonterminal = number_of(numbers, missing, name);
-            Ok(Step::Call {
-                nonterminal,
-                args,
-                label,
-                not,
-            })
+            call_step(alloc, nonterminal, label, not, arguments)
         }
-        Symbol::Guard(condition) => Ok(Step::Test(condition.copy(alloc)?)),
+        Symbol::Guard(condition) => {
+            drop(label);
+            drop(not);
+            Ok(Step::Test(condition.copy(alloc)?))
+        }
         Symbol::Let(name, value) => {
-            let name = name.copy(alloc)?;
-            Ok(Step::Bind(name, value.copy(alloc)?))
+            drop(label);
+            drop(not);
+            bind_step(alloc, name, value)
         }
-        _ => Ok(Step::Test(Expr::Bool(false))),
+        _ => {
+            drop(label);
+            drop(not);
+            Ok(Step::Test(Expr::Bool(false)))
+        }
     }
+}
+
+/// The step of a literal. Here and below a call lets go of what is handed over where memory lacks.
+fn literal_step(
+    alloc: Global,
+    label: Option<Word>,
+    not: Patterns,
+    word: &Word,
+) -> Result<Step, AllocError>
+    ensures { IfOk result (λ s. step_of s ≡ item.Term (pattern.Literal word.now) label not) }
+{
+    match word.copy(alloc) {
+        Ok(word) => {
+            let what = Pattern::Literal(word);
+            Ok(Step::Term { what, label, not })
+        }
+        Err(refused) => {
+            drop(label);
+            drop(not);
+            Err(refused)
+        }
+    }
+}
+
+/// The step of a class.
+fn class_step(
+    alloc: Global,
+    label: Option<Word>,
+    not: Patterns,
+    class: &Class,
+) -> Result<Step, AllocError>
+    ensures { IfOk result (λ s. step_of s ≡ item.Term (pattern.OneOf class.now) label not) }
+{
+    match class.copy(alloc) {
+        Ok(class) => {
+            let what = Pattern::OneOf(class);
+            Ok(Step::Term { what, label, not })
+        }
+        Err(refused) => {
+            drop(label);
+            drop(not);
+            Err(refused)
+        }
+    }
+}
+
+/// The step of a call.
+fn call_step(
+    alloc: Global,
+    nonterminal: u32,
+    label: Option<Word>,
+    not: Patterns,
+    arguments: &Exprs,
+) -> Result<Step, AllocError>
+    ensures { IfOk result (λ s.
+        step_of s ≡ item.Call nonterminal arguments.now label not) }
+{
+    match copy_arguments(alloc, arguments) {
+        Ok(args) => Ok(Step::Call {
+            nonterminal,
+            args,
+            label,
+            not,
+        }),
+        Err(refused) => {
+            drop(label);
+            drop(not);
+            Err(refused)
+        }
+    }
+}
+
+/// A copy of arguments.
+fn copy_arguments(alloc: Global, arguments: &Exprs) -> Result<Exprs, AllocError>
+    ensures { IfOk result (λ r. r ≡ arguments.now) }
+{
+    arguments.copy(alloc)
+}
+
+/// The step of a let.
+fn bind_step(alloc: Global, name: &Word, value: &Expr) -> Result<Step, AllocError>
+    ensures { IfOk result (λ s. step_of s ≡ item.Bind name.now (expression_of value.now)) }
+{
+    let name = name.copy(alloc)?;
+    Ok(Step::Bind(name, value.copy(alloc)?))
 }
 
 /// The step of a symbol.
@@ -155,7 +247,7 @@ fn build_step(
     ensures { IfOk result (λ s. step_of s ≡
         steps.step_of (number_by numbers.now missing) (symbol_of symbol.now)) }
 {
-    let label = copy_label(alloc, label_of(symbol))?;
+    let label = own_label(alloc, symbol)?;
     let inner = unlabelled(symbol);
     let not = excluded_of(alloc, inner)?;
     build_main(alloc, numbers, missing, label, not, unfiltered(inner))

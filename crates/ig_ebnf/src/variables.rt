@@ -118,40 +118,38 @@ impl Variables {
             parameters r ≡ params_for self.now (λ n. needs n (symbol_of symbol.now))) }
     {
         let mut params = Params::new(alloc);
-        self.keep_source(alloc, symbol, &mut params)?;
-        self.keep_added(alloc, symbol, &mut params)?;
+        self.keep_wanted(alloc, symbol, &mut params)?;
         Ok(params)
     }
 
-    /// Adds the variables of the source that the symbol wants.
-    fn keep_source(
+    /// Adds the variables that the symbol wants, those of the source first.
+    fn keep_wanted(
         &self,
         alloc: Global,
         symbol: &Symbol,
         params: &mut Params,
     ) -> Result<(), AllocError>
         ensures { OnOk result (parameters params.new ≡ parameters params.old ++
-            keep (λ n. not (is_added n) && needs n (symbol_of symbol.now)) self.now) }
+            params_for self.now (λ n. needs n (symbol_of symbol.now))) }
     {
-        for (place, name) in self.names.iter().enumerate() {
-            let wanted = wants_source(symbol, name);
-            push_wanted(alloc, params, wanted, name, self.kinds[place])?;
-        }
-        Ok(())
+        self.keep(alloc, false, symbol, params)?;
+        self.keep(alloc, true, symbol, params)
     }
 
-    /// Adds the variables that passes added and that the symbol wants.
-    fn keep_added(
+    /// Adds the variables that the symbol wants of those that passes added, or of the others.
+    fn keep(
         &self,
         alloc: Global,
+        added: bool,
         symbol: &Symbol,
         params: &mut Params,
     ) -> Result<(), AllocError>
         ensures { OnOk result (parameters params.new ≡ parameters params.old ++
-            keep (λ n. is_added n && needs n (symbol_of symbol.now)) self.now) }
+            keep (λ n. (if added then is_added n else not (is_added n)) &&
+            needs n (symbol_of symbol.now)) self.now) }
     {
         for (place, name) in self.names.iter().enumerate() {
-            let wanted = wants_added(symbol, name);
+            let wanted = wants(added, symbol, name);
             push_wanted(alloc, params, wanted, name, self.kinds[place])?;
         }
         Ok(())
@@ -169,18 +167,23 @@ fn push_param(alloc: Global, params: &mut Params, name: &Word, kind: Kind) -> Re
         .map_err(|refused| refused.1)
 }
 
-/// Whether the variable is one of the source, and the symbol wants it.
-fn wants_source(symbol: &Symbol, name: &Word) -> bool
-    ensures { result ≡ (not (is_added name.now) && needs name.now (symbol_of symbol.now)) }
+/// Whether the symbol wants the variable, and a pass added it, or none did.
+fn wants(added: bool, symbol: &Symbol, name: &Word) -> bool
+    ensures { result ≡ ((if added then is_added name.now else not (is_added name.now)) &&
+        needs name.now (symbol_of symbol.now)) }
 {
-    !is_added(name) && needs(name, symbol)
+    is_among(added, name) && needs(name, symbol)
 }
 
-/// Whether a pass added the variable, and the symbol wants it.
-fn wants_added(symbol: &Symbol, name: &Word) -> bool
-    ensures { result ≡ (is_added name.now && needs name.now (symbol_of symbol.now)) }
+/// Whether the variable is among those that passes added, or among the others.
+fn is_among(added: bool, name: &Word) -> bool
+    ensures { result ≡ (if added then is_added name.now else not (is_added name.now)) }
 {
-    is_added(name) && needs(name, symbol)
+    if added {
+        is_added(name)
+    } else {
+        !is_added(name)
+    }
 }
 
 /// Adds the parameter where it is wanted.

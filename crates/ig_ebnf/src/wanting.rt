@@ -93,6 +93,16 @@ pub(crate) fn is_added(name: &Word) -> bool
     }
 }
 
+/// Whether an item wants the variable, or its separator.
+fn one_wants(item_wants: bool, separator_wants: bool) -> bool
+    ensures { result ≡ (item_wants || separator_wants) }
+{
+    if item_wants {
+        return true;
+    }
+    separator_wants
+}
+
 /// Whether the symbol wants the variable.
 #[cycle(wanting)]
 pub(crate) fn needs(name: &Word, symbol: &Symbol) -> bool
@@ -133,7 +143,7 @@ fn one_needs(name: &Word, item: &Symbol, separator: &Symbol) -> bool
     ensures { result ≡
         (needs name.now (symbol_of item.now) || needs name.now (symbol_of separator.now)) }
 {
-    needs(name, item) || needs(name, separator)
+    one_wants(needs(name, item), needs(name, separator))
 }
 
 /// Whether one of the symbols wants the variable.

@@ -16,7 +16,7 @@ ghost use Rattle.ig_levels.specs.Tables.{levelled_by};
 
 use crate::laws::levels_keep;
 use crate::naming::{is_levelled, left_word, levelled_names, right_word};
-use crate::operands::{Bounds, bounds_at, has_left, has_right, is_test, role_at};
+use crate::operands::{Bounds, asks_left, asks_right, bounds_at, is_test, role_at};
 use crate::symbols::with_bounds;
 use ig_expr::{Expr, Op, Operand};
 use ig_grammar::{
@@ -145,13 +145,21 @@ fn lower_alternatives(
     Ok(all)
 }
 
+/// How many of so many levels there are from the one at this index on.
+fn levels_from(levels: usize, index: usize) -> usize
+    requires { index < levels }
+    ensures { result ≡ levels - index }
+{
+    levels - index
+}
+
 /// The number of the level at this index of so many levels: the last one has the number 1. A number
 /// that 32 bits don't hold is refused as want of memory.
 fn level_number(levels: usize, index: usize) -> Result<u32, AllocError>
     requires { index < levels }
     ensures { IfOk result (λ n. n ≡ levels - index) }
 {
-    u32::try_from(levels - index).map_err(|_| AllocError)
+    u32::try_from(levels_from(levels, index)).map_err(|_| AllocError)
 }
 
 /// Adds the alternatives of a level at the end.
@@ -209,10 +217,10 @@ fn add_tests(
         test_of (has_right (place_of bounds.now own.now) true (map symbol_of symbols.now))
         bounds.now.level right_name) }
 {
-    if has_left(bounds, own, symbols) {
+    if asks_left(bounds, own, symbols) {
         push_test(alloc, all, bounds.level, left_word(alloc)?)?;
     }
-    if has_right(bounds, own, symbols) {
+    if asks_right(bounds, own, symbols) {
         push_test(alloc, all, bounds.level, right_word(alloc)?)?;
     }
     Ok(())

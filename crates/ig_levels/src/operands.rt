@@ -156,7 +156,7 @@ pub(crate) fn role_at(
 }
 
 /// Whether the alternative has a left operand.
-pub(crate) fn has_left(bounds: &Bounds, own: &Word, symbols: &[Symbol]) -> bool
+fn has_left(bounds: &Bounds, own: &Word, symbols: &[Symbol]) -> bool
     ensures { result ≡ has_left (place_of bounds.now own.now) true (map symbol_of symbols.now) }
 {
     let mut first = true;
@@ -172,7 +172,7 @@ pub(crate) fn has_left(bounds: &Bounds, own: &Word, symbols: &[Symbol]) -> bool
 }
 
 /// Whether the alternative has a right operand.
-pub(crate) fn has_right(bounds: &Bounds, own: &Word, symbols: &[Symbol]) -> bool
+fn has_right(bounds: &Bounds, own: &Word, symbols: &[Symbol]) -> bool
     ensures { result ≡ has_right (place_of bounds.now own.now) true (map symbol_of symbols.now) }
 {
     let mut first = true;
@@ -185,4 +185,18 @@ pub(crate) fn has_right(bounds: &Bounds, own: &Word, symbols: &[Symbol]) -> bool
         rest = others;
     }
     false
+}
+
+/// Whether an alternative asks its level of the left spine: where it has a left operand.
+pub(crate) fn asks_left(bounds: &Bounds, own: &Word, symbols: &[Symbol]) -> bool
+    ensures { result ≡ has_left (place_of bounds.now own.now) true (map symbol_of symbols.now) }
+{
+    has_left(bounds, own, symbols)
+}
+
+/// Whether an alternative asks its level of the right spine: where it has a right operand.
+pub(crate) fn asks_right(bounds: &Bounds, own: &Word, symbols: &[Symbol]) -> bool
+    ensures { result ≡ has_right (place_of bounds.now own.now) true (map symbol_of symbols.now) }
+{
+    has_right(bounds, own, symbols)
 }

@@ -1,9 +1,11 @@
 //! Symbols, each call of a levelled nonterminal with two arguments more.
-ghost use Rattle.std.specs.Prelude.{◌≡◌, ◌++◌, IfOk};
+ghost use Rattle.std.specs.Prelude.{◌≡◌, ◌++◌, IfOk, pos};
+ghost use Rattle.ig_expr.specs.Expression.{Integer, Variable};
 ghost use Rattle.ig_expr.specs.View.{expression_of};
 ghost use Rattle.ig_grammar.specs.Symbol.{Call};
 ghost use Rattle.ig_grammar.specs.View.{symbol_of};
-ghost use Rattle.ig_levels.specs.Levels.{with_pair, pair_arguments};
+ghost use Rattle.ig_rewrite.specs.Added.{right_name};
+ghost use Rattle.ig_levels.specs.Levels.{with_pair, pair_arguments, no_pair};
 ghost use Rattle.ig_levels.specs.Roles.{pair_of, unasked};
 ghost use Rattle.ig_levels.specs.Tables.{levelled_by};
 
@@ -26,6 +28,15 @@ pub(crate) enum Role {
     RightOperand(u32),
 }
 
+impl Role {
+    /// What a call is that stands deeper than the symbols of its alternative.
+    fn nested() -> Role
+        ensures { pair_of result ≡ no_pair }
+    {
+        Self::Outside
+    }
+}
+
 /// The first argument that the role gives: the least level on the left spine.
 fn left_argument(alloc: Global, role: Role) -> Result<Expr, AllocError>
     ensures { IfOk result (λ e. expression_of e ≡ (pair_of role).left) }
@@ -33,8 +44,23 @@ fn left_argument(alloc: Global, role: Role) -> Result<Expr, AllocError>
     match role {
         Role::Outside => Ok(Expr::Int(0)),
         Role::LeftOperand(_) => Ok(Expr::Var(left_word(alloc)?)),
-        Role::RightOperand(bound) => Ok(Expr::Int(bound as i64)),
+        Role::RightOperand(bound) => Ok(asked_of_other_side(bound)),
     }
+}
+
+/// What is asked of the spine of an operand on its other side: the bound of the operand.
+fn asked_of_other_side(bound: u32) -> Expr
+    ensures { expression_of result ≡ Integer (pos bound) }
+{
+    Expr::Int(bound as i64)
+}
+
+/// The bound for the right spine, as it is handed on to a right operand.
+fn hand_on_right(alloc: Global) -> Result<Expr, AllocError>
+    ensures { IfOk result (λ e. expression_of e ≡ Variable right_name) }
+{
+    let bound = right_word(alloc)?;
+    Ok(Expr::Var(bound))
 }
 
 /// The second argument that the role gives: the least level on the right spine.
@@ -43,8 +69,8 @@ fn right_argument(alloc: Global, role: Role) -> Result<Expr, AllocError>
 {
     match role {
         Role::Outside => Ok(Expr::Int(0)),
-        Role::LeftOperand(bound) => Ok(Expr::Int(bound as i64)),
-        Role::RightOperand(_) => Ok(Expr::Var(right_word(alloc)?)),
+        Role::LeftOperand(bound) => Ok(asked_of_other_side(bound)),
+        Role::RightOperand(_) => hand_on_right(alloc),
     }
 }
 
@@ -92,11 +118,7 @@ fn ask_nothing(
     ensures { IfOk result (λ r. symbol_of r ≡ unasked (levelled_by table.now) (symbol_of symbol)) }
 {
     match symbol {
-        Symbol::Call(name, arguments) => {
-            let levelled = names_levelled(table, &name);
-            let arguments = add_bounds(alloc, arguments, levelled, Role::Outside)?;
-            Ok(Symbol::Call(name, arguments))
-        }
+        Symbol::Call(name, arguments) => call_unasked(alloc, table, name, arguments),
         Symbol::Label(name, inner) => Ok(Symbol::Label(name, ask_nothing_of(alloc, table, inner)?)),
         Symbol::Offside(inner) => Ok(Symbol::Offside(ask_nothing_of(alloc, table, inner)?)),
         Symbol::Ignore(inner) => Ok(Symbol::Ignore(ask_nothing_of(alloc, table, inner)?)),
@@ -116,6 +138,26 @@ fn ask_nothing(
             }
         },
         other => Ok(other),
+    }
+}
+
+/// The call, with the two arguments that ask for nothing where it is levelled.
+fn call_unasked(
+    alloc: Global,
+    table: &BTreeMap<&str, bool>,
+    name: Word,
+    arguments: Exprs,
+) -> Result<Symbol, AllocError>
+    ensures { IfOk result (λ r. symbol_of r ≡
+        unasked (levelled_by table.now) (Call name arguments)) }
+{
+    let levelled = names_levelled(table, &name);
+    match add_bounds(alloc, arguments, levelled, Role::nested()) {
+        Ok(arguments) => Ok(Symbol::Call(name, arguments)),
+        Err(refused) => {
+            drop(name);
+            Err(refused)
+        }
     }
 }
 

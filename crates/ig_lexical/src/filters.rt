@@ -1,5 +1,6 @@
 //! Follow and precede filters as guards.
-ghost use Rattle.std.specs.Prelude.{◌≡◌, ◌↔◌, [], ◌∷◌, ◌++◌, map, None, IfOk, IsTrue, OnOk};
+ghost use Rattle.std.specs.Prelude.{◌≡◌, ◌↔◌, [], ◌∷◌, ◌++◌, map, if◌then◌else◌};
+ghost use Rattle.std.specs.Prelude.{None, IfOk, IsTrue, OnOk};
 ghost use Rattle.ig_grammar.specs.Checked.{FitShapes};
 ghost use Rattle.ig_grammar.specs.Numbering.{layout_among};
 ghost use Rattle.ig_grammar.specs.Symbol.{Guard, Label};
@@ -78,22 +79,42 @@ fn attach_labelled(alloc: Global, name: Word, symbol: Symbol) -> Result<Symbol, 
     match symbol {
         Symbol::Filtered(inner, filters) => {
             let excluded = exclude(alloc, inner, &filters)?;
-            let labelled = Symbol::Label(name, Inner::new(alloc, excluded)?);
+            let labelled = relabelled(alloc, name, excluded)?;
             guard(alloc, &filters, labelled)
         }
-        other => Ok(Symbol::Label(name, Inner::new(alloc, other)?)),
+        other => relabelled(alloc, name, other),
     }
+}
+
+/// The symbol with the label.
+pub(crate) fn relabelled(alloc: Global, name: Word, inside: Symbol) -> Result<Symbol, AllocError>
+    ensures { IfOk result (λ r. symbol_of r ≡ Label name (symbol_of inside)) }
+{
+    let inner = Inner::new(alloc, inside)?;
+    Ok(Symbol::Label(name, inner))
 }
 
 /// The symbol with the exclusions among the filters, where there are any.
 fn exclude(alloc: Global, inner: Inner, filters: &Filters) -> Result<Symbol, AllocError>
     ensures { IfOk result (λ r. symbol_of r ≡ with_filters inner (exclusions filters.now)) }
 {
-    let kept = exclusions(alloc, filters.as_slice())?;
+    match exclusions(alloc, filters.as_slice()) {
+        Ok(kept) => Ok(with_filters(inner, kept)),
+        Err(refused) => {
+            drop(inner);
+            Err(refused)
+        }
+    }
+}
+
+/// The symbol with these filters, where there are any.
+fn with_filters(inner: Inner, kept: Filters) -> Symbol
+    ensures { symbol_of result ≡ with_filters inner kept }
+{
     if kept.is_empty() {
-        Ok(inner.into_symbol())
+        inner.into_symbol()
     } else {
-        Ok(Symbol::Filtered(inner, kept))
+        Symbol::Filtered(inner, kept)
     }
 }
 
@@ -120,12 +141,13 @@ fn guard(alloc: Global, filters: &Filters, symbol: Symbol) -> Result<Symbol, All
     ensures { IfOk result (λ r.
         symbol_of r ≡ guarded (befores filters.now) (afters filters.now) (symbol_of symbol)) }
 {
-    if excludes_only(filters.as_slice()) {
+    let filters = filters.as_slice();
+    if excludes_only(filters) {
         return Ok(symbol);
     }
     let mut symbols = Symbols::new(alloc);
     // A call lets go of the symbol: where `?` does, its proof goes through all forms.
-    match add_befores(alloc, filters.as_slice(), &mut symbols) {
+    match add_guards(alloc, true, filters, &mut symbols) {
         Ok(()) => {}
         Err(refused) => {
             drop(symbol);
@@ -133,7 +155,7 @@ fn guard(alloc: Global, filters: &Filters, symbol: Symbol) -> Result<Symbol, All
         }
     }
     push_symbol(&mut symbols, symbol)?;
-    add_afters(alloc, filters.as_slice(), &mut symbols)?;
+    add_guards(alloc, false, filters, &mut symbols)?;
     Ok(Symbol::Seq(symbols))
 }
 
@@ -149,6 +171,23 @@ fn excludes_only(filters: &[Filter]) -> bool
         }
     }
     true
+}
+
+/// Adds the guards that stand before the symbol, or those that stand behind it.
+fn add_guards(
+    alloc: Global,
+    before: bool,
+    filters: &[Filter],
+    symbols: &mut Symbols,
+) -> Result<(), AllocError>
+    ensures { OnOk result (symbols.new ≡ symbols.old ++
+        map Guard (if before then befores filters.now else afters filters.now)) }
+{
+    if before {
+        add_befores(alloc, filters, symbols)
+    } else {
+        add_afters(alloc, filters, symbols)
+    }
 }
 
 /// Adds the guards that stand before the symbol.

@@ -4,13 +4,15 @@ ghost use Rattle.ig_grammar.specs.View.{symbol_of};
 ghost use Rattle.ig_grammar.specs.Checked.{FitShapes};
 ghost use Rattle.ig_grammar.specs.WellScoped.{IsWellScoped};
 ghost use Rattle.ig_rewrite.specs.Sound.{IsSound, IsFree, IsUnmarked};
-ghost use Rattle.ig_lexical.specs.Layout.{is_token, then_layout, laid_inside, laid};
+ghost use Rattle.ig_grammar.specs.Symbol.{Filtered, Entry};
+ghost use Rattle.ig_lexical.specs.Layout.{is_syntax, is_token, then_layout, laid_inside, laid};
 ghost use Rattle.ig_lexical.specs.Layout.{laid_declaration, laid_grammar, laid_of, LayoutOf};
 
 use crate::declarations::Declarations;
+use crate::filters::relabelled;
 use crate::laws::layout_keeps;
 use ig_expr::Exprs;
-use ig_grammar::{Checked, Decl, DeclKind, Decls, Grammar, Inner, Symbol, Symbols};
+use ig_grammar::{Checked, Decl, DeclKind, Decls, Filters, Grammar, Inner, Lets, Symbol, Symbols};
 use ig_rewrite::{
     OwnRule, copy_of_shapes, copy_of_start, has_root, push_declaration, push_symbol,
     rewrite_levels, root,
@@ -103,13 +105,26 @@ impl<'a> OwnRule for Laid<'a> {
     fn apply(&self, alloc: Global, decl: &Decl, symbol: Symbol) -> Result<Symbol, AllocError> {
         match self.declared.layout() {
             None => Ok(symbol),
-            Some(layout) => match decl.kind {
-                DeclKind::Syntax => lay(alloc, self.declared, layout, symbol),
-                DeclKind::Lexical => Ok(symbol),
-                DeclKind::Layout => Ok(symbol),
-                DeclKind::Plain => Ok(symbol),
-            },
+            Some(layout) => {
+                if is_syntax(decl.kind) {
+                    lay(alloc, self.declared, layout, symbol)
+                } else {
+                    Ok(symbol)
+                }
+            }
         }
+    }
+}
+
+/// Whether layout stands between the tokens of a declaration of the kind.
+fn is_syntax(kind: DeclKind) -> bool
+    ensures { result ≡ is_syntax kind }
+{
+    match kind {
+        DeclKind::Syntax => true,
+        DeclKind::Lexical => false,
+        DeclKind::Layout => false,
+        DeclKind::Plain => false,
     }
 }
 
@@ -143,18 +158,57 @@ fn lay_inside(
 {
     match symbol {
         Symbol::Label(name, inner) => {
-            let inner = lay_inside(alloc, declared, layout, inner.into_symbol())?;
-            Ok(Symbol::Label(name, Inner::new(alloc, inner)?))
+            let inside = lay_inside(alloc, declared, layout, inner.into_symbol())?;
+            relabelled(alloc, name, inside)
         }
         Symbol::Filtered(inner, filters) => {
-            let main = lay_inside(alloc, declared, layout, inner.into_symbol())?;
-            Ok(Symbol::Filtered(Inner::new(alloc, main)?, filters))
+            match lay_inside(alloc, declared, layout, inner.into_symbol()) {
+                Ok(inside) => refiltered(alloc, inside, filters),
+                Err(refused) => {
+                    drop(filters);
+                    Err(refused)
+                }
+            }
         }
         Symbol::Entry(bindings, inner) => {
-            let inner = lay(alloc, declared, layout, inner.into_symbol())?;
-            Ok(Symbol::Entry(bindings, Inner::new(alloc, inner)?))
+            match lay(alloc, declared, layout, inner.into_symbol()) {
+                Ok(inside) => reentered(alloc, bindings, inside),
+                Err(refused) => {
+                    drop(bindings);
+                    Err(refused)
+                }
+            }
         }
         other => Ok(other),
+    }
+}
+
+/// The symbol with the filters.
+///
+/// Here and below a call lets go of what stands beside the symbol: where `?` does, its proof goes
+/// through all forms.
+fn refiltered(alloc: Global, inside: Symbol, filters: Filters) -> Result<Symbol, AllocError>
+    ensures { IfOk result (λ r. symbol_of r ≡ Filtered (symbol_of inside) filters) }
+{
+    match Inner::new(alloc, inside) {
+        Ok(inner) => Ok(Symbol::Filtered(inner, filters)),
+        Err(refused) => {
+            drop(filters);
+            Err(refused)
+        }
+    }
+}
+
+/// The symbol with the bindings on its entry.
+fn reentered(alloc: Global, bindings: Lets, inside: Symbol) -> Result<Symbol, AllocError>
+    ensures { IfOk result (λ r. symbol_of r ≡ Entry bindings (symbol_of inside)) }
+{
+    match Inner::new(alloc, inside) {
+        Ok(inner) => Ok(Symbol::Entry(bindings, inner)),
+        Err(refused) => {
+            drop(bindings);
+            Err(refused)
+        }
     }
 }
 

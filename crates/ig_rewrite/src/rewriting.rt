@@ -1,6 +1,6 @@
 //! A grammar each of whose symbols is rewritten by a pass's own rule.
 ghost use Rattle.std.specs.Prelude.{◌≡◌, map, IfOk};
-ghost use Rattle.ig_grammar.specs.Symbol.{Entry, Filtered, Label};
+ghost use Rattle.ig_grammar.specs.Symbol.{Entry, Filtered, Label, SepStar};
 ghost use Rattle.ig_grammar.specs.View.{symbol_of};
 ghost use Rattle.ig_rewrite.specs.Rewriting.{within, rewritten, rewritten_alternative};
 ghost use Rattle.ig_rewrite.specs.Rewriting.{rewritten_level, rewritten_declaration};
@@ -39,6 +39,19 @@ pub fn rewrite_symbol<O: OwnRule>(
         symbol_of r ≡ rewritten (O.rule own.now decl.now) (symbol_of symbol.now)) }
 {
     let within = symbol_within(own, alloc, decl, symbol)?;
+    applied(own, alloc, decl, within)
+}
+
+/// The symbol of the declaration, whose parts are rewritten, by the pass's own rule.
+fn applied<O: OwnRule>(
+    own: &O,
+    alloc: Global,
+    decl: &Decl,
+    within: Symbol,
+) -> Result<Symbol, AllocError>
+    ensures { IfOk result (λ r.
+        symbol_of r ≡ O.rule own.now decl.now (symbol_of within)) }
+{
     own.apply(alloc, decl, within)
 }
 
@@ -68,7 +81,7 @@ fn symbol_within<O: OwnRule>(
         Symbol::SepStar(inner, separator) => {
             let inner = rewritten_inner(own, alloc, decl, inner)?;
             match rewritten_inner(own, alloc, decl, separator) {
-                Ok(separator) => Ok(Symbol::SepStar(inner, separator)),
+                Ok(separator) => Ok(separated(inner, separator)),
                 Err(refused) => {
                     drop(inner);
                     Err(refused)
@@ -99,6 +112,13 @@ fn symbol_within<O: OwnRule>(
             entered(alloc, bindings, inner_within(own, alloc, decl, inner)?)
         }
     }
+}
+
+/// A list that may be empty, of the item and the separator.
+fn separated(item: Inner, separator: Inner) -> Symbol
+    ensures { symbol_of result ≡ SepStar item separator }
+{
+    Symbol::SepStar(item, separator)
 }
 
 /// The symbol with the label. Refused for want of memory alone.

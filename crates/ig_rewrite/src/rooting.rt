@@ -1,5 +1,5 @@
 //! The declaration that stands for the root.
-ghost use Rattle.std.specs.Prelude.{◌≡◌, ◌↔◌, [], false, length, IfOk, IsTrue};
+ghost use Rattle.std.specs.Prelude.{◌≡◌, ◌↔◌, [], ◌∷◌, ◌++◌, Some, false, length, IfOk, IsTrue};
 ghost use Rattle.ig_grammar.specs.Symbol.{Call};
 ghost use Rattle.ig_grammar.specs.View.{symbol_of};
 ghost use Rattle.ig_grammar.specs.Numbering.{layout_among};
@@ -15,8 +15,8 @@ use crate::growing::{
 use crate::laws::rooted_is_the_same;
 use ig_expr::Exprs;
 use ig_grammar::{
-    Alt, Alts, Assoc, Checked, Decl, DeclKind, Grammar, Level, Levels, Params, Shape, Shapes,
-    Symbol, Symbols,
+    Alt, Alts, Assoc, Checked, Decl, DeclKind, Decls, Grammar, Level, Levels, Params, Shape,
+    Shapes, Symbol, Symbols,
 };
 use ig_text::{Copied, Word};
 use std::alloc::{AllocError, Global};
@@ -90,19 +90,47 @@ fn copy_of_grammar(alloc: Global, grammar: &Grammar) -> Result<Grammar, AllocErr
 fn rooted_grammar(alloc: Global, grammar: &Grammar) -> Result<Grammar, AllocError>
     ensures { IfOk result (λ r. r ≡ rooted_grammar Syntax grammar.now) }
 {
+    let start = root_start(alloc)?;
+    let decls = rooted_declarations(alloc, grammar)?;
+    Ok(Grammar { start, decls })
+}
+
+/// The declarations, with that which stands for the root as the last one.
+fn rooted_declarations(alloc: Global, grammar: &Grammar) -> Result<Decls, AllocError>
+    ensures { IfOk result (λ r.
+        r ≡ grammar.now.decls ++ root_declaration Syntax grammar.now ∷ []) }
+{
     let mut decls = grammar.decls.copy(alloc)?;
     push_declaration(&mut decls, root_declaration(alloc, grammar)?)?;
-    let start = Some(root_word(alloc)?);
-    Ok(Grammar { start, decls })
+    Ok(decls)
+}
+
+/// The start of a grammar with a declaration that stands for the root.
+fn root_start(alloc: Global) -> Result<Option<Word>, AllocError>
+    ensures { IfOk result (λ r. r ≡ Some root_name) }
+{
+    Ok(Some(root_word(alloc)?))
 }
 
 /// The declaration that stands for the root of the grammar.
 fn root_declaration(alloc: Global, grammar: &Grammar) -> Result<Decl, AllocError>
     ensures { IfOk result (λ r. r ≡ root_declaration Syntax grammar.now) }
 {
-    let symbols = root_symbols(alloc, grammar)?;
-    let mut alts = Alts::new(alloc);
-    push_alternative(&mut alts, Alt { symbols })?;
+    let name = root_word(alloc)?;
+    let levels = root_levels(alloc, grammar)?;
+    Ok(Decl {
+        kind: DeclKind::Syntax,
+        name,
+        params: Params::new(alloc),
+        levels,
+    })
+}
+
+/// The one level of the declaration that stands for the root.
+fn root_levels(alloc: Global, grammar: &Grammar) -> Result<Levels, AllocError>
+    ensures { IfOk result (λ r. r ≡ (root_declaration Syntax grammar.now).levels) }
+{
+    let alts = root_alternatives(alloc, grammar)?;
     let mut levels = Levels::new(alloc);
     push_level(
         &mut levels,
@@ -111,13 +139,17 @@ fn root_declaration(alloc: Global, grammar: &Grammar) -> Result<Decl, AllocError
             alts,
         },
     )?;
-    let name = root_word(alloc)?;
-    Ok(Decl {
-        kind: DeclKind::Syntax,
-        name,
-        params: Params::new(alloc),
-        levels,
-    })
+    Ok(levels)
+}
+
+/// The one alternative of the declaration that stands for the root.
+fn root_alternatives(alloc: Global, grammar: &Grammar) -> Result<Alts, AllocError>
+    ensures { IfOk result (λ r. r ≡ record { symbols = root_symbols grammar.now } ∷ []) }
+{
+    let symbols = root_symbols(alloc, grammar)?;
+    let mut alts = Alts::new(alloc);
+    push_alternative(&mut alts, Alt { symbols })?;
+    Ok(alts)
 }
 
 /// The name of the declaration that stands for the root.

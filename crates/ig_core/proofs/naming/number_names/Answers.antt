@@ -1,9 +1,12 @@
-use Rattle.std.proofs.Common.{arith, sym, ◌∙◌, ap}
+use Rattle.std.proofs.Common.{arith, refl, sym, ◌∙◌, ap}
 use Rattle.ig_text.proofs.Characters.{word_bytes}
 use Rattle.ig_rewrite.specs.Rooted.{is_root}
-use Rattle.ig_core.proofs.NameNumbers.{names_more, names_same, next_more, next_same}
+use Rattle.ig_core.proofs.NameNumbers.{numbers_begin, names_more, names_same, next_more, next_same}
 use Rattle.ig_core.proofs.naming.number_names.Goals as goal
 use Rattle.ig_core.proofs.naming.number_names.Goals.{then-not-is_root+in_ok-insert, else-not-is_root}
+
+pub loop-index-init : goal.loop-index-init
+loop-index-init c = (numbers_begin c.new-numbers.result c.new-numbers.ensures.empty, refl, omega arith)
 
 pub loop-index-preserved : goal.loop-index-preserved
 loop-index-preserved c =

@@ -1,4 +1,5 @@
-use Rattle.std.proofs.Common.{arith}
+use Rattle.std.proofs.Common.{arith, sym}
+use Rattle.std.proofs.lemmas.List.{append-nil}
 use Rattle.ig_ebnf.proofs.CodeOfSizes.{node_below}
 use Rattle.ig_ebnf.proofs.variables.+binding.Goals as goal
 
@@ -7,3 +8,6 @@ bind_each-bind-requires t c =
     let n = node_below c.as_slice-symbol-items.result.now c.args.symbols.now c.loop-symbol.symbol-index
     c.symbol-item.result c.as_slice-symbol-items.ensures c.loop-symbol-test.true c.symbol-item.is in
     omega arith
+
+pub bind-returns-in-Star : goal.bind-returns-in-Star
+bind-returns-in-Star t c = rw c.in-Star.is (sym (append-nil _))
