@@ -1,6 +1,6 @@
 -- The parts of the rules, put together of what is read one behind the other: expressions.
 use Rattle.std.proofs.Common.{◌≡◌, ℕ, ◌+◌, ◌≤◌, ◌<◌, List, [], ◌∷◌, ◌++◌, refl, sym, ap, ◌∙◌, subst, arith}
-use Rattle.std.specs.Prelude.{Some, All, pos, ℤ, ◌^◌}
+use Rattle.std.specs.Prelude.{Some, All, pos, ℤ}
 use Rattle.ig_expr.specs.Expression.{Expression, Integer, Variable, Binary, Of, Same, Spells}
 use Rattle.ig_expr.specs.Expression as tree
 use Rattle.ig_expr.specs.declared.operator.Op.{Op}

@@ -20,6 +20,11 @@ holds b P h e = h.0 e
 pub misses : (b : Bool) (P : Type 0) → (IsTrue b ↔ P) → b ≡ false → P → ⊥
 misses b P h e p = let t : b ≡ true = h.1 p in cc
 
+pub short_enough : (b : Bool) (most n : ℕ) → (IsTrue b ↔ (most < n)) → b ≡ false → n ≤ most
+short_enough b most n h e =
+    let f : most < n → ⊥ = misses b (most < n) h e in
+    omega arith
+
 -- numbers
 pub one_fits : (T : List Token) (i : ℕ) (t : Token) → All NumberFits (take i T) → IsAt T i t → NumberFits t → All NumberFits (take (i + 1) T)
 one_fits T i t a h f = All-more NumberFits T i t h.within a (subst NumberFits (sym (one_there T i t h)) f)

@@ -9,6 +9,7 @@ use Rattle.ig_grammar.specs.Symbol as tree
 use Rattle.ig_grammar.specs.Symbol.{Symbol, Symbols, Alternatives, gathered}
 use Rattle.ig_grammar.specs.Alternative.{gathered_alternatives}
 use Rattle.ig_grammar.specs.declared.symbol.Alt.{Alt}
+use Rattle.ig_grammar.specs.declared.filter.Filter.{Filter}
 use Rattle.ig_syntax.specs.Rules as rule
 use Rattle.ig_syntax.specs.Rules.{IsPattern, IsSeparated, ReadsExpression, ReadsArguments, ReadsFilters, ReadsSign, ReadsSymbol, ReadsMarked, ReadsPost, ReadsAtom, ReadsAlternative, ReadsAlternatives, filtered}
 use Rattle.ig_rules.specs.Machine as want
@@ -284,6 +285,20 @@ repeated T i j s x a y g h e f =
     (the_token want.sign (repetition_token s) T j h (sign_row s))
     (λ from m r u v. λ end fs w. rule.atom from m r end x y (filtered y fs) fs u
     (subst (λ z. ReadsSign z r x y) (sym v) (subst (ReadsSign (repetition_token s ∷ r) r x) (sym (f ∙ ap (repeated_of s) e)) (sign_read s r x))) w refl)
+
+-- a symbol, and the filters behind it
+pub post : (T : List Token) (i j k : ℕ) (x y : Symbol) (fs : List Filter) → Goes Symbol ReadsBare (want.post ∷ []) (want.filters ∷ []) T i j x →
+    Goes (List Filter) ReadsFilters (want.filters ∷ []) [] T j k fs → y ≡ filtered x fs → Goes Symbol ReadsPost (want.post ∷ []) [] T i k y
+post T i j k x y fs g h e =
+    let l : i ≤ j = g.onward in
+    let m : j ≤ k = h.onward in
+    record {
+      reading = subst (ReadsPost (drop i T) (drop k T)) (sym e) (g.reading (drop k T) fs h.reading);
+      within = h.within;
+      onward = omega arith;
+      runs = (joined (want.post ∷ []) (want.filters ∷ []) [] T i j k
+          (runs_of ReadsBare (want.post ∷ []) (want.filters ∷ []) T i j x g) (runs_of ReadsFilters (want.filters ∷ []) [] T j k fs h)).go_on;
+    }
 
 -- a separated list
 list_row : (s : ListSign) → after want.list_sign (list_token s) ≡ Some []

@@ -14,7 +14,7 @@ ghost use Rattle.ig_grammar.specs.declared.declaration.Level.{Level as SpecLevel
 ghost use Rattle.ig_grammar.specs.declared.declaration.Decl.{Decl as SpecDecl};
 ghost use Rattle.ig_rules.specs.Machine as want;
 ghost use Rattle.ig_rules.specs.Machine.{after_grammar, after_declarations, level_wants};
-ghost use Rattle.ig_rules.specs.Machine.{levels_wants, parameters_wants};
+ghost use Rattle.ig_rules.specs.Machine.{levels_wants, parameters_wants, close_bracket};
 ghost use Rattle.ig_rules.specs.Reading.{Goes};
 ghost use Rattle.ig_notation.specs.Readers.{Stands, Misses, MissesAt, Finds, StopsAt};
 ghost use Rattle.ig_notation.specs.Readers.{FailsAt, Runs, Closed, ReadsHeading, ReadsParameter};
@@ -138,8 +138,8 @@ fn read_heading(
 fn read_parameters(alloc: Global, tokens: &Tokens, at: usize) -> Result<(Params, usize), RuleFault>
     requires { at ≤ length tokens.now }
     ensures ok { IfOk result (λ r. Goes (List SpecParam) (Closed ReadsParameters) (parameters_wants
-        ++ want.close_bracket ∷ []) [] tokens.now at r.1 r.0) }
-    ensures err { IfErr result (StopsAt (parameters_wants ++ want.close_bracket ∷ []) tokens.now at) }
+        ++ close_bracket ∷ []) [] tokens.now at r.1 r.0) }
+    ensures err { IfErr result (StopsAt (parameters_wants ++ close_bracket ∷ []) tokens.now at) }
 {
     let mut parameters = Vec::new(alloc);
     let mut end = at;

@@ -10,7 +10,7 @@ ghost use Rattle.ig_syntax.specs.Token as spec;
 ghost use Rattle.ig_syntax.specs.Spelling.{entry};
 ghost use Rattle.ig_syntax.specs.Rules.{IsOperator, ReadsExpression, ReadsTerm, ReadsArguments};
 ghost use Rattle.ig_rules.specs.Machine as want;
-ghost use Rattle.ig_rules.specs.Machine.{after_function, arguments_wants};
+ghost use Rattle.ig_rules.specs.Machine.{after_function, arguments_wants, close_bracket};
 ghost use Rattle.ig_rules.specs.Reading.{Goes};
 ghost use Rattle.ig_notation.specs.Readers.{Stands, Misses, Finds, StopsAt, Closed};
 ghost use Rattle.ig_notation.specs.Readers.{IsNamed, named_wants, ReadsNamed, rows_of};
@@ -124,12 +124,17 @@ pub(crate) fn read_closed(
     at: usize,
 ) -> Result<(Expr, usize), RuleFault>
     ensures ok { IfOk result (λ r. Goes Expression (Closed ReadsExpression) (want.expression ∷
-        want.close_bracket ∷ []) [] tokens.now at r.1 (expression_of r.0)) }
-    ensures err { IfErr result (StopsAt (want.expression ∷ want.close_bracket ∷ []) tokens.now at) }
+        close_bracket ∷ []) [] tokens.now at r.1 (expression_of r.0)) }
+    ensures err { IfErr result (StopsAt (want.expression ∷ close_bracket ∷ []) tokens.now at) }
 {
     let (expression, end) = read_expression(alloc, tokens, at)?;
-    let end = read_sign(tokens, end, Sign::Close)?;
-    Ok((expression, end))
+    match read_sign(tokens, end, Sign::Close) {
+        Ok(end) => Ok((expression, end)),
+        Err(fault) => {
+            drop(expression);
+            Err(fault)
+        }
+    }
 }
 
 /// Reads what stands in the brackets of a function.
@@ -203,8 +208,8 @@ pub(crate) fn read_arguments(
 ) -> Result<(Exprs, usize), RuleFault>
     requires { at ≤ length tokens.now }
     ensures ok { IfOk result (λ r. Goes (List Expression) (Closed ReadsArguments) (arguments_wants
-        ++ want.close_bracket ∷ []) [] tokens.now at r.1 r.0) }
-    ensures err { IfErr result (StopsAt (arguments_wants ++ want.close_bracket ∷ []) tokens.now at) }
+        ++ close_bracket ∷ []) [] tokens.now at r.1 r.0) }
+    ensures err { IfErr result (StopsAt (arguments_wants ++ close_bracket ∷ []) tokens.now at) }
 {
     let mut arguments = Exprs::new(alloc);
     let mut end = at;

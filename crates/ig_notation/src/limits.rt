@@ -27,7 +27,10 @@ fn number_fits(token: Token) -> bool
     ensures { IsTrue result ↔ NumberFits (token_of token.entry) }
 {
     match token {
-        Token::Number(digits) => number_of(digits).is_some(),
+        Token::Number(digits) => match number_of(digits) {
+            Some(_) => true,
+            None => false,
+        },
         _ => true,
     }
 }

@@ -1,6 +1,6 @@
 //! Reading a grammar text.
 
-ghost use Rattle.std.specs.Prelude.{◌≡◌, ◌≤◌, IfOk, IfErr, length};
+ghost use Rattle.std.specs.Prelude.{◌≡◌, ◌≤◌, ◌<◌, ◌↔◌, IsTrue, IfOk, IfErr, length};
 ghost use Rattle.ig_syntax.specs.Notation.{most_bytes};
 ghost use Rattle.ig_tokens.specs.View.{tokens_of};
 ghost use Rattle.ig_notation.specs.Outcome.{IsRead, IsReadFault, byte_of, refusal_of};
@@ -24,7 +24,7 @@ pub fn read(alloc: Global, source: &str) -> Result<Grammar, ReadFault>
     ensures ok { IfOk result (IsRead source.now) }
     ensures fault { IfErr result (IsReadFault source.now) }
 {
-    if source.len() > MOST_BYTES {
+    if is_too_long(source) {
         return Err(ReadFault::TooLarge {
             which: Large::Bytes,
         });
@@ -46,6 +46,13 @@ pub fn read(alloc: Global, source: &str) -> Result<Grammar, ReadFault>
         Ok(grammar) => Ok(grammar),
         Err(fault) => Err(refusal(tokens, fault, source)),
     }
+}
+
+/// Whether the text has more than 262,144 bytes.
+fn is_too_long(source: &str) -> bool
+    ensures { IsTrue result ↔ (most_bytes < length source.now) }
+{
+    source.len() > MOST_BYTES
 }
 
 /// The fault of the text, of which the tokens are at fault by the rules.

@@ -11,9 +11,9 @@ ghost use Rattle.ig_grammar.specs.Symbol.{gathered};
 ghost use Rattle.ig_grammar.specs.Alternative.{gathered_alternatives};
 ghost use Rattle.ig_grammar.specs.View.{symbol_of};
 ghost use Rattle.ig_syntax.specs.Rules.{ReadsSymbol, ReadsMarked, ReadsPost, ReadsAtom};
-ghost use Rattle.ig_syntax.specs.Rules.{ReadsAlternative, ReadsAlternatives};
+ghost use Rattle.ig_syntax.specs.Rules.{ReadsAlternative, ReadsAlternatives, filtered};
 ghost use Rattle.ig_rules.specs.Machine as want;
-ghost use Rattle.ig_rules.specs.Machine.{after_symbol, alternatives_wants};
+ghost use Rattle.ig_rules.specs.Machine.{after_symbol, alternatives_wants, close_brace};
 ghost use Rattle.ig_rules.specs.Reading.{Goes};
 ghost use Rattle.ig_notation.specs.Readers.{Stands, Misses, MissesAt, Finds, StopsAt};
 ghost use Rattle.ig_notation.specs.Readers.{Behind, ReadsBare, terminal_of, repetition_token};
@@ -25,7 +25,7 @@ use crate::filters::{pattern_of, read_filters};
 use crate::signs::{Sign, read_name, read_sign, stands_at};
 use crate::tokens::Tokens;
 use ig_expr::Exprs;
-use ig_grammar::{Alt, Alts, Inner, Symbol, Symbols};
+use ig_grammar::{Alt, Alts, Filters, Inner, Symbol, Symbols};
 use ig_text::{Pattern, Word};
 use ig_tokens::Token;
 use std::alloc::Global;
@@ -211,11 +211,24 @@ fn read_filtered(alloc: Global, tokens: &Tokens, at: usize) -> Result<(Symbol, u
     ensures err { IfErr result (StopsAt (want.post ∷ []) tokens.now at) }
 {
     let (symbol, behind) = read_bare(alloc, tokens, at)?;
-    let (filters, end) = read_filters(alloc, tokens, behind)?;
-    if filters.as_slice().is_empty() {
-        return Ok((symbol, end));
+    match read_filters(alloc, tokens, behind) {
+        Ok((filters, end)) => Ok((filtered(alloc, symbol, filters)?, end)),
+        Err(fault) => {
+            drop(symbol);
+            Err(fault)
+        }
     }
-    Ok((Symbol::Filtered(Inner::new(alloc, symbol)?, filters), end))
+}
+
+/// A symbol with the filters behind it; the symbol itself where there is none.
+fn filtered(alloc: Global, symbol: Symbol, filters: Filters) -> Result<Symbol, RuleFault>
+    ensures ok { IfOk result (λ x. symbol_of x ≡ filtered (symbol_of symbol) filters) }
+    ensures err { IfErr result (λ e. e ≡ RuleFault.Memory) }
+{
+    if filters.as_slice().is_empty() {
+        return Ok(symbol);
+    }
+    Ok(Symbol::Filtered(Inner::new(alloc, symbol)?, filters))
 }
 
 /// Reads a separated list, or an atom and the sign behind it.
@@ -252,8 +265,8 @@ fn read_repeated(alloc: Global, tokens: &Tokens, at: usize) -> Result<(Symbol, u
 #[cycle(symbols)]
 fn read_separated(alloc: Global, tokens: &Tokens, at: usize) -> Result<(Symbol, usize), RuleFault>
     ensures ok { IfOk result (λ r. Goes tree.Symbol (Behind spec.OpenBrace ReadsBare) (want.marked ∷
-        want.marked ∷ want.close_brace ∷ want.list_sign ∷ []) [] tokens.now at r.1 (symbol_of r.0)) }
-    ensures err { IfErr result (StopsAt (want.marked ∷ want.marked ∷ want.close_brace ∷
+        want.marked ∷ close_brace ∷ want.list_sign ∷ []) [] tokens.now at r.1 (symbol_of r.0)) }
+    ensures err { IfErr result (StopsAt (want.marked ∷ want.marked ∷ close_brace ∷
         want.list_sign ∷ []) tokens.now at) }
 {
     let (item, next) = read_marked(alloc, tokens, at)?;

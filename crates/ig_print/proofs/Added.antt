@@ -14,6 +14,9 @@ pub pushed_behind : {T E : Type 0} (r : Result T E) (t a x : List ℕ) {b c : Li
 pushed_behind (Ok v) t a x before e = e ∙ ap (λ z. z ++ t) before ∙ append_assoc a x t
 pushed_behind (Err v) t a x before e = tt
 
+pub two_added : (a x y : List ℕ) {b c : List ℕ} → b ≡ a ++ x → c ≡ b ++ y → c ≡ a ++ (x ++ y)
+two_added a x y first second = second ∙ ap (λ z. z ++ y) first ∙ append_assoc a x y
+
 pub three_added : (a x y z : List ℕ) {b c d : List ℕ} → b ≡ a ++ x → c ≡ b ++ y → d ≡ c ++ z → d ≡ a ++ (x ++ (y ++ z))
 three_added a x y z {b} {c} first second third =
     third ∙ ap (λ w. w ++ z) second ∙ append_assoc b y z ∙ ap (λ w. w ++ (y ++ z)) first ∙ append_assoc a x (y ++ z)

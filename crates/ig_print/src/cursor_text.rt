@@ -1,7 +1,7 @@
 //! The text of a cursor, and cursors read from their texts.
 
 ghost use Rattle.std.specs.Prelude.{◌≡◌, ◌++◌, ◌∷◌, ◌<◌, OnOk, IfOk, IfErr, List, ℕ, Some};
-ghost use Rattle.std.specs.Prelude.{string_bytes, option_map};
+ghost use Rattle.std.specs.Prelude.{◌↔◌, IsTrue, string_bytes, option_map};
 ghost use Rattle.std.specs.Fmt.{decimal};
 ghost use Rattle.ig_forest.specs.Cursors.{IsShortCursor};
 ghost use Rattle.ig_item.specs.Limits.{numbers_end};
@@ -93,6 +93,14 @@ fn read_loosely(alloc: Global, word: &str) -> Result<Option<Vec<u32>>, AllocErro
     read_numbers(alloc, word)
 }
 
+/// Whether the bytes are those of the word.
+fn is_text(shown: &[u8], word: &str) -> bool
+    ensures { IsTrue result ↔ (shown.now ≡ word.now) }
+{
+    let bytes = word.as_bytes();
+    shown == bytes
+}
+
 /// The cursor with that text. `NotACursor` exactly where no cursor has it: a number has a leading
 /// zero or more than 32 bits, say. What is read is written again, and has to be the same text.
 pub fn read_cursor(alloc: Global, word: &str) -> Result<Cursor, CursorFault>
@@ -105,7 +113,7 @@ pub fn read_cursor(alloc: Global, word: &str) -> Result<Cursor, CursorFault>
     };
     let cursor = Sequence::from_vec(numbers);
     let shown = show_cursor(alloc, &cursor)?;
-    if shown.as_slice() != word.as_bytes() {
+    if !is_text(shown.as_slice(), word) {
         return Err(CursorFault::NotACursor);
     }
     Ok(cursor)

@@ -1,5 +1,5 @@
 //! Ambiguous nodes.
-ghost use Rattle.std.specs.Prelude.{◌≡◌, ◌↔◌, IfOk, IsTrue, Some, length, slice_get, true};
+ghost use Rattle.std.specs.Prelude.{◌≡◌, ◌<◌, ◌↔◌, IfOk, IsTrue, Some, length, slice_get, true};
 ghost use Rattle.ig_forest.specs.Unfold.{IsTrim};
 ghost use Rattle.ig_query.specs.Ambiguity.{AreAmbiguous, IsAmbiguous, link};
 ghost use Rattle.ig_query.specs.CodeAmbiguity.{AreMarks, AreNumbers, HasChoice, HasFork};
@@ -113,13 +113,20 @@ fn numbers_of(alloc: Global, forest: &Forest, marks: &[bool]) -> Result<Vec<u32>
 fn leads_to_mark(alternatives: &[Choice], marks: &[bool]) -> bool
     ensures { IsTrue result ↔ LeadsToMark alternatives.now marks.now }
 {
-    if alternatives.len() > 1 {
+    if are_several(alternatives) {
         return true;
     }
     match alternatives.first() {
         Some(choice) => mark_at(marks, choice.item),
         None => false,
     }
+}
+
+/// Whether there are two alternatives.
+fn are_several(alternatives: &[Choice]) -> bool
+    ensures { IsTrue result ↔ (1 < length alternatives.now) }
+{
+    alternatives.len() > 1
 }
 
 /// Whether some node has two alternatives.

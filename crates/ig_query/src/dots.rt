@@ -11,7 +11,7 @@ ghost use Rattle.ig_query.specs.CodeReport.{AreDotsAt, pattern_at, pattern_of};
 ghost use Rattle.ig_query.specs.declared.dots.Dot.{Dot};
 
 use crate::item::dot_of;
-use ig_item::{Behind, Core, Items, Step};
+use ig_item::{Behind, Core, Item, Items, Step};
 use ig_text::{Copied, Pattern, Patterns};
 use indexmap::IndexSet;
 use std::alloc::{AllocError, Global};
@@ -59,6 +59,13 @@ pub(crate) fn is_last(core: &Core, dot: Dot) -> bool
     }
 }
 
+/// Whether the item stands at the position.
+fn is_at(item: &Item, position: u32) -> bool
+    ensures { IsTrue result ↔ (item.now.position ≡ position) }
+{
+    item.position == position
+}
+
 /// The dots at which the items at that position stand, each once.
 pub(crate) fn dots_at(
     alloc: Global,
@@ -70,7 +77,7 @@ pub(crate) fn dots_at(
     let all = items.items();
     let mut dots = IndexSet::new(alloc);
     for item in all {
-        if item.position == position {
+        if is_at(item, position) {
             add_dot(&mut dots, dot_of(items, item))?;
         }
     }

@@ -20,6 +20,9 @@ const MOST_NONTERMINALS: usize = 4096;
 /// The parameters that a declaration may have.
 const MOST_PARAMETERS: usize = 16;
 
+/// The levels that a layout declaration may have.
+const MOST_LEVELS: usize = 1;
+
 /// A declaration where it stands, with what is before it.
 #[derive(Clone, Copy)]
 pub(crate) struct Head<'d, 'g> {
@@ -91,7 +94,7 @@ fn is_not_plain(head: &Head) -> bool
         return true;
     }
     let levels = head.decl.levels.as_slice();
-    if levels.len() > 1 {
+    if levels.len() > MOST_LEVELS {
         return true;
     }
     have_associativity(levels)

@@ -26,13 +26,7 @@ pub(crate) fn symbol_cause(
 {
     match symbol {
         Symbol::Call(name, arguments) => call_cause(around, variables, name, arguments),
-        Symbol::Label(name, _) => {
-            if variables.sees(name) {
-                Some(ScopeCause::DuplicateVariable)
-            } else {
-                None
-            }
-        }
+        Symbol::Label(name, _) => label_cause(around, variables, name),
         Symbol::Guard(condition) => guard_cause(around, variables, condition),
         Symbol::Let(name, value) => let_cause(around, variables, name, value),
         Symbol::Offside(_) => mark_cause(around.kind),
@@ -63,7 +57,7 @@ fn call_cause(
     };
     let arguments = arguments.as_slice();
     let params = callee.params.as_slice();
-    if arguments.len() != params.len() {
+    if !are_as_many(arguments, params) {
         return Some(ScopeCause::WrongArity);
     }
     if have_unknown(variables, arguments) {
@@ -78,18 +72,30 @@ fn call_cause(
     None
 }
 
+/// The cause at a label.
+fn label_cause(around: &Surroundings, variables: &Variables, name: &Word) -> Option<ScopeCause>
+    ensures { (x : tree.Symbol)
+        → TellsSymbol around.now variables.now (tree.Label name.now x) result }
+{
+    if variables.sees(name) {
+        Some(ScopeCause::DuplicateVariable)
+    } else {
+        None
+    }
+}
+
 /// The cause at a guard.
 fn guard_cause(around: &Surroundings, variables: &Variables, condition: &Expr) -> Option<ScopeCause>
     ensures { TellsSymbol around.now variables.now
         (tree.Guard (expression_of condition.now)) result }
 {
     if names_unknown(variables, condition) {
-        return Some(ScopeCause::UnknownVariable);
+        Some(ScopeCause::UnknownVariable)
+    } else if has_kind(variables, condition, Kind::Bool) {
+        None
+    } else {
+        Some(ScopeCause::KindMismatch)
     }
-    if !has_kind(variables, condition, Kind::Bool) {
-        return Some(ScopeCause::KindMismatch);
-    }
-    None
 }
 
 /// The cause at a let.
@@ -176,6 +182,13 @@ fn is_listed(symbol: &Symbol) -> bool
         Symbol::Filtered(inner, _) => is_listed(inner.as_symbol()),
         _ => false,
     }
+}
+
+/// Whether there are as many arguments as parameters.
+fn are_as_many(arguments: &[Expr], params: &[Param]) -> bool
+    ensures { IsTrue result ↔ (length arguments.now ≡ length params.now) }
+{
+    arguments.len() == params.len()
 }
 
 /// Whether some expression names a variable that isn't visible.

@@ -91,9 +91,9 @@ fn walk_apart(
         variables.old variables.new result }
 {
     let visible = variables.len();
-    let after = walk_symbol(alloc, around, variables, before, inner.as_symbol())?;
+    let behind = walk_symbol(alloc, around, variables, before, inner.as_symbol())?;
     variables.truncate(visible);
-    Ok(after)
+    Ok(behind)
 }
 
 /// The symbols of a sequence and those inside them; what they bind is added to the variables.

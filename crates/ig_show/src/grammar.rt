@@ -3,12 +3,13 @@
 ghost use Rattle.std.specs.Prelude.{◌≡◌, ◌++◌, ◌∷◌, [], OnOk, IfOk, Some, IsUtf8, map, chars};
 ghost use Rattle.std.specs.Prelude.{string_bytes};
 ghost use Rattle.ig_expr.specs.View.{expression_of};
-ghost use Rattle.ig_syntax.specs.Token.{Name, Head, Semicolon, Colon};
+ghost use Rattle.ig_syntax.specs.Token.{Name, Head, Semicolon, Colon, Greater};
 ghost use Rattle.ig_show.specs.Pieces.{token, blank, line_end};
 ghost use Rattle.ig_show.specs.CanonicalText.{text_of, expression_text, pattern_text};
 ghost use Rattle.ig_show.specs.CanonicalText.{associativity_pieces, level_pieces, levels_pieces};
 ghost use Rattle.ig_show.specs.CanonicalText.{parameter_pieces, head_pieces, joined, comma};
-ghost use Rattle.ig_show.specs.CanonicalText.{declaration_token, declaration_pieces, kind_token, separated};
+ghost use Rattle.ig_show.specs.CanonicalText.{declaration_token, declaration_pieces};
+ghost use Rattle.ig_show.specs.CanonicalText.{kind_token, separated};
 ghost use Rattle.ig_show.specs.CanonicalText.{start_pieces, expression_bytes, pattern_bytes};
 ghost use Rattle.ig_show.specs.Writing.{Adds, IsText};
 
@@ -42,6 +43,14 @@ fn push_level(out: &mut String, level: &Level) -> Result<(), AllocError>
     push_alternatives(out, &level.alts)
 }
 
+/// Adds the sign between two levels, with a space on each side.
+fn push_greater(out: &mut String) -> Result<(), AllocError>
+    ensures { OnOk result (Adds (string_bytes out.old) (string_bytes out.new)
+        (λ ps. blank ∷ token Greater ∷ blank ∷ ps)) }
+{
+    push_text(out, " > ")
+}
+
 /// Adds levels, with ` > ` between two.
 fn push_levels(out: &mut String, levels: &[Level]) -> Result<(), AllocError>
     ensures { OnOk result (Adds (string_bytes out.old) (string_bytes out.new)
@@ -52,7 +61,7 @@ fn push_levels(out: &mut String, levels: &[Level]) -> Result<(), AllocError>
     };
     push_level(out, first)?;
     for other in others {
-        push_text(out, " > ")?;
+        push_greater(out)?;
         push_level(out, other)?;
     }
     Ok(())

@@ -1,10 +1,11 @@
 -- The letters of a literal, read one after another.
-use Rattle.std.proofs.Common.{◌≡◌, ◌∙◌, ℕ, ◌+◌, ◌-◌, ◌*◌, ◌^◌, ◌<◌, ◌≤◌, List, [], ◌∷◌, ◌++◌, Bool, true, false, not, ◌==◌, Result, IfOk, Option, Some, None, option_map, is_some, length, chars, IsUtf8, encode_utf8, refl, sym, ap, subst, arith, append-nil}
+use Rattle.std.proofs.Common.{◌≡◌, ◌∙◌, ℕ, ◌+◌, ◌-◌, ◌*◌, ◌^◌, ◌<◌, ◌≤◌, List, [], ◌∷◌, ◌++◌, Bool, true, false, not, cond, ◌==◌, Result, IfOk, Option, Some, None, option_map, is_some, length, chars, IsUtf8, encode_utf8, refl, sym, ap, subst, arith, append-nil}
 use Rattle.std.proofs.lemmas.List.{append_cancel_right, nil_from_length}
 use Rattle.std.proofs.lemmas.Bool.Decides.{nat_tests}
 use Rattle.std.proofs.lemmas.Str.{chars-append, chars-nil, encodes-chars, encodes-append, chars_from_encodes}
 use Rattle.ig_expr.specs.Reading.{spelled}
-use Rattle.ig_syntax.specs.Spelling.{literal_signs}
+use Rattle.std.specs.Map.{lookup}
+use Rattle.ig_syntax.specs.Spelling.{literal_signs, is_one_of, escape}
 use Rattle.ig_tokens.specs.Scanner as scanner
 use Rattle.ig_tokens.specs.Scanner.{letter, text_of, text_behind, not_empty, literal_of, backslash, stands_for, numeral, number_token}
 use Rattle.ig_tokens.specs.View.{literal_text}
@@ -44,6 +45,16 @@ literal_begins (Some t) text e = rw e refl
 pub literal_ends : (e : Bool) (text : List ℕ) → text ≡ [] → is_some (text_of e text) ≡ not e
 literal_ends true text h = rw h refl
 literal_ends false text h = rw h refl
+
+-- the table of escapes, where the character isn't special
+abbrev others : List (ℕ × ℕ)
+others = (110, 10) ∷ (114, 13) ∷ (116, 9) ∷ []
+
+pub escape_of : (special : List ℕ) (c d : ℕ) (r : Option ℕ) (b : Bool) → b ≡ is_one_of special c → b ≡ false → c ≡ d →
+    r ≡ lookup (λ x. x == d) others → r ≡ escape special c
+escape_of special c d r b told bare same there =
+    there ∙ ap (λ z. lookup (λ x. x == z) others) (sym same) ∙
+    ap (λ z. cond z (Some c) (lookup (λ x. x == c) others)) (sym bare ∙ told)
 
 -- numbers
 pub grows : (cs : List ℕ) (n : ℕ) → n ≤ spelled n cs

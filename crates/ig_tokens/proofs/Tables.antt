@@ -12,7 +12,7 @@ use Rattle.ig_text.specs.declared.class.Class.{Class}
 use Rattle.ig_syntax.specs.Spelling.{entry, keywords, named_classes, signs}
 use Rattle.ig_tokens.specs.Scanner as scanner
 use Rattle.ig_tokens.specs.Scanner.{run, past, named_class, named_token, sign_token}
-use Rattle.ig_tokens.specs.Steps.{single_sign, single_signs, exclamation}
+use Rattle.ig_tokens.specs.Steps.{single_sign, single_signs, exclamation, with_equals}
 
 abbrev pub all_ascii : {A : Type 0} → List (List ℕ × A) → Bool
 all_ascii [] = true
@@ -149,3 +149,22 @@ unfolding signs
 exclamation_reads [] = refl
 exclamation_reads (x ∷ []) = grind (arith, nat_tests)
 exclamation_reads (x ∷ y ∷ cs) = grind (arith, nat_tests)
+
+-- signs that are longer where `=` stands behind them
+pub equals_reads : (cs : List ℕ) → sign_token (61 ∷ cs) ≡ with_equals token.Equals token.EqualTo cs
+unfolding signs
+equals_reads [] = refl
+equals_reads (x ∷ []) = grind (arith, nat_tests)
+equals_reads (x ∷ y ∷ cs) = grind (arith, nat_tests)
+
+pub greater_reads : (cs : List ℕ) → sign_token (62 ∷ cs) ≡ with_equals token.Greater token.AtLeast cs
+unfolding signs
+greater_reads [] = refl
+greater_reads (x ∷ []) = grind (arith, nat_tests)
+greater_reads (x ∷ y ∷ cs) = grind (arith, nat_tests)
+
+pub less_reads : (cs : List ℕ) → sign_token (60 ∷ cs) ≡ with_equals token.Less token.AtMost cs
+unfolding signs
+less_reads [] = refl
+less_reads (x ∷ []) = grind (arith, nat_tests)
+less_reads (x ∷ y ∷ cs) = grind (arith, nat_tests)

@@ -40,7 +40,8 @@ fn is_literal(inside: &str) -> bool
         };
         rest = after;
     }
-    !is_escaped && !inside.is_empty()
+    let is_empty = inside.is_empty();
+    !is_escaped && !is_empty
 }
 
 fn is_backslash(letter: Letter) -> bool

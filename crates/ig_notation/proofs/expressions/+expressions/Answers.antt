@@ -128,12 +128,6 @@ read_closed-returns-in_err-expression-clause-err t c =
     exits _ _ _ c.from_residual.ensures.1
     (stop_first (want.expression ∷ []) (want.close_bracket ∷ []) _ _ _ c.in_err-expression.ensures.err)
 
-pub read_closed-returns-in_err-end-clause-err : goal.read_closed-returns-in_err-end-clause-err
-read_closed-returns-in_err-end-clause-err t c =
-    exits _ _ _ c.from_residual-in_err-end.ensures.1
-    (stop_past ReadsExpression (want.expression ∷ []) (want.close_bracket ∷ []) _ _ _ _ _ c.in_ok-expression.ensures.ok
-    (missed want.close_bracket [] _ _ _ refl c.in_err-end.ensures.err))
-
 pub read_same-returns-in_err-first-clause-err : goal.read_same-returns-in_err-first-clause-err
 read_same-returns-in_err-first-clause-err t c =
     exits _ _ _ c.from_residual.ensures.1

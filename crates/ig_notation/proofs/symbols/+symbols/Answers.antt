@@ -169,11 +169,6 @@ read_filtered-returns-in_err-symbol-clause-err t c =
     exits _ _ _ c.from_residual.ensures.1
     (c.in_err-symbol.ensures.err)
 
-pub read_filtered-returns-in_err-filters-clause-err : goal.read_filtered-returns-in_err-filters-clause-err
-read_filtered-returns-in_err-filters-clause-err t c =
-    exits _ _ _ c.from_residual-in_err-filters.ensures.1
-    (stop_later _ _ _ _ _ _ (runs_of _ _ _ _ _ _ _ c.in_ok-symbol.ensures.ok) c.in_err-filters.ensures.err)
-
 pub read_bare-returns-in_err-ahead-clause-err : goal.read_bare-returns-in_err-ahead-clause-err
 read_bare-returns-in_err-ahead-clause-err t c =
     exits _ _ _ c.from_residual.ensures.1

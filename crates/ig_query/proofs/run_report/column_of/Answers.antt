@@ -20,3 +20,17 @@ overflow_cast-result c =
     let number : c.unsigned_abs.result ≡ column_of c.args.text.now c.args.position =
     c.unsigned_abs.ensures.value ∙ ap unsigned_abs (to_z-of_z w64 c.in-Some.column held ∙ is) in
     omega (arith, number, small, limit, characters, within)
+
+pub returns : goal.returns
+returns c =
+    let fits : FitsSigned w64 c.from.result = search rules in
+    let is : c.in-Some.column ≡ pos (column_of c.args.text.now c.args.position) =
+    column_number c.args.text.now c.args.position _ c.in-Some.column c.column.result
+    (to_z-of_z w64 c.from.result fits ∙ c.from.ensures) c.column.ensures c.in-Some.is in
+    let small = column_small c.args.text.now c.args.position in
+    let limit = c.len-characters.ensures.limit in
+    let characters = c.len-characters.ensures.length in
+    let within = c.requires in
+    let held : FitsSigned w64 c.in-Some.column =
+    subst (FitsSigned w64) (sym is) (record { sfits = omega (arith, small, limit, characters, within) }) in
+    c.unsigned_abs.ensures.value ∙ ap unsigned_abs (to_z-of_z w64 c.in-Some.column held ∙ is)

@@ -1,8 +1,10 @@
-use Rattle.std.proofs.Common.{◌≡◌, ◌<◌, ◌+◌, length, take, sym, subst, ap, ◌∙◌, arith, Ok, Err}
+use Rattle.std.proofs.Common.{◌≡◌, ◌<◌, ◌+◌, length, take, refl, sym, subst, ap, ◌∙◌, arith, Ok, Err}
 use Rattle.std.specs.Prelude.{Contains}
+use Rattle.std.proofs.lemmas.List.Elements.{All-nil}
 use Rattle.ig_grammar.specs.Numbering.{alternatives}
 use Rattle.ig_grammar.specs.Regular.{counts_bound}
-use Rattle.ig_scope.specs.Told.{TellsLevel}
+use Rattle.ig_grammar.specs.Visible.{parameters}
+use Rattle.ig_scope.specs.Told.{TellsLevel, AlternativeFree}
 use Rattle.ig_scope.proofs.Levels.{split_levels, more_levels, level_fits, level_within, levels_step, levels_stopped}
 use Rattle.ig_scope.proofs.alternatives.check_alternatives.Goals as goal
 
@@ -35,4 +37,10 @@ loop-level-preserved c = record {
       (levels_step c.args.numbered.now.declarations.now c.args.numbered.now.decl.now c.args.numbered.now.number (alternatives (take c.loop-level.level-index c.as_slice-level-items.result.now)) c.level-item.result.alts c.loop-level.before c.in_ok-before.before c.loop-level.invariant.told
       (subst (λ z. TellsLevel c.args.numbered.now c.loop-level.before z (Ok c.in_ok-before.before)) c.as_slice-in-loop-level.ensures c.in_ok-before.ensures.told));
   visible = c.in_ok-before.ensures.kept ∙ c.loop-level.invariant.visible;
+}
+
+pub loop-level-init : goal.loop-level-init
+loop-level-init c = record {
+  told = (refl, All-nil (AlternativeFree c.args.numbered.now.declarations.now c.args.numbered.now.decl.now));
+  visible = c.in_ok-variables.ensures ∙ ap parameters c.as_slice.ensures;
 }

@@ -6,10 +6,10 @@ use Rattle.ig_scope.proofs.symbols.guard_cause.Goals as goal
 pub returns-then-names_unknown : goal.returns-then-names_unknown
 returns-then-names_unknown c = guard_unknown c.args.around.now.declarations.now c.args.around.now.kind c.args.variables.now (expression_of c.args.condition.now) (c.names_unknown.ensures.0 c.if-names_unknown.true)
 
-pub returns-then-not-has_kind : goal.returns-then-not-has_kind
-returns-then-not-has_kind c =
-    guard_mismatched c.args.around.now.declarations.now c.args.around.now.kind c.args.variables.now (expression_of c.args.condition.now) (refuted _ c.names_unknown.ensures c.if-names_unknown.false) (refuted _ c.has_kind.ensures c.if-not-has_kind.true)
+pub returns-else-has_kind : goal.returns-else-has_kind
+returns-else-has_kind c =
+    guard_mismatched c.args.around.now.declarations.now c.args.around.now.kind c.args.variables.now (expression_of c.args.condition.now) (refuted _ c.names_unknown.ensures c.if-names_unknown.false) (refuted _ c.has_kind.ensures c.if-has_kind.false)
 
-pub returns : goal.returns
-returns c =
-    guard_free c.args.around.now.declarations.now c.args.around.now.kind c.args.variables.now (expression_of c.args.condition.now) (refuted _ c.names_unknown.ensures c.if-names_unknown.false) (c.has_kind.ensures.0 c.if-not-has_kind.false)
+pub returns-then-has_kind : goal.returns-then-has_kind
+returns-then-has_kind c =
+    guard_free c.args.around.now.declarations.now c.args.around.now.kind c.args.variables.now (expression_of c.args.condition.now) (refuted _ c.names_unknown.ensures c.if-names_unknown.false) (c.has_kind.ensures.0 c.if-has_kind.true)

@@ -1,21 +1,16 @@
-use Rattle.std.proofs.Common.{sym, ap, subst, Some, None}
+use Rattle.std.proofs.Common.{sym, ap, subst, Some}
 use Rattle.ig_grammar.specs.View.{symbol_of}
 use Rattle.ig_grammar.specs.Condition.{SymbolMeets, IsListed}
 use Rattle.ig_scope.specs.Causes.{Tells}
-use Rattle.ig_scope.specs.declared.fault.ScopeCause.TheVariants.{DuplicateVariable, AlignNotList}
+use Rattle.ig_scope.specs.declared.fault.ScopeCause.TheVariants.{AlignNotList}
 use Rattle.ig_scope.proofs.Members.{refuted}
-use Rattle.ig_scope.proofs.SymbolCauses.{label_twice, label_once, tells_offside, tells_ignore, tells_align, align_unlisted}
+use Rattle.ig_scope.proofs.SymbolCauses.{tells_offside, tells_ignore, tells_align, align_unlisted}
 use Rattle.ig_scope.proofs.symbols.symbol_cause.Goals as goal
 
-pub returns-then-sees : goal.returns-then-sees
-returns-then-sees c =
-    subst (λ z. Tells (SymbolMeets c.args.around.now.declarations.now c.args.around.now.kind c.args.variables.now z) (Some DuplicateVariable)) (sym (ap symbol_of c.in-Label.is))
-    (label_twice c.args.around.now.declarations.now c.args.around.now.kind c.args.variables.now c.in-Label.name c.in-Label.field-1 (c.sees.ensures.0 c.if-sees.true))
-
-pub returns-else-sees : goal.returns-else-sees
-returns-else-sees c =
-    subst (λ z. Tells (SymbolMeets c.args.around.now.declarations.now c.args.around.now.kind c.args.variables.now z) None) (sym (ap symbol_of c.in-Label.is))
-    (label_once c.args.around.now.declarations.now c.args.around.now.kind c.args.variables.now c.in-Label.name c.in-Label.field-1 (refuted c.sees.result c.sees.ensures c.if-sees.false))
+pub returns-in-Label : goal.returns-in-Label
+returns-in-Label c =
+    subst (λ z. Tells (SymbolMeets c.args.around.now.declarations.now c.args.around.now.kind c.args.variables.now z) c.label_cause.result) (sym (ap symbol_of c.in-Label.is))
+    (c.label_cause.ensures c.in-Label.field-1)
 
 pub returns-in-Offside : goal.returns-in-Offside
 returns-in-Offside c =

@@ -124,3 +124,11 @@ walk_symbol-returns-in_ok-replaced-in-Entry t c =
     walked_form c.args.around.now c.args.before c.args.variables.now c.args.variables.now _ (tree.Entry c.in-Entry.bindings c.in-Entry.inner) (from c.in_ok-replaced-in-Entry.replaced (symbol_of c.as_symbol-in-Entry.result.now)) [] c.walk_symbol-in-Entry.result (ap symbol_of c.in-Entry.is)
     (λ i. from (sym c.in_ok-replaced-in-Entry.ensures i) (sym c.as_symbol-in-Entry.ensures i)) refl c.in_default.ensures
     (walked_aside c.args.around.now (c.args.before + 1) (from c.in_ok-replaced-in-Entry.replaced (symbol_of c.as_symbol-in-Entry.result.now)) (binds c.in_ok-replaced-in-Entry.replaced (symbol_of c.as_symbol-in-Entry.result.now)) c.args.variables.now c.in_ok-replaced-in-Entry.replaced c.walk_symbol-in-Entry.new.variables c.walk_symbol-in-Entry.result c.walk_symbol-in-Entry.ensures)
+
+pub walk_apart-returns : goal.walk_apart-returns
+walk_apart-returns t c =
+    subst (λ z. Walked c.args.around.now c.args.before (from c.args.variables.now z) [] c.args.variables.now c.truncate.new.self (Ok c.in_ok-behind.behind))
+    c.as_symbol.ensures
+    (walked_apart c.args.around.now c.args.before c.in_ok-behind.behind (from c.args.variables.now (symbol_of c.as_symbol.result.now))
+    (binds c.args.variables.now (symbol_of c.as_symbol.result.now)) c.args.variables.now c.walk_symbol.new.variables c.truncate.new.self
+    c.in_ok-behind.ensures (c.truncate.ensures ∙ ap (λ n. take n c.walk_symbol.new.variables) c.len-visible.ensures))

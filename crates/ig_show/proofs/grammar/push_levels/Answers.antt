@@ -5,7 +5,7 @@ use Rattle.std.specs.Str.{chars}
 use Rattle.ig_syntax.specs.Token as sign
 use Rattle.ig_syntax.specs.Token.{Name, Head, Comma, Open, Close}
 use Rattle.ig_show.specs.Pieces.{token, blank}
-use Rattle.ig_show.proofs.Steps.{adds, says, Ahead, first_written, less_ahead, none_ahead}
+use Rattle.ig_show.proofs.Steps.{adds, Ahead, first_written, less_ahead, none_ahead}
 use Rattle.ig_show.proofs.grammar.push_levels.Goals as goal
 
 pub loop-other-init : goal.loop-other-init
@@ -17,7 +17,7 @@ pub loop-other-preserved : goal.loop-other-preserved
 unfolding chars
 loop-other-preserved c =
     less_ahead (λ z. separated (blank ∷ token sign.Greater ∷ blank ∷ []) level_pieces z) c.in-Some.others.now c.loop-other.other-index c.other-item.result c.other-item.result c.other-item.is c.loop-other-test.true
-    c.loop-other.invariant (adds (says (λ ps. blank ∷ token sign.Greater ∷ blank ∷ ps) c.in_ok-push_text.ensures (λ _. refl)) c.in_ok-push_level-2.ensures) (λ _. refl)
+    c.loop-other.invariant (adds c.in_ok-push_greater.ensures c.in_ok-push_level-2.ensures) (λ _. refl)
 
 pub returns : goal.returns
 returns c =

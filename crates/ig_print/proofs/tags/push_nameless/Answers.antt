@@ -1,0 +1,15 @@
+use Rattle.std.proofs.lemmas.Result.{on_ok_weaker}
+use Rattle.std.specs.Prelude.{codes}
+use Rattle.ig_print.proofs.Added.{two_added}
+use Rattle.ig_print.proofs.tags.push_nameless.Goals as goal
+
+pub returns-in_ok-push_str-in-Rule : goal.returns-in_ok-push_str-in-Rule
+returns-in_ok-push_str-in-Rule c =
+    rw c.in-Rule.is
+    (on_ok_weaker c.push_number.result (two_added _ (codes ".") _ c.in_ok-push_str-in-Rule.ensures.bytes) c.push_number.ensures)
+
+pub returns-in_ok-push_str-in-GroupAlt : goal.returns-in_ok-push_str-in-GroupAlt
+returns-in_ok-push_str-in-GroupAlt c =
+    rw c.in-GroupAlt.is
+    (on_ok_weaker c.push_number-in-GroupAlt.result (two_added _ (codes "$group.") _ c.in_ok-push_str-in-GroupAlt.ensures.bytes)
+    c.push_number-in-GroupAlt.ensures)
