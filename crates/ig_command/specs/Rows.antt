@@ -81,10 +81,12 @@ with_both ask first second = option_and_then (λ a. option_and_then (ask a) seco
 abbrev pub budget_found : Finds → Option ℕ
 budget_found find = number_or usual_budget 1 most_budget (find (codes "budget"))
 
+abbrev pub count_found : Finds → Option ℕ
+count_found find = number_or usual_count 1 most_count (find (codes "count"))
+
 abbrev pub listing_found : Finds → Option Listing
 listing_found find =
-    listing_with (number_if 0 most_depth (find (codes "depth"))) (number_or usual_count 1 most_count (find (codes "count")))
-    (Some (find (codes "after")))
+    listing_with (number_if 0 most_depth (find (codes "depth"))) (count_found find) (Some (find (codes "after")))
 
 abbrev pub question_found : Finds → Option Question
 question_found find = question_with (find (codes "name")) (find (codes "what"))

@@ -1,11 +1,11 @@
 //! What a command asks for, and how its words are read.
-ghost use Rattle.std.specs.Prelude.{◌≡◌, IfOk, map, option_map, string_bytes};
+ghost use Rattle.std.specs.Prelude.{◌≡◌, IfOk, Some, map, option_map, string_bytes};
 ghost use Rattle.std.specs.Option.{option_copied};
 ghost use Rattle.clap.specs.Words.{first_value, found_of};
 ghost use Rattle.ig_command.specs.Commands.{Reads, number_if, number_of, number_or};
 ghost use Rattle.ig_command.specs.Commands.{question_with, stored_listing, stored_question};
 ghost use Rattle.ig_command.specs.Commands.{stored_request};
-ghost use Rattle.ig_command.specs.Rows.{budget_found, found_request, listing_found};
+ghost use Rattle.ig_command.specs.Rows.{budget_found, count_found, found_request, listing_found};
 
 use crate::rows::{Row, matches_of, row_named};
 use crate::words::{all_may_stand, read_number};
@@ -31,7 +31,7 @@ const MOST_COUNT: u32 = 100_000;
 pub const MOST_SIZE: u32 = 4000;
 
 /// Which trees are listed.
-#[derive(Clone, Copy)]
+#[derive(Clone, Copy, PartialEq, Eq, Debug)]
 pub struct Listing<'a> {
     /// The height that they have at most, where there is a bound.
     pub depth: Option<u32>,
@@ -42,7 +42,7 @@ pub struct Listing<'a> {
 }
 
 /// What is asked of a forest.
-#[derive(Clone, Copy)]
+#[derive(Clone, Copy, PartialEq, Eq, Debug)]
 pub enum Question<'a> {
     /// Whether there are two trees, and where they differ.
     Ambiguous,
@@ -55,7 +55,7 @@ pub enum Question<'a> {
 }
 
 /// What the words of a command ask for, with the names of its files.
-#[derive(Clone, Copy)]
+#[derive(Clone, Copy, PartialEq, Eq, Debug)]
 pub enum Command<'a> {
     /// That the grammar is checked.
     Check {
@@ -233,13 +233,20 @@ fn budget_of(matches: &ArgMatches<'_>) -> Option<u32>
     small_or(USUAL_BUDGET, 1, MOST_BUDGET, matches.get_str("budget"))
 }
 
+/// How many trees are listed.
+fn count_of(matches: &ArgMatches<'_>) -> Option<u32>
+    ensures { result ≡ count_found (first_value (found_of matches.now)) }
+{
+    small_or(USUAL_COUNT, 1, MOST_COUNT, matches.get_str("count"))
+}
+
 /// Which trees are listed.
 fn listing_of<'a>(matches: &ArgMatches<'a>) -> Option<Listing<'a>>
     ensures { option_map stored_listing result
         ≡ listing_found (first_value (found_of matches.now)) }
 {
     let depth = small_if(0, MOST_DEPTH, matches.get_str("depth"))?;
-    let count = small_or(USUAL_COUNT, 1, MOST_COUNT, matches.get_str("count"))?;
+    let count = count_of(matches)?;
     let after = matches.get_str("after");
     Some(Listing {
         depth,
@@ -248,14 +255,22 @@ fn listing_of<'a>(matches: &ArgMatches<'a>) -> Option<Listing<'a>>
     })
 }
 
-/// The question that `--what` names.
+/// The question that `--what` names, or the usual one.
 fn question_named<'a>(what: Option<&str>, name: Option<&'a str>) -> Option<Question<'a>>
     ensures { option_map stored_question result
         ≡ question_with (option_copied name.entry) (option_copied what.entry) }
 {
-    let Some(what) = what else {
-        return Some(Question::Ambiguous);
-    };
+    match what {
+        Some(what) => question_of(what, name),
+        None => Some(Question::Ambiguous),
+    }
+}
+
+/// The question of that word.
+fn question_of<'a>(what: &str, name: Option<&'a str>) -> Option<Question<'a>>
+    ensures { option_map stored_question result
+        ≡ question_with (option_copied name.entry) (Some what.now) }
+{
     if what == "ambiguous" {
         return Some(Question::Ambiguous);
     }

@@ -2,7 +2,8 @@
 ghost use Rattle.std.specs.Prelude.{◌≡◌, ◌≢◌, ◌∷◌, [], IfOk, None, codes, map, string_bytes, true};
 ghost use Rattle.std.specs.List.{list_all};
 ghost use Rattle.clap.specs.Words.{app_of, with_rule};
-ghost use Rattle.ig_command.specs.Rows.{Answers, app_for, app_with, may_stand, option, place, row_of};
+ghost use Rattle.ig_command.specs.Rows.{Answers, app_for, app_with, may_stand, option, place};
+ghost use Rattle.ig_command.specs.Rows.{row_of};
 ghost use Rattle.ig_command.specs.Words.{parts_of};
 
 use clap::error::ErrorKind;
@@ -107,16 +108,29 @@ fn forest<'a>(alloc: Global) -> Result<Command<'a>, AllocError>
     with_option(alloc, both, "budget")
 }
 
+/// The command for the forest, with two more options.
+fn forest_with<'a>(
+    alloc: Global,
+    first: &'a str,
+    second: &'a str,
+) -> Result<Command<'a>, AllocError>
+    ensures { IfOk result (λ c. app_of c
+        ≡ app_with (place (codes "G") ∷ place (codes "I") ∷ option (codes "budget")
+        ∷ option first.entry.now ∷ option second.entry.now ∷ [])) }
+{
+    let with_budget = forest(alloc)?;
+    let with_first = with_option(alloc, with_budget, first)?;
+    with_option(alloc, with_first, second)
+}
+
 /// The command for its trees.
 fn trees<'a>(alloc: Global) -> Result<Command<'a>, AllocError>
     ensures { IfOk result (λ c. app_of c
         ≡ app_with (place (codes "G") ∷ place (codes "I") ∷ option (codes "budget")
         ∷ option (codes "depth") ∷ option (codes "count") ∷ option (codes "after") ∷ [])) }
 {
-    let with_budget = forest(alloc)?;
-    let with_depth = with_option(alloc, with_budget, "depth")?;
-    let with_count = with_option(alloc, with_depth, "count")?;
-    with_option(alloc, with_count, "after")
+    let with_numbers = forest_with(alloc, "depth", "count")?;
+    with_option(alloc, with_numbers, "after")
 }
 
 /// The command for an answer from it.
@@ -125,9 +139,7 @@ fn query<'a>(alloc: Global) -> Result<Command<'a>, AllocError>
         ≡ app_with (place (codes "G") ∷ place (codes "I") ∷ option (codes "budget")
         ∷ option (codes "what") ∷ option (codes "name") ∷ [])) }
 {
-    let with_budget = forest(alloc)?;
-    let with_what = with_option(alloc, with_budget, "what")?;
-    with_option(alloc, with_what, "name")
+    forest_with(alloc, "what", "name")
 }
 
 /// The command for a load.

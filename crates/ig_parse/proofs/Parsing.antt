@@ -10,7 +10,7 @@ use Rattle.ig_item.specs.Items.{Item, MoreThan, Reachable, RootIsComplete}
 use Rattle.ig_item.specs.Laws.{TreesByItems}
 use Rattle.ig_item.specs.Recorded.{Recording, IsRecorded}
 use Rattle.ig_item.specs.Tables.{Tables, items_of}
-use Rattle.ig_item.specs.WellKinded.{IsWellKinded, NoneTwice}
+use Rattle.ig_item.specs.WellKinded.{IsWellKinded}
 use Rattle.ig_item.specs.declared.run_fault.RunFault.{RunFault}
 use Rattle.ig_item.specs.declared.run_fault.RunFault.TheVariants as run_fault
 use Rattle.ig_item.specs.declared.core_grammar.Nonterminal.{Nonterminal}
@@ -25,9 +25,9 @@ use Rattle.ig_plain.specs.Run.{Refuses}
 use Rattle.ig_query.specs.Report.{IsReport}
 use Rattle.ig_print.specs.declared.report.Report.{Report}
 use Rattle.ig_parse.specs.Faults.{fault_of}
-use Rattle.ig_parse.specs.Parses.{AreReachable, HasNone, IsForestOf, IsParsed, IsUnparsed, MayHaveForest, Parses, Saturates}
+use Rattle.ig_parse.specs.Parses.{AreReachable, HasNone, IsForestOf, IsParsed, IsUnparsed, MayHaveForest, Saturates}
 use Rattle.ig_parse.specs.declared.fault.ParseFault.{ParseFault}
-use Rattle.ig_parse.specs.declared.fault.ParseFault.TheVariants.{TooManyDots, Memory, NoParse}
+use Rattle.ig_parse.specs.declared.fault.ParseFault.TheVariants.{TooManyDots, Memory}
 
 -- the laws that a parse rests on
 pub record Given : Type 0 where

@@ -6,7 +6,7 @@ ghost use Rattle.ig_item.specs.Limits.{most_dots};
 ghost use Rattle.ig_core.specs.declared.fault.CoreFault.TheVariants as core_fault;
 ghost use Rattle.ig_parse.specs.Parses.{AreReachable, IsTooMany, MayHaveForest, Parses, Saturates};
 ghost use Rattle.ig_query.specs.Report.{IsReport};
-ghost use Rattle.ig_parse.specs.declared.fault.ParseFault.TheVariants.{TooManyDots};
+ghost use Rattle.ig_parse.specs.declared.fault.ParseFault.TheVariants.{NoParse, TooManyDots};
 
 use crate::fault::ParseFault;
 use ig_core::{
@@ -138,10 +138,17 @@ impl<'g> Parser<'g> {
             Some(forest) => Ok(forest),
             None => {
                 let report = self.report(alloc, recorded.items(), text)?;
-                Err(ParseFault::NoParse(report))
+                Err(no_parse(report))
             }
         }
     }
+}
+
+/// No tree is permitted, as the report tells.
+fn no_parse(report: Report) -> ParseFault
+    ensures { result ≡ NoParse report }
+{
+    ParseFault::NoParse(report)
 }
 
 /// The reduced forest of exactly the trees that the grammar permits for the whole text. But for

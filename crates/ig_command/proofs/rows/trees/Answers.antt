@@ -7,8 +7,6 @@ use Rattle.ig_command.proofs.rows.trees.Goals as goal
 
 pub returns : goal.returns
 returns c =
-    IfOk-weaker c.with_option-3.result _ _
-    (λ r h. h ∙ ap (λ (a : App). with_rule a (option (codes "after"))) (c.in_ok-with_count.ensures ∙
-    ap (λ (a : App). with_rule a (option (codes "count"))) (c.in_ok-with_depth.ensures ∙
-    ap (λ (a : App). with_rule a (option (codes "depth"))) c.in_ok-with_budget.ensures)))
-    c.with_option-3.ensures
+    IfOk-weaker c.with_option.result _ _
+    (λ r h. h ∙ ap (λ (a : App). with_rule a (option (codes "after"))) c.in_ok-with_numbers.ensures)
+    c.with_option.ensures
