@@ -34,8 +34,9 @@ fn saturates(rt: HostRuntime) -> Result<(), Fail> {
 /// The forest of the core grammar and the text.
 fn forest_of(alloc: Global, core: &Core, text: &Text) -> Result<Option<Forest>, Fail> {
     let items = saturate(alloc, core, text, BUDGET)?;
-    let forest = Forest::build(alloc, &items, core, text)?;
-    Ok(forest)
+    let forest = Forest::build(alloc, &items, core, text);
+    drop(items);
+    Ok(forest?)
 }
 
 /// The forest of the letter's core grammar and the text.
@@ -55,8 +56,9 @@ fn builds_a_forest(rt: HostRuntime) -> Result<(), Fail> {
     let Some(forest) = letter_forest(alloc, b"a")? else {
         return Err(Fail::new("no forest"));
     };
-    let shown = show_forest(alloc, &forest)?;
-    assert_eq!(rt; shown.as_slice(), FOREST.as_bytes());
+    let shown = show_forest(alloc, &forest);
+    drop(forest);
+    assert_eq!(rt; shown?.as_slice(), FOREST.as_bytes());
     Ok(())
 }
 

@@ -6,6 +6,7 @@ use ig_grammar::{
 };
 use ig_text::{Class, Copied, Pattern, Word};
 use std::alloc::{AllocError, Global};
+use std::process::Abort;
 use std::test::Fail;
 
 fn push_parameter(params: &mut Params, name: Word) -> Result<(), AllocError> {
@@ -15,15 +16,21 @@ fn push_parameter(params: &mut Params, name: Word) -> Result<(), AllocError> {
         .map_err(|refused| refused.1)
 }
 
+fn expect_parameters(rt: &impl Abort, params: &[Param]) {
+    for param in params {
+        assert_eq!(rt; param.name.as_str(), "n");
+        assert_eq!(rt; param.kind, Kind::Span);
+    }
+}
+
 #[test]
 fn copies_parameters(rt: HostRuntime) -> Result<(), Fail> {
     let alloc = rt.alloc();
     let mut params = Params::new(alloc);
     push_parameter(&mut params, Word::new(alloc, "n")?)?;
-    for copied in params.copy(alloc)?.as_slice() {
-        assert_eq!(rt; copied.name.as_str(), "n");
-        assert_eq!(rt; copied.kind, Kind::Span);
-    }
+    let copied = params.copy(alloc);
+    drop(params);
+    expect_parameters(&rt, copied?.as_slice());
     Ok(())
 }
 

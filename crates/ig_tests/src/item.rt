@@ -1,8 +1,10 @@
 //! Each call that takes memory, with ample memory.
 use crate::letters::letter_core;
 use ig_expr::{Expr, Value};
-use ig_item::{EnvironmentTable, Step, Steps, VisibleNames};
+use ig_item::{Core, EnvironmentTable, Step, Steps, VisibleNames};
 use ig_text::{Word, Words};
+use std::alloc::{AllocError, Global};
+use std::process::Abort;
 use std::test::Fail;
 
 #[test]
@@ -19,13 +21,18 @@ fn steps_are_added_with_their_names(rt: HostRuntime) -> Result<(), Fail> {
     Ok(())
 }
 
-#[test]
-fn names_of_an_alternative(rt: HostRuntime) -> Result<(), Fail> {
-    let alloc = rt.alloc();
-    let core = letter_core(alloc)?;
+/// Asserts that no name is visible in the one alternative.
+fn expect_names(rt: &impl Abort, alloc: Global, core: &Core) -> Result<(), AllocError> {
     let names = core.names(alloc, 0, 1)?;
     assert!(rt; names.is_some_and(|names| names.at(1).is_some_and(|seen| seen.is_empty())));
     assert!(rt; core.names(alloc, 0, 2)?.is_none());
+    Ok(())
+}
+
+#[test]
+fn names_of_an_alternative(rt: HostRuntime) -> Result<(), Fail> {
+    let core = letter_core(rt.alloc())?;
+    expect_names(&rt, rt.alloc(), &core)?;
     Ok(())
 }
 

@@ -17,16 +17,26 @@ use ig_text::{Class, Pattern, Patterns, Span, Tag, Word};
 use std::alloc::{AllocError, Global};
 use std::test::Fail;
 
-#[test]
-fn shows_an_expression(rt: HostRuntime) -> Result<(), Fail> {
-    let alloc = rt.alloc();
+/// `- size(x)`
+fn opposite(alloc: Global) -> Result<Operand, AllocError> {
     let name = Operand::new(alloc, Expr::Var(Word::new(alloc, "x")?))?;
     let size = Operand::new(alloc, Expr::Of(Function::Size, name))?;
-    let opposite = Operand::new(alloc, Expr::Neg(size))?;
+    Operand::new(alloc, Expr::Neg(size))
+}
+
+/// That and the position here.
+fn sum(alloc: Global) -> Result<Expr, AllocError> {
+    let opposite = opposite(alloc)?;
     let here = Operand::new(alloc, Expr::Here)?;
-    let sum = Expr::Binary(Op::Add, opposite, here);
-    let shown = show_expression(alloc, &sum)?;
-    assert_eq!(rt; shown.as_slice(), b"(- size(x)) + here".as_slice());
+    Ok(Expr::Binary(Op::Add, opposite, here))
+}
+
+#[test]
+fn shows_an_expression(rt: HostRuntime) -> Result<(), Fail> {
+    let sum = sum(rt.alloc())?;
+    let shown = show_expression(rt.alloc(), &sum);
+    drop(sum);
+    assert_eq!(rt; shown?.as_slice(), b"(- size(x)) + here".as_slice());
     Ok(())
 }
 
@@ -34,8 +44,10 @@ fn shows_an_expression(rt: HostRuntime) -> Result<(), Fail> {
 fn shows_a_pattern(rt: HostRuntime) -> Result<(), Fail> {
     let alloc = rt.alloc();
     let class = Class::ranges(alloc, true, &[('x', 'x'), ('0', '9'), ('[', '[')])?;
-    let shown = show_pattern(alloc, &Pattern::OneOf(class))?;
-    assert_eq!(rt; shown.as_slice(), b"[^0-9\\[x]".as_slice());
+    let pattern = Pattern::OneOf(class);
+    let shown = show_pattern(alloc, &pattern);
+    drop(pattern);
+    assert_eq!(rt; shown?.as_slice(), b"[^0-9\\[x]".as_slice());
     Ok(())
 }
 
@@ -46,8 +58,9 @@ fn shows_a_grammar(rt: HostRuntime) -> Result<(), Fail> {
         start: Some(Word::new(alloc, "S")?),
         decls: Decls::new(alloc),
     };
-    let shown = show_grammar(alloc, &grammar)?;
-    assert_eq!(rt; shown.as_slice(), b"start S;\n".as_slice());
+    let shown = show_grammar(alloc, &grammar);
+    drop(grammar);
+    assert_eq!(rt; shown?.as_slice(), b"start S;\n".as_slice());
     Ok(())
 }
 
@@ -56,11 +69,16 @@ fn reads_a_cursor_and_shows_it(rt: HostRuntime) -> Result<(), Fail> {
     let alloc = rt.alloc();
     let cursor = read_cursor(alloc, "2.0.4294967295")?;
     assert_eq!(rt; cursor.as_slice(), [2, 0, 4294967295].as_slice());
-    let shown = show_cursor(alloc, &cursor)?;
-    assert_eq!(rt; shown.as_slice(), b"2.0.4294967295".as_slice());
-    let refused = read_cursor(alloc, "2.00");
-    assert!(rt; matches!(refused, Err(CursorFault::NotACursor)));
+    let shown = show_cursor(alloc, &cursor);
+    drop(cursor);
+    assert_eq!(rt; shown?.as_slice(), b"2.0.4294967295".as_slice());
     Ok(())
+}
+
+#[test]
+fn refuses_a_number_of_zeros(rt: HostRuntime) {
+    let refused = read_cursor(rt.alloc(), "2.00");
+    assert!(rt; matches!(refused, Err(CursorFault::NotACursor)));
 }
 
 /// A root over a leaf.
@@ -84,25 +102,32 @@ fn small_tree(alloc: Global) -> Result<Tree, AllocError>
 #[test]
 fn shows_a_tree(rt: HostRuntime) -> Result<(), Fail> {
     let alloc = rt.alloc();
-    let core = letter_core(alloc)?;
     let tree = small_tree(alloc)?;
-    let shown = show_tree(alloc, &tree, &core)?;
-    assert_eq!(rt; shown.as_slice(), b"($root 0..12 0..12)".as_slice());
+    let core = letter_core(alloc)?;
+    let shown = show_tree(alloc, &tree, &core);
+    drop(core);
+    assert_eq!(rt; shown?.as_slice(), b"($root 0..12 0..12)".as_slice());
     Ok(())
+}
+
+/// Adds a class and a literal.
+fn push_two(alloc: Global, expected: &mut Patterns) -> Result<(), AllocError> {
+    let class = Class::ranges(alloc, false, &[('a', 'z')])?;
+    push_one(expected, Pattern::OneOf(class))?;
+    let word = Word::new(alloc, ">")?;
+    push_one(expected, Pattern::Literal(word))
+}
+
+/// Adds a pattern.
+fn push_one(expected: &mut Patterns, pattern: Pattern) -> Result<(), AllocError> {
+    expected.push(pattern).map_err(|refused| refused.1)
 }
 
 #[test]
 fn shows_a_report(rt: HostRuntime) -> Result<(), Fail> {
     let alloc = rt.alloc();
     let mut expected = Patterns::new(alloc);
-    let class = Class::ranges(alloc, false, &[('a', 'z')])?;
-    expected
-        .push(Pattern::OneOf(class))
-        .map_err(|refused| refused.1)?;
-    let word = Word::new(alloc, ">")?;
-    expected
-        .push(Pattern::Literal(word))
-        .map_err(|refused| refused.1)?;
+    push_two(alloc, &mut expected)?;
     let report = Report {
         position: 6,
         line: 1,
@@ -110,7 +135,9 @@ fn shows_a_report(rt: HostRuntime) -> Result<(), Fail> {
         expected,
         end: true,
     };
-    let shown = show_report(alloc, &report)?;
+    let shown = show_report(alloc, &report);
+    drop(report);
+    let shown = shown?;
     let place = b"line 1, column 7, expected \">\", [a-z], end of input";
     assert_eq!(rt; shown.as_slice(), place.as_slice());
     Ok(())
@@ -126,7 +153,9 @@ fn shows_the_furthest_place(rt: HostRuntime) -> Result<(), Fail> {
         expected: Patterns::new(alloc),
         end: false,
     };
-    let shown = show_furthest(alloc, &report)?;
+    let shown = show_furthest(alloc, &report);
+    drop(report);
+    let shown = shown?;
     let line = b"furthest at line 1, column 1, expected nothing\n";
     assert_eq!(rt; shown.as_slice(), line.as_slice());
     Ok(())
