@@ -12,7 +12,7 @@ use crate::guards::{behind, tests_before};
 use crate::guide::{Guide, is_paired, kind_of};
 use crate::pairs::{Pair, bindings_of, column_of, inner_of, push_pair, start_of};
 use ig_expr::Exprs;
-use ig_grammar::{Filters, Inner, Lets, Symbol};
+use ig_grammar::{Inner, Lets, Symbol};
 use ig_rewrite::push_expression;
 use ig_text::{Copied, Word};
 use std::alloc::{AllocError, Global};
@@ -191,19 +191,6 @@ pub(crate) fn behind_tests(
         Ok(tests) => behind(tests, made),
         Err(refused) => {
             drop(made);
-            Err(refused)
-        }
-    }
-}
-
-/// A symbol with the filters.
-pub(crate) fn filtered(alloc: Global, inner: Inner, filters: &Filters) -> Result<Symbol, AllocError>
-    ensures { IfOk result (λ r. symbol_of r ≡ tree.Filtered inner filters.now) }
-{
-    match filters.copy(alloc) {
-        Ok(filters) => Ok(Symbol::Filtered(inner, filters)),
-        Err(refused) => {
-            drop(inner);
             Err(refused)
         }
     }

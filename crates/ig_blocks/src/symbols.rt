@@ -7,14 +7,13 @@ ghost use Rattle.ig_blocks_laws.specs.Blocks.{symbols_by, alternative_by};
 ghost use Rattle.ig_blocks.specs.Code.{pair_of, setting_by, item_by};
 
 use crate::forms::{
-    behind_tests, both, called, entered_again, entered_by, filtered, item_of, optional, repeated,
-    starred,
+    behind_tests, both, called, entered_again, entered_by, item_of, optional, repeated, starred,
 };
 use crate::guide::Guide;
 use crate::pairs::{Pair, cleared_by, inner_of, opened_by};
 use ig_blocks_laws::all_are_gathered;
 use ig_grammar::{Alt, Alts, Inner, Symbol, Symbols};
-use ig_rewrite::{labelled, push_alternative, push_symbol};
+use ig_rewrite::{filtered, labelled, push_alternative, push_symbol};
 use ig_text::Copied;
 use std::alloc::{AllocError, Global};
 

@@ -1,14 +1,14 @@
 //! What stands for a symbol, in place.
 ghost use Rattle.std.specs.Prelude.{◌≡◌, ◌++◌, IfOk, OnOk};
 ghost use Rattle.ig_grammar.specs.View.{symbol_of};
-ghost use Rattle.ig_grammar.specs.Symbol.{gathered, Label, Filtered};
+ghost use Rattle.ig_grammar.specs.Symbol.{gathered};
 ghost use Rattle.ig_ebnf_laws.specs.Lists.{new_symbol, new, new_symbols, new_alts};
 
 use crate::entries::{entering, entering_list};
 use crate::numbering::{count, count_symbols, sum};
 use crate::variables::{Variables, bind};
-use ig_grammar::{Alt, Alts, Filters, Inner, Symbol, Symbols};
-use ig_rewrite::{labelled, push_alternative, push_symbol};
+use ig_grammar::{Alt, Alts, Inner, Symbol, Symbols};
+use ig_rewrite::{filtered, labelled, push_alternative, push_symbol};
 use ig_text::{Copied, Word};
 use std::alloc::{AllocError, Global};
 
@@ -51,22 +51,6 @@ fn new_symbol(
         Symbol::Entry(bindings, inner) => {
             let replaced = variables.replaced(alloc, bindings)?;
             entering(alloc, of, &replaced, k, bindings, inner.as_symbol())
-        }
-    }
-}
-
-/// The symbol with the filters.
-///
-/// A call lets go of the symbol where memory lacks: where `?` does, its proof goes through all
-/// forms.
-fn filtered(alloc: Global, inner: Inner, filters: &Filters) -> Result<Symbol, AllocError>
-    ensures { IfOk result (λ r. symbol_of r ≡ Filtered inner filters.now) }
-{
-    match filters.copy(alloc) {
-        Ok(filters) => Ok(Symbol::Filtered(inner, filters)),
-        Err(refused) => {
-            drop(inner);
-            Err(refused)
         }
     }
 }

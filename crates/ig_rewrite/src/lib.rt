@@ -22,5 +22,5 @@ pub use laws::{
     added_names_are_new, asks_elsewhere, binders_are_counted, counts_grow, declarations_are_found,
     results_are_ready, root_keeps, rooted_is_the_same, same_trees_is_an_equivalence, symbols_ask,
 };
-pub use rewriting::{OwnRule, labelled, rewrite_grammar, rewrite_levels, rewrite_symbol};
+pub use rewriting::{OwnRule, filtered, labelled, rewrite_grammar, rewrite_levels, rewrite_symbol};
 pub use rooting::{copy_of_shapes, has_root, root};

@@ -137,8 +137,8 @@ pub fn labelled(alloc: Global, name: &Word, inner: Inner) -> Result<Symbol, Allo
     }
 }
 
-/// The symbol with the filters.
-fn filtered(alloc: Global, inner: Inner, filters: &Filters) -> Result<Symbol, AllocError>
+/// The symbol with the filters. Refused for want of memory alone.
+pub fn filtered(alloc: Global, inner: Inner, filters: &Filters) -> Result<Symbol, AllocError>
     ensures { IfOk result (λ r. symbol_of r ≡ Filtered inner filters.now) }
 {
     match filters.copy(alloc) {
