@@ -12,6 +12,7 @@ ghost use Rattle.ig_plain.specs.Tables.{Extends, IsPast};
 ghost use Rattle.ig_plain.specs.Trail.{By, ComeByNodes, ComesOnce, IsIndexed, IsNodeAt, Pushes};
 ghost use Rattle.ig_plain.specs.Trail.{Records, RecordsLater, Unfound};
 
+use crate::context::Context;
 use crate::instance_set::InstanceSet;
 use crate::interning::{enter_values, number, push_value};
 use crate::trail::Trail;
@@ -53,6 +54,13 @@ impl Found {
     }
 }
 
+/// An item that is taken, with its number.
+#[derive(Clone, Copy)]
+pub(crate) struct Taken {
+    pub(crate) item: Item,
+    pub(crate) number: u32,
+}
+
 /// `Budget` exactly where there are more items than the budget.
 pub(crate) fn keep_within(found: &Found, budget: u32) -> Result<(), RunFault>
     ensures within { OnOk result (count found.now ≤ budget) }
@@ -69,69 +77,69 @@ pub(crate) fn keep_within(found: &Found, budget: u32) -> Result<(), RunFault>
 
 /// Adds an item at the position, which isn't there, and the way in which it came about.
 fn push(
+    context: &Context<'_>,
     found: &mut Found,
     trail: &mut Trail,
     item: Item,
     way: Way,
-    budget: u32,
 ) -> Result<(), RunFault>
     requires named { Named found.old item }
     requires new { Contains found.old.here.items item → ⊥ }
-    ensures adds { Adds item.position (λ x. x ≡ means found.old item) budget found.old found.new
-        result }
+    ensures adds { Adds item.position (λ x. x ≡ means found.old item) context.now.budget found.old
+        found.new result }
     ensures pushes { OnOk result (Pushes item way found.old found.new trail.old trail.new) }
 {
     let Ok(()) = found.here.push(item) else {
         return Err(RunFault::Memory);
     };
     trail.ways.push(way)?;
-    keep_within(found, budget)
+    keep_within(found, context.budget)
 }
 
 /// Adds an item at the position, which isn't there, and the way in which it came about: by no call,
 /// so that it can't come about once more.
 pub(crate) fn add_new(
+    context: &Context<'_>,
     found: &mut Found,
     trail: &mut Trail,
     item: Item,
     way: Way,
-    budget: u32,
 ) -> Result<(), RunFault>
     requires named { Named found.old item }
     requires new { Contains found.old.here.items item → ⊥ }
     requires once { ComesOnce way }
-    ensures adds { Adds item.position (λ x. x ≡ means found.old item) budget found.old found.new
-        result }
+    ensures adds { Adds item.position (λ x. x ≡ means found.old item) context.now.budget found.old
+        found.new result }
     ensures ways { OnOk result (Records (By way (λ x. x ≡ means found.old item)) found.old found.new
         trail.old trail.new) }
 {
-    push(found, trail, item, way, budget)
+    push(context, found, trail, item, way)
 }
 
 /// Adds an item behind a call, if it isn't there, and that it came about from the item of number
 /// `prev`, where `done` is the callee's first complete item here.
 #[inline(always)]
 fn add_returned(
+    context: &Context<'_>,
     found: &mut Found,
     trail: &mut Trail,
     item: Item,
     prev: u32,
     done: u32,
-    budget: u32,
 ) -> Result<(), RunFault>
     requires named { Named found.old item }
     requires indexed { IsIndexed found.old trail.old }
     requires by_node { (k : ℕ) → slice_get found.old.here.items k ≡ Some item →
         IsNodeAt trail.old.ways.firsts (length found.old.done.items + k) }
-    ensures adds { Adds item.position (λ x. x ≡ means found.old item) budget found.old found.new
-        result }
+    ensures adds { Adds item.position (λ x. x ≡ means found.old item) context.now.budget found.old
+        found.new result }
     ensures ways { OnOk result (Records (By (Node prev done) (λ x. x ≡ means found.old item))
         found.old found.new trail.old trail.new) }
 {
     let Some(item) = trail.returned.number_of(item) else {
         // A copy, so that the item that is looked up stays in registers.
         let new = item;
-        return add_behind_call(found, trail, new, prev, done, budget);
+        return add_behind_call(context, found, trail, new, prev, done);
     };
     add_further_way(&mut trail.ways, item, prev, done)?;
     Ok(())
@@ -152,23 +160,23 @@ fn add_further_way(ways: &mut Ways, item: u32, prev: u32, done: u32) -> Result<(
 /// `prev`, where `done` is the callee's first complete item here.
 #[inline(never)]
 fn add_behind_call(
+    context: &Context<'_>,
     found: &mut Found,
     trail: &mut Trail,
     item: Item,
     prev: u32,
     done: u32,
-    budget: u32,
 ) -> Result<(), RunFault>
     requires named { Named found.old item }
     requires new { Contains found.old.here.items item → ⊥ }
-    ensures adds { Adds item.position (λ x. x ≡ means found.old item) budget found.old found.new
-        result }
+    ensures adds { Adds item.position (λ x. x ≡ means found.old item) context.now.budget found.old
+        found.new result }
     ensures ways { OnOk result (Records (By (Node prev done) (λ x. x ≡ means found.old item))
         found.old found.new trail.old trail.new) }
 {
     let number = number_of(found, found.here.len())?;
     trail.returned.add(item, number)?;
-    push(found, trail, item, Way::Node { prev, done }, budget)
+    push(context, found, trail, item, Way::Node { prev, done })
 }
 
 /// The number of the item at that place among those at the position.
@@ -181,56 +189,53 @@ pub(crate) fn number_of(found: &Found, place: usize) -> Result<u32, AllocError>
 /// Adds the item after its next step, which is no call, bound this value and came to `end`, the
 /// position, in that way. It isn't there.
 pub(crate) fn go_on(
-    alloc: Global,
+    context: &Context<'_>,
     found: &mut Found,
     trail: &mut Trail,
     item: Item,
     bound: Option<Value>,
     end: u32,
     way: Way,
-    budget: u32,
 ) -> Result<(), RunFault>
     requires named { Named found.old item }
     requires all_named { AreNamed found.old }
     requires new { Unfound found.old
         (λ x. x ≡ past (means found.old item) (option_to_list bound) end) }
     requires once { ComesOnce way }
-    ensures adds { Adds end (λ x. x ≡ past (means found.old item) (option_to_list bound) end) budget
-        found.old found.new result }
+    ensures adds { Adds end (λ x. x ≡ past (means found.old item) (option_to_list bound) end)
+        context.now.budget found.old found.new result }
     ensures ways { OnOk result (Records
         (By way (λ x. x ≡ past (means found.old item) (option_to_list bound) end))
         found.old found.new trail.old trail.new) }
 {
-    let behind = past(alloc, &mut found.envs, item, bound, end)?;
-    add_new(found, trail, behind, way, budget)
+    let behind = past(context.alloc, &mut found.envs, item, bound, end)?;
+    add_new(context, found, trail, behind, way)
 }
 
-/// Adds the item after a call, which bound this value and came to `end`, the position. It came
-/// about from the item of number `prev`, and `done` is the callee's first complete item here.
+/// Adds the item after the call behind `from`, which bound this value and came to `end`, the
+/// position. There `done` is the callee's first complete item.
 pub(crate) fn go_behind_call(
-    alloc: Global,
+    context: &Context<'_>,
     found: &mut Found,
     trail: &mut Trail,
-    item: Item,
+    from: Taken,
     bound: Option<Value>,
-    end: u32,
-    prev: u32,
     done: u32,
-    budget: u32,
+    end: u32,
 ) -> Result<(), RunFault>
-    requires named { Named found.old item }
+    requires named { Named found.old from.item }
     requires all_named { AreNamed found.old }
     requires indexed { IsIndexed found.old trail.old }
     requires by_nodes { ComeByNodes found.old trail.old
-        (λ x. x ≡ past (means found.old item) (option_to_list bound) end) }
-    ensures adds { Adds end (λ x. x ≡ past (means found.old item) (option_to_list bound) end) budget
-        found.old found.new result }
-    ensures ways { OnOk result (Records (By (Node prev done)
-        (λ x. x ≡ past (means found.old item) (option_to_list bound) end))
+        (λ x. x ≡ past (means found.old from.item) (option_to_list bound) end) }
+    ensures adds { Adds end (λ x. x ≡ past (means found.old from.item) (option_to_list bound) end)
+        context.now.budget found.old found.new result }
+    ensures ways { OnOk result (Records (By (Node from.number done)
+        (λ x. x ≡ past (means found.old from.item) (option_to_list bound) end))
         found.old found.new trail.old trail.new) }
 {
-    let behind = past(alloc, &mut found.envs, item, bound, end)?;
-    add_returned(found, trail, behind, prev, done, budget)
+    let behind = past(context.alloc, &mut found.envs, from.item, bound, end)?;
+    add_returned(context, found, trail, behind, from.number, done)
 }
 
 /// Adds the item after a call that binds nothing and came to `end`, the position. It came about
@@ -238,19 +243,19 @@ pub(crate) fn go_behind_call(
 /// returns are such ones, so the item stays in registers.
 #[inline(always)]
 pub(crate) fn go_behind_bare_call(
+    context: &Context<'_>,
     found: &mut Found,
     trail: &mut Trail,
     item: Item,
-    end: u32,
     prev: u32,
     done: u32,
-    budget: u32,
+    end: u32,
 ) -> Result<(), RunFault>
     requires named { Named found.old item }
     requires indexed { IsIndexed found.old trail.old }
     requires by_nodes { ComeByNodes found.old trail.old
         (λ x. x ≡ past (means found.old item) [] end) }
-    ensures adds { Adds end (λ x. x ≡ past (means found.old item) [] end) budget
+    ensures adds { Adds end (λ x. x ≡ past (means found.old item) [] end) context.now.budget
         found.old found.new result }
     ensures ways { OnOk result (Records (By (Node prev done)
         (λ x. x ≡ past (means found.old item) [] end))
@@ -266,38 +271,37 @@ pub(crate) fn go_behind_bare_call(
         env: item.env,
         position: end,
     };
-    add_returned(found, trail, behind, prev, done, budget)
+    add_returned(context, found, trail, behind, prev, done)
 }
 
-/// Adds the item after its next step, which bound this value and came to `end`, a later position.
-/// It came about from the item of number `prev`.
+/// Adds the item after the next step of `from`, which bound this value and came to `end`, a later
+/// position.
 pub(crate) fn go_later(
-    alloc: Global,
+    context: &Context<'_>,
     found: &mut Found,
     trail: &mut Trail,
-    item: Item,
+    from: Taken,
     bound: Option<Value>,
     end: u32,
-    prev: u32,
-    budget: u32,
 ) -> Result<(), RunFault>
-    requires named { Named found.old item }
+    requires named { Named found.old from.item }
     requires all_named { AreNamed found.old }
-    requires later { item.position < end }
-    ensures adds { AddsLater item.position (past (means found.old item) (option_to_list bound) end)
-        budget found.old found.new result }
-    ensures ways { OnOk result (RecordsLater prev
-        (past (means found.old item) (option_to_list bound) end)
+    requires later { from.item.position < end }
+    ensures adds { AddsLater from.item.position
+        (past (means found.old from.item) (option_to_list bound) end)
+        context.now.budget found.old found.new result }
+    ensures ways { OnOk result (RecordsLater from.number
+        (past (means found.old from.item) (option_to_list bound) end)
         found.old found.new trail.old trail.new) }
 {
-    let behind = past(alloc, &mut found.envs, item, bound, end)?;
+    let behind = past(context.alloc, &mut found.envs, from.item, bound, end)?;
     let Ok(()) = found.later.push(behind) else {
         return Err(RunFault::Memory);
     };
-    let Ok(()) = trail.later.push(prev) else {
+    let Ok(()) = trail.later.push(from.number) else {
         return Err(RunFault::Memory);
     };
-    keep_within(found, budget)
+    keep_within(found, context.budget)
 }
 
 /// The item after its next step, which bound this value and came to `end`. Its environment is added

@@ -7,6 +7,7 @@
 #![tactic(auto)]
 
 mod compiled;
+mod context;
 mod found;
 mod instance_set;
 mod interning;

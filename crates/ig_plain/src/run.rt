@@ -1,5 +1,5 @@
 //! An item is taken: all that follows from it and those before it is added.
-ghost use Rattle.std.specs.Prelude.{◌≡◌, ◌↔◌, ◌<◌, ◌+◌, ◌++◌, ◌∷◌, [], Contains, IsTrue};
+ghost use Rattle.std.specs.Prelude.{◌≡◌, ◌↔◌, ◌<◌, ◌+◌, ◌++◌, ◌∷◌, [], IsTrue};
 ghost use Rattle.std.specs.Prelude.{MatchResult, None, OnOk, Some, length, map, option_map};
 ghost use Rattle.std.specs.Prelude.{slice_get};
 ghost use Rattle.ig_item.specs.Items.{IsComplete};
@@ -21,12 +21,12 @@ ghost use Rattle.ig_plain.specs.Run.{Taking, Takes};
 ghost use Rattle.ig_plain.specs.Trail.{AreKnown, By, ComeByNodes, EntersOn, HasTrail, IsIndexed};
 ghost use Rattle.ig_plain.specs.Trail.{IsNext, IsReturnBy, Records, TakesOn, Unfound};
 
-use crate::compiled::{Form, only};
-use crate::found::{Found, add_new, go_behind_bare_call, number_of};
+use crate::context::Context;
+use crate::found::{Found, Taken, add_new, go_behind_bare_call, number_of};
 use crate::interning::enter_arguments;
 use crate::moves::{go_behind, take_bind, take_terminal, take_test, values_at};
-use crate::names::{Dots, known_at};
-use crate::steps::argument_values;
+use crate::names::{Known, known_at};
+use crate::steps::{Marks, argument_values};
 use crate::trail::Trail;
 use crate::waiting::{Caller, Waiting, add_called, add_caller, add_end, end_at, first_caller};
 use ig_expr::Expr;
@@ -34,29 +34,35 @@ use ig_item::{
     Core, FurtherEnd, InstanceKey, Item, RunFault, Step, Way, Ways, environments_fit,
     items_are_in_text, reachable_is_closed,
 };
-use ig_text::{Pattern, Sequence, Text, Word};
-use std::alloc::{AllocError, Global};
+use std::alloc::AllocError;
+
+/// What a run has come to.
+#[derive(Drop)]
+pub(crate) struct Run {
+    pub(crate) found: Found,
+    pub(crate) waiting: Waiting,
+    pub(crate) trail: Trail,
+}
 
 /// Adds the first item of each alternative of an instance that starts at the position. None of them
 /// is there.
 pub(crate) fn add_firsts(
-    core: &Core,
+    context: &Context<'_>,
     found: &mut Found,
     trail: &mut Trail,
     instance: u32,
     key: InstanceKey,
-    budget: u32,
 ) -> Result<(), RunFault>
     requires all_named { AreNamed found.old }
     requires there { slice_get found.old.keys instance ≡ Some key }
     requires new { Unfound found.old
-        (IsFirstOf core.now (instance_by found.old.envs.keys key)) }
-    ensures adds { Adds key.start (IsFirstOf core.now (instance_by found.old.envs.keys key)) budget
-        found.old found.new result }
-    ensures ways { OnOk result (Records (By Begin (IsFirstOf core.now
+        (IsFirstOf context.now.core.now (instance_by found.old.envs.keys key)) }
+    ensures adds { Adds key.start (IsFirstOf context.now.core.now
+        (instance_by found.old.envs.keys key)) context.now.budget found.old found.new result }
+    ensures ways { OnOk result (Records (By Begin (IsFirstOf context.now.core.now
         (instance_by found.old.envs.keys key))) found.old found.new trail.old trail.new) }
 {
-    let Some(count) = core.alternatives(key.nonterminal) else {
+    let Some(count) = context.core.alternatives(key.nonterminal) else {
         return Ok(());
     };
     for alternative in 0..count {
@@ -67,7 +73,7 @@ pub(crate) fn add_firsts(
             env: key.env,
             position: key.start,
         };
-        add_new(found, trail, first, Way::Begin, budget)?;
+        add_new(context, found, trail, first, Way::Begin)?;
     }
     Ok(())
 }
@@ -92,46 +98,44 @@ fn nonterminal_of(found: &Found, item: Item) -> u32
 /// Adds the item behind the call before which the caller stands, for a callee that ended at `end`
 /// and whose first complete item there is `done`.
 fn return_to(
-    alloc: Global,
-    core: &Core,
-    text: &Text,
+    context: &Context<'_>,
     found: &mut Found,
     trail: &mut Trail,
     caller: Caller,
     done: u32,
     end: u32,
-    budget: u32,
 ) -> Result<(), RunFault>
     requires named { Named found.old caller.item }
     requires all_named { AreNamed found.old }
-    requires calls { StandsAtCall core.now (means found.old caller.item) }
+    requires calls { StandsAtCall context.now.core.now (means found.old caller.item) }
     requires bare { IsTrue caller.is_bare →
-        StandsAtBareCall core.now (means found.old caller.item) }
+        StandsAtBareCall context.now.core.now (means found.old caller.item) }
     requires indexed { IsIndexed found.old trail.old }
-    requires by_nodes { ComeByNodes found.old trail.old (IsReturn core.now text.now (means found.old
-        caller.item) end) }
-    ensures adds { Adds end (IsReturn core.now text.now (means found.old caller.item) end) budget
-        found.old found.new result }
-    ensures ways { OnOk result (Records (By (Node caller.number done) (IsReturn core.now text.now
-        (means found.old caller.item) end)) found.old found.new trail.old trail.new) }
+    requires by_nodes { ComeByNodes found.old trail.old (IsReturn context.now.core.now
+        context.now.text.now (means found.old caller.item) end) }
+    ensures adds { Adds end (IsReturn context.now.core.now context.now.text.now (means found.old
+        caller.item) end) context.now.budget found.old found.new result }
+    ensures ways { OnOk result (Records (By (Node caller.number done) (IsReturn
+        context.now.core.now context.now.text.now (means found.old caller.item) end))
+        found.old found.new trail.old trail.new) }
 {
+    let item = caller.item;
     let number = caller.number;
     if caller.is_bare {
         // By `?`, so that the walk over the callers goes on without a second test.
-        go_behind_bare_call(found, trail, caller.item, end, number, done, budget)?;
+        go_behind_bare_call(context, found, trail, item, number, done, end)?;
         return Ok(());
     }
-    let item = caller.item;
     let nonterminal = nonterminal_of(found, item);
-    let Some(step) = step_behind(core, nonterminal, item) else {
+    let Some(step) = step_behind(context.core, nonterminal, item) else {
         return Ok(());
     };
+    let from = Taken { item, number };
     match step {
         Step::Call { label, not, .. } => {
             let not = not.as_slice();
-            go_behind(
-                alloc, text, label, not, found, trail, item, number, done, end, budget,
-            )
+            let marks = Marks { label, not };
+            go_behind(context, found, trail, &marks, from, done, end)
         }
         _ => Ok(()),
     }
@@ -139,33 +143,30 @@ fn return_to(
 
 /// Adds the item behind the call before which each caller of the chain stands.
 fn return_to_all(
-    alloc: Global,
-    core: &Core,
-    text: &Text,
+    context: &Context<'_>,
     found: &mut Found,
     trail: &mut Trail,
     callers: &[Caller],
     head: u32,
     done: u32,
     end: u32,
-    budget: u32,
 ) -> Result<(), RunFault>
     requires all_named { AreNamed found.old }
-    requires chain { IsChainOf core.now callers.now head found.old }
-    requires known { AreKnown core.now found.old callers.now }
+    requires chain { IsChainOf context.now.core.now callers.now head found.old }
+    requires known { AreKnown context.now.core.now found.old callers.now }
     requires once { NoneTwice (found.old.done.items ++ found.old.here.items) }
     requires indexed { IsIndexed found.old trail.old }
-    requires by_nodes { ComeByNodes found.old trail.old (IsReturnToOne core.now text.now callers.now
-        head end found.old) }
-    ensures adds { Adds end (IsReturnToOne core.now text.now callers.now head end found.old) budget
-        found.old found.new result }
-    ensures ways { OnOk result (Records (IsReturnBy core.now text.now callers.now head done end
-        found.old) found.old found.new trail.old trail.new) }
+    requires by_nodes { ComeByNodes found.old trail.old (IsReturnToOne context.now.core.now
+        context.now.text.now callers.now head end found.old) }
+    ensures adds { Adds end (IsReturnToOne context.now.core.now context.now.text.now callers.now
+        head end found.old) context.now.budget found.old found.new result }
+    ensures ways { OnOk result (Records (IsReturnBy context.now.core.now context.now.text.now
+        callers.now head done end found.old) found.old found.new trail.old trail.new) }
 {
     let mut at = head;
     while at > 0 {
         let caller = callers[at as usize - 1];
-        return_to(alloc, core, text, found, trail, caller, done, end, budget)?;
+        return_to(context, found, trail, caller, done, end)?;
         at = caller.next;
     }
     Ok(())
@@ -191,182 +192,147 @@ fn add_further_end(ways: &mut Ways, first: u32, item: u32) -> Result<(), AllocEr
 
 /// Takes a complete item: each caller of its instance returns, unless another item that is complete
 /// here came before.
-fn take_complete(
-    alloc: Global,
-    core: &Core,
-    text: &Text,
-    found: &mut Found,
-    waiting: &mut Waiting,
-    trail: &mut Trail,
-    item: Item,
-    number: u32,
-    budget: u32,
-) -> Result<(), RunFault>
-    requires taking { Taking core.now text.now budget item found.old waiting.old }
-    requires next { IsNext core.now text.now item number found.old waiting.old trail.old }
-    requires complete { IsComplete core.now (means found.old item) }
-    ensures takes { Takes core.now text.now budget item found.old found.new waiting.new result }
-    ensures trail { TakesOn core.now text.now item found.old found.new waiting.new trail.new
-        result }
+fn take_complete(context: &Context<'_>, run: &mut Run, taken: Taken) -> Result<(), RunFault>
+    requires taking { Taking context.now.core.now context.now.text.now context.now.budget
+        taken.item run.old.found run.old.waiting }
+    requires next { IsNext context.now.core.now context.now.text.now taken.item taken.number
+        run.old.found run.old.waiting run.old.trail }
+    requires complete { IsComplete context.now.core.now (means run.old.found taken.item) }
+    ensures takes { Takes context.now.core.now context.now.text.now context.now.budget taken.item
+        run.old.found run.new.found run.new.waiting result }
+    ensures trail { TakesOn context.now.core.now context.now.text.now taken.item run.old.found
+        run.new.found run.new.waiting run.new.trail result }
 {
     reachable_is_closed();
-    if let Some(first) = end_at(waiting, item.instance, item.position) {
-        add_further_end(&mut trail.ways, first, number)?;
+    let instance = taken.item.instance;
+    let end = taken.item.position;
+    if let Some(first) = end_at(&run.waiting, instance, end) {
+        add_further_end(&mut run.trail.ways, first, taken.number)?;
         return Ok(());
     }
-    add_end(waiting, item.instance, item.position, number);
-    let head = first_caller(waiting, item.instance);
-    let callers = waiting.callers.as_slice();
-    return_to_all(
-        alloc,
-        core,
-        text,
-        found,
-        trail,
-        callers,
-        head,
-        number,
-        item.position,
-        budget,
-    )
+    add_end(&mut run.waiting, instance, end, taken.number);
+    let head = first_caller(&run.waiting, instance);
+    let callers = run.waiting.callers.as_slice();
+    let found = &mut run.found;
+    let trail = &mut run.trail;
+    return_to_all(context, found, trail, callers, head, taken.number, end)
 }
 
 /// Whether a call has neither a label nor an excluded pattern.
-fn is_bare(label: &Option<Word>, not: &[Pattern]) -> bool
-    ensures { IsTrue result ↔ ((label.now ≡ None) × (not.now ≡ [])) }
+fn is_bare(marks: &Marks<'_>) -> bool
+    ensures { IsTrue result ↔ ((marks.now.label.now ≡ None) × (marks.now.not.now ≡ [])) }
 {
-    label.is_none() && not.is_empty()
+    marks.label.is_none() && marks.not.is_empty()
 }
 
 /// Takes an item before a call: it waits for the callee, whose first items are added unless another
 /// caller came before, and it returns where the callee ended here already.
 fn take_call(
-    alloc: Global,
-    core: &Core,
-    text: &Text,
-    names: &[Word],
+    context: &Context<'_>,
+    run: &mut Run,
+    known: &Known<'_>,
     nonterminal: u32,
     args: &[Expr],
-    forms: &[Form],
-    label: &Option<Word>,
-    not: &[Pattern],
-    found: &mut Found,
-    waiting: &mut Waiting,
-    trail: &mut Trail,
-    item: Item,
-    number: u32,
-    budget: u32,
+    marks: &Marks<'_>,
+    taken: Taken,
 ) -> Result<(), RunFault>
-    requires taking { Taking core.now text.now budget item found.old waiting.old }
-    requires next { IsNext core.now text.now item number found.old waiting.old trail.old }
-    requires before { StandsBefore core.now (means found.old item) names.now (Call nonterminal
-        (map expression_of args.now) label.now not.now) }
-    requires compiled { forms.now ≡ map (form_of names.now) (map expression_of args.now) }
-    ensures takes { Takes core.now text.now budget item found.old found.new waiting.new result }
-    ensures trail { TakesOn core.now text.now item found.old found.new waiting.new trail.new
-        result }
+    requires taking { Taking context.now.core.now context.now.text.now context.now.budget
+        taken.item run.old.found run.old.waiting }
+    requires next { IsNext context.now.core.now context.now.text.now taken.item taken.number
+        run.old.found run.old.waiting run.old.trail }
+    requires before { StandsBefore context.now.core.now (means run.old.found taken.item)
+        known.now.names.now (Call nonterminal (map expression_of args.now)
+        marks.now.label.now marks.now.not.now) }
+    requires compiled { known.now.forms.now ≡
+        map (form_of known.now.names.now) (map expression_of args.now) }
+    ensures takes { Takes context.now.core.now context.now.text.now context.now.budget taken.item
+        run.old.found run.new.found run.new.waiting result }
+    ensures trail { TakesOn context.now.core.now context.now.text.now taken.item run.old.found
+        run.new.found run.new.waiting run.new.trail result }
 {
     reachable_is_closed();
     items_are_in_text();
-    let values = values_at(&found.envs, item.env);
-    let Some(values) = argument_values(alloc, args, forms, names, values, item.position, text)?
-    else {
+    let start = taken.item.position;
+    let values = values_at(&run.found.envs, taken.item.env);
+    let Some(arguments) = argument_values(context, known, args, values, start)? else {
         return Ok(());
     };
-    let env = enter_arguments(&mut found.envs, values, item.env)?;
-    let start = item.position;
+    let env = enter_arguments(&mut run.found.envs, arguments, taken.item.env)?;
     let key = InstanceKey {
         nonterminal,
         env,
         start,
     };
-    let callee = call_instance(core, found, waiting, trail, key, budget)?;
-    add_caller(waiting, callee, item, number, is_bare(label, not))?;
-    let Some(done) = end_at(waiting, callee, start) else {
+    let callee = call_instance(context, run, key)?;
+    add_caller(&mut run.waiting, callee, taken, is_bare(marks))?;
+    let Some(done) = end_at(&run.waiting, callee, start) else {
         return Ok(());
     };
-    go_behind(
-        alloc, text, label, not, found, trail, item, number, done, start, budget,
-    )
+    let found = &mut run.found;
+    let trail = &mut run.trail;
+    go_behind(context, found, trail, marks, taken, done, start)
 }
 
 /// The number of the instance. Where it is new, its first items are added.
-fn call_instance(
-    core: &Core,
-    found: &mut Found,
-    waiting: &mut Waiting,
-    trail: &mut Trail,
-    key: InstanceKey,
-    budget: u32,
-) -> Result<u32, RunFault>
-    requires all_named { AreNamed found.old }
-    requires env { key.env < length found.old.envs.keys }
-    requires once { NoneTwice found.old.keys }
-    requires envs_once { NoneTwice found.old.envs.keys }
-    ensures enters { EntersInstance core.now budget key found.old found.new waiting.old waiting.new
-        result }
-    ensures trail { EntersOn core.now budget key found.old found.new waiting.old waiting.new
-        trail.old trail.new result }
+fn call_instance(context: &Context<'_>, run: &mut Run, key: InstanceKey) -> Result<u32, RunFault>
+    requires all_named { AreNamed run.old.found }
+    requires env { key.env < length run.old.found.envs.keys }
+    requires once { NoneTwice run.old.found.keys }
+    requires envs_once { NoneTwice run.old.found.envs.keys }
+    ensures enters { EntersInstance context.now.core.now context.now.budget key run.old.found
+        run.new.found run.old.waiting run.new.waiting result }
+    ensures trail { EntersOn context.now.core.now context.now.budget key run.old.found
+        run.new.found run.old.waiting run.new.waiting run.old.trail run.new.trail result }
 {
-    let (callee, is_new) = found.keys.enter(key)?;
+    let (callee, is_new) = run.found.keys.enter(key)?;
     if is_new {
-        add_called(waiting)?;
-        add_firsts(core, found, trail, callee, key, budget)?;
+        add_called(&mut run.waiting)?;
+        add_firsts(context, &mut run.found, &mut run.trail, callee, key)?;
     }
     Ok(callee)
 }
 
-/// Takes an item, which has that number, before a step.
+/// Takes an item of that nonterminal before a step.
 fn take_step(
-    alloc: Global,
-    core: &Core,
-    text: &Text,
-    dots: &[Sequence<Dots>],
+    context: &Context<'_>,
+    run: &mut Run,
     nonterminal: u32,
     step: &Step,
-    found: &mut Found,
-    waiting: &mut Waiting,
-    trail: &mut Trail,
-    item: Item,
-    number: u32,
-    budget: u32,
+    taken: Taken,
 ) -> Result<(), RunFault>
-    requires taking { Taking core.now text.now budget item found.old waiting.old }
-    requires next { IsNext core.now text.now item number found.old waiting.old trail.old }
-    requires dots { dots.now ≡ all_dots core.now }
-    requires nonterminal { nonterminal ≡ (means found.old item).instance.nonterminal }
-    requires stands { Stands core.now (means found.old item) (step_of step.now) }
-    ensures takes { Takes core.now text.now budget item found.old found.new waiting.new result }
-    ensures trail { TakesOn core.now text.now item found.old found.new waiting.new trail.new
-        result }
+    requires taking { Taking context.now.core.now context.now.text.now context.now.budget
+        taken.item run.old.found run.old.waiting }
+    requires next { IsNext context.now.core.now context.now.text.now taken.item taken.number
+        run.old.found run.old.waiting run.old.trail }
+    requires dots { context.now.dots.now ≡ all_dots context.now.core.now }
+    requires nonterminal { nonterminal ≡ (means run.old.found taken.item).instance.nonterminal }
+    requires stands { Stands context.now.core.now (means run.old.found taken.item)
+        (step_of step.now) }
+    ensures takes { Takes context.now.core.now context.now.text.now context.now.budget taken.item
+        run.old.found run.new.found run.new.waiting result }
+    ensures trail { TakesOn context.now.core.now context.now.text.now taken.item run.old.found
+        run.new.found run.new.waiting run.new.trail result }
 {
     reachable_is_closed();
+    let found = &mut run.found;
+    let trail = &mut run.trail;
     match step {
         Step::Term { what, label, not } => {
             let not = not.as_slice();
-            take_terminal(
-                alloc, text, what, label, not, found, trail, item, number, budget,
-            )
+            let marks = Marks { label, not };
+            take_terminal(context, found, trail, what, &marks, taken)
         }
         Step::Test(condition) => {
-            let Some(known) = known_at(dots, nonterminal, item) else {
+            let Some(known) = known_at(context.dots, nonterminal, taken.item) else {
                 return Err(RunFault::Memory);
             };
-            let names = known.names;
-            let form = only(known.forms);
-            take_test(
-                alloc, text, names, condition, form, found, trail, item, number, budget,
-            )
+            take_test(context, found, trail, &known, condition, taken)
         }
         Step::Bind(_, expression) => {
-            let Some(known) = known_at(dots, nonterminal, item) else {
+            let Some(known) = known_at(context.dots, nonterminal, taken.item) else {
                 return Err(RunFault::Memory);
             };
-            let names = known.names;
-            let form = only(known.forms);
-            take_bind(
-                alloc, text, names, expression, form, found, trail, item, number, budget,
-            )
+            take_bind(context, found, trail, &known, expression, taken)
         }
         Step::Call {
             nonterminal: callee,
@@ -374,17 +340,13 @@ fn take_step(
             label,
             not,
         } => {
-            let Some(known) = known_at(dots, nonterminal, item) else {
+            let Some(known) = known_at(context.dots, nonterminal, taken.item) else {
                 return Err(RunFault::Memory);
             };
-            let names = known.names;
-            let forms = known.forms;
             let args = args.as_slice();
             let not = not.as_slice();
-            take_call(
-                alloc, core, text, names, *callee, args, forms, label, not, found, waiting, trail,
-                item, number, budget,
-            )
+            let marks = Marks { label, not };
+            take_call(context, run, &known, *callee, args, &marks, taken)
         }
     }
 }
@@ -398,48 +360,31 @@ pub(crate) fn keep_well_kinded(core: &Core)
 
 /// Takes the item at that place among those at the position.
 pub(crate) fn take(
-    alloc: Global,
-    core: &Core,
-    text: &Text,
-    dots: &[Sequence<Dots>],
-    found: &mut Found,
-    waiting: &mut Waiting,
-    trail: &mut Trail,
+    context: &Context<'_>,
+    run: &mut Run,
     place: usize,
     position: u32,
-    budget: u32,
 ) -> Result<(), RunFault>
-    requires run { IsRun core.now text.now budget position place found.old waiting.old }
-    requires trail { HasTrail core.now text.now position place found.old waiting.old trail.old }
-    requires there { place < length found.old.here.items }
-    requires dots { dots.now ≡ all_dots core.now }
-    ensures run { MatchResult result (λ _. IsRun core.now text.now budget position (place + 1)
-        found.new waiting.new) (Refuses core.now text.now budget) }
-    ensures trail { OnOk result (HasTrail core.now text.now position (place + 1) found.new
-        waiting.new trail.new) }
+    requires run { IsRun context.now.core.now context.now.text.now context.now.budget position
+        place run.old.found run.old.waiting }
+    requires trail { HasTrail context.now.core.now context.now.text.now position place
+        run.old.found run.old.waiting run.old.trail }
+    requires there { place < length run.old.found.here.items }
+    requires dots { context.now.dots.now ≡ all_dots context.now.core.now }
+    ensures run { MatchResult result (λ _. IsRun context.now.core.now context.now.text.now
+        context.now.budget position (place + 1) run.new.found run.new.waiting)
+        (Refuses context.now.core.now context.now.text.now context.now.budget) }
+    ensures trail { OnOk result (HasTrail context.now.core.now context.now.text.now position
+        (place + 1) run.new.found run.new.waiting run.new.trail) }
 {
     environments_fit();
-    keep_well_kinded(core);
-    let item = item_at(found, place);
-    let number = number_of(found, place)?;
-    let nonterminal = nonterminal_of(found, item);
-    match step_behind(core, nonterminal, item) {
-        Some(step) => take_step(
-            alloc,
-            core,
-            text,
-            dots,
-            nonterminal,
-            step,
-            found,
-            waiting,
-            trail,
-            item,
-            number,
-            budget,
-        ),
-        None => take_complete(
-            alloc, core, text, found, waiting, trail, item, number, budget,
-        ),
+    keep_well_kinded(context.core);
+    let item = item_at(&run.found, place);
+    let number = number_of(&run.found, place)?;
+    let taken = Taken { item, number };
+    let nonterminal = nonterminal_of(&run.found, item);
+    match step_behind(context.core, nonterminal, item) {
+        Some(step) => take_step(context, run, nonterminal, step, taken),
+        None => take_complete(context, run, taken),
     }
 }

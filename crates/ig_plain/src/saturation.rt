@@ -12,10 +12,11 @@ ghost use Rattle.ig_plain.specs.Names.{all_dots};
 ghost use Rattle.ig_plain.specs.Arrival.{ArrivesWith, IsNothing, IsParted};
 ghost use Rattle.ig_plain.specs.Trail.{ArrivesOn, HasTrail, IsUntrodden, PartsTrail};
 
+use crate::context::Context;
 use crate::found::Found;
 use crate::interning::enter_values;
-use crate::names::{Dots, dots_of_core};
-use crate::run::{add_firsts, keep_well_kinded, take};
+use crate::names::dots_of_core;
+use crate::run::{Run, add_firsts, keep_well_kinded, take};
 use crate::trail::Trail;
 use crate::waiting::{Waiting, add_called};
 use ig_expr::Values;
@@ -23,34 +24,25 @@ use ig_item::{
     Core, EnvironmentTable, InstanceKey, Item, Items, Recorded, RunFault, Way, Ways,
     items_are_in_text, reachable_is_closed,
 };
-use ig_text::{Sequence, Text};
+use ig_text::Text;
 use std::alloc::{AllocError, Global};
 
 /// Takes all items at the position.
-fn take_all(
-    alloc: Global,
-    core: &Core,
-    text: &Text,
-    dots: &[Sequence<Dots>],
-    found: &mut Found,
-    waiting: &mut Waiting,
-    trail: &mut Trail,
-    position: u32,
-    budget: u32,
-) -> Result<(), RunFault>
-    requires run { IsRun core.now text.now budget position 0 found.old waiting.old }
-    requires trail { HasTrail core.now text.now position 0 found.old waiting.old trail.old }
-    requires dots { dots.now ≡ all_dots core.now }
-    ensures run { MatchResult result (λ _. IsRun core.now text.now budget position (length
-        found.new.here.items) found.new waiting.new) (Refuses core.now text.now budget) }
-    ensures trail { OnOk result (HasTrail core.now text.now position (length found.new.here.items)
-        found.new waiting.new trail.new) }
+fn take_all(context: &Context<'_>, run: &mut Run, position: u32) -> Result<(), RunFault>
+    requires run { IsRun context.now.core.now context.now.text.now context.now.budget position 0
+        run.old.found run.old.waiting }
+    requires trail { HasTrail context.now.core.now context.now.text.now position 0 run.old.found
+        run.old.waiting run.old.trail }
+    requires dots { context.now.dots.now ≡ all_dots context.now.core.now }
+    ensures run { MatchResult result (λ _. IsRun context.now.core.now context.now.text.now
+        context.now.budget position (length run.new.found.here.items) run.new.found
+        run.new.waiting) (Refuses context.now.core.now context.now.text.now context.now.budget) }
+    ensures trail { OnOk result (HasTrail context.now.core.now context.now.text.now position
+        (length run.new.found.here.items) run.new.found run.new.waiting run.new.trail) }
 {
     let mut place = 0;
-    while place < found.here.len() {
-        take(
-            alloc, core, text, dots, found, waiting, trail, place, position, budget,
-        )?;
+    while place < run.found.here.len() {
+        take(context, run, place, position)?;
         place += 1;
     }
     Ok(())
@@ -108,33 +100,27 @@ fn arrive(found: &mut Found, trail: &mut Trail, position: u32) -> Result<(), All
     )
 }
 
-/// A run at position 0 that has found the first items of the root.
-fn start(
-    alloc: Global,
-    core: &Core,
-    found: &mut Found,
-    waiting: &mut Waiting,
-    trail: &mut Trail,
-    budget: u32,
-) -> Result<(), RunFault>
-    requires empty { IsNothing found.old waiting.old }
-    requires untrodden { IsUntrodden waiting.old trail.old }
-    ensures run { (text : List ℕ) → MatchResult result (λ _. IsRun core.now text budget 0 0
-        found.new waiting.new) (Refuses core.now text budget) }
-    ensures trail { (text : List ℕ) → OnOk result (HasTrail core.now text 0 0 found.new waiting.new
-        trail.new) }
+/// Begins a run: it is at position 0 and has found the first items of the root.
+fn start(context: &Context<'_>, run: &mut Run) -> Result<(), RunFault>
+    requires empty { IsNothing run.old.found run.old.waiting }
+    requires untrodden { IsUntrodden run.old.waiting run.old.trail }
+    ensures run { (text : List ℕ) → MatchResult result (λ _. IsRun context.now.core.now text
+        context.now.budget 0 0 run.new.found run.new.waiting)
+        (Refuses context.now.core.now text context.now.budget) }
+    ensures trail { (text : List ℕ) → OnOk result (HasTrail context.now.core.now text 0 0
+        run.new.found run.new.waiting run.new.trail) }
 {
     reachable_is_closed();
-    keep_well_kinded(core);
-    let env = enter_values(&mut found.envs, Values::new(alloc))?;
+    keep_well_kinded(context.core);
+    let env = enter_values(&mut run.found.envs, Values::new(context.alloc))?;
     let key = InstanceKey {
         nonterminal: 0,
         env,
         start: 0,
     };
-    let (root, _) = found.keys.enter(key)?;
-    add_called(waiting)?;
-    add_firsts(core, found, trail, root, key, budget)
+    let (root, _) = run.found.keys.enter(key)?;
+    add_called(&mut run.waiting)?;
+    add_firsts(context, &mut run.found, &mut run.trail, root, key)
 }
 
 /// The last position.
@@ -145,70 +131,51 @@ fn last_position(text: &Text) -> u32
 }
 
 /// Takes all items at all positions.
-fn run_to_end(
-    alloc: Global,
-    core: &Core,
-    text: &Text,
-    dots: &[Sequence<Dots>],
-    found: &mut Found,
-    waiting: &mut Waiting,
-    trail: &mut Trail,
-    budget: u32,
-) -> Result<(), RunFault>
-    requires nothing { IsNothing found.old waiting.old }
-    requires untrodden { IsUntrodden waiting.old trail.old }
-    requires dots { dots.now ≡ all_dots core.now }
-    ensures run { MatchResult result (λ _. IsRun core.now text.now budget (length text.now) (length
-        found.new.here.items) found.new waiting.new) (Refuses core.now text.now budget) }
-    ensures trail { OnOk result (HasTrail core.now text.now (length text.now) (length
-        found.new.here.items) found.new waiting.new trail.new) }
+fn run_to_end(context: &Context<'_>, run: &mut Run) -> Result<(), RunFault>
+    requires nothing { IsNothing run.old.found run.old.waiting }
+    requires untrodden { IsUntrodden run.old.waiting run.old.trail }
+    requires dots { context.now.dots.now ≡ all_dots context.now.core.now }
+    ensures run { MatchResult result (λ _. IsRun context.now.core.now context.now.text.now
+        context.now.budget (length context.now.text.now) (length run.new.found.here.items)
+        run.new.found run.new.waiting)
+        (Refuses context.now.core.now context.now.text.now context.now.budget) }
+    ensures trail { OnOk result (HasTrail context.now.core.now context.now.text.now
+        (length context.now.text.now) (length run.new.found.here.items) run.new.found
+        run.new.waiting run.new.trail) }
 {
-    start(alloc, core, found, waiting, trail, budget)?;
-    take_all(alloc, core, text, dots, found, waiting, trail, 0, budget)?;
-    for before in 0..last_position(text) {
+    start(context, run)?;
+    take_all(context, run, 0)?;
+    for before in 0..last_position(context.text) {
         let position = before + 1;
-        arrive(found, trail, position)?;
-        take_all(
-            alloc, core, text, dots, found, waiting, trail, position, budget,
-        )?;
+        arrive(&mut run.found, &mut run.trail, position)?;
+        take_all(context, run, position)?;
     }
     Ok(())
 }
 
-/// A run at the end of the text.
-#[derive(Drop)]
-struct Ended {
-    found: Found,
-    waiting: Waiting,
-    trail: Trail,
-}
-
 /// A run that has taken all items.
-fn completed(alloc: Global, core: &Core, text: &Text, budget: u32) -> Result<Ended, RunFault>
+fn completed(alloc: Global, core: &Core, text: &Text, budget: u32) -> Result<Run, RunFault>
     ensures run { MatchResult result (λ r. IsRun core.now text.now budget (length text.now) (length
         r.found.here.items) r.found r.waiting) (Refuses core.now text.now budget) }
     ensures trail { IfOk result (λ r. HasTrail core.now text.now (length text.now) (length
         r.found.here.items) r.found r.waiting r.trail) }
 {
     let dots = dots_of_core(alloc, core)?;
-    let mut trail = Trail::new(alloc)?;
-    let mut found = Found::new(alloc);
-    let mut waiting = Waiting::new(alloc);
-    run_to_end(
+    let context = Context {
         alloc,
         core,
         text,
-        dots.as_slice(),
-        &mut found,
-        &mut waiting,
-        &mut trail,
+        dots: dots.as_slice(),
         budget,
-    )?;
-    Ok(Ended {
-        found,
-        waiting,
+    };
+    let trail = Trail::new(alloc)?;
+    let mut run = Run {
+        found: Found::new(alloc),
+        waiting: Waiting::new(alloc),
         trail,
-    })
+    };
+    run_to_end(&context, &mut run)?;
+    Ok(run)
 }
 
 /// The environments, in a table.
@@ -281,7 +248,7 @@ pub fn saturate_with_ways<'a>(
 {
     items_are_in_text();
     let whole = completed(alloc, core, text, budget)?;
-    let Ended { found, trail, .. } = whole;
+    let Run { found, trail, .. } = whole;
     let items = finish(alloc, found)?;
     Ok(Recorded::of(core, text, items, trail.ways))
 }

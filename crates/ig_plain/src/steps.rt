@@ -11,10 +11,21 @@ ghost use Rattle.ig_plain.specs.Compiled.{form_of, values_in};
 ghost use Rattle.ig_plain.specs.declared.interning.Arguments.{Arguments};
 
 use crate::compiled::{Form, are_own, value};
+use crate::context::Context;
 use crate::interning::{Arguments, push_value};
+use crate::names::Known;
 use ig_expr::{Expr, Value, Values};
 use ig_text::{Pattern, Span, Text, Word};
-use std::alloc::{AllocError, Global};
+use std::alloc::AllocError;
+
+/// What a step says of the text that it covers.
+#[derive(Clone, Copy)]
+pub(crate) struct Marks<'a> {
+    /// The name to which its span is bound, if any.
+    pub(crate) label: &'a Option<Word>,
+    /// The patterns of which it is to be no match.
+    pub(crate) not: &'a [Pattern],
+}
 
 /// Whether the text from i to j is a match of none of the patterns.
 pub(crate) fn matches_none(patterns: &[Pattern], text: &Text, i: u32, j: u32) -> bool
@@ -75,74 +86,75 @@ fn holds(value: Option<Value>) -> bool
     }
 }
 
-/// The values of the arguments, which have these forms; `None` exactly where one of them has no
-/// value. They mostly are the values of the environment; then no list is made.
+/// The values of the arguments; `None` exactly where one of them has no value. They mostly are the
+/// values of the environment; then no list is made.
 pub(crate) fn argument_values(
-    alloc: Global,
+    context: &Context<'_>,
+    known: &Known<'_>,
     arguments: &[Expr],
-    forms: &[Form],
-    names: &[Word],
     values: &[Value],
     here: u32,
-    text: &Text,
 ) -> Result<Option<Arguments>, AllocError>
-    requires { forms.now ≡ map (form_of names.now) (map expression_of arguments.now) }
-    ensures none { IfOk result (λ r. r ≡ None → (vs : List Value) → map (value_of text.now
-        names.now values.now here) (map expression_of arguments.now) ≡ map Some vs → ⊥) }
-    ensures some { IfOk result (λ r. (a : Arguments) → r ≡ Some a → map (value_of text.now
-        names.now values.now here) (map expression_of arguments.now)
+    requires { known.now.forms.now ≡
+        map (form_of known.now.names.now) (map expression_of arguments.now) }
+    ensures none { IfOk result (λ r. r ≡ None → (vs : List Value) → map (value_of
+        context.now.text.now known.now.names.now values.now here) (map expression_of arguments.now)
+        ≡ map Some vs → ⊥) }
+    ensures some { IfOk result (λ r. (a : Arguments) → r ≡ Some a → map (value_of
+        context.now.text.now known.now.names.now values.now here) (map expression_of arguments.now)
         ≡ map Some (values_in values.now a)) }
 {
-    if are_own(forms, values, here) {
+    if are_own(known.forms, values, here) {
         return Ok(Some(Arguments::Own));
     }
-    listed(alloc, arguments, forms, names, values, here, text)
+    listed(context, known, arguments, values, here)
 }
 
-/// The values of the arguments, which have these forms, in a list of their own; `None` exactly
-/// where one of them has no value.
+/// The values of the arguments in a list of their own; `None` exactly where one of them has no
+/// value.
 fn listed(
-    alloc: Global,
+    context: &Context<'_>,
+    known: &Known<'_>,
     arguments: &[Expr],
-    forms: &[Form],
-    names: &[Word],
     values: &[Value],
     here: u32,
-    text: &Text,
 ) -> Result<Option<Arguments>, AllocError>
-    requires { forms.now ≡ map (form_of names.now) (map expression_of arguments.now) }
-    ensures none { IfOk result (λ r. r ≡ None → (vs : List Value) → map (value_of text.now
-        names.now values.now here) (map expression_of arguments.now) ≡ map Some vs → ⊥) }
-    ensures some { IfOk result (λ r. (a : Arguments) → r ≡ Some a → map (value_of text.now
-        names.now values.now here) (map expression_of arguments.now)
+    requires { known.now.forms.now ≡
+        map (form_of known.now.names.now) (map expression_of arguments.now) }
+    ensures none { IfOk result (λ r. r ≡ None → (vs : List Value) → map (value_of
+        context.now.text.now known.now.names.now values.now here) (map expression_of arguments.now)
+        ≡ map Some vs → ⊥) }
+    ensures some { IfOk result (λ r. (a : Arguments) → r ≡ Some a → map (value_of
+        context.now.text.now known.now.names.now values.now here) (map expression_of arguments.now)
         ≡ map Some (values_in values.now a)) }
 {
-    match listed_values(alloc, arguments, forms, names, values, here, text)? {
+    match listed_values(context, known, arguments, values, here)? {
         Some(list) => Ok(Some(Arguments::Listed(list))),
         None => Ok(None),
     }
 }
 
-/// The values of the arguments, which have these forms, in a list; `None` exactly where one of them
-/// has no value.
+/// The values of the arguments in a list; `None` exactly where one of them has no value.
 fn listed_values(
-    alloc: Global,
+    context: &Context<'_>,
+    known: &Known<'_>,
     arguments: &[Expr],
-    forms: &[Form],
-    names: &[Word],
     values: &[Value],
     here: u32,
-    text: &Text,
 ) -> Result<Option<Values>, AllocError>
-    requires { forms.now ≡ map (form_of names.now) (map expression_of arguments.now) }
-    ensures none { IfOk result (λ r. r ≡ None → (vs : List Value) → map (value_of text.now
-        names.now values.now here) (map expression_of arguments.now) ≡ map Some vs → ⊥) }
-    ensures some { IfOk result (λ r. (vs : List Value) → r ≡ Some vs → map (value_of text.now
-        names.now values.now here) (map expression_of arguments.now) ≡ map Some vs) }
+    requires { known.now.forms.now ≡
+        map (form_of known.now.names.now) (map expression_of arguments.now) }
+    ensures none { IfOk result (λ r. r ≡ None → (vs : List Value) → map (value_of
+        context.now.text.now known.now.names.now values.now here) (map expression_of arguments.now)
+        ≡ map Some vs → ⊥) }
+    ensures some { IfOk result (λ r. (vs : List Value) → r ≡ Some vs → map (value_of
+        context.now.text.now known.now.names.now values.now here) (map expression_of arguments.now)
+        ≡ map Some vs) }
 {
-    let mut list = Values::new(alloc);
+    let mut list = Values::new(context.alloc);
     for (place, argument) in arguments.iter().enumerate() {
-        match value(&forms[place], argument, names, values, here, text) {
+        let form = &known.forms[place];
+        match value(form, argument, known.names, values, here, context.text) {
             Some(value) => push_value(&mut list, value)?,
             None => return Ok(None),
         }

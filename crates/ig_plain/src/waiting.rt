@@ -5,6 +5,7 @@ ghost use Rattle.ig_plain.specs.Waiting as waits;
 ghost use Rattle.ig_plain.specs.Waiting.{called_at, lengthened, linked, not_called, with_caller};
 ghost use Rattle.ig_plain.specs.Waiting.{with_end};
 
+use crate::found::Taken;
 use ig_item::Item;
 use std::alloc::{AllocError, Global};
 
@@ -85,18 +86,17 @@ fn link(callers: &mut Vec<Caller>, last: u32, next: u32)
     }
 }
 
-/// Makes the item, which has that number, the last caller of the instance.
+/// Makes the item the last caller of the instance.
 pub(crate) fn add_caller(
     waiting: &mut Waiting,
     callee: u32,
-    item: Item,
-    number: u32,
+    taken: Taken,
     is_bare: bool,
 ) -> Result<(), AllocError>
     requires there { callee < length waiting.old.called.items }
     requires last { (called_at waiting.old callee).last ≤ length waiting.old.callers.items }
     ensures callers { OnOk result (waiting.new.callers.items ≡ lengthened waiting.old.callers.items
-        (called_at waiting.old callee).last item number is_bare) }
+        (called_at waiting.old callee).last taken.item taken.number is_bare) }
     ensures called { OnOk result (waiting.new.called.items ≡ set waiting.old.called.items callee
         (with_caller (called_at waiting.old callee) (suc (length waiting.old.callers.items)))) }
 {
@@ -105,8 +105,8 @@ pub(crate) fn add_caller(
         return Err(AllocError);
     };
     waiting.callers.push(Caller {
-        item,
-        number,
+        item: taken.item,
+        number: taken.number,
         is_bare,
         next: 0,
     })?;

@@ -9,12 +9,12 @@ use Rattle.ig_plain.proofs.found.add_behind_call.Goals as goal
 
 pub returns-in_err-number-clause-adds : goal.returns-in_err-number-clause-adds
 returns-in_err-number-clause-adds c =
-    adds_exit c.args.item.position _ c.args.budget c.args.found.now _ c.from_residual.result c.from_residual.ensures.1
+    adds_exit c.args.item.position _ c.args.context.now.budget c.args.found.now _ c.from_residual.result c.from_residual.ensures.1
     (grows_not c.args.item.position _ c.args.found.now _ (extends_itself c.args.found.now.envs.keys) (λ h. h) refl refl refl refl)
 
 pub returns-in_err-add-clause-adds : goal.returns-in_err-add-clause-adds
 returns-in_err-add-clause-adds c =
-    adds_exit c.args.item.position _ c.args.budget c.args.found.now _ c.from_residual-in_err-add.result c.from_residual-in_err-add.ensures.1
+    adds_exit c.args.item.position _ c.args.context.now.budget c.args.found.now _ c.from_residual-in_err-add.result c.from_residual-in_err-add.ensures.1
     (grows_not c.args.item.position _ c.args.found.now _ (extends_itself c.args.found.now.envs.keys) (λ h. h) refl refl refl refl)
 
 pub returns-clause-ways : goal.returns-clause-ways

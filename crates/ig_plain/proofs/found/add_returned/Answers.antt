@@ -17,13 +17,13 @@ add_behind_call-requires-clause-new c =
 
 pub returns-in_err-add_further_way-clause-adds : goal.returns-in_err-add_further_way-clause-adds
 returns-in_err-add_further_way-clause-adds c =
-    adds_exit c.args.item.position _ c.args.budget c.args.found.now _ c.from_residual.result c.from_residual.ensures.1
+    adds_exit c.args.item.position _ c.args.context.now.budget c.args.found.now _ c.from_residual.result c.from_residual.ensures.1
     (grows_not c.args.item.position _ c.args.found.now _ (extends_itself c.args.found.now.envs.keys) (λ h. h) refl refl refl refl)
 
 pub returns-clause-adds : goal.returns-clause-adds
 returns-clause-adds c =
     let at = meant_at c.args.found.now c.in-Some.item c.args.item (c.requires.indexed.sound (entry c.args.item c.in-Some.item) c.in-Some.ensures.some) in
-    adds_nothing c.args.item.position (λ x. x ≡ means c.args.found.now c.args.item) c.args.budget c.args.found.now
+    adds_nothing c.args.item.position (λ x. x ≡ means c.args.found.now c.args.item) c.args.context.now.budget c.args.found.now
     (λ x e. Contains-append_left (found_in c.args.found.now) (later_in c.args.found.now) x
     (subst (Contains (found_in c.args.found.now)) (sym e)
     (contains_from_at (found_in c.args.found.now) c.in-Some.item (means c.args.found.now c.args.item) at)))

@@ -13,7 +13,7 @@ use Rattle.ig_plain.proofs.found.go_behind_bare_call.Goals as goal
 
 pub returns-in_default-clause-adds : goal.returns-in_default-clause-adds
 returns-in_default-clause-adds c =
-    adds_fails c.args.end _ c.args.budget c.args.found.now c.args.found.now Memory refl
+    adds_fails c.args.end _ c.args.context.now.budget c.args.found.now c.args.found.now Memory refl
     (grows_not c.args.end _ c.args.found.now c.args.found.now (extends_itself c.args.found.now.envs.keys) (λ h. h) refl refl refl refl)
 
 pub add_returned-requires-clause-by_node : goal.add_returned-requires-clause-by_node
@@ -29,7 +29,7 @@ add_returned-requires-clause-by_node c k at =
 pub returns-clause-adds : goal.returns-clause-adds
 returns-clause-adds c =
     let is = bare_means c.args.found.now.envs.keys c.args.found.now.keys c.args.item c.args.end c.in-Some.dot (omega (arith, c.in-Some.ensures.1)) in
-    adds_alike c.args.end _ _ c.args.budget c.args.found.now c.add_returned.new.found c.add_returned.result (λ x e. e ∙ is) (λ x e. e ∙ sym is)
+    adds_alike c.args.end _ _ c.args.context.now.budget c.args.found.now c.add_returned.new.found c.add_returned.result (λ x e. e ∙ is) (λ x e. e ∙ sym is)
     c.add_returned.ensures.adds
 
 pub returns-clause-ways : goal.returns-clause-ways

@@ -6,7 +6,7 @@ use Rattle.ig_plain.proofs.found.go_later.Goals as goal
 
 pub returns-clause-adds : goal.returns-clause-adds
 returns-clause-adds c =
-    later_added c.args.item.position c.args.budget _ c.args.found.now _ c.in_ok-behind.behind c.keep_within.result
+    later_added c.args.from.item.position c.args.context.now.budget _ c.args.found.now _ c.in_ok-behind.behind c.keep_within.result
     (record {
       envs = c.in_ok-behind.ensures.extends;
       envs_once = c.in_ok-behind.ensures.once;
@@ -15,17 +15,17 @@ returns-clause-adds c =
       here = refl;
       item = c.in_ok-behind.behind;
       later = c.in-Ok.ensures.items;
-      named = past_named c.args.found.now.envs.keys c.past.new.envs.keys c.args.found.now.keys c.args.item c.args.bound c.args.end c.in_ok-behind.behind c.requires.named c.in_ok-behind.ensures.past;
-      behind = subst (λ z. c.args.item.position < z) (sym c.in_ok-behind.ensures.past.position) c.requires.later;
-      is = past_means c.args.found.now.envs.keys c.past.new.envs.keys c.args.found.now.keys c.args.item c.args.bound c.args.end c.in_ok-behind.behind
+      named = past_named c.args.found.now.envs.keys c.past.new.envs.keys c.args.found.now.keys c.args.from.item c.args.bound c.args.end c.in_ok-behind.behind c.requires.named c.in_ok-behind.ensures.past;
+      behind = subst (λ z. c.args.from.item.position < z) (sym c.in_ok-behind.ensures.past.position) c.requires.later;
+      is = past_means c.args.found.now.envs.keys c.past.new.envs.keys c.args.found.now.keys c.args.from.item c.args.bound c.args.end c.in_ok-behind.behind
           c.in_ok-behind.ensures.extends c.requires.all_named.values c.requires.named c.in_ok-behind.ensures.past;
     }) c.keep_within.ensures.within c.keep_within.ensures.fault
 
 pub returns-clause-ways : goal.returns-clause-ways
 returns-clause-ways c =
     ok_of c.keep_within.result
-    (records_later c.args.prev c.in_ok-behind.behind _ c.args.found.now _ c.args.trail.now _ c.requires.all_named c.in_ok-behind.ensures.extends
+    (records_later c.args.from.number c.in_ok-behind.behind _ c.args.found.now _ c.args.trail.now _ c.requires.all_named c.in_ok-behind.ensures.extends
     refl refl refl c.in-Ok.ensures.items
-    (past_means c.args.found.now.envs.keys c.past.new.envs.keys c.args.found.now.keys c.args.item c.args.bound c.args.end c.in_ok-behind.behind
+    (past_means c.args.found.now.envs.keys c.past.new.envs.keys c.args.found.now.keys c.args.from.item c.args.bound c.args.end c.in_ok-behind.behind
     c.in_ok-behind.ensures.extends c.requires.all_named.values c.requires.named c.in_ok-behind.ensures.past)
     refl c.in-Ok-push.ensures.items refl)

@@ -10,7 +10,7 @@ use Rattle.ig_plain.proofs.found.go_on.Goals as goal
 
 pub returns-in_err-behind-clause-adds : goal.returns-in_err-behind-clause-adds
 returns-in_err-behind-clause-adds c =
-    adds_exit c.args.end _ c.args.budget c.args.found.now _ c.from_residual.result c.from_residual.ensures.1
+    adds_exit c.args.end _ c.args.context.now.budget c.args.found.now _ c.from_residual.result c.from_residual.ensures.1
     (grows_not c.args.end _ c.args.found.now _ c.in_err-behind.ensures.extends c.in_err-behind.ensures.once refl refl refl refl)
 
 pub add_new-requires-clause-named : goal.add_new-requires-clause-named
@@ -29,10 +29,10 @@ returns-clause-adds c =
     let mid : Found = record { done = c.args.found.now.done; here = c.args.found.now.here; later = c.args.found.now.later; envs = c.past.new.envs; keys = c.args.found.now.keys } in
     let means_is = past_means c.args.found.now.envs.keys c.past.new.envs.keys c.args.found.now.keys c.args.item c.args.bound c.args.end c.in_ok-behind.behind
     c.in_ok-behind.ensures.extends c.requires.all_named.values c.requires.named c.in_ok-behind.ensures.past in
-    adds_after c.args.end _ c.args.budget c.args.found.now mid c.add_new.new.found c.add_new.result c.requires.all_named
+    adds_after c.args.end _ c.args.context.now.budget c.args.found.now mid c.add_new.new.found c.add_new.result c.requires.all_named
     (grows_not c.args.end _ c.args.found.now mid c.in_ok-behind.ensures.extends c.in_ok-behind.ensures.once refl refl refl refl) refl
-    (adds_alike c.args.end (λ x. x ≡ means mid c.in_ok-behind.behind) _ c.args.budget mid c.add_new.new.found c.add_new.result (λ x e. e ∙ means_is) (λ x e. e ∙ sym means_is)
-    (subst (λ z. Adds z (λ x. x ≡ means mid c.in_ok-behind.behind) c.args.budget mid c.add_new.new.found c.add_new.result) c.in_ok-behind.ensures.past.position c.add_new.ensures.adds))
+    (adds_alike c.args.end (λ x. x ≡ means mid c.in_ok-behind.behind) _ c.args.context.now.budget mid c.add_new.new.found c.add_new.result (λ x e. e ∙ means_is) (λ x e. e ∙ sym means_is)
+    (subst (λ z. Adds z (λ x. x ≡ means mid c.in_ok-behind.behind) c.args.context.now.budget mid c.add_new.new.found c.add_new.result) c.in_ok-behind.ensures.past.position c.add_new.ensures.adds))
 
 pub returns-clause-ways : goal.returns-clause-ways
 returns-clause-ways c =

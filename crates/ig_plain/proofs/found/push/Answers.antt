@@ -18,14 +18,14 @@ returns-in_default-clause-adds c =
 pub returns-in_err-push-clause-adds : goal.returns-in_err-push-clause-adds
 returns-in_err-push-clause-adds c =
     let one = added_only c.args.found.now.here.items c.push.new.self.items c.args.item c.in-Ok.ensures.items in
-    adds_exit c.args.item.position _ c.args.budget c.args.found.now _ c.from_residual.result c.from_residual.ensures.1
+    adds_exit c.args.item.position _ c.args.context.now.budget c.args.found.now _ c.from_residual.result c.from_residual.ensures.1
     (grows_here c.args.item.position c.args.found.now _ c.args.item c.requires.named refl refl refl refl refl one.extends one.only
     (added_once c.args.found.now.here.items c.push.new.self.items c.args.item c.in-Ok.ensures.items c.requires.new))
 
 pub returns-clause-adds : goal.returns-clause-adds
 returns-clause-adds c =
     let one = added_only c.args.found.now.here.items c.push.new.self.items c.args.item c.in-Ok.ensures.items in
-    adds_here c.args.item.position c.args.budget c.args.found.now _ c.args.item c.keep_within.result
+    adds_here c.args.item.position c.args.context.now.budget c.args.found.now _ c.args.item c.keep_within.result
     (grows_here c.args.item.position c.args.found.now _ c.args.item c.requires.named refl refl refl refl refl one.extends one.only
     (added_once c.args.found.now.here.items c.push.new.self.items c.args.item c.in-Ok.ensures.items c.requires.new))
     refl refl (added_there c.args.found.now.here.items c.push.new.self.items c.args.item c.in-Ok.ensures.items) c.keep_within.ensures.within

@@ -9,7 +9,7 @@ use Rattle.ig_plain.proofs.run.add_firsts.Given as goal
 abbrev pub invariant-loop-alternative : goal.invariant-loop-alternative
 invariant-loop-alternative l =
     record {
-      adds : Adds l.key.start (IsFirst l.core (instance_by l.initial.found.envs.keys l.key) l.alternative) l.budget l.initial.found l.found (Ok tt);
-      ways : Records (By Begin (IsFirst l.core (instance_by l.initial.found.envs.keys l.key) l.alternative)) l.initial.found l.found
+      adds : Adds l.key.start (IsFirst l.context.core.now (instance_by l.initial.found.envs.keys l.key) l.alternative) l.context.budget l.initial.found l.found (Ok tt);
+      ways : Records (By Begin (IsFirst l.context.core.now (instance_by l.initial.found.envs.keys l.key) l.alternative)) l.initial.found l.found
           l.initial.trail l.trail;
     }

@@ -5,14 +5,14 @@ use Rattle.ig_plain.proofs.run.call_instance.Goals as goal
 
 pub add_firsts-requires-clause-all_named : goal.add_firsts-requires-clause-all_named
 add_firsts-requires-clause-all_named c =
-    named_keys c.args.found.now _ c.args.key c.in_ok-callee.callee c.requires.all_named c.requires.env
+    named_keys c.args.run.now.found _ c.args.key c.in_ok-callee.callee c.requires.all_named c.requires.env
     (c.in_ok-callee.ensures.new c.if-is_new.true) refl refl refl refl
 
 pub returns-in_err-add_firsts-clause-enters : goal.returns-in_err-add_firsts-clause-enters
 returns-in_err-add_firsts-clause-enters c =
     λ text k r reach.
     at_exit c.from_residual-in_err-add_firsts.result _ _ c.in_err-add_firsts.field-0.0 c.from_residual-in_err-add_firsts.ensures.1
-    (refused_new c.args.core.now text c.args.budget k c.args.key c.args.found.now c.args.waiting.now r c.requires.env _ c.in_ok-callee.callee refl
+    (refused_new c.args.context.now.core.now text c.args.context.now.budget k c.args.key c.args.run.now.found c.args.run.now.waiting r c.requires.env _ c.in_ok-callee.callee refl
     refl refl refl
     c.in_ok-callee.ensures.once (c.in_ok-callee.ensures.new c.if-is_new.true) reach c.add_firsts.new.found c.in_err-add_firsts.field-0.0
     c.in_err-add_firsts.ensures.adds)
@@ -20,7 +20,7 @@ returns-in_err-add_firsts-clause-enters c =
 pub returns-in_ok-add_firsts-clause-enters : goal.returns-in_ok-add_firsts-clause-enters
 returns-in_ok-add_firsts-clause-enters c =
     λ text k r reach.
-    entered_new c.args.core.now text c.args.budget k c.args.key c.args.found.now c.args.waiting.now r c.requires.env _ c.in_ok-callee.callee refl
+    entered_new c.args.context.now.core.now text c.args.context.now.budget k c.args.key c.args.run.now.found c.args.run.now.waiting r c.requires.env _ c.in_ok-callee.callee refl
     refl refl refl
     c.in_ok-callee.ensures.once (c.in_ok-callee.ensures.new c.if-is_new.true) reach c.add_firsts.new.found c.add_called.new.waiting
     c.in_ok-add_called.ensures.called c.in_ok-add_called.ensures.callers c.in_ok-add_firsts.ensures.adds
@@ -28,18 +28,18 @@ returns-in_ok-add_firsts-clause-enters c =
 pub returns-else-is_new-clause-enters : goal.returns-else-is_new-clause-enters
 returns-else-is_new-clause-enters c =
     λ text k r reach.
-    entered_old c.args.core.now text c.args.budget k c.args.key c.args.found.now c.args.waiting.now r c.requires.env _ c.in_ok-callee.callee refl
+    entered_old c.args.context.now.core.now text c.args.context.now.budget k c.args.key c.args.run.now.found c.args.run.now.waiting r c.requires.env _ c.in_ok-callee.callee refl
     refl refl refl
     (c.in_ok-callee.ensures.old c.if-is_new.false) c.in_ok-callee.ensures.enters.there
 
 pub add_firsts-requires-clause-new : goal.add_firsts-requires-clause-new
 add_firsts-requires-clause-new c =
-    new_firsts c.args.core.now c.args.found.now
+    new_firsts c.args.context.now.core.now c.args.run.now.found
     (record {
-      done = c.args.found.now.done;
-      here = c.args.found.now.here;
-      later = c.args.found.now.later;
-      envs = c.args.found.now.envs;
+      done = c.args.run.now.found.done;
+      here = c.args.run.now.found.here;
+      later = c.args.run.now.found.later;
+      envs = c.args.run.now.found.envs;
       keys =
           c.enter.new.self;
     })
@@ -49,7 +49,7 @@ add_firsts-requires-clause-new c =
 pub returns-in_ok-add_firsts-clause-trail : goal.returns-in_ok-add_firsts-clause-trail
 returns-in_ok-add_firsts-clause-trail c =
     λ text k r h.
-    new_on c.args.core.now text c.args.budget k c.args.key c.args.found.now c.args.waiting.now c.args.trail.now r c.requires.env h _
+    new_on c.args.context.now.core.now text c.args.context.now.budget k c.args.key c.args.run.now.found c.args.run.now.waiting c.args.run.now.trail r c.requires.env h _
     c.in_ok-callee.callee refl refl refl refl
     c.in_ok-callee.ensures.once (c.in_ok-callee.ensures.new c.if-is_new.true) c.add_firsts.new.found c.add_called.new.waiting c.add_firsts.new.trail
     c.in_ok-add_called.ensures.called c.in_ok-add_called.ensures.callers c.in_ok-add_firsts.ensures.adds c.in_ok-add_firsts.ensures.ways
@@ -57,6 +57,6 @@ returns-in_ok-add_firsts-clause-trail c =
 pub returns-else-is_new-clause-trail : goal.returns-else-is_new-clause-trail
 returns-else-is_new-clause-trail c =
     λ text k r h.
-    old_on c.args.core.now text c.args.budget k c.args.key c.args.found.now c.args.waiting.now c.args.trail.now r c.requires.env h _ refl refl refl
+    old_on c.args.context.now.core.now text c.args.context.now.budget k c.args.key c.args.run.now.found c.args.run.now.waiting c.args.run.now.trail r c.requires.env h _ refl refl refl
     refl
     (c.in_ok-callee.ensures.old c.if-is_new.false)

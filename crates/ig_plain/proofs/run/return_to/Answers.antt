@@ -14,25 +14,25 @@ pub go_behind-requires-clause-by_nodes : goal.go_behind-requires-clause-by_nodes
 go_behind-requires-clause-by_nodes c x m =
     let it = means c.args.found.now c.args.caller.item in
     let tree =
-    step_is c.in-Some.step.now c.args.core.now it c.requires.calls.names (Call c.requires.calls.callee c.requires.calls.arguments c.requires.calls.label c.requires.calls.excluded) _
+    step_is c.in-Some.step.now c.args.context.now.core.now it c.requires.calls.names (Call c.requires.calls.callee c.requires.calls.arguments c.requires.calls.label c.requires.calls.excluded) _
     c.requires.calls.before c.in-Some.ensures c.nonterminal_of-nonterminal.ensures in
     let call = tree ∙ ap step_of c.in-Call.is in
     c.requires.by_nodes x
-    (into_return c.args.core.now c.args.text.now it c.args.end c.in-Call.nonterminal c.in-Call.args c.in-Call.label c.in-Call.not c.requires.calls.names
-    (subst (StandsBefore c.args.core.now it c.requires.calls.names) call c.requires.calls.before) x
-    (subst (λ z. MatchesNone c.args.text.now z c.args.caller.item.position c.args.end) c.as_slice-not.ensures m.0, m.1))
+    (into_return c.args.context.now.core.now c.args.context.now.text.now it c.args.end c.in-Call.nonterminal c.in-Call.args c.in-Call.label c.in-Call.not c.requires.calls.names
+    (subst (StandsBefore c.args.context.now.core.now it c.requires.calls.names) call c.requires.calls.before) x
+    (subst (λ z. MatchesNone c.args.context.now.text.now z c.args.caller.item.position c.args.end) c.as_slice-not.ensures m.0, m.1))
 
 pub returns-in-Call-clause-adds : goal.returns-in-Call-clause-adds
 returns-in-Call-clause-adds c =
     let it = means c.args.found.now c.args.caller.item in
     let tree =
-    step_is c.in-Some.step.now c.args.core.now it c.requires.calls.names (Call c.requires.calls.callee c.requires.calls.arguments c.requires.calls.label c.requires.calls.excluded) _
+    step_is c.in-Some.step.now c.args.context.now.core.now it c.requires.calls.names (Call c.requires.calls.callee c.requires.calls.arguments c.requires.calls.label c.requires.calls.excluded) _
     c.requires.calls.before c.in-Some.ensures c.nonterminal_of-nonterminal.ensures in
     let call = tree ∙ ap step_of c.in-Call.is in
-    return_alike c.args.core.now c.args.text.now it c.args.end c.in-Call.nonterminal c.in-Call.args c.in-Call.label c.in-Call.not c.requires.calls.names
-    (subst (StandsBefore c.args.core.now it c.requires.calls.names) call c.requires.calls.before)
-    c.args.budget c.args.found.now c.go_behind.new.found c.go_behind.result
-    (subst (λ z. Adds c.args.end (λ x. MatchesNone c.args.text.now z c.args.caller.item.position c.args.end × (x ≡ past it (span_of c.in-Call.label c.args.caller.item.position c.args.end) c.args.end)) c.args.budget c.args.found.now c.go_behind.new.found c.go_behind.result)
+    return_alike c.args.context.now.core.now c.args.context.now.text.now it c.args.end c.in-Call.nonterminal c.in-Call.args c.in-Call.label c.in-Call.not c.requires.calls.names
+    (subst (StandsBefore c.args.context.now.core.now it c.requires.calls.names) call c.requires.calls.before)
+    c.args.context.now.budget c.args.found.now c.go_behind.new.found c.go_behind.result
+    (subst (λ z. Adds c.args.end (λ x. MatchesNone c.args.context.now.text.now z c.args.caller.item.position c.args.end × (x ≡ past it (span_of c.in-Call.label c.args.caller.item.position c.args.end) c.args.end)) c.args.context.now.budget c.args.found.now c.go_behind.new.found c.go_behind.result)
     c.as_slice-not.ensures c.go_behind.ensures.adds)
 
 pub returns-in-Call-clause-ways : goal.returns-in-Call-clause-ways
@@ -40,34 +40,34 @@ returns-in-Call-clause-ways c =
     let it = means c.args.found.now c.args.caller.item in
     let way = Node c.args.caller.number c.args.done in
     let tree =
-    step_is c.in-Some.step.now c.args.core.now it c.requires.calls.names (Call c.requires.calls.callee c.requires.calls.arguments c.requires.calls.label c.requires.calls.excluded) _
+    step_is c.in-Some.step.now c.args.context.now.core.now it c.requires.calls.names (Call c.requires.calls.callee c.requires.calls.arguments c.requires.calls.label c.requires.calls.excluded) _
     c.requires.calls.before c.in-Some.ensures c.nonterminal_of-nonterminal.ensures in
     let call = tree ∙ ap step_of c.in-Call.is in
     on_ok_weaker c.go_behind.result
-    (λ r. records_return c.args.core.now c.args.text.now it c.args.end c.in-Call.nonterminal c.in-Call.args c.in-Call.label c.in-Call.not c.requires.calls.names
-    (subst (StandsBefore c.args.core.now it c.requires.calls.names) call c.requires.calls.before)
+    (λ r. records_return c.args.context.now.core.now c.args.context.now.text.now it c.args.end c.in-Call.nonterminal c.in-Call.args c.in-Call.label c.in-Call.not c.requires.calls.names
+    (subst (StandsBefore c.args.context.now.core.now it c.requires.calls.names) call c.requires.calls.before)
     way c.args.found.now c.go_behind.new.found c.args.trail.now c.go_behind.new.trail
-    (subst (λ z. Records (By way (λ x. MatchesNone c.args.text.now z c.args.caller.item.position c.args.end × (x ≡ past it (span_of c.in-Call.label c.args.caller.item.position c.args.end) c.args.end)))
+    (subst (λ z. Records (By way (λ x. MatchesNone c.args.context.now.text.now z c.args.caller.item.position c.args.end × (x ≡ past it (span_of c.in-Call.label c.args.caller.item.position c.args.end) c.args.end)))
     c.args.found.now c.go_behind.new.found c.args.trail.now c.go_behind.new.trail) c.as_slice-not.ensures r)) c.go_behind.ensures.ways
 
 pub go_behind_bare_call-requires-clause-by_nodes : goal.go_behind_bare_call-requires-clause-by_nodes
 go_behind_bare_call-requires-clause-by_nodes c x e =
     c.requires.by_nodes x
-    (into_bare c.args.core.now c.args.text.now (means c.args.found.now c.args.caller.item) c.args.end (c.requires.bare c.if-caller.true) x e)
+    (into_bare c.args.context.now.core.now c.args.context.now.text.now (means c.args.found.now c.args.caller.item) c.args.end (c.requires.bare c.if-caller.true) x e)
 
 pub returns-then-caller-clause-adds : goal.returns-then-caller-clause-adds
 returns-then-caller-clause-adds c =
-    bare_alike c.args.core.now c.args.text.now (means c.args.found.now c.args.caller.item) c.args.end (c.requires.bare c.if-caller.true)
-    c.args.budget c.args.found.now c.go_behind_bare_call.new.found _ c.in_ok-go_behind_bare_call.ensures.adds
+    bare_alike c.args.context.now.core.now c.args.context.now.text.now (means c.args.found.now c.args.caller.item) c.args.end (c.requires.bare c.if-caller.true)
+    c.args.context.now.budget c.args.found.now c.go_behind_bare_call.new.found _ c.in_ok-go_behind_bare_call.ensures.adds
 
 pub returns-then-caller-clause-ways : goal.returns-then-caller-clause-ways
 returns-then-caller-clause-ways c =
-    records_bare c.args.core.now c.args.text.now (means c.args.found.now c.args.caller.item) c.args.end (c.requires.bare c.if-caller.true)
+    records_bare c.args.context.now.core.now c.args.context.now.text.now (means c.args.found.now c.args.caller.item) c.args.end (c.requires.bare c.if-caller.true)
     (Node c.args.caller.number c.args.done) c.args.found.now c.go_behind_bare_call.new.found c.args.trail.now c.go_behind_bare_call.new.trail
     c.in_ok-go_behind_bare_call.ensures.ways
 
 pub returns-in_err-go_behind_bare_call-clause-adds : goal.returns-in_err-go_behind_bare_call-clause-adds
 returns-in_err-go_behind_bare_call-clause-adds c =
-    adds_stops c.args.end _ c.args.budget c.args.found.now c.go_behind_bare_call.new.found c.from_residual.result c.in_err-go_behind_bare_call.field-0.0 c.from_residual.ensures.1
-    (bare_alike c.args.core.now c.args.text.now (means c.args.found.now c.args.caller.item) c.args.end (c.requires.bare c.if-caller.true)
-    c.args.budget c.args.found.now c.go_behind_bare_call.new.found _ c.in_err-go_behind_bare_call.ensures.adds)
+    adds_stops c.args.end _ c.args.context.now.budget c.args.found.now c.go_behind_bare_call.new.found c.from_residual.result c.in_err-go_behind_bare_call.field-0.0 c.from_residual.ensures.1
+    (bare_alike c.args.context.now.core.now c.args.context.now.text.now (means c.args.found.now c.args.caller.item) c.args.end (c.requires.bare c.if-caller.true)
+    c.args.context.now.budget c.args.found.now c.go_behind_bare_call.new.found _ c.in_err-go_behind_bare_call.ensures.adds)

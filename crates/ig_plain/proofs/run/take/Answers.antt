@@ -9,15 +9,15 @@ use Rattle.ig_plain.proofs.run.take.Goals as goal
 pub nonterminal_of-nonterminal-requires : goal.nonterminal_of-nonterminal-requires
 nonterminal_of-nonterminal-requires c =
     c.requires.run.taking.stored.named.here c.item_at-item.result
-    (contains_from_at c.args.found.now.here.items c.args.place c.item_at-item.result c.item_at-item.ensures)
+    (contains_from_at c.args.run.now.found.here.items c.args.place c.item_at-item.result c.item_at-item.ensures)
 
 pub take_step-requires-clause-taking : goal.take_step-requires-clause-taking
 take_step-requires-clause-taking c =
     record {
       number = c.args.place;
-      run = subst (λ z. IsRun c.args.core.now c.args.text.now c.args.budget z c.args.place c.args.found.now c.args.waiting.now)
+      run = subst (λ z. IsRun c.args.context.now.core.now c.args.context.now.text.now c.args.context.now.budget z c.args.place c.args.run.now.found c.args.run.now.waiting)
           (sym (c.requires.run.taking.stored.at c.item_at-item.result
-          (contains_from_at c.args.found.now.here.items c.args.place c.item_at-item.result c.item_at-item.ensures))) c.requires.run;
+          (contains_from_at c.args.run.now.found.here.items c.args.place c.item_at-item.result c.item_at-item.ensures))) c.requires.run;
       at = c.item_at-item.ensures;
     }
 
@@ -27,15 +27,15 @@ take_step-requires-clause-next c =
       place = c.args.place;
       at = c.item_at-item.ensures;
       numbered = c.in_ok-number.ensures;
-      trail = subst (λ z. HasTrail c.args.core.now c.args.text.now z c.args.place c.args.found.now c.args.waiting.now c.args.trail.now)
+      trail = subst (λ z. HasTrail c.args.context.now.core.now c.args.context.now.text.now z c.args.place c.args.run.now.found c.args.run.now.waiting c.args.run.now.trail)
           (sym (c.requires.run.taking.stored.at c.item_at-item.result
-          (contains_from_at c.args.found.now.here.items c.args.place c.item_at-item.result c.item_at-item.ensures))) c.requires.trail;
+          (contains_from_at c.args.run.now.found.here.items c.args.place c.item_at-item.result c.item_at-item.ensures))) c.requires.trail;
     }
 
 pub take_step-requires-clause-stands : goal.take_step-requires-clause-stands
 take_step-requires-clause-stands c =
-    stands_at c.args.core.now _ c.nonterminal_of-nonterminal.result _
-    (fits c.args.core.now c.args.text.now c.args.budget c.args.position c.args.place c.args.found.now c.args.waiting.now c.item_at-item.result
+    stands_at c.args.context.now.core.now _ c.nonterminal_of-nonterminal.result _
+    (fits c.args.context.now.core.now c.args.context.now.text.now c.args.context.now.budget c.args.position c.args.place c.args.run.now.found c.args.run.now.waiting c.item_at-item.result
     c.requires.run c.item_at-item.ensures c.environments_fit.ensures c.keep_well_kinded.ensures)
     c.nonterminal_of-nonterminal.ensures c.in-Some.ensures
 
@@ -43,9 +43,9 @@ pub take_complete-requires-clause-taking : goal.take_complete-requires-clause-ta
 take_complete-requires-clause-taking c =
     record {
       number = c.args.place;
-      run = subst (λ z. IsRun c.args.core.now c.args.text.now c.args.budget z c.args.place c.args.found.now c.args.waiting.now)
+      run = subst (λ z. IsRun c.args.context.now.core.now c.args.context.now.text.now c.args.context.now.budget z c.args.place c.args.run.now.found c.args.run.now.waiting)
           (sym (c.requires.run.taking.stored.at c.item_at-item.result
-          (contains_from_at c.args.found.now.here.items c.args.place c.item_at-item.result c.item_at-item.ensures))) c.requires.run;
+          (contains_from_at c.args.run.now.found.here.items c.args.place c.item_at-item.result c.item_at-item.ensures))) c.requires.run;
       at = c.item_at-item.ensures;
     }
 
@@ -55,38 +55,38 @@ take_complete-requires-clause-next c =
       place = c.args.place;
       at = c.item_at-item.ensures;
       numbered = c.in_ok-number.ensures;
-      trail = subst (λ z. HasTrail c.args.core.now c.args.text.now z c.args.place c.args.found.now c.args.waiting.now c.args.trail.now)
+      trail = subst (λ z. HasTrail c.args.context.now.core.now c.args.context.now.text.now z c.args.place c.args.run.now.found c.args.run.now.waiting c.args.run.now.trail)
           (sym (c.requires.run.taking.stored.at c.item_at-item.result
-          (contains_from_at c.args.found.now.here.items c.args.place c.item_at-item.result c.item_at-item.ensures))) c.requires.trail;
+          (contains_from_at c.args.run.now.found.here.items c.args.place c.item_at-item.result c.item_at-item.ensures))) c.requires.trail;
     }
 
 pub take_complete-requires-clause-complete : goal.take_complete-requires-clause-complete
 take_complete-requires-clause-complete c =
-    complete_at c.args.core.now _ c.nonterminal_of-nonterminal.result
-    (fits c.args.core.now c.args.text.now c.args.budget c.args.position c.args.place c.args.found.now c.args.waiting.now c.item_at-item.result
+    complete_at c.args.context.now.core.now _ c.nonterminal_of-nonterminal.result
+    (fits c.args.context.now.core.now c.args.context.now.text.now c.args.context.now.budget c.args.position c.args.place c.args.run.now.found c.args.run.now.waiting c.item_at-item.result
     c.requires.run c.item_at-item.ensures c.environments_fit.ensures c.keep_well_kinded.ensures)
     c.nonterminal_of-nonterminal.ensures c.in-None.ensures
 
 pub returns-in-Some-clause-run : goal.returns-in-Some-clause-run
 returns-in-Some-clause-run c =
-    taken_next c.args.core.now c.args.text.now c.args.budget c.args.position c.item_at-item.result.position c.args.place _ _ c.take_step.result
-    (c.requires.run.taking.stored.at c.item_at-item.result (contains_from_at c.args.found.now.here.items c.args.place c.item_at-item.result
+    taken_next c.args.context.now.core.now c.args.context.now.text.now c.args.context.now.budget c.args.position c.item_at-item.result.position c.args.place _ _ c.take_step.result
+    (c.requires.run.taking.stored.at c.item_at-item.result (contains_from_at c.args.run.now.found.here.items c.args.place c.item_at-item.result
     c.item_at-item.ensures)) (c.take_step.ensures.takes c.args.place c.item_at-item.ensures)
 
 pub returns-in-Some-clause-trail : goal.returns-in-Some-clause-trail
 returns-in-Some-clause-trail c =
-    trail_next c.args.core.now c.args.text.now c.args.position c.item_at-item.result.position c.args.place _ _ _ c.take_step.result
-    (c.requires.run.taking.stored.at c.item_at-item.result (contains_from_at c.args.found.now.here.items c.args.place c.item_at-item.result
+    trail_next c.args.context.now.core.now c.args.context.now.text.now c.args.position c.item_at-item.result.position c.args.place _ _ _ c.take_step.result
+    (c.requires.run.taking.stored.at c.item_at-item.result (contains_from_at c.args.run.now.found.here.items c.args.place c.item_at-item.result
     c.item_at-item.ensures)) (c.take_step.ensures.trail c.args.place c.item_at-item.ensures)
 
 pub returns-in-None-clause-run : goal.returns-in-None-clause-run
 returns-in-None-clause-run c =
-    taken_next c.args.core.now c.args.text.now c.args.budget c.args.position c.item_at-item.result.position c.args.place _ _ c.take_complete.result
-    (c.requires.run.taking.stored.at c.item_at-item.result (contains_from_at c.args.found.now.here.items c.args.place c.item_at-item.result
+    taken_next c.args.context.now.core.now c.args.context.now.text.now c.args.context.now.budget c.args.position c.item_at-item.result.position c.args.place _ _ c.take_complete.result
+    (c.requires.run.taking.stored.at c.item_at-item.result (contains_from_at c.args.run.now.found.here.items c.args.place c.item_at-item.result
     c.item_at-item.ensures)) (c.take_complete.ensures.takes c.args.place c.item_at-item.ensures)
 
 pub returns-in-None-clause-trail : goal.returns-in-None-clause-trail
 returns-in-None-clause-trail c =
-    trail_next c.args.core.now c.args.text.now c.args.position c.item_at-item.result.position c.args.place _ _ _ c.take_complete.result
-    (c.requires.run.taking.stored.at c.item_at-item.result (contains_from_at c.args.found.now.here.items c.args.place c.item_at-item.result
+    trail_next c.args.context.now.core.now c.args.context.now.text.now c.args.position c.item_at-item.result.position c.args.place _ _ _ c.take_complete.result
+    (c.requires.run.taking.stored.at c.item_at-item.result (contains_from_at c.args.run.now.found.here.items c.args.place c.item_at-item.result
     c.item_at-item.ensures)) (c.take_complete.ensures.trail c.args.place c.item_at-item.ensures)

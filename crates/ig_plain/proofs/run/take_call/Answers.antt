@@ -11,46 +11,46 @@ use Rattle.ig_plain.proofs.CallingOn.{no_call_on, trail_2, by_nodes_2, only_wait
 use Rattle.ig_plain.proofs.run.take_call.Goals as goal
 
 pub values_at-values-requires : goal.values_at-values-requires
-values_at-values-requires c = (c.requires.taking.run.taking.stored.named.here c.args.item
-    (contains_from_at c.args.found.now.here.items c.requires.taking.number c.args.item c.requires.taking.at)).env
+values_at-values-requires c = (c.requires.taking.run.taking.stored.named.here c.args.taken.item
+    (contains_from_at c.args.run.now.found.here.items c.requires.taking.number c.args.taken.item c.requires.taking.at)).env
 
 pub enter_arguments-requires : goal.enter_arguments-requires
 enter_arguments-requires c = record {
-  there = (c.requires.taking.run.taking.stored.named.here c.args.item
-      (contains_from_at c.args.found.now.here.items c.requires.taking.number c.args.item c.requires.taking.at)).env;
+  there = (c.requires.taking.run.taking.stored.named.here c.args.taken.item
+      (contains_from_at c.args.run.now.found.here.items c.requires.taking.number c.args.taken.item c.requires.taking.at)).env;
 }
 
 pub returns-in_default-clause-takes : goal.returns-in_default-clause-takes
 returns-in_default-clause-takes c =
     λ k e.
-    no_call c.args.core.now c.args.text.now c.reachable_is_closed.ensures c.items_are_in_text.ensures c.args.budget c.args.item.position k
-    c.args.found.now c.args.waiting.now c.args.item refl
-    (run_at c.args.core.now c.args.text.now c.args.budget c.args.item c.args.found.now c.args.waiting.now c.requires.taking k e) e
-    c.args.names.now c.args.nonterminal _ c.args.label.now c.args.not.now c.requires.before
-    c.values_at-values.result.now c.values_at-values.ensures (c.in_ok-values.ensures.none c.in_default.is)
+    no_call c.args.context.now.core.now c.args.context.now.text.now c.reachable_is_closed.ensures c.items_are_in_text.ensures c.args.context.now.budget c.args.taken.item.position k
+    c.args.run.now.found c.args.run.now.waiting c.args.taken.item refl
+    (run_at c.args.context.now.core.now c.args.context.now.text.now c.args.context.now.budget c.args.taken.item c.args.run.now.found c.args.run.now.waiting c.requires.taking k e) e
+    c.args.known.now.names.now c.args.nonterminal _ c.args.marks.now.label.now c.args.marks.now.not.now c.requires.before
+    c.values_at-values.result.now c.values_at-values.ensures (c.in_ok-arguments.ensures.none c.in_default.is)
 
 pub returns-in_default-clause-trail : goal.returns-in_default-clause-trail
 returns-in_default-clause-trail c =
     λ k e.
-    let h = trail_at c.args.core.now c.args.text.now c.args.item.position c.args.item c.args.number c.args.found.now c.args.waiting.now
-    c.args.trail.now
+    let h = trail_at c.args.context.now.core.now c.args.context.now.text.now c.args.taken.item.position c.args.taken.item c.args.taken.number c.args.run.now.found c.args.run.now.waiting
+    c.args.run.now.trail
     c.requires.taking.run.taking.stored c.requires.next k e in
-    no_call_on c.args.core.now c.args.text.now c.reachable_is_closed.ensures c.items_are_in_text.ensures c.args.budget k c.args.found.now
-    c.args.waiting.now c.args.item
-    (run_at c.args.core.now c.args.text.now c.args.budget c.args.item c.args.found.now c.args.waiting.now c.requires.taking k e) e
-    c.args.names.now c.args.nonterminal _ c.args.label.now c.args.not.now c.requires.before c.args.trail.now c.args.number h.1 h.0
-    c.values_at-values.result.now c.values_at-values.ensures (c.in_ok-values.ensures.none c.in_default.is)
+    no_call_on c.args.context.now.core.now c.args.context.now.text.now c.reachable_is_closed.ensures c.items_are_in_text.ensures c.args.context.now.budget k c.args.run.now.found
+    c.args.run.now.waiting c.args.taken.item
+    (run_at c.args.context.now.core.now c.args.context.now.text.now c.args.context.now.budget c.args.taken.item c.args.run.now.found c.args.run.now.waiting c.requires.taking k e) e
+    c.args.known.now.names.now c.args.nonterminal _ c.args.marks.now.label.now c.args.marks.now.not.now c.requires.before c.args.run.now.trail c.args.taken.number h.1 h.0
+    c.values_at-values.result.now c.values_at-values.ensures (c.in_ok-arguments.ensures.none c.in_default.is)
 
 pub call_instance-requires-clause-all_named : goal.call_instance-requires-clause-all_named
 call_instance-requires-clause-all_named c =
-    named_1 c.args.core.now c.args.text.now c.reachable_is_closed.ensures c.items_are_in_text.ensures c.args.budget c.args.item.position
-    c.requires.taking.number c.args.found.now c.args.waiting.now c.args.item refl
-    c.requires.taking.run c.requires.taking.at c.args.names.now c.args.nonterminal _ c.args.label.now c.args.not.now c.requires.before
-    _ c.in_ok-env.env c.values_at-values.result.now (values_in c.values_at-values.result.now c.in-Some.values) c.values_at-values.ensures
+    named_1 c.args.context.now.core.now c.args.context.now.text.now c.reachable_is_closed.ensures c.items_are_in_text.ensures c.args.context.now.budget c.args.taken.item.position
+    c.requires.taking.number c.args.run.now.found c.args.run.now.waiting c.args.taken.item refl
+    c.requires.taking.run c.requires.taking.at c.args.known.now.names.now c.args.nonterminal _ c.args.marks.now.label.now c.args.marks.now.not.now c.requires.before
+    _ c.in_ok-env.env c.values_at-values.result.now (values_in c.values_at-values.result.now c.in-Some.arguments) c.values_at-values.ensures
     c.in_ok-env.ensures.extends (c.in_ok-env.ensures.once c.requires.taking.run.taking.stored.tables.environments)
-    (there_with c.enter_arguments.new.envs.keys c.in_ok-env.env _ c.values_at-values.result.now c.in-Some.values c.values_at-values.ensures
+    (there_with c.enter_arguments.new.envs.keys c.in_ok-env.env _ c.values_at-values.result.now c.in-Some.arguments c.values_at-values.ensures
     c.in_ok-env.ensures.enters.there)
-    refl refl refl refl (c.in_ok-values.ensures.some c.in-Some.values c.in-Some.is)
+    refl refl refl refl (c.in_ok-arguments.ensures.some c.in-Some.arguments c.in-Some.is)
 
 pub call_instance-requires-clause-env : goal.call_instance-requires-clause-env
 call_instance-requires-clause-env c = slice_get_within c.enter_arguments.new.envs.keys c.in_ok-env.env _
@@ -60,180 +60,180 @@ pub returns-in_err-callee-clause-takes : goal.returns-in_err-callee-clause-takes
 returns-in_err-callee-clause-takes c =
     λ k e.
     at_exit c.from_residual-in_err-callee.result _ _ c.in_err-callee.field-0.0 c.from_residual-in_err-callee.ensures.1
-    (stops c.args.core.now c.args.text.now c.reachable_is_closed.ensures c.items_are_in_text.ensures c.args.budget c.args.item.position k
-    c.args.found.now c.args.waiting.now c.args.item refl
-    (run_at c.args.core.now c.args.text.now c.args.budget c.args.item c.args.found.now c.args.waiting.now c.requires.taking k e) e
-    c.args.names.now c.args.nonterminal _ c.args.label.now c.args.not.now c.requires.before
-    _ c.in_ok-env.env c.values_at-values.result.now (values_in c.values_at-values.result.now c.in-Some.values) c.values_at-values.ensures
+    (stops c.args.context.now.core.now c.args.context.now.text.now c.reachable_is_closed.ensures c.items_are_in_text.ensures c.args.context.now.budget c.args.taken.item.position k
+    c.args.run.now.found c.args.run.now.waiting c.args.taken.item refl
+    (run_at c.args.context.now.core.now c.args.context.now.text.now c.args.context.now.budget c.args.taken.item c.args.run.now.found c.args.run.now.waiting c.requires.taking k e) e
+    c.args.known.now.names.now c.args.nonterminal _ c.args.marks.now.label.now c.args.marks.now.not.now c.requires.before
+    _ c.in_ok-env.env c.values_at-values.result.now (values_in c.values_at-values.result.now c.in-Some.arguments) c.values_at-values.ensures
     c.in_ok-env.ensures.extends (c.in_ok-env.ensures.once c.requires.taking.run.taking.stored.tables.environments)
-    (there_with c.enter_arguments.new.envs.keys c.in_ok-env.env _ c.values_at-values.result.now c.in-Some.values c.values_at-values.ensures
+    (there_with c.enter_arguments.new.envs.keys c.in_ok-env.env _ c.values_at-values.result.now c.in-Some.arguments c.values_at-values.ensures
     c.in_ok-env.ensures.enters.there)
-    refl refl refl refl (c.in_ok-values.ensures.some c.in-Some.values c.in-Some.is)
-    c.call_instance.new.found c.call_instance.new.waiting c.in_err-callee.field-0.0 refl c.in_err-callee.ensures.enters)
+    refl refl refl refl (c.in_ok-arguments.ensures.some c.in-Some.arguments c.in-Some.is)
+    c.call_instance.new.run.found c.call_instance.new.run.waiting c.in_err-callee.field-0.0 refl c.in_err-callee.ensures.enters)
 
 pub add_caller-requires : goal.add_caller-requires
 add_caller-requires c =
     record {
-      there = callee_there c.args.core.now c.args.text.now c.reachable_is_closed.ensures c.items_are_in_text.ensures c.args.budget
-          c.args.item.position c.requires.taking.number c.args.found.now c.args.waiting.now c.args.item refl
-          c.requires.taking.run c.requires.taking.at c.args.names.now c.args.nonterminal _ c.args.label.now c.args.not.now c.requires.before
-          _ c.in_ok-env.env c.values_at-values.result.now (values_in c.values_at-values.result.now c.in-Some.values) c.values_at-values.ensures
+      there = callee_there c.args.context.now.core.now c.args.context.now.text.now c.reachable_is_closed.ensures c.items_are_in_text.ensures c.args.context.now.budget
+          c.args.taken.item.position c.requires.taking.number c.args.run.now.found c.args.run.now.waiting c.args.taken.item refl
+          c.requires.taking.run c.requires.taking.at c.args.known.now.names.now c.args.nonterminal _ c.args.marks.now.label.now c.args.marks.now.not.now c.requires.before
+          _ c.in_ok-env.env c.values_at-values.result.now (values_in c.values_at-values.result.now c.in-Some.arguments) c.values_at-values.ensures
           c.in_ok-env.ensures.extends (c.in_ok-env.ensures.once c.requires.taking.run.taking.stored.tables.environments)
-          (there_with c.enter_arguments.new.envs.keys c.in_ok-env.env _ c.values_at-values.result.now c.in-Some.values c.values_at-values.ensures
+          (there_with c.enter_arguments.new.envs.keys c.in_ok-env.env _ c.values_at-values.result.now c.in-Some.arguments c.values_at-values.ensures
           c.in_ok-env.ensures.enters.there)
-          refl refl refl refl (c.in_ok-values.ensures.some c.in-Some.values c.in-Some.is)
-          c.call_instance.new.found c.call_instance.new.waiting c.in_ok-callee.callee refl c.in_ok-callee.ensures.enters;
-      last = last_2 c.args.core.now c.args.text.now c.reachable_is_closed.ensures c.items_are_in_text.ensures c.args.budget c.args.item.position
-          c.requires.taking.number c.args.found.now c.args.waiting.now c.args.item refl
-          c.requires.taking.run c.requires.taking.at c.args.names.now c.args.nonterminal _ c.args.label.now c.args.not.now c.requires.before
-          _ c.in_ok-env.env c.values_at-values.result.now (values_in c.values_at-values.result.now c.in-Some.values) c.values_at-values.ensures
+          refl refl refl refl (c.in_ok-arguments.ensures.some c.in-Some.arguments c.in-Some.is)
+          c.call_instance.new.run.found c.call_instance.new.run.waiting c.in_ok-callee.callee refl c.in_ok-callee.ensures.enters;
+      last = last_2 c.args.context.now.core.now c.args.context.now.text.now c.reachable_is_closed.ensures c.items_are_in_text.ensures c.args.context.now.budget c.args.taken.item.position
+          c.requires.taking.number c.args.run.now.found c.args.run.now.waiting c.args.taken.item refl
+          c.requires.taking.run c.requires.taking.at c.args.known.now.names.now c.args.nonterminal _ c.args.marks.now.label.now c.args.marks.now.not.now c.requires.before
+          _ c.in_ok-env.env c.values_at-values.result.now (values_in c.values_at-values.result.now c.in-Some.arguments) c.values_at-values.ensures
           c.in_ok-env.ensures.extends (c.in_ok-env.ensures.once c.requires.taking.run.taking.stored.tables.environments)
-          (there_with c.enter_arguments.new.envs.keys c.in_ok-env.env _ c.values_at-values.result.now c.in-Some.values c.values_at-values.ensures
+          (there_with c.enter_arguments.new.envs.keys c.in_ok-env.env _ c.values_at-values.result.now c.in-Some.arguments c.values_at-values.ensures
           c.in_ok-env.ensures.enters.there)
-          refl refl refl refl (c.in_ok-values.ensures.some c.in-Some.values c.in-Some.is)
-          c.call_instance.new.found c.call_instance.new.waiting c.in_ok-callee.callee refl c.in_ok-callee.ensures.enters;
+          refl refl refl refl (c.in_ok-arguments.ensures.some c.in-Some.arguments c.in-Some.is)
+          c.call_instance.new.run.found c.call_instance.new.run.waiting c.in_ok-callee.callee refl c.in_ok-callee.ensures.enters;
     }
 
 pub end_at-requires : goal.end_at-requires
 end_at-requires c =
     record {
-      there = still_there c.args.core.now c.args.text.now c.reachable_is_closed.ensures c.items_are_in_text.ensures c.args.budget
-          c.args.item.position c.requires.taking.number c.args.found.now c.args.waiting.now c.args.item refl
-          c.requires.taking.run c.requires.taking.at c.args.names.now c.args.nonterminal _ c.args.label.now c.args.not.now c.requires.before
-          _ c.in_ok-env.env c.values_at-values.result.now (values_in c.values_at-values.result.now c.in-Some.values) c.values_at-values.ensures
+      there = still_there c.args.context.now.core.now c.args.context.now.text.now c.reachable_is_closed.ensures c.items_are_in_text.ensures c.args.context.now.budget
+          c.args.taken.item.position c.requires.taking.number c.args.run.now.found c.args.run.now.waiting c.args.taken.item refl
+          c.requires.taking.run c.requires.taking.at c.args.known.now.names.now c.args.nonterminal _ c.args.marks.now.label.now c.args.marks.now.not.now c.requires.before
+          _ c.in_ok-env.env c.values_at-values.result.now (values_in c.values_at-values.result.now c.in-Some.arguments) c.values_at-values.ensures
           c.in_ok-env.ensures.extends (c.in_ok-env.ensures.once c.requires.taking.run.taking.stored.tables.environments)
-          (there_with c.enter_arguments.new.envs.keys c.in_ok-env.env _ c.values_at-values.result.now c.in-Some.values c.values_at-values.ensures
+          (there_with c.enter_arguments.new.envs.keys c.in_ok-env.env _ c.values_at-values.result.now c.in-Some.arguments c.values_at-values.ensures
           c.in_ok-env.ensures.enters.there)
-          refl refl refl refl (c.in_ok-values.ensures.some c.in-Some.values c.in-Some.is)
-          c.call_instance.new.found c.call_instance.new.waiting c.in_ok-callee.callee refl c.in_ok-callee.ensures.enters
-          c.add_caller.new.waiting c.args.number c.is_bare.result c.in_ok-add_caller.ensures.callers c.in_ok-add_caller.ensures.called;
+          refl refl refl refl (c.in_ok-arguments.ensures.some c.in-Some.arguments c.in-Some.is)
+          c.call_instance.new.run.found c.call_instance.new.run.waiting c.in_ok-callee.callee refl c.in_ok-callee.ensures.enters
+          c.add_caller.new.waiting c.args.taken.number c.is_bare.result c.in_ok-add_caller.ensures.callers c.in_ok-add_caller.ensures.called;
     }
 
 pub returns-in_default-end_at-clause-takes : goal.returns-in_default-end_at-clause-takes
 returns-in_default-end_at-clause-takes c =
     λ k e.
-    only_waits c.args.core.now c.args.text.now c.reachable_is_closed.ensures c.items_are_in_text.ensures c.args.budget c.args.item.position k
-    c.args.found.now c.args.waiting.now c.args.item refl
-    (run_at c.args.core.now c.args.text.now c.args.budget c.args.item c.args.found.now c.args.waiting.now c.requires.taking k e) e
-    c.args.names.now c.args.nonterminal _ c.args.label.now c.args.not.now c.requires.before
-    _ c.in_ok-env.env c.values_at-values.result.now (values_in c.values_at-values.result.now c.in-Some.values) c.values_at-values.ensures
+    only_waits c.args.context.now.core.now c.args.context.now.text.now c.reachable_is_closed.ensures c.items_are_in_text.ensures c.args.context.now.budget c.args.taken.item.position k
+    c.args.run.now.found c.args.run.now.waiting c.args.taken.item refl
+    (run_at c.args.context.now.core.now c.args.context.now.text.now c.args.context.now.budget c.args.taken.item c.args.run.now.found c.args.run.now.waiting c.requires.taking k e) e
+    c.args.known.now.names.now c.args.nonterminal _ c.args.marks.now.label.now c.args.marks.now.not.now c.requires.before
+    _ c.in_ok-env.env c.values_at-values.result.now (values_in c.values_at-values.result.now c.in-Some.arguments) c.values_at-values.ensures
     c.in_ok-env.ensures.extends (c.in_ok-env.ensures.once c.requires.taking.run.taking.stored.tables.environments)
-    (there_with c.enter_arguments.new.envs.keys c.in_ok-env.env _ c.values_at-values.result.now c.in-Some.values c.values_at-values.ensures
+    (there_with c.enter_arguments.new.envs.keys c.in_ok-env.env _ c.values_at-values.result.now c.in-Some.arguments c.values_at-values.ensures
     c.in_ok-env.ensures.enters.there)
-    refl refl refl refl (c.in_ok-values.ensures.some c.in-Some.values c.in-Some.is)
-    c.call_instance.new.found c.call_instance.new.waiting c.in_ok-callee.callee refl c.in_ok-callee.ensures.enters
-    c.add_caller.new.waiting c.args.number c.is_bare.result c.in_ok-add_caller.ensures.callers c.in_ok-add_caller.ensures.called c.in_default-end_at.ensures.none
+    refl refl refl refl (c.in_ok-arguments.ensures.some c.in-Some.arguments c.in-Some.is)
+    c.call_instance.new.run.found c.call_instance.new.run.waiting c.in_ok-callee.callee refl c.in_ok-callee.ensures.enters
+    c.add_caller.new.waiting c.args.taken.number c.is_bare.result c.in_ok-add_caller.ensures.callers c.in_ok-add_caller.ensures.called c.in_default-end_at.ensures.none
 
 pub returns-in_default-end_at-clause-trail : goal.returns-in_default-end_at-clause-trail
 returns-in_default-end_at-clause-trail c =
     λ k e.
-    let h = trail_at c.args.core.now c.args.text.now c.args.item.position c.args.item c.args.number c.args.found.now c.args.waiting.now
-    c.args.trail.now
+    let h = trail_at c.args.context.now.core.now c.args.context.now.text.now c.args.taken.item.position c.args.taken.item c.args.taken.number c.args.run.now.found c.args.run.now.waiting
+    c.args.run.now.trail
     c.requires.taking.run.taking.stored c.requires.next k e in
-    only_waits_on c.args.core.now c.args.text.now c.reachable_is_closed.ensures c.items_are_in_text.ensures c.args.budget k c.args.found.now
-    c.args.waiting.now c.args.item
-    (run_at c.args.core.now c.args.text.now c.args.budget c.args.item c.args.found.now c.args.waiting.now c.requires.taking k e) e
-    c.args.names.now c.args.nonterminal _ c.args.label.now c.args.not.now c.requires.before c.args.trail.now c.args.number h.1 h.0
-    _ c.in_ok-env.env c.values_at-values.result.now (values_in c.values_at-values.result.now c.in-Some.values) c.values_at-values.ensures
+    only_waits_on c.args.context.now.core.now c.args.context.now.text.now c.reachable_is_closed.ensures c.items_are_in_text.ensures c.args.context.now.budget k c.args.run.now.found
+    c.args.run.now.waiting c.args.taken.item
+    (run_at c.args.context.now.core.now c.args.context.now.text.now c.args.context.now.budget c.args.taken.item c.args.run.now.found c.args.run.now.waiting c.requires.taking k e) e
+    c.args.known.now.names.now c.args.nonterminal _ c.args.marks.now.label.now c.args.marks.now.not.now c.requires.before c.args.run.now.trail c.args.taken.number h.1 h.0
+    _ c.in_ok-env.env c.values_at-values.result.now (values_in c.values_at-values.result.now c.in-Some.arguments) c.values_at-values.ensures
     c.in_ok-env.ensures.extends (c.in_ok-env.ensures.once c.requires.taking.run.taking.stored.tables.environments)
-    (there_with c.enter_arguments.new.envs.keys c.in_ok-env.env _ c.values_at-values.result.now c.in-Some.values c.values_at-values.ensures
+    (there_with c.enter_arguments.new.envs.keys c.in_ok-env.env _ c.values_at-values.result.now c.in-Some.arguments c.values_at-values.ensures
     c.in_ok-env.ensures.enters.there)
-    refl refl refl refl (c.in_ok-values.ensures.some c.in-Some.values c.in-Some.is)
-    c.call_instance.new.found c.call_instance.new.waiting c.in_ok-callee.callee c.in_ok-callee.ensures.enters
-    c.call_instance.new.trail c.in_ok-callee.ensures.trail
+    refl refl refl refl (c.in_ok-arguments.ensures.some c.in-Some.arguments c.in-Some.is)
+    c.call_instance.new.run.found c.call_instance.new.run.waiting c.in_ok-callee.callee c.in_ok-callee.ensures.enters
+    c.call_instance.new.run.trail c.in_ok-callee.ensures.trail
     c.add_caller.new.waiting c.is_bare.result c.is_bare.ensures.0 c.in_ok-add_caller.ensures.callers c.in_ok-add_caller.ensures.called c.in_default-end_at.ensures.none
 
 pub go_behind-requires-clause-named : goal.go_behind-requires-clause-named
 go_behind-requires-clause-named c =
-    named_2 c.args.core.now c.args.text.now c.reachable_is_closed.ensures c.items_are_in_text.ensures c.args.budget c.args.item.position
-    c.requires.taking.number c.args.found.now c.args.waiting.now c.args.item refl
-    c.requires.taking.run c.requires.taking.at c.args.names.now c.args.nonterminal _ c.args.label.now c.args.not.now c.requires.before
-    _ c.in_ok-env.env c.values_at-values.result.now (values_in c.values_at-values.result.now c.in-Some.values) c.values_at-values.ensures
+    named_2 c.args.context.now.core.now c.args.context.now.text.now c.reachable_is_closed.ensures c.items_are_in_text.ensures c.args.context.now.budget c.args.taken.item.position
+    c.requires.taking.number c.args.run.now.found c.args.run.now.waiting c.args.taken.item refl
+    c.requires.taking.run c.requires.taking.at c.args.known.now.names.now c.args.nonterminal _ c.args.marks.now.label.now c.args.marks.now.not.now c.requires.before
+    _ c.in_ok-env.env c.values_at-values.result.now (values_in c.values_at-values.result.now c.in-Some.arguments) c.values_at-values.ensures
     c.in_ok-env.ensures.extends (c.in_ok-env.ensures.once c.requires.taking.run.taking.stored.tables.environments)
-    (there_with c.enter_arguments.new.envs.keys c.in_ok-env.env _ c.values_at-values.result.now c.in-Some.values c.values_at-values.ensures
+    (there_with c.enter_arguments.new.envs.keys c.in_ok-env.env _ c.values_at-values.result.now c.in-Some.arguments c.values_at-values.ensures
     c.in_ok-env.ensures.enters.there)
-    refl refl refl refl (c.in_ok-values.ensures.some c.in-Some.values c.in-Some.is)
-    c.call_instance.new.found c.call_instance.new.waiting c.in_ok-callee.callee refl c.in_ok-callee.ensures.enters
+    refl refl refl refl (c.in_ok-arguments.ensures.some c.in-Some.arguments c.in-Some.is)
+    c.call_instance.new.run.found c.call_instance.new.run.waiting c.in_ok-callee.callee refl c.in_ok-callee.ensures.enters
 
 pub go_behind-requires-clause-all_named : goal.go_behind-requires-clause-all_named
 go_behind-requires-clause-all_named c =
-    (run_2 c.args.core.now c.args.text.now c.reachable_is_closed.ensures c.items_are_in_text.ensures c.args.budget c.args.item.position
-    c.requires.taking.number c.args.found.now c.args.waiting.now c.args.item refl
-    c.requires.taking.run c.requires.taking.at c.args.names.now c.args.nonterminal _ c.args.label.now c.args.not.now c.requires.before
-    _ c.in_ok-env.env c.values_at-values.result.now (values_in c.values_at-values.result.now c.in-Some.values) c.values_at-values.ensures
+    (run_2 c.args.context.now.core.now c.args.context.now.text.now c.reachable_is_closed.ensures c.items_are_in_text.ensures c.args.context.now.budget c.args.taken.item.position
+    c.requires.taking.number c.args.run.now.found c.args.run.now.waiting c.args.taken.item refl
+    c.requires.taking.run c.requires.taking.at c.args.known.now.names.now c.args.nonterminal _ c.args.marks.now.label.now c.args.marks.now.not.now c.requires.before
+    _ c.in_ok-env.env c.values_at-values.result.now (values_in c.values_at-values.result.now c.in-Some.arguments) c.values_at-values.ensures
     c.in_ok-env.ensures.extends (c.in_ok-env.ensures.once c.requires.taking.run.taking.stored.tables.environments)
-    (there_with c.enter_arguments.new.envs.keys c.in_ok-env.env _ c.values_at-values.result.now c.in-Some.values c.values_at-values.ensures
+    (there_with c.enter_arguments.new.envs.keys c.in_ok-env.env _ c.values_at-values.result.now c.in-Some.arguments c.values_at-values.ensures
     c.in_ok-env.ensures.enters.there)
-    refl refl refl refl (c.in_ok-values.ensures.some c.in-Some.values c.in-Some.is)
-    c.call_instance.new.found c.call_instance.new.waiting c.in_ok-callee.callee refl c.in_ok-callee.ensures.enters).taking.stored.named
+    refl refl refl refl (c.in_ok-arguments.ensures.some c.in-Some.arguments c.in-Some.is)
+    c.call_instance.new.run.found c.call_instance.new.run.waiting c.in_ok-callee.callee refl c.in_ok-callee.ensures.enters).taking.stored.named
 
 pub go_behind-requires-clause-indexed : goal.go_behind-requires-clause-indexed
 go_behind-requires-clause-indexed c =
-    let h = trail_at c.args.core.now c.args.text.now c.args.item.position c.args.item c.args.number c.args.found.now c.args.waiting.now
-    c.args.trail.now
+    let h = trail_at c.args.context.now.core.now c.args.context.now.text.now c.args.taken.item.position c.args.taken.item c.args.taken.number c.args.run.now.found c.args.run.now.waiting
+    c.args.run.now.trail
     c.requires.taking.run.taking.stored c.requires.next c.requires.taking.number c.requires.taking.at in
     (trail_2
-    c.args.core.now c.args.text.now c.reachable_is_closed.ensures c.items_are_in_text.ensures c.args.budget c.requires.taking.number c.args.found.now
-    c.args.waiting.now c.args.item c.requires.taking.run c.requires.taking.at
-    c.args.names.now c.args.nonterminal _ c.args.label.now c.args.not.now c.requires.before c.args.trail.now c.args.number h.1 h.0
-    _ c.in_ok-env.env c.values_at-values.result.now (values_in c.values_at-values.result.now c.in-Some.values) c.values_at-values.ensures
+    c.args.context.now.core.now c.args.context.now.text.now c.reachable_is_closed.ensures c.items_are_in_text.ensures c.args.context.now.budget c.requires.taking.number c.args.run.now.found
+    c.args.run.now.waiting c.args.taken.item c.requires.taking.run c.requires.taking.at
+    c.args.known.now.names.now c.args.nonterminal _ c.args.marks.now.label.now c.args.marks.now.not.now c.requires.before c.args.run.now.trail c.args.taken.number h.1 h.0
+    _ c.in_ok-env.env c.values_at-values.result.now (values_in c.values_at-values.result.now c.in-Some.arguments) c.values_at-values.ensures
     c.in_ok-env.ensures.extends (c.in_ok-env.ensures.once c.requires.taking.run.taking.stored.tables.environments)
-    (there_with c.enter_arguments.new.envs.keys c.in_ok-env.env _ c.values_at-values.result.now c.in-Some.values c.values_at-values.ensures
+    (there_with c.enter_arguments.new.envs.keys c.in_ok-env.env _ c.values_at-values.result.now c.in-Some.arguments c.values_at-values.ensures
     c.in_ok-env.ensures.enters.there)
-    refl refl refl refl (c.in_ok-values.ensures.some c.in-Some.values c.in-Some.is)
-    c.call_instance.new.found c.call_instance.new.waiting c.in_ok-callee.callee c.in_ok-callee.ensures.enters
-    c.call_instance.new.trail c.in_ok-callee.ensures.trail).indexed
+    refl refl refl refl (c.in_ok-arguments.ensures.some c.in-Some.arguments c.in-Some.is)
+    c.call_instance.new.run.found c.call_instance.new.run.waiting c.in_ok-callee.callee c.in_ok-callee.ensures.enters
+    c.call_instance.new.run.trail c.in_ok-callee.ensures.trail).indexed
 
 pub go_behind-requires-clause-by_nodes : goal.go_behind-requires-clause-by_nodes
 go_behind-requires-clause-by_nodes c =
-    let h = trail_at c.args.core.now c.args.text.now c.args.item.position c.args.item c.args.number c.args.found.now c.args.waiting.now
-    c.args.trail.now
+    let h = trail_at c.args.context.now.core.now c.args.context.now.text.now c.args.taken.item.position c.args.taken.item c.args.taken.number c.args.run.now.found c.args.run.now.waiting
+    c.args.run.now.trail
     c.requires.taking.run.taking.stored c.requires.next c.requires.taking.number c.requires.taking.at in
     by_nodes_2
-    c.args.core.now c.args.text.now c.reachable_is_closed.ensures c.items_are_in_text.ensures c.args.budget c.requires.taking.number c.args.found.now
-    c.args.waiting.now c.args.item c.requires.taking.run c.requires.taking.at
-    c.args.names.now c.args.nonterminal _ c.args.label.now c.args.not.now c.requires.before c.args.trail.now c.args.number h.1 h.0
-    _ c.in_ok-env.env c.values_at-values.result.now (values_in c.values_at-values.result.now c.in-Some.values) c.values_at-values.ensures
+    c.args.context.now.core.now c.args.context.now.text.now c.reachable_is_closed.ensures c.items_are_in_text.ensures c.args.context.now.budget c.requires.taking.number c.args.run.now.found
+    c.args.run.now.waiting c.args.taken.item c.requires.taking.run c.requires.taking.at
+    c.args.known.now.names.now c.args.nonterminal _ c.args.marks.now.label.now c.args.marks.now.not.now c.requires.before c.args.run.now.trail c.args.taken.number h.1 h.0
+    _ c.in_ok-env.env c.values_at-values.result.now (values_in c.values_at-values.result.now c.in-Some.arguments) c.values_at-values.ensures
     c.in_ok-env.ensures.extends (c.in_ok-env.ensures.once c.requires.taking.run.taking.stored.tables.environments)
-    (there_with c.enter_arguments.new.envs.keys c.in_ok-env.env _ c.values_at-values.result.now c.in-Some.values c.values_at-values.ensures
+    (there_with c.enter_arguments.new.envs.keys c.in_ok-env.env _ c.values_at-values.result.now c.in-Some.arguments c.values_at-values.ensures
     c.in_ok-env.ensures.enters.there)
-    refl refl refl refl (c.in_ok-values.ensures.some c.in-Some.values c.in-Some.is)
-    c.call_instance.new.found c.call_instance.new.waiting c.in_ok-callee.callee c.in_ok-callee.ensures.enters
-    c.call_instance.new.trail c.in_ok-callee.ensures.trail
+    refl refl refl refl (c.in_ok-arguments.ensures.some c.in-Some.arguments c.in-Some.is)
+    c.call_instance.new.run.found c.call_instance.new.run.waiting c.in_ok-callee.callee c.in_ok-callee.ensures.enters
+    c.call_instance.new.run.trail c.in_ok-callee.ensures.trail
 
 pub returns-clause-takes : goal.returns-clause-takes
 returns-clause-takes c =
     λ k e.
-    goes_past c.args.core.now c.args.text.now c.reachable_is_closed.ensures c.items_are_in_text.ensures c.args.budget c.args.item.position k
-    c.args.found.now c.args.waiting.now c.args.item refl
-    (run_at c.args.core.now c.args.text.now c.args.budget c.args.item c.args.found.now c.args.waiting.now c.requires.taking k e) e
-    c.args.names.now c.args.nonterminal _ c.args.label.now c.args.not.now c.requires.before
-    _ c.in_ok-env.env c.values_at-values.result.now (values_in c.values_at-values.result.now c.in-Some.values) c.values_at-values.ensures
+    goes_past c.args.context.now.core.now c.args.context.now.text.now c.reachable_is_closed.ensures c.items_are_in_text.ensures c.args.context.now.budget c.args.taken.item.position k
+    c.args.run.now.found c.args.run.now.waiting c.args.taken.item refl
+    (run_at c.args.context.now.core.now c.args.context.now.text.now c.args.context.now.budget c.args.taken.item c.args.run.now.found c.args.run.now.waiting c.requires.taking k e) e
+    c.args.known.now.names.now c.args.nonterminal _ c.args.marks.now.label.now c.args.marks.now.not.now c.requires.before
+    _ c.in_ok-env.env c.values_at-values.result.now (values_in c.values_at-values.result.now c.in-Some.arguments) c.values_at-values.ensures
     c.in_ok-env.ensures.extends (c.in_ok-env.ensures.once c.requires.taking.run.taking.stored.tables.environments)
-    (there_with c.enter_arguments.new.envs.keys c.in_ok-env.env _ c.values_at-values.result.now c.in-Some.values c.values_at-values.ensures
+    (there_with c.enter_arguments.new.envs.keys c.in_ok-env.env _ c.values_at-values.result.now c.in-Some.arguments c.values_at-values.ensures
     c.in_ok-env.ensures.enters.there)
-    refl refl refl refl (c.in_ok-values.ensures.some c.in-Some.values c.in-Some.is)
-    c.call_instance.new.found c.call_instance.new.waiting c.in_ok-callee.callee refl c.in_ok-callee.ensures.enters
-    c.add_caller.new.waiting c.args.number c.is_bare.result c.in_ok-add_caller.ensures.callers c.in_ok-add_caller.ensures.called c.in-Some-end_at.ensures.some.0
+    refl refl refl refl (c.in_ok-arguments.ensures.some c.in-Some.arguments c.in-Some.is)
+    c.call_instance.new.run.found c.call_instance.new.run.waiting c.in_ok-callee.callee refl c.in_ok-callee.ensures.enters
+    c.add_caller.new.waiting c.args.taken.number c.is_bare.result c.in_ok-add_caller.ensures.callers c.in_ok-add_caller.ensures.called c.in-Some-end_at.ensures.some.0
     c.go_behind.new.found c.go_behind.result c.go_behind.ensures.adds
 
 pub returns-clause-trail : goal.returns-clause-trail
 returns-clause-trail c =
     λ k e.
-    let h = trail_at c.args.core.now c.args.text.now c.args.item.position c.args.item c.args.number c.args.found.now c.args.waiting.now
-    c.args.trail.now
+    let h = trail_at c.args.context.now.core.now c.args.context.now.text.now c.args.taken.item.position c.args.taken.item c.args.taken.number c.args.run.now.found c.args.run.now.waiting
+    c.args.run.now.trail
     c.requires.taking.run.taking.stored c.requires.next k e in
-    goes_past_on c.args.core.now c.args.text.now c.reachable_is_closed.ensures c.items_are_in_text.ensures c.args.budget k c.args.found.now
-    c.args.waiting.now c.args.item
-    (run_at c.args.core.now c.args.text.now c.args.budget c.args.item c.args.found.now c.args.waiting.now c.requires.taking k e) e
-    c.args.names.now c.args.nonterminal _ c.args.label.now c.args.not.now c.requires.before c.args.trail.now c.args.number h.1 h.0
-    _ c.in_ok-env.env c.values_at-values.result.now (values_in c.values_at-values.result.now c.in-Some.values) c.values_at-values.ensures
+    goes_past_on c.args.context.now.core.now c.args.context.now.text.now c.reachable_is_closed.ensures c.items_are_in_text.ensures c.args.context.now.budget k c.args.run.now.found
+    c.args.run.now.waiting c.args.taken.item
+    (run_at c.args.context.now.core.now c.args.context.now.text.now c.args.context.now.budget c.args.taken.item c.args.run.now.found c.args.run.now.waiting c.requires.taking k e) e
+    c.args.known.now.names.now c.args.nonterminal _ c.args.marks.now.label.now c.args.marks.now.not.now c.requires.before c.args.run.now.trail c.args.taken.number h.1 h.0
+    _ c.in_ok-env.env c.values_at-values.result.now (values_in c.values_at-values.result.now c.in-Some.arguments) c.values_at-values.ensures
     c.in_ok-env.ensures.extends (c.in_ok-env.ensures.once c.requires.taking.run.taking.stored.tables.environments)
-    (there_with c.enter_arguments.new.envs.keys c.in_ok-env.env _ c.values_at-values.result.now c.in-Some.values c.values_at-values.ensures
+    (there_with c.enter_arguments.new.envs.keys c.in_ok-env.env _ c.values_at-values.result.now c.in-Some.arguments c.values_at-values.ensures
     c.in_ok-env.ensures.enters.there)
-    refl refl refl refl (c.in_ok-values.ensures.some c.in-Some.values c.in-Some.is)
-    c.call_instance.new.found c.call_instance.new.waiting c.in_ok-callee.callee c.in_ok-callee.ensures.enters
-    c.call_instance.new.trail c.in_ok-callee.ensures.trail
+    refl refl refl refl (c.in_ok-arguments.ensures.some c.in-Some.arguments c.in-Some.is)
+    c.call_instance.new.run.found c.call_instance.new.run.waiting c.in_ok-callee.callee c.in_ok-callee.ensures.enters
+    c.call_instance.new.run.trail c.in_ok-callee.ensures.trail
     c.add_caller.new.waiting c.is_bare.result c.is_bare.ensures.0 c.in_ok-add_caller.ensures.callers c.in_ok-add_caller.ensures.called c.in-Some-end_at.done
     c.in-Some-end_at.ensures.some.0 c.in-Some-end_at.ensures.some.1 c.go_behind.new.found c.go_behind.new.trail c.go_behind.result
     c.go_behind.ensures.adds c.go_behind.ensures.ways

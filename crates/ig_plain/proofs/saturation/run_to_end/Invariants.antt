@@ -5,6 +5,6 @@ use Rattle.ig_plain.proofs.saturation.run_to_end.Given as goal
 
 abbrev pub invariant-loop-before : goal.invariant-loop-before
 invariant-loop-before l = record {
-  run : IsRun l.core l.text l.budget l.before (length l.found.here.items) l.found l.waiting;
-  trail : HasTrail l.core l.text l.before (length l.found.here.items) l.found l.waiting l.trail;
+  run : IsRun l.context.core.now l.context.text.now l.context.budget l.before (length l.run.found.here.items) l.run.found l.run.waiting;
+  trail : HasTrail l.context.core.now l.context.text.now l.before (length l.run.found.here.items) l.run.found l.run.waiting l.run.trail;
 }

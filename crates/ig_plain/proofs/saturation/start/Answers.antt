@@ -10,15 +10,15 @@ use Rattle.ig_plain.proofs.saturation.start.Goals as goal
 pub add_firsts-requires-clause-all_named : goal.add_firsts-requires-clause-all_named
 add_firsts-requires-clause-all_named c =
     let s : Found = record {
-      done = c.args.found.now.done;
-      here = c.args.found.now.here;
-      later = c.args.found.now.later;
+      done = c.args.run.now.found.done;
+      here = c.args.run.now.found.here;
+      later = c.args.run.now.found.later;
       envs = c.enter_values.new.envs;
       keys = c.enter.new.self;
     } in
-    named_1 c.args.core.now [] c.reachable_is_closed.ensures c.keep_well_kinded.ensures c.args.budget c.args.found.now c.args.waiting.now
+    named_1 c.args.context.now.core.now [] c.reachable_is_closed.ensures c.keep_well_kinded.ensures c.args.context.now.budget c.args.run.now.found c.args.run.now.waiting
     c.requires.empty s c.in_ok-env.env c.in_ok-env.ensures.once (c.in_ok-env.ensures.enters.there ∙ ap Some c.new.ensures) refl refl refl
-    (alone c.args.found.now.keys _ _ c.in_ok-root.root c.in_ok-root.field-0-1 c.requires.empty.keys c.in_ok-root.ensures.enters.there
+    (alone c.args.run.now.found.keys _ _ c.in_ok-root.root c.in_ok-root.field-0-1 c.requires.empty.keys c.in_ok-root.ensures.enters.there
     c.in_ok-root.ensures.new c.in_ok-root.ensures.old)
 
 pub add_firsts-requires-clause-there : goal.add_firsts-requires-clause-there
@@ -27,9 +27,9 @@ add_firsts-requires-clause-there c = c.in_ok-root.ensures.enters.there
 pub add_firsts-requires-clause-new : goal.add_firsts-requires-clause-new
 add_firsts-requires-clause-new c =
     let s : Found = record {
-      done = c.args.found.now.done;
-      here = c.args.found.now.here;
-      later = c.args.found.now.later;
+      done = c.args.run.now.found.done;
+      here = c.args.run.now.found.here;
+      later = c.args.run.now.found.later;
       envs = c.enter_values.new.envs;
       keys = c.enter.new.self;
     } in
@@ -38,35 +38,35 @@ add_firsts-requires-clause-new c =
 pub returns-clause-run : goal.returns-clause-run
 returns-clause-run c =
     let s : Found = record {
-      done = c.args.found.now.done;
-      here = c.args.found.now.here;
-      later = c.args.found.now.later;
+      done = c.args.run.now.found.done;
+      here = c.args.run.now.found.here;
+      later = c.args.run.now.found.later;
       envs = c.enter_values.new.envs;
       keys = c.enter.new.self;
     } in
     λ text.
-    starts c.args.core.now text c.reachable_is_closed.ensures c.keep_well_kinded.ensures c.args.budget c.args.found.now c.args.waiting.now
+    starts c.args.context.now.core.now text c.reachable_is_closed.ensures c.keep_well_kinded.ensures c.args.context.now.budget c.args.run.now.found c.args.run.now.waiting
     c.requires.empty s c.in_ok-env.env c.in_ok-env.ensures.once (c.in_ok-env.ensures.enters.there ∙ ap Some c.new.ensures) refl refl refl
-    (alone c.args.found.now.keys _ _ c.in_ok-root.root c.in_ok-root.field-0-1 c.requires.empty.keys c.in_ok-root.ensures.enters.there
+    (alone c.args.run.now.found.keys _ _ c.in_ok-root.root c.in_ok-root.field-0-1 c.requires.empty.keys c.in_ok-root.ensures.enters.there
     c.in_ok-root.ensures.new c.in_ok-root.ensures.old)
     c.add_called.new.waiting c.add_firsts.new.found c.add_firsts.result c.in_ok-add_called.ensures.called c.add_firsts.ensures.adds
 
 pub returns-clause-trail : goal.returns-clause-trail
 returns-clause-trail c =
     let s : Found = record {
-      done = c.args.found.now.done;
-      here = c.args.found.now.here;
-      later = c.args.found.now.later;
+      done = c.args.run.now.found.done;
+      here = c.args.run.now.found.here;
+      later = c.args.run.now.found.later;
       envs = c.enter_values.new.envs;
       keys = c.enter.new.self;
     } in
     λ text.
     on_ok_weaker c.add_firsts.result
     (λ d.
-    starts_on c.args.core.now text
+    starts_on c.args.context.now.core.now text
     (instance_by c.enter_values.new.envs.keys (record { nonterminal = 0; env = c.in_ok-env.env; start = 0 }))
     s
-    c.add_firsts.new.found c.add_called.new.waiting c.args.trail.now c.add_firsts.new.trail
+    c.add_firsts.new.found c.add_called.new.waiting c.args.run.now.trail c.add_firsts.new.trail
     c.requires.empty.done c.requires.empty.here (c.add_firsts.ensures.adds.grows.done ∙ c.requires.empty.done) c.requires.empty.later
     (c.in_ok-add_called.ensures.called ∙ ap (λ z. z ++ not_called ∷ []) c.requires.empty.called)
     (record {

@@ -5,9 +5,9 @@ use Rattle.ig_plain.proofs.saturation.take_all.Given as goal
 
 abbrev pub invariant-loop-place : goal.invariant-loop-place
 invariant-loop-place l = record {
-  run : IsRun l.core l.text l.budget l.position l.place l.found l.waiting;
-  trail : HasTrail l.core l.text l.position l.place l.found l.waiting l.trail;
+  run : IsRun l.context.core.now l.context.text.now l.context.budget l.position l.place l.run.found l.run.waiting;
+  trail : HasTrail l.context.core.now l.context.text.now l.position l.place l.run.found l.run.waiting l.run.trail;
 }
 
 abbrev pub decreases-loop-place : goal.decreases-loop-place
-decreases-loop-place l = l.budget - l.place
+decreases-loop-place l = l.context.budget - l.place

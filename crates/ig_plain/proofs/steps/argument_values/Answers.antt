@@ -7,7 +7,7 @@ use Rattle.ig_plain.proofs.steps.argument_values.Goals as goal
 pub returns-then-are_own-clause-some : goal.returns-then-are_own-clause-some
 returns-then-are_own-clause-some c =
     λ a is.
-    arguments_own c.args.text.now c.args.names.now c.args.values.now c.args.here (map expression_of c.args.arguments.now) c.args.forms.now a
+    arguments_own c.args.context.now.text.now c.args.known.now.names.now c.args.values.now c.args.here (map expression_of c.args.arguments.now) c.args.known.now.forms.now a
     c.requires (true_at c.are_own.result _ c.are_own.ensures c.if-are_own.true) is
 
 pub returns-then-are_own-clause-none : goal.returns-then-are_own-clause-none

@@ -17,7 +17,7 @@ pub returns-in-Some : goal.returns-in-Some
 returns-in-Some c =
     record {
       none = λ e. absurd (cc);
-      some = λ a is. listed_at (λ vs. map (value_of c.args.text.now c.args.names.now c.args.values.now c.args.here) (map expression_of c.args.arguments.now) ≡ map Some vs)
+      some = λ a is. listed_at (λ vs. map (value_of c.args.context.now.text.now c.args.known.now.names.now c.args.values.now c.args.here) (map expression_of c.args.arguments.now) ≡ map Some vs)
           c.args.values.now c.in-Some.list a is (c.in_ok-list.ensures.some c.in-Some.list c.in-Some.is);
     }
 

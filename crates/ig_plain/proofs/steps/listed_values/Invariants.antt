@@ -5,5 +5,5 @@ use Rattle.ig_plain.proofs.steps.listed_values.Given as goal
 
 abbrev pub invariant-loop-place : goal.invariant-loop-place
 invariant-loop-place l =
-    map Some l.list ++ map (value_of l.text l.names l.values l.here) (map expression_of (drop l.place l.arguments)) ≡
-    map (value_of l.text l.names l.values l.here) (map expression_of l.arguments)
+    map Some l.list ++ map (value_of l.context.text.now l.known.names.now l.values l.here) (map expression_of (drop l.place l.arguments)) ≡
+    map (value_of l.context.text.now l.known.names.now l.values l.here) (map expression_of l.arguments)
