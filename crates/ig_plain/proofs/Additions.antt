@@ -21,7 +21,7 @@ use Rattle.ig_plain.specs.Tables.{item_by}
 use Rattle.ig_plain.specs.declared.found.Found.{Found}
 use Rattle.ig_plain.specs.Found.{means, found_in, later_in, count, AreNamed, Grows, GrowsLater, Has, Adds, AddsLater}
 use Rattle.ig_plain.proofs.Growth.{grows_not, grows_weaker, grows_then, all_kept, named_all}
-use Rattle.ig_plain.proofs.Sets.{extends_itself}
+use Rattle.ig_plain.proofs.Extending.{extends_itself}
 
 same_means : (a b : Found) (x : stored.Item) → b.envs.keys ≡ a.envs.keys → b.keys ≡ a.keys → means b x ≡ means a x
 same_means a b x envs keys =
@@ -160,18 +160,3 @@ value_at text names here env values e r o same told is =
 
 pub value_only : (o : Option Value) (v w : Value) → o ≡ Some v → o ≡ Some w → w ≡ v
 value_only o v w a b = let e : Some w ≡ Some v = sym b ∙ a in cc
-
--- where one of the expressions has no value, they have no values
-pub no_values : {A B : Type 0} (g : A → B) (f : B → Option Value) (xs : List A) (vs : List Value) (i : ℕ) (x : A) → slice_get xs i ≡ Some x →
-    f (g x) ≡ None → map f (map g xs) ≡ map Some vs → ⊥
-no_values g f [] vs i x at none e = cc
-no_values g f (y ∷ xs) [] i x at none e = cc
-no_values g f (y ∷ xs) (v ∷ vs) zero x at none e =
-    let same = same_Some y x at in let a : f (g y) ≡ Some v = head e in let b : Some v ≡ None = sym a ∙ ap (λ z. f (g z)) same ∙ none in cc
-  where
-    head : {a b : Option Value} {us ws : List (Option Value)} → a ∷ us ≡ b ∷ ws → a ≡ b
-    head h = cc
-no_values g f (y ∷ xs) (v ∷ vs) (suc i) x at none e = no_values g f xs vs i x at none (tail e)
-  where
-    tail : {a b : Option Value} {us ws : List (Option Value)} → a ∷ us ≡ b ∷ ws → us ≡ ws
-    tail h = cc

@@ -23,8 +23,8 @@ use Rattle.ig_item.specs.declared.run_fault.RunFault.{RunFault}
 use Rattle.ig_item.specs.declared.run_fault.RunFault.TheVariants.{Budget, Memory}
 use Rattle.ig_plain.specs.declared.found.Found.{Found}
 use Rattle.ig_plain.specs.declared.waiting.Waiting.{Waiting}
-use Rattle.ig_plain.specs.declared.compiled.Form.{Form}
-use Rattle.ig_plain.specs.Compiled.{form_of, expressions_of}
+use Rattle.ig_steps.specs.declared.compiled.Form.{Form}
+use Rattle.ig_steps.specs.Compiled.{form_of, expressions_of}
 use Rattle.ig_plain.specs.Found as found
 use Rattle.ig_plain.specs.Found.{means, instances_in, found_in, later_in, taken_in, count, Named, Grows, GrowsLater, Has, Adds, AddsLater, AddsTerminal}
 use Rattle.ig_plain.specs.Rules as rules

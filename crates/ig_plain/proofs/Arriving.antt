@@ -15,7 +15,7 @@ use Rattle.ig_item.specs.declared.ways.FurtherWay.{FurtherWay}
 use Rattle.ig_plain.specs.declared.found.Found.{Found}
 use Rattle.ig_plain.specs.declared.trail.Trail.{Trail}
 use Rattle.ig_plain.specs.declared.waiting.Waiting.{Waiting}
-use Rattle.ig_plain.specs.Tables.{Extends}
+use Rattle.ig_tables.specs.Extends.{Extends}
 use Rattle.ig_plain.specs.Found.{means, found_in, later_in, taken_in}
 use Rattle.ig_plain.specs.Run.{IsRun}
 use Rattle.ig_plain.specs.Arrival.{IsParted, ArrivesWith}
@@ -24,7 +24,7 @@ use Rattle.ig_plain.specs.Trail.{Pairs, IsRecorded, FollowTrail, HasTrail, Parts
 use Rattle.ig_plain.proofs.Growth.{longer, extends_at}
 use Rattle.ig_plain.proofs.Distinct.{different}
 use Rattle.ig_plain.proofs.Pairing.{IsSameFrom, all_same, same_more, same_set, front_at, behind_at, pairs_left, pairs_right, pairs_sides, pairs_mapped, pairs_unmapped}
-use Rattle.ig_plain.proofs.Sets.{extends_same}
+use Rattle.ig_plain.proofs.Extending.{extends_same}
 use Rattle.ig_plain.proofs.Recording.{way_more}
 use Rattle.ig_plain.proofs.Trails.{RecordsMore, follow, ends_found, ends_none}
 use Rattle.ig_plain.proofs.Indexing.{indexed_same, indexed_next}

@@ -18,7 +18,7 @@ use Rattle.ig_item.specs.declared.ways.Way.TheVariants.{Node}
 use Rattle.ig_plain.specs.declared.found.Found.{Found}
 use Rattle.ig_plain.specs.declared.trail.Trail.{Trail}
 use Rattle.ig_plain.specs.declared.waiting.Waiting.{Waiting}
-use Rattle.ig_plain.specs.Tables.{Extends}
+use Rattle.ig_tables.specs.Extends.{Extends}
 use Rattle.ig_plain.specs.Found.{means, Adds}
 use Rattle.ig_plain.specs.Rules.{StandsAtBareCall}
 use Rattle.ig_plain.specs.Waiting.{called_at, lengthened, with_caller}

@@ -27,7 +27,7 @@ use Rattle.ig_plain.specs.Rules as rules
 use Rattle.ig_plain.specs.Rules.{After, IsCaller}
 use Rattle.ig_plain.specs.Waiting.{called_at, not_called, lengthened, first_or, with_caller}
 use Rattle.ig_plain.specs.Run.{Chains, ChainEnds, HasCallers, HasEnd, IsWaiting, IsRun, IsTaken}
-use Rattle.ig_plain.proofs.Sets.{extends_itself}
+use Rattle.ig_plain.proofs.Extending.{extends_itself}
 use Rattle.ig_plain.proofs.Growth.{grows_not}
 use Rattle.ig_plain.proofs.Following.{one_step, not_both, same_alternative}
 use Rattle.ig_plain.proofs.Running.{takes_found, taken_now, refuses, taken_found}

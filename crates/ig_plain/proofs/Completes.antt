@@ -26,7 +26,7 @@ use Rattle.ig_plain.specs.Rules.{After, IsCaller, StandsAtCall, IsReturn}
 use Rattle.ig_plain.specs.Waiting.{called_at, not_called, with_end}
 use Rattle.ig_plain.specs.Run.{HasCallers, IsWaiting, IsRun, IsTaken, Taking, IsChainOf, IsReturnToOne}
 use Rattle.ig_plain.proofs.Growth.{grows_not, means_grown, named_grown, all_kept, instance_kept}
-use Rattle.ig_plain.proofs.Sets.{extends_itself}
+use Rattle.ig_plain.proofs.Extending.{extends_itself}
 use Rattle.ig_plain.proofs.Following.{one_step, not_both}
 use Rattle.ig_plain.proofs.Distinct.{one_instance, once_mapped}
 use Rattle.ig_plain.proofs.Returns.{one_chain}

@@ -1,11 +1,9 @@
-pub mod Equality
-pub mod Sets
+pub mod Extending
 pub mod Growth
 pub mod Additions
 pub mod Following
 pub mod Distinct
-pub mod Chains
-pub mod Numbered
+pub mod Adding
 pub mod Terminals
 pub mod Trails
 pub mod Fresh
@@ -36,7 +34,6 @@ pub mod Fewer
 pub mod Ends
 pub mod Ending
 pub mod Forms
-pub mod DotNames
 pub mod Listing
 pub mod Triangle
 pub mod PlainItems

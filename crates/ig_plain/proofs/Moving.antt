@@ -13,7 +13,7 @@ use Rattle.ig_plain.specs.declared.found.Found.{Found}
 use Rattle.ig_plain.specs.declared.waiting.Waiting.{Waiting}
 use Rattle.ig_plain.specs.declared.waiting.Called.{Called}
 use Rattle.ig_plain.specs.declared.waiting.Caller.{Caller}
-use Rattle.ig_plain.specs.Tables.{Extends}
+use Rattle.ig_tables.specs.Extends.{Extends}
 use Rattle.ig_plain.specs.Found.{means, instances_in, found_in, later_in, taken_in, count, Named, AreNamed, AreTables, IsStored, Grows}
 use Rattle.ig_plain.specs.Rules.{IsCaller}
 use Rattle.ig_plain.specs.Waiting.{not_called}

@@ -18,11 +18,11 @@ use Rattle.ig_plain.specs.declared.trail.Trail.{Trail}
 use Rattle.ig_plain.specs.declared.waiting.Waiting.{Waiting}
 use Rattle.ig_plain.specs.declared.waiting.Called.{Called}
 use Rattle.ig_plain.specs.declared.waiting.Caller.{Caller}
-use Rattle.ig_plain.specs.Tables.{Extends}
+use Rattle.ig_tables.specs.Extends.{Extends}
 use Rattle.ig_plain.specs.Found.{means, found_in, later_in, taken_in, instances_in, Named, AreNamed, IsStored, Grows}
 use Rattle.ig_plain.specs.Rules.{StandsAtBareCall}
 use Rattle.ig_plain.specs.Trail.{FollowTrail, HasTrail, AreKnown, IsNext}
-use Rattle.ig_plain.proofs.Sets.{extends_itself}
+use Rattle.ig_plain.proofs.Extending.{extends_itself}
 use Rattle.ig_plain.proofs.Growth.{extends_at, found_grown, found_named, means_grown}
 use Rattle.ig_plain.proofs.Distinct.{different}
 use Rattle.ig_plain.proofs.Running.{stored_grown, taken_grown, taken_step}

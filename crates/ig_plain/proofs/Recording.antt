@@ -17,13 +17,14 @@ use Rattle.ig_item.specs.declared.ways.Way.TheVariants.{Leaf, Node}
 use Rattle.ig_item.specs.declared.ways.FurtherWay.{FurtherWay}
 use Rattle.ig_plain.specs.declared.found.Found.{Found}
 use Rattle.ig_plain.specs.declared.trail.Trail.{Trail}
-use Rattle.ig_plain.specs.Tables.{Extends, item_by}
+use Rattle.ig_tables.specs.Extends.{Extends}
+use Rattle.ig_plain.specs.Tables.{item_by}
 use Rattle.ig_plain.specs.Rules.{IsBehind}
 use Rattle.ig_plain.specs.Found.{means, found_in, later_in, Named, AreNamed}
-use Rattle.ig_plain.specs.Returned.{entry}
+use Rattle.ig_tables.specs.Returned.{entry}
 use Rattle.ig_plain.specs.Trail.{IsRecorded, here, later, By, ComeByNodes, ComesOnce, IsIndexed, IsNodeAt, Pushes, Unfound, Records, RecordsLater, RecordsTerminal}
 use Rattle.ig_plain.proofs.Growth.{means_kept, found_named, longer, extends_at, extends_in, extends_then, extends_cases}
-use Rattle.ig_plain.proofs.Sets.{extends_itself, extends_by, extends_same}
+use Rattle.ig_plain.proofs.Extending.{extends_itself, extends_by, extends_same}
 use Rattle.ig_plain.proofs.Terminals.{same_end, one_behind}
 use Rattle.ig_plain.proofs.Indexing.{indexed_same, indexed_once, indexed_node}
 

@@ -14,7 +14,8 @@ use Rattle.ig_item.specs.declared.items.Item as stored
 use Rattle.ig_item.specs.declared.run_fault.RunFault.{RunFault}
 use Rattle.ig_item.specs.declared.run_fault.RunFault.TheVariants.{Budget, Memory}
 use Rattle.ig_plain.specs.declared.found.Found.{Found}
-use Rattle.ig_plain.specs.Tables.{Extends, IsNamed}
+use Rattle.ig_tables.specs.Extends.{Extends}
+use Rattle.ig_plain.specs.Tables.{IsNamed}
 use Rattle.ig_plain.specs.Found.{means, found_in, later_in, taken_in, count, Named, AreNamed, IsStored, Grows, GrowsLater, Has, Adds}
 use Rattle.ig_plain.specs.Rules.{After, IsPastTerminal}
 use Rattle.ig_plain.specs.Run.{IsTaking, Refuses}

@@ -22,7 +22,7 @@ use Rattle.ig_item.specs.declared.run_fault.RunFault.TheVariants.{Budget, Memory
 use Rattle.ig_plain.specs.declared.found.Found.{Found}
 use Rattle.ig_plain.specs.declared.waiting.Waiting.{Waiting}
 use Rattle.ig_plain.specs.declared.waiting.Called.{Called}
-use Rattle.ig_plain.specs.Tables.{IsNew}
+use Rattle.ig_tables.specs.Extends.{IsNew}
 use Rattle.ig_plain.specs.Found.{means, instances_in, found_in, later_in, taken_in, count, AreNamed, IsStored, Grows, Adds}
 use Rattle.ig_plain.specs.Rules.{IsFirstOf}
 use Rattle.ig_plain.specs.Waiting.{not_called}

@@ -34,7 +34,7 @@ use Rattle.ig_plain.specs.Run as run
 use Rattle.ig_plain.specs.Run.{Chains, IsRun, IsReturnToOne}
 use Rattle.ig_plain.specs.Trail as trails
 use Rattle.ig_plain.specs.Trail.{By, Records, RecordsTerminal, RecordsLater, HasTrail, AreKnown, IsKnown, IsBehindTest, IsBehindBind, IsReturnBy}
-use Rattle.ig_plain.proofs.Sets.{extends_same}
+use Rattle.ig_plain.proofs.Extending.{extends_same}
 use Rattle.ig_plain.proofs.Growth.{extends_at}
 use Rattle.ig_plain.proofs.Following.{one_step, not_both}
 use Rattle.ig_plain.proofs.Running.{means_still, taken_later}

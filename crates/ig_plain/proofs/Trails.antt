@@ -17,11 +17,11 @@ use Rattle.ig_item.specs.declared.ways.FurtherWay.{FurtherWay}
 use Rattle.ig_item.specs.declared.ways.FurtherEnd.{FurtherEnd}
 use Rattle.ig_plain.specs.declared.found.Found.{Found}
 use Rattle.ig_plain.specs.declared.trail.Trail.{Trail}
-use Rattle.ig_plain.specs.Tables.{Extends}
+use Rattle.ig_tables.specs.Extends.{Extends}
 use Rattle.ig_plain.specs.Found.{found_in, later_in}
 use Rattle.ig_plain.specs.Trail as trails
 use Rattle.ig_plain.specs.Trail.{IsRecorded, IsIndexed, Records, RecordsLater, FollowTrail, Pairs, By}
-use Rattle.ig_plain.proofs.Sets.{extends_same}
+use Rattle.ig_plain.proofs.Extending.{extends_same}
 use Rattle.ig_plain.proofs.Growth.{extends_at, extends_cases, longer}
 use Rattle.ig_plain.proofs.Pairing.{front_at, pairs_sides}
 use Rattle.ig_plain.proofs.Recording.{way_more}

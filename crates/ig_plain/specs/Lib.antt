@@ -1,13 +1,9 @@
 pub mod Tables
-pub mod Returned
-pub mod InstanceSet
 pub mod Rules
 pub mod Found
 pub mod Waiting
 pub mod Run
 pub mod Trail
 pub mod Arrival
-pub mod Compiled
-pub mod Names
 pub mod Laws
 pub mod Examples

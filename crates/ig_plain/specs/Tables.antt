@@ -6,27 +6,12 @@ use Rattle.ig_item.specs.Items.{Item}
 use Rattle.ig_item.specs.Tables.{instance_by}
 use Rattle.ig_item.specs.declared.items.InstanceKey.{InstanceKey}
 use Rattle.ig_item.specs.declared.items.Item as stored
-
--- after is before, and then more
-pub record Extends {X : Type 0} (before after : List X) : Type 0 where
-  pub more : List X
-  pub is : after ≡ before ++ more
+use Rattle.ig_tables.specs.Extends.{Extends}
 
 -- x was added at the end of the list, if at all
 pub record AddsOnly {X : Type 0} (before after : List X) (x : X) : Type 0 where
   pub extends : Extends before after
   pub only : (y : X) → Contains extends.more y → y ≡ x
-
--- x was added at the end of the list, or was there, as member k
-pub record Enters {X : Type 0} (before after : List X) (x : X) (k : ℕ) : Type 0 where
-  pub extends : Extends before after
-  pub there : slice_get after k ≡ Some x
-
--- x wasn't in the list, and was added at its end
-pub record IsNew {X : Type 0} (before after : List X) (x : X) (k : ℕ) : Type 0 where
-  pub new : Contains before x → ⊥
-  pub added : after ≡ before ++ x ∷ []
-  pub last : k ≡ length before
 
 abbrev pub no_key : InstanceKey
 no_key = record { nonterminal = 0; env = 0; start = 0 }

@@ -15,8 +15,8 @@ use Rattle.ig_item.specs.declared.ways.Way.{Way}
 use Rattle.ig_item.specs.declared.ways.Way.TheVariants.{Begin, Pass, Leaf, Node}
 use Rattle.ig_item.specs.declared.ways.FurtherWay.{FurtherWay}
 use Rattle.ig_item.specs.declared.run_fault.RunFault.{RunFault}
-use Rattle.ig_plain.specs.Tables.{Extends}
-use Rattle.ig_plain.specs.Returned.{Entry, entry}
+use Rattle.ig_tables.specs.Extends.{Extends}
+use Rattle.ig_tables.specs.Returned.{Entry, entry}
 use Rattle.ig_plain.specs.Rules.{IsBehind, StandsAtBareCall}
 use Rattle.ig_plain.specs.Found.{means, found_in, later_in, taken_in, instances_in}
 use Rattle.ig_plain.specs.declared.found.Found.{Found}

@@ -1,6 +1,6 @@
 //! What a run goes by.
-use crate::names::Dots;
 use ig_item::Core;
+use ig_steps::Dots;
 use ig_text::{Sequence, Text};
 use std::alloc::Global;
 

@@ -6,19 +6,13 @@
 //! run out before. [`saturate`] gives the items alone.
 #![tactic(auto)]
 
-mod compiled;
 mod context;
 mod found;
-mod instance_set;
 mod interning;
 mod laws;
 mod moves;
-mod names;
-mod returned;
-mod rows;
 mod run;
 mod saturation;
-mod steps;
 mod trail;
 mod waiting;
 

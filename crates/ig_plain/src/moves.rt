@@ -3,20 +3,18 @@ ghost use Rattle.std.specs.Prelude.{◌≡◌, [], ◌∷◌, ◌<◌, OnOk, len
 ghost use Rattle.ig_expr.specs.View.{expression_of};
 ghost use Rattle.ig_item.specs.Items.{MatchesNone, past, span_of};
 ghost use Rattle.ig_item.specs.declared.ways.Way.TheVariants.{Node, Pass};
-ghost use Rattle.ig_plain.specs.Compiled.{form_of};
+ghost use Rattle.ig_steps.specs.Compiled.{form_of};
 ghost use Rattle.ig_plain.specs.Rules.{IsBehind};
 ghost use Rattle.ig_plain.specs.Found.{Adds, AddsTerminal, AreNamed, Named, means};
 ghost use Rattle.ig_plain.specs.Trail.{By, ComeByNodes, IsBehindBind, IsBehindTest, IsIndexed};
 ghost use Rattle.ig_plain.specs.Trail.{Records, RecordsTerminal, Unfound};
 
-use crate::compiled::{only, value};
 use crate::context::Context;
 use crate::found::{Found, Taken, go_behind_call, go_later, go_on};
-use crate::names::Known;
-use crate::steps::{Marks, is_true, matches_none, span_bound};
 use crate::trail::Trail;
 use ig_expr::{Expr, Value, Values};
 use ig_item::{RunFault, Way};
+use ig_steps::{Known, Marks, is_true, matches_none, only, span_bound, value};
 use ig_text::Pattern;
 use indexmap::IndexSet;
 

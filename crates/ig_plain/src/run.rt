@@ -14,8 +14,8 @@ ghost use Rattle.ig_item.specs.declared.ways.Way.TheVariants.{Begin, Node};
 ghost use Rattle.ig_plain.specs.Found.{Adds, AreNamed, Named, means};
 ghost use Rattle.ig_plain.specs.Rules.{IsFirstOf, IsReturn, Stands, StandsAtBareCall};
 ghost use Rattle.ig_plain.specs.Rules.{StandsAtCall, step_at};
-ghost use Rattle.ig_plain.specs.Compiled.{form_of};
-ghost use Rattle.ig_plain.specs.Names.{all_dots};
+ghost use Rattle.ig_steps.specs.Compiled.{form_of};
+ghost use Rattle.ig_steps.specs.Names.{all_dots};
 ghost use Rattle.ig_plain.specs.Run.{EntersInstance, IsChainOf, IsReturnToOne, IsRun, Refuses};
 ghost use Rattle.ig_plain.specs.Run.{Taking, Takes};
 ghost use Rattle.ig_plain.specs.Trail.{AreKnown, By, ComeByNodes, EntersOn, HasTrail, IsIndexed};
@@ -25,8 +25,6 @@ use crate::context::Context;
 use crate::found::{Found, Taken, add_new, go_behind_bare_call, number_of};
 use crate::interning::enter_arguments;
 use crate::moves::{go_behind, take_bind, take_terminal, take_test, values_at};
-use crate::names::{Known, known_at};
-use crate::steps::{Marks, argument_values};
 use crate::trail::Trail;
 use crate::waiting::{Caller, Waiting, add_called, add_caller, add_end, end_at, first_caller};
 use ig_expr::Expr;
@@ -34,6 +32,7 @@ use ig_item::{
     Core, FurtherEnd, InstanceKey, Item, RunFault, Step, Way, Ways, environments_fit,
     items_are_in_text, reachable_is_closed,
 };
+use ig_steps::{Known, Marks, argument_values, known_at};
 use std::alloc::AllocError;
 
 /// What a run has come to.
@@ -254,7 +253,8 @@ fn take_call(
     items_are_in_text();
     let start = taken.item.position;
     let values = values_at(&run.found.envs, taken.item.env);
-    let Some(arguments) = argument_values(context, known, args, values, start)? else {
+    let Some(arguments) = argument_values(context.alloc, known, args, values, start, context.text)?
+    else {
         return Ok(());
     };
     let env = enter_arguments(&mut run.found.envs, arguments, taken.item.env)?;

@@ -8,14 +8,12 @@ ghost use Rattle.ig_plain.specs.Found.{AllNamed};
 ghost use Rattle.ig_item.specs.WellKinded.{NoneTwice};
 ghost use Rattle.ig_item.specs.Limits.{numbers_end};
 ghost use Rattle.ig_plain.specs.Run.{IsRun, Refuses};
-ghost use Rattle.ig_plain.specs.Names.{all_dots};
+ghost use Rattle.ig_steps.specs.Names.{all_dots};
 ghost use Rattle.ig_plain.specs.Arrival.{ArrivesWith, IsNothing, IsParted};
 ghost use Rattle.ig_plain.specs.Trail.{ArrivesOn, HasTrail, IsUntrodden, PartsTrail};
 
 use crate::context::Context;
 use crate::found::Found;
-use crate::interning::enter_values;
-use crate::names::dots_of_core;
 use crate::run::{Run, add_firsts, keep_well_kinded, take};
 use crate::trail::Trail;
 use crate::waiting::{Waiting, add_called};
@@ -24,6 +22,8 @@ use ig_item::{
     Core, EnvironmentTable, InstanceKey, Item, Items, Recorded, RunFault, Way, Ways,
     items_are_in_text, reachable_is_closed,
 };
+use ig_steps::dots_of_core;
+use ig_tables::enter_values;
 use ig_text::Text;
 use std::alloc::{AllocError, Global};
 

@@ -1,8 +1,8 @@
 //! How the items that a run has found came about.
 ghost use Rattle.std.specs.Prelude.{◌≡◌, [], IfOk};
 
-use crate::returned::Returned;
 use ig_item::Ways;
+use ig_tables::Returned;
 use std::alloc::{AllocError, Global};
 
 /// How the items of a run came about.

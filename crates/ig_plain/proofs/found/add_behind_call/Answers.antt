@@ -2,7 +2,7 @@ use Rattle.std.proofs.Common.{◌≡◌, ◌+◌, length, refl, arith}
 use Rattle.std.proofs.lemmas.Result.{on_ok_weaker}
 use Rattle.ig_item.specs.declared.ways.Way.TheVariants.{Node}
 use Rattle.ig_plain.proofs.Growth.{grows_not}
-use Rattle.ig_plain.proofs.Sets.{extends_itself}
+use Rattle.ig_plain.proofs.Extending.{extends_itself}
 use Rattle.ig_plain.proofs.Additions.{adds_exit}
 use Rattle.ig_plain.proofs.Recording.{pushed_records, pushed_node}
 use Rattle.ig_plain.proofs.found.add_behind_call.Goals as goal

@@ -1,10 +1,10 @@
 use Rattle.std.proofs.Common.{◌≡◌, Contains, refl, sym, subst}
 use Rattle.std.proofs.lemmas.List.Elements.{Contains-append_left}
 use Rattle.ig_text.proofs.Lists.{contains_from_at}
-use Rattle.ig_plain.specs.Returned.{entry}
+use Rattle.ig_tables.specs.Returned.{entry}
 use Rattle.ig_plain.specs.Found.{means, found_in, later_in}
 use Rattle.ig_plain.proofs.Growth.{grows_not}
-use Rattle.ig_plain.proofs.Sets.{extends_itself}
+use Rattle.ig_plain.proofs.Extending.{extends_itself}
 use Rattle.ig_plain.proofs.Indexing.{not_indexed}
 use Rattle.ig_plain.proofs.Additions.{adds_exit, adds_nothing}
 use Rattle.ig_plain.proofs.Recording.{meant_at, records_further}

@@ -6,7 +6,7 @@ use Rattle.ig_item.specs.declared.run_fault.RunFault.TheVariants.{Memory}
 use Rattle.ig_item.specs.declared.ways.Way.TheVariants.{Node}
 use Rattle.ig_plain.specs.Found.{means}
 use Rattle.ig_plain.proofs.Growth.{grows_not, bare_means}
-use Rattle.ig_plain.proofs.Sets.{extends_itself}
+use Rattle.ig_plain.proofs.Extending.{extends_itself}
 use Rattle.ig_plain.proofs.Additions.{adds_fails, adds_alike}
 use Rattle.ig_plain.proofs.Recording.{meant_at, records_same}
 use Rattle.ig_plain.proofs.found.go_behind_bare_call.Goals as goal

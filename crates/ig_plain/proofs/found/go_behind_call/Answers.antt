@@ -5,7 +5,7 @@ use Rattle.ig_plain.specs.declared.found.Found.{Found}
 use Rattle.ig_plain.specs.Found.{Adds, means}
 use Rattle.ig_plain.proofs.Growth.{grows_not, past_named, past_means}
 use Rattle.ig_plain.proofs.Additions.{adds_exit, adds_after, adds_alike}
-use Rattle.ig_plain.proofs.Sets.{extends_itself}
+use Rattle.ig_plain.proofs.Extending.{extends_itself}
 use Rattle.ig_plain.proofs.Recording.{by_node_here, records_past}
 use Rattle.ig_plain.proofs.found.go_behind_call.Goals as goal
 

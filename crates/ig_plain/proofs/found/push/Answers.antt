@@ -1,7 +1,7 @@
 use Rattle.std.proofs.Common.{refl}
 use Rattle.ig_plain.proofs.Growth.{grows_not, grows_here}
-use Rattle.ig_plain.proofs.Sets.{extends_itself}
-use Rattle.ig_plain.proofs.Chains.{added_only, added_once, added_there}
+use Rattle.ig_plain.proofs.Extending.{extends_itself}
+use Rattle.ig_plain.proofs.Adding.{added_only, added_once, added_there}
 use Rattle.ig_plain.proofs.Additions.{adds_exit, adds_here}
 use Rattle.ig_plain.proofs.found.push.Goals as goal
 

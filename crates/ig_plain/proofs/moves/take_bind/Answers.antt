@@ -4,7 +4,7 @@ use Rattle.ig_expr.specs.View.{expression_of}
 use Rattle.ig_item.specs.declared.ways.Way.TheVariants.{Pass}
 use Rattle.ig_plain.proofs.Additions.{adds_with, adds_without, value_at, value_only}
 use Rattle.ig_plain.proofs.Recording.{records_with, records_without}
-use Rattle.ig_plain.specs.Compiled.{form_of}
+use Rattle.ig_steps.specs.Compiled.{form_of}
 use Rattle.ig_plain.proofs.Forms.{form_of_one}
 use Rattle.ig_plain.proofs.moves.take_bind.Goals as goal
 

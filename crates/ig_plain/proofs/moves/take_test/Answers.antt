@@ -3,7 +3,7 @@ use Rattle.ig_expr.specs.View.{expression_of}
 use Rattle.ig_item.specs.declared.ways.Way.TheVariants.{Pass}
 use Rattle.ig_plain.proofs.Additions.{adds_where, adds_nowhere, holds_at, fails_at}
 use Rattle.ig_plain.proofs.Recording.{records_where, records_nowhere}
-use Rattle.ig_plain.specs.Compiled.{form_of}
+use Rattle.ig_steps.specs.Compiled.{form_of}
 use Rattle.ig_plain.proofs.Forms.{form_of_one}
 use Rattle.ig_plain.proofs.moves.take_test.Goals as goal
 

@@ -1,7 +1,7 @@
 use Rattle.std.proofs.Common.{refl}
 use Rattle.std.proofs.lemmas.Option.{slice_get_within}
 use Rattle.ig_text.proofs.Lists.{contains_from_at}
-use Rattle.ig_plain.specs.Compiled.{values_in}
+use Rattle.ig_steps.specs.Compiled.{values_in}
 use Rattle.ig_plain.proofs.Forms.{there_with}
 use Rattle.ig_plain.proofs.Instances.{at_exit}
 use Rattle.ig_plain.proofs.Completes.{run_at}

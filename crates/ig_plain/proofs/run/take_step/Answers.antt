@@ -5,7 +5,7 @@ use Rattle.ig_expr.specs.View.{expression_of}
 use Rattle.ig_item.specs.View.{step_of}
 use Rattle.ig_item.specs.Items.{StandsBefore}
 use Rattle.ig_item.specs.declared.ways.Way.TheVariants.{Pass}
-use Rattle.ig_plain.specs.Compiled.{form_of}
+use Rattle.ig_steps.specs.Compiled.{form_of}
 use Rattle.ig_plain.specs.Rules.{IsBehind}
 use Rattle.ig_plain.specs.Found.{means, Adds, AddsTerminal}
 use Rattle.ig_plain.specs.Trail.{By, Records, RecordsTerminal, Unfound, IsBehindTest, IsBehindBind}

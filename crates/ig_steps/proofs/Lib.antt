@@ -1,0 +1,4 @@
+pub mod Forms
+pub mod DotNames
+pub mod Values
+pub mod Matches

@@ -1,0 +1,4 @@
+pub mod Equality
+pub mod Sets
+pub mod Chains
+pub mod Numbered

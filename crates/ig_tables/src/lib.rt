@@ -1,0 +1,18 @@
+//! The tables of a run, in which each value stands once: environments and instances by number, and
+//! the items at the position that stand behind calls, with their numbers.
+//!
+//! [`InstanceSet::enter`] and [`enter_values`] give the number of an instance or an environment,
+//! and add it at the end where it isn't there. [`Returned`] finds the number of an item, and is
+//! emptied at each position without touching its buckets. Each call is refused for want of memory
+//! alone, which a table is that 32 bits don't number.
+#![tactic(auto)]
+
+mod environments;
+mod instance_set;
+mod numbers;
+mod returned;
+
+pub use environments::enter_values;
+pub use instance_set::InstanceSet;
+pub use numbers::number;
+pub use returned::Returned;
