@@ -15,10 +15,11 @@ use Rattle.ig_item.specs.declared.core_grammar.Nonterminal.{Nonterminal}
 use Rattle.ig_item.specs.declared.core_grammar.CoreAlt.{CoreAlt}
 use Rattle.ig_item.specs.Gives as rules
 use Rattle.ig_item.specs.Gives.{NodeKey, Taken, Completes, nothing, leaf, tree}
-use Rattle.ig_forest.specs.Live.{Gives}
-use Rattle.ig_forest.specs.CodeTables.{item_by, list_at, list_cmp}
+use Rattle.ig_live.specs.Live.{Gives}
+use Rattle.ig_forest.specs.CodeTables.{item_by, list_at}
+use Rattle.ig_live.specs.Lists.{list_cmp}
 use Rattle.ig_forest.specs.CodeDone.{StandsLast}
-use Rattle.ig_forest.specs.declared.rows.ItemRow.{ItemRow}
+use Rattle.ig_live.specs.declared.rows.ItemRow.{ItemRow}
 use Rattle.ig_forest.proofs.Uniqueness.{same_key}
 use Rattle.ig_forest.proofs.CodeOrders.{list_total}
 use Rattle.std.specs.List.Sorted.{IsStrictlySortedBy}
@@ -45,13 +46,6 @@ abbrev pub last_from_complete : (core : List Nonterminal) (lists : List (List Va
 last_from_complete core lists row s = record { nonterminal = s.nonterminal; alternative = s.alternative; has = s.has; last = s.last }
 
 module _ (core : List Nonterminal) (text : List ℕ) where
-  pub any_step : {prev x : Item} {taken : Taken} → Gives core text prev taken x → (names : List (List ℕ)) × (step : Step) × StandsBefore core prev names step
-  any_step (rules.test prev ns f x r before holds is) = (ns, Test f, before)
-  any_step (rules.bind prev ns name f v x r before has is) = (ns, Bind name f, before)
-  any_step (rules.terminal prev ns what label excluded j taken x r before matches free t is) = (ns, Term what label excluded, before)
-  any_step (rules.return prev done label excluded key x r d calls c free is) =
-      (calls.names, Call key.instance.nonterminal calls.arguments label excluded, calls.before)
-
   pub by_test : {prev x : Item} {taken : Taken} → Gives core text prev taken x → (names : List (List ℕ)) (e : Expression) →
       StandsBefore core prev names (Test e) →
       (taken ≡ nothing) × HasValue text prev names e (Bool Rattle.std.specs.Prelude.true) × (x ≡ past prev [] prev.position)

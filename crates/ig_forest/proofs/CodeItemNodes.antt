@@ -1,6 +1,7 @@
 -- The entries of live items, made from their ways.
-use Rattle.std.proofs.Common.{◌≡◌, ◌↔◌, ◌⊎◌, inl, inr, ℕ, zero, suc, ◌+◌, ◌<◌, ◌≤◌, List, [], ◌∷◌, ◌++◌, Some, length, map, drop, get_or, slice_get, Contains, IsPermutation, IsSorted, refl, sym, ap, ◌∙◌, subst, arith}
-use Rattle.std.specs.List.{dedup}
+use Rattle.std.proofs.Common.{◌≡◌, ◌↔◌, ◌⊎◌, inl, inr, ℕ, zero, suc, ◌+◌, ◌<◌, ◌≤◌, List, [], ◌∷◌, ◌++◌, Some, Less, length, map, drop, get_or, slice_get, Contains, IsPermutation, IsSorted, refl, sym, ap, ◌∙◌, subst, arith}
+use Rattle.std.specs.List.{dedup, AllAdjacentBelow}
+use Rattle.std.specs.List.Sorted.{IsStrictlySortedBy}
 use Rattle.std.specs.Ordering.{nat_cmp, eq_by_cmp}
 use Rattle.std.proofs.Math.ListN.{set}
 use Rattle.std.proofs.Math.Seq.{drop-cons}
@@ -8,13 +9,15 @@ use Rattle.std.proofs.lemmas.Bool.Decides.{Decides-eqb}
 use Rattle.std.proofs.lemmas.Cmp.{nat_cmp_total}
 use Rattle.std.proofs.lemmas.List.{get_or-set_same, get_or-set_other, length-set}
 use Rattle.std.proofs.lemmas.List.Elements.{Contains-append_left, Contains-push, Contains-push_cases}
-use Rattle.std.proofs.lemmas.List.Kept.{Contains-from_dedup}
+use Rattle.std.proofs.lemmas.List.Kept.{Contains-from_dedup, IsStrictlySortedBy-dedup}
 use Rattle.std.proofs.lemmas.List.Sorted.{Contains-permutation, IsPermutation-sym}
+use Rattle.std.proofs.lemmas.Map.Keys.{sorted_from_all_adjacent}
 use Rattle.std.proofs.lemmas.Map.Lookups.{exact_unsigned}
 use Rattle.std.proofs.lemmas.Map.Made.{IsDistinct-from_AllPairs, is_member-Decides}
 use Rattle.std.proofs.lemmas.Map.Steps.{length-le_from_distinct_below}
 use Rattle.std.proofs.lemmas.Option.{same_Some, slice_get-get_or, slice_get_within, get_or_from_slice_get}
 use Rattle.ig_text.proofs.Lists.{at_from_contains, contains_from_at, mapped_in, unmapped_in, contains_later}
+use Rattle.ig_text.proofs.Once.{once_members}
 use Rattle.ig_text.proofs.Orders.{below_or_at}
 use Rattle.ig_text.proofs.Rising.{one_sorted}
 use Rattle.ig_item.specs.WellKinded.{NoneTwice}
@@ -24,13 +27,14 @@ use Rattle.ig_item.specs.declared.ways.Way.TheVariants as way
 use Rattle.ig_item.specs.declared.ways.FurtherWay.{FurtherWay}
 use Rattle.ig_forest.specs.Orders.{entry_cmp, previous}
 use Rattle.ig_forest.specs.CodeItemNodes.{AreNumbers, AreFromOne, AreSources, AreEntriesOf, AddsItem, WayFits, entry_by, further_entry}
-use Rattle.ig_forest.specs.CodeLiveOrder.{item_at, row_of}
-use Rattle.ig_forest.specs.CodeOnce.{IsOnce}
+use Rattle.ig_live.specs.Rows.{item_at, row_of}
+use Rattle.ig_live.specs.Once.{IsOnce}
 use Rattle.ig_forest.specs.CodeParts.{StoredItem}
 use Rattle.ig_forest.specs.declared.entry.Entry.{Entry}
-use Rattle.ig_forest.specs.declared.rows.ItemRow.{ItemRow}
+use Rattle.ig_forest.specs.declared.entry.Entry.TheVariants.{Begin}
+use Rattle.ig_live.specs.declared.rows.ItemRow.{ItemRow}
 use Rattle.ig_forest.specs.declared.item_nodes.Sources.{Sources}
-use Rattle.ig_forest.proofs.CodeSorted.{once_by, strict_unmap}
+use Rattle.ig_forest.proofs.TotalOrders.{entry_total}
 
 -- different numbers below count are no more than that
 pub few_numbers : (xs : List ℕ) (count : ℕ) → NoneTwice xs → ((k : ℕ) → Contains xs k → k < count) → length xs ≤ count
@@ -91,19 +95,30 @@ sorted_once xs ys zs one moved sorted is = record {
   members = λ e. (
     λ c. from e c,
     λ c.
-        let (z, among, same) = unmapped_in previous zs (previous e) ((images.members (previous e)).1 (mapped_in previous xs e c)) in
+        let (z, among, same) = unmapped_in previous zs (previous e) ((images (previous e)).1 (mapped_in previous xs e c)) in
         subst (Contains zs) (one z e (from z among) c same) among,
   );
-  order = strict_unmap previous nat_cmp zs images.order;
+  order =
+      subst (λ (v : List Entry). IsStrictlySortedBy entry_cmp v) (sym is) (IsStrictlySortedBy-dedup entry_total (λ x y. refl) ys sorted);
 }
   where
-    images : IsOnce nat_cmp (map previous xs) (map previous zs)
-    images = once_by previous nat_cmp_total exact_unsigned xs ys zs moved sorted is
+    images : (k : ℕ) → Contains (map previous zs) k ↔ Contains (map previous xs) k
+    images = once_members previous nat_cmp_total exact_unsigned xs ys zs moved is
 
     from : (e : Entry) → Contains zs e → Contains xs e
     from e c =
         Contains-permutation ys xs e (IsPermutation-sym xs ys moved)
         (Contains-from_dedup (eq_by_cmp (λ x y. nat_cmp (previous x) (previous y))) ys e (subst (λ (z : List Entry). Contains z e) is c))
+
+-- entries that rise are there once, in order
+pub once_rising : (entries shown : List Entry) → shown ≡ entries → AllAdjacentBelow (λ e f. entry_cmp e f ≡ Less) shown (length shown) →
+    IsOnce entry_cmp entries entries
+once_rising entries shown is rising = record {
+  members = λ e. (λ c. c, λ c. c);
+  order =
+      subst (λ (v : List Entry). IsStrictlySortedBy entry_cmp v) is
+      (sorted_from_all_adjacent entry_total shown Begin (λ k lt. rising k Begin lt));
+}
 
 -- the entries of the further ways from that place on
 pub record AreGathered (s : Sources) (further : List FurtherWay) (place : ℕ) (es : List Entry) : Type 0 where

@@ -17,8 +17,8 @@ use Rattle.ig_forest.specs.CodeDone.{AreNodesOf, HasChoices, choice_item_cmp}
 use Rattle.ig_forest.specs.CodeNodeRows.{IsPutInOrder, rows_in, StoredNode}
 use Rattle.ig_forest.specs.CodeNodes.{AreNodesWith}
 use Rattle.ig_forest.specs.declared.entry.Choice.{Choice}
-use Rattle.ig_forest.specs.declared.rows.ItemRow.{ItemRow}
-use Rattle.ig_forest.specs.declared.rows.NodeRow.{NodeRow}
+use Rattle.ig_live.specs.declared.rows.ItemRow.{ItemRow}
+use Rattle.ig_forest.specs.declared.node_rows.NodeRow.{NodeRow}
 use Rattle.ig_forest.proofs.TotalOrders.{choice_total}
 use Rattle.ig_forest.proofs.CodeKeeping.{strict_none}
 

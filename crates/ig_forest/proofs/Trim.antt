@@ -18,7 +18,7 @@ use Rattle.ig_item.specs.Laws.{ItemsAreInText}
 use Rattle.ig_forest.specs.Forest.{Forest, ItemNode, IsForest, IsPrevious, EntryFits, PreviousIsBefore, PreviousAreBefore, item_of}
 use Rattle.ig_item.specs.Gives as rules
 use Rattle.ig_item.specs.Gives.{Taken}
-use Rattle.ig_forest.specs.Live.{Gives}
+use Rattle.ig_live.specs.Live.{Gives, root_key}
 use Rattle.ig_expr.specs.ValueOrder.{values_cmp}
 use Rattle.ig_forest.specs.Orders.{item_cmp, entry_cmp}
 use Rattle.ig_forest.specs.Reduced as reduced
@@ -125,7 +125,7 @@ module _ (in_text : ItemsAreInText) (core : List Nonterminal) (text : List ℕ) 
     is_forest =
         record {
           root =
-              let within = slice_get_within r.keys f.root (reduced.root_key text) r.root in
+              let within = slice_get_within r.keys f.root (root_key text) r.root in
               omega (arith, within, same_length r.nodes);
           alternatives =
               λ v node choice at among.

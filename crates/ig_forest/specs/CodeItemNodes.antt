@@ -6,7 +6,7 @@ use Rattle.ig_item.specs.declared.ways.Way.{Way}
 use Rattle.ig_item.specs.declared.ways.Way.TheVariants as way
 use Rattle.ig_item.specs.declared.ways.FurtherWay.{FurtherWay}
 use Rattle.ig_forest.specs.Orders.{entry_cmp, previous}
-use Rattle.ig_forest.specs.CodeLiveOrder.{IsThere, item_at, row_of}
+use Rattle.ig_live.specs.Rows.{IsThere, item_at, row_of}
 use Rattle.ig_forest.specs.CodeParts.{StoredItem}
 use Rattle.ig_forest.specs.declared.entry.Entry.{Entry}
 use Rattle.ig_forest.specs.declared.entry.Entry.TheVariants.{Begin, Pass, Take}

@@ -5,7 +5,7 @@ use Rattle.ig_forest.specs.Orders.{choice_cmp}
 use Rattle.ig_forest.specs.declared.entry.Choice.{Choice}
 use Rattle.ig_forest.specs.declared.node_rows.Begun.{Begun}
 use Rattle.ig_forest.specs.declared.node_rows.Stored.{Stored}
-use Rattle.ig_forest.specs.declared.rows.NodeRow.{NodeRow}
+use Rattle.ig_forest.specs.declared.node_rows.NodeRow.{NodeRow}
 
 -- the row of a node, with its alternatives
 pub record StoredNode : Type 0 where

@@ -1,27 +1,14 @@
--- The tables from which a forest is made: lists of values in order, items and nodes as rows of numbers.
-use Rattle.std.specs.Prelude.{◌≡◌, ◌↔◌, ℕ, ◌<◌, List, [], map, length, Contains, Some, slice_get, slice_index_or}
+-- The tables from which a forest is made: items and nodes as rows of numbers, over lists of values.
+use Rattle.std.specs.Prelude.{◌≡◌, ℕ, ◌<◌, List, [], length, Contains, slice_index_or}
 use Rattle.std.specs.List.Sorted.{IsStrictlySortedBy}
-use Rattle.std.specs.Cmp.Lexicographic.{slice_cmp}
 use Rattle.std.specs.Ordering.{nat_cmp, ordering_then}
 use Rattle.std.specs.declared.cmp.Ordering.{Ordering}
 use Rattle.ig_expr.specs.declared.value.Value.{Value}
 use Rattle.ig_item.specs.Items.{Item}
 use Rattle.ig_item.specs.Gives.{NodeKey}
-use Rattle.ig_expr.specs.ValueOrder.{value_cmp}
-use Rattle.ig_forest.specs.declared.rows.ItemRow.{ItemRow}
-use Rattle.ig_forest.specs.declared.rows.NodeRow.{NodeRow}
-
-abbrev pub list_cmp : List Value → List Value → Ordering
-list_cmp = slice_cmp value_cmp
-
--- the lists are those of the environments, each once, in order
-pub record AreLists (environments lists : List (List Value)) : Type 0 where
-  pub members : (list : List Value) → Contains lists list ↔ Contains environments list
-  pub order : IsStrictlySortedBy list_cmp lists
-
--- where each environment stands among the lists
-abbrev pub ArePlaces : List (List Value) → List (List Value) → List ℕ → Type 0
-ArePlaces environments lists places = map (λ n. slice_get lists n) places ≡ map Some environments
+use Rattle.ig_live.specs.Rows.{row_cmp}
+use Rattle.ig_live.specs.declared.rows.ItemRow.{ItemRow}
+use Rattle.ig_forest.specs.declared.node_rows.NodeRow.{NodeRow}
 
 abbrev pub list_at : List (List Value) → ℕ → List Value
 list_at lists n = slice_index_or lists n []
@@ -47,16 +34,7 @@ key_by lists row =
       end = row.end;
     }
 
--- the orders of rows, field by field
-abbrev pub row_cmp : ItemRow → ItemRow → Ordering
-row_cmp x y =
-    ordering_then (nat_cmp x.start y.start)
-    (ordering_then (nat_cmp x.position y.position)
-    (ordering_then (nat_cmp x.nonterminal y.nonterminal)
-    (ordering_then (nat_cmp x.values y.values)
-    (ordering_then (nat_cmp x.alternative y.alternative)
-    (ordering_then (nat_cmp x.dot y.dot) (nat_cmp x.env y.env))))))
-
+-- the order of the rows of nodes, field by field
 abbrev pub node_row_cmp : NodeRow → NodeRow → Ordering
 node_row_cmp x y =
     ordering_then (nat_cmp x.start y.start)

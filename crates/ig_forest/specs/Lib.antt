@@ -1,6 +1,5 @@
 pub mod Forest
 pub mod Unfold
-pub mod Live
 pub mod Orders
 pub mod Reduced
 pub mod Laws
@@ -12,14 +11,8 @@ pub mod CodeTables
 pub mod CodeDone
 pub mod CodeForest
 pub mod CodeViews
-pub mod CodeOnce
 pub mod CodeParts
-pub mod CodeGroups
-pub mod CodeLiveOrder
 pub mod CodeNodeRows
-pub mod CodeWays
-pub mod CodeWayMarks
 pub mod CodeNodes
 pub mod CodeItemNodes
 pub mod CodeLiveItems
-pub mod CodeFirstRoot

@@ -1,13 +1,13 @@
 -- The reduced forest of a core grammar and a text. Its members and their orders are given, so it is a function of both.
-use Rattle.std.specs.Prelude.{◌≡◌, ◌↔◌, ℕ, List, length, Contains, Some, slice_get, option_map}
+use Rattle.std.specs.Prelude.{◌≡◌, ◌↔◌, ℕ, List, Contains, Some, slice_get, option_map}
 use Rattle.std.specs.List.Sorted.{IsStrictlySortedBy}
 use Rattle.ig_text.specs.declared.text.Span.{Span}
 use Rattle.ig_text.specs.Pairwise.{Each}
-use Rattle.ig_item.specs.Items.{Item, root_instance}
+use Rattle.ig_item.specs.Items.{Item}
 use Rattle.ig_item.specs.declared.core_grammar.Nonterminal.{Nonterminal}
 use Rattle.ig_forest.specs.Forest.{Forest, Node, ItemNode, item_of}
 use Rattle.ig_item.specs.Gives.{NodeKey, nothing, leaf, tree, Completes}
-use Rattle.ig_forest.specs.Live.{Gives, IsLive}
+use Rattle.ig_live.specs.Live.{Gives, IsLive, root_key}
 use Rattle.ig_forest.specs.Orders.{item_cmp, node_cmp, choice_cmp, entry_cmp}
 use Rattle.ig_forest.specs.declared.entry.Choice.{Choice}
 use Rattle.ig_forest.specs.declared.entry.Entry.{Entry}
@@ -63,11 +63,7 @@ pub record IsItemNode (core : List Nonterminal) (text : List ℕ) (items : List 
   pub entries : (e : Entry) → Contains it.entries e ↔ IsEntry core text items nodes x e
   pub order : IsStrictlySortedBy entry_cmp it.entries
 
--- the root node is the root's over the whole text
-abbrev pub root_key : List ℕ → NodeKey
-root_key text = record { instance = root_instance; end = length text }
-
--- there is one where a complete root item over the whole text is reachable
+-- there is one where a complete root item over the whole text is reachable; its root node is the root's over the whole text
 pub record IsReduced (core : List Nonterminal) (text : List ℕ) (f : Forest) : Type 0 where
   pub items : List Item
   pub keys : List NodeKey

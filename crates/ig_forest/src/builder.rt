@@ -1,21 +1,16 @@
 //! How the reduced forest is made of what was recorded.
 ghost use Rattle.std.specs.Prelude.{◌≡◌, ◌∷◌, [], ◌++◌, IfOk, OnOk, map, length};
-ghost use Rattle.ig_forest.specs.CodeFirstRoot.{IsFirstRoot};
+ghost use Rattle.ig_live.specs.FirstRoot.{IsFirstRoot};
 ghost use Rattle.ig_forest.specs.CodeLiveItems.{AreFound, AreLiveItems, recording_in};
 ghost use Rattle.ig_forest.specs.Reduced.{IsReduced};
 
-use crate::environments::{lists_of, places_of};
 use crate::forest::Forest;
-use crate::found::Found;
 use crate::item_nodes::{Sources, numbers_of};
 use crate::laws::reduced_forest_is_trim;
-use crate::live_order::order_of;
-use crate::mark::Mark;
-use crate::marks::marks_of;
 use crate::nodes::{Nodes, nodes_of};
-use crate::ways::Links;
 use ig_expr::Value;
 use ig_item::{Core, EnvironmentTable, Recorded, environments_fit};
+use ig_live::{Found, Links, Mark, lists_of, marks_of, order_of, places_of};
 use ig_text::{Copied, Text, Word, Words};
 use std::alloc::{AllocError, Global};
 

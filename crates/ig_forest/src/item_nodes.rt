@@ -11,13 +11,12 @@ ghost use Rattle.ig_text.specs.Pairwise.{Each};
 ghost use Rattle.ig_forest.specs.CodeItemNodes.{AddsItem, AreSources, AreFromOne, AreNumbers};
 ghost use Rattle.ig_forest.specs.CodeItemNodes.{IsStoredItem, WayFits, entry_by, further_entry};
 ghost use Rattle.ig_forest.specs.CodeItemNodes.{node_by, number_by};
-ghost use Rattle.ig_forest.specs.CodeOnce.{IsOnce};
+ghost use Rattle.ig_live.specs.Once.{IsOnce};
 
 use crate::entry::{Child, Entry};
-use crate::found::Found;
 use crate::item_table::ItemTable;
-use crate::ways::Links;
 use ig_item::{FurtherWay, Way};
+use ig_live::{Found, Links};
 use ig_text::Span;
 use std::alloc::{AllocError, Global};
 

@@ -5,7 +5,7 @@ ghost use Rattle.ig_item.specs.Limits.{numbers_end};
 ghost use Rattle.ig_forest.specs.CodeParts.{IsPartOf, entries_in, stored_view};
 
 use crate::entry::Entry;
-use crate::rows::ItemRow;
+use ig_live::ItemRow;
 use std::alloc::{AllocError, Global};
 use std::marker::Model;
 

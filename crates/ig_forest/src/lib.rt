@@ -22,25 +22,15 @@
 mod builder;
 mod choice_order;
 mod entry;
-mod environments;
 mod forest;
-mod found;
-mod grouped;
 mod item_nodes;
 mod item_table;
 mod laws;
-mod live_order;
-mod mark;
-mod marks;
 mod node_rows;
 mod nodes;
-mod placing;
-mod root;
-mod rows;
 mod stored;
 mod tree;
 mod tree_laws;
-mod ways;
 
 pub use entry::{Child, Choice, Entry};
 pub use forest::{Forest, ItemNode, Node};

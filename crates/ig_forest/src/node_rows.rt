@@ -8,9 +8,17 @@ ghost use Rattle.ig_text.specs.Pairwise.{Each};
 
 use crate::choice_order::put_in_order;
 use crate::entry::Choice;
-use crate::rows::NodeRow;
 use std::alloc::{AllocError, Global};
 use std::marker::Model;
+
+/// A node: an instance, and where its trees end. Its values are a place in the same table.
+#[derive(Clone, Copy, PartialEq, Eq)]
+pub(crate) struct NodeRow {
+    pub start: u32,
+    pub end: u32,
+    pub nonterminal: u32,
+    pub values: u32,
+}
 
 /// A row, and where its alternatives begin in the vector of all alternatives.
 #[derive(Clone, Copy)]

@@ -1,9 +1,10 @@
 //! The nodes of a forest, read off its complete items in order.
 ghost use Rattle.std.specs.Prelude.{◌≡◌, ◌<◌, ◌+◌, ◌-◌, ℕ, false, IfOk, OnOk, IsTrue, length};
 ghost use Rattle.ig_item.specs.Limits.{numbers_end};
-ghost use Rattle.ig_forest.specs.declared.mark.Mark.TheVariants.{Complete};
+ghost use Rattle.ig_live.specs.declared.mark.Mark.TheVariants.{Complete};
 ghost use Rattle.ig_forest.specs.CodeDone.{IsTagged, StandsLast};
-ghost use Rattle.ig_forest.specs.CodeLiveOrder.{AreLiveInOrder, IsThere, number_cmp};
+ghost use Rattle.ig_live.specs.LiveOrder.{AreLiveInOrder};
+ghost use Rattle.ig_live.specs.Rows.{IsThere, number_cmp};
 ghost use Rattle.ig_forest.specs.CodeNodeRows.{with_choice};
 ghost use Rattle.ig_forest.specs.CodeNodes.{AreNodesWith, EndsWith, MarkComplete, NodesUpTo, Opens};
 ghost use Rattle.ig_forest.specs.CodeNodes.{rows_of};
@@ -11,11 +12,9 @@ ghost use Rattle.ig_forest.specs.CodeTables.{node_of};
 ghost use Rattle.ig_forest.specs.Orders.{choice_cmp};
 
 use crate::entry::Choice;
-use crate::found::Found;
-use crate::mark::Mark;
-use crate::node_rows::NodeRows;
-use crate::rows::{ItemRow, NodeRow};
+use crate::node_rows::{NodeRow, NodeRows};
 use ig_item::Core;
+use ig_live::{Found, ItemRow, Mark};
 use ig_text::Tag;
 use std::alloc::{AllocError, Global};
 

@@ -13,10 +13,10 @@ use Rattle.ig_text.proofs.Lists.{contains_from_at, mapped_at}
 use Rattle.ig_expr.specs.declared.value.Value.{Value}
 use Rattle.ig_expr.specs.contracts.value.ValuePartialEq.TheImpl as value_eq
 use Rattle.ig_expr.specs.contracts.value.ValueOrd.TheImpl.Laws as value_laws
-use Rattle.ig_forest.specs.CodeTables.{AreLists, ArePlaces, list_cmp}
-use Rattle.ig_forest.specs.CodeOnce.{IsOnce}
-use Rattle.ig_forest.proofs.CodeSorted.{not_found, once_by}
-use Rattle.ig_forest.proofs.CodeOrders.{value_derived, values_as, list_total, list_exact}
+use Rattle.ig_live.specs.Lists.{AreLists, ArePlaces, list_cmp}
+use Rattle.ig_live.specs.Once.{IsOnce}
+use Rattle.ig_live.proofs.CodeSorted.{not_found, once_by}
+use Rattle.ig_live.proofs.CodeOrders.{value_derived, values_as, list_total, list_exact}
 
 abbrev pub now_of : Bor (List Value) → List Value
 now_of l = l.now
@@ -40,7 +40,7 @@ no_place lists list i order found =
     values_as found)
 
 -- the first elements, and one more
-pub take_next : {X : Type 0} (xs : List X) (k : ℕ) (x : X) → slice_get xs k ≡ Some x → take (k + 1) xs ≡ take k xs ++ x ∷ []
+take_next : {X : Type 0} (xs : List X) (k : ℕ) (x : X) → slice_get xs k ≡ Some x → take (k + 1) xs ≡ take k xs ++ x ∷ []
 take_next xs k x at =
     take_more xs k x (slice_get_within xs k x at) ∙
     ap (λ (z : _). take k xs ++ z ∷ []) (get_or_from_slice_get xs k x x at)
@@ -50,13 +50,6 @@ pub map_next : {X Y : Type 0} (f : X → Y) (done more : List X) (x : X) (ys : L
 map_next f done more x ys k y more_is so_far at is =
     ap (map f) more_is ∙ map-append f done (x ∷ []) ∙ ap (λ (z : List _). z ++ f x ∷ []) so_far ∙
     ap (λ (z : _). take k ys ++ z ∷ []) is ∙ sym (take_next ys k y at)
-
--- one more row
-pub row_next : {X Y : Type 0} (f : X → Y) (done more : List Y) (row : Y) (xs : List X) (k : ℕ) (x : X) → more ≡ done ++ row ∷ [] →
-    done ≡ map f (take k xs) → slice_get xs k ≡ Some x → row ≡ f x → more ≡ map f (take (k + 1) xs)
-row_next f done more row xs k x more_is so_far at is =
-    more_is ∙ ap (λ (z : List _). z ++ row ∷ []) so_far ∙ ap (λ (z : _). map f (take k xs) ++ z ∷ []) is ∙
-    sym (map-append f (take k xs) (x ∷ [])) ∙ ap (map f) (sym (take_next xs k x at))
 
 pub are_lists : (environments : List (List Value)) (xs ys zs : List (Bor (List Value))) → map now_of xs ≡ environments →
     IsPermutation xs ys → IsSorted (λ x y. slice_cmp value_derived x.now y.now) ys →

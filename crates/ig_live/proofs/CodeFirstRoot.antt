@@ -16,8 +16,8 @@ use Rattle.ig_item.specs.declared.core_grammar.Nonterminal.{Nonterminal}
 use Rattle.ig_item.specs.declared.items.Instance.{Instance}
 use Rattle.ig_item.specs.declared.items.InstanceView.{InstanceView}
 use Rattle.ig_item.specs.declared.items.Item as stored
-use Rattle.ig_forest.specs.Reduced.{root_key}
-use Rattle.ig_forest.specs.CodeFirstRoot.{IsFirstRoot}
+use Rattle.ig_live.specs.Live.{root_key}
+use Rattle.ig_live.specs.FirstRoot.{IsFirstRoot}
 
 abbrev key_to : ℕ → NodeKey
 key_to end = record { instance = root_instance; end = end }

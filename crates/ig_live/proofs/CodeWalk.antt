@@ -14,12 +14,13 @@ use Rattle.ig_item.specs.declared.ways.Way.{Way}
 use Rattle.ig_item.specs.declared.ways.Way.TheVariants.{Pass, Leaf, Node}
 use Rattle.ig_item.specs.declared.ways.FurtherWay.{FurtherWay}
 use Rattle.ig_item.specs.declared.ways.FurtherEnd.{FurtherEnd}
-use Rattle.ig_forest.specs.CodeLiveOrder.{is_live}
-use Rattle.ig_forest.specs.CodeWayMarks.{IsMarked, HasPrev, OfNode, first, further, Leads, previous, child, LeadsFrom, AreWhole, AreFound, MarksMore}
-use Rattle.ig_forest.specs.declared.mark.Mark.{Mark}
-use Rattle.ig_forest.specs.declared.mark.Mark.TheVariants.{Dead, Open, Complete}
-use Rattle.ig_forest.specs.declared.marks.Walk.{Walk}
-use Rattle.ig_forest.proofs.CodeGroups.{kept_few, place_set, place_elsewhere}
+use Rattle.ig_live.specs.Marks.{is_live}
+use Rattle.ig_live.specs.Marks.{IsMarked}
+use Rattle.ig_live.specs.CodeWayMarks.{HasPrev, OfNode, first, further, Leads, previous, child, LeadsFrom, AreWhole, AreFound, MarksMore}
+use Rattle.ig_live.specs.declared.mark.Mark.{Mark}
+use Rattle.ig_live.specs.declared.mark.Mark.TheVariants.{Dead, Open, Complete}
+use Rattle.ig_live.specs.declared.marks.Walk.{Walk}
+use Rattle.ig_live.proofs.CodeGroups.{kept_few, place_set, place_elsewhere}
 
 -- where a member that fails a test becomes one that passes it, one more passes
 one_more : {X : Type 0} (p : X → Bool) (xs : List X) (k : ℕ) (old new : X) → slice_get xs k ≡ Some old → p old ≡ false →

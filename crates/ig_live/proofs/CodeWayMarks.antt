@@ -4,25 +4,46 @@ use Rattle.std.proofs.lemmas.Bool.{cases_eq}
 use Rattle.std.proofs.lemmas.List.Elements.{Contains-get_or}
 use Rattle.std.proofs.lemmas.Option.{same_Some, slice_get_within}
 use Rattle.ig_text.proofs.Lists.{at_from_contains, get_within}
+use Rattle.ig_item.specs.Core.{IsAlternative, numbered}
+use Rattle.ig_item.specs.Gives as rules
 use Rattle.ig_item.specs.Gives.{NodeKey, Taken, tree, Completes}
-use Rattle.ig_item.specs.Items.{Item, Reachable, IsComplete}
+use Rattle.ig_item.specs.Items.{Item, Reachable, IsComplete, StandsBefore}
 use Rattle.ig_item.specs.Recorded.{Recording, IsRecorded}
+use Rattle.ig_item.specs.Step.{Step, Test, Bind, Term, Call}
 use Rattle.ig_item.specs.Tables.{items_of}
 use Rattle.ig_item.specs.Ways as ways
 use Rattle.ig_item.specs.Ways.{WayTo, Says, IsWay, IsEnd, IsFirstEnd}
+use Rattle.ig_item.specs.declared.core_grammar.CoreAlt.{CoreAlt}
+use Rattle.ig_item.specs.declared.core_grammar.Nonterminal.{Nonterminal}
 use Rattle.ig_item.specs.declared.ways.Way.{Way}
 use Rattle.ig_item.specs.declared.ways.Way.TheVariants.{Node}
 use Rattle.ig_item.specs.declared.ways.FurtherEnd.{FurtherEnd}
-use Rattle.ig_forest.specs.Live as live
-use Rattle.ig_forest.specs.Live.{Gives, IsLive}
-use Rattle.ig_forest.specs.Reduced.{root_key}
-use Rattle.ig_forest.specs.CodeLiveOrder.{is_live}
-use Rattle.ig_forest.specs.CodeWayMarks.{IsMarked, AreMarks, IsAWay, HasPrev, OfNode, first, further, Leads, previous, child, AreWhole, AreFound, MarksMore}
-use Rattle.ig_forest.specs.declared.mark.Mark.{Mark}
-use Rattle.ig_forest.specs.declared.mark.Mark.TheVariants.{Dead, Open, Complete}
-use Rattle.ig_forest.specs.declared.marks.Walk.{Walk}
-use Rattle.ig_forest.proofs.CodeGives.{any_step, same_alternative}
-use Rattle.ig_forest.proofs.CodeWalk.{IsNoFirst, mark_of, whole_with, Reached, at_root, step, AreReached}
+use Rattle.ig_live.specs.Live as live
+use Rattle.ig_live.specs.Live.{Gives, IsLive}
+use Rattle.ig_live.specs.Live.{root_key}
+use Rattle.ig_live.specs.Marks.{is_live}
+use Rattle.ig_live.specs.Marks.{IsMarked, AreMarks}
+use Rattle.ig_live.specs.CodeWayMarks.{IsAWay, HasPrev, OfNode, first, further, Leads, previous, child, AreWhole, AreFound, MarksMore}
+use Rattle.ig_live.specs.declared.mark.Mark.{Mark}
+use Rattle.ig_live.specs.declared.mark.Mark.TheVariants.{Dead, Open, Complete}
+use Rattle.ig_live.specs.declared.marks.Walk.{Walk}
+use Rattle.ig_live.proofs.CodeWalk.{IsNoFirst, mark_of, whole_with, Reached, at_root, step, AreReached}
+
+-- the alternative of a number is one
+same_alternative : (core : List Nonterminal) (n a : ℕ) (nt mt : Nonterminal) (alt other : CoreAlt) → IsAlternative core n a nt alt →
+    IsAlternative core n a mt other → (nt ≡ mt) × (alt ≡ other)
+same_alternative core n a nt mt alt other p q =
+    let e : nt ≡ mt = same_Some nt mt (sym p.there ∙ q.there) in
+    (e, same_Some alt other (sym p.has ∙ ap (λ (z : Nonterminal). numbered z.alternatives a) e ∙ q.has))
+
+-- the previous item of a rule stands before a step
+module _ (core : List Nonterminal) (text : List ℕ) where
+  any_step : {prev x : Item} {taken : Taken} → Gives core text prev taken x → (names : List (List ℕ)) × (step : Step) × StandsBefore core prev names step
+  any_step (rules.test prev ns f x r before holds is) = (ns, Test f, before)
+  any_step (rules.bind prev ns name f v x r before has is) = (ns, Bind name f, before)
+  any_step (rules.terminal prev ns what label excluded j taken x r before matches free t is) = (ns, Term what label excluded, before)
+  any_step (rules.return prev done label excluded key x r d calls c free is) =
+      (calls.names, Call key.instance.nonterminal calls.arguments label excluded, calls.before)
 
 module _ (r : Recording) (recorded : IsRecorded r) where
   abbrev items : List Item
@@ -39,7 +60,7 @@ module _ (r : Recording) (recorded : IsRecorded r) where
       same_alternative r.core prev.instance.nonterminal prev.alternative c.nonterminal b.nonterminal c.alternative b.alternative
       c.has b.has in
       let within = slice_get_within b.alternative.steps prev.dot next b.next in
-      let long = ap (λ (z : Rattle.ig_item.specs.declared.core_grammar.CoreAlt.CoreAlt). length z.steps) same.1 in
+      let long = ap (λ (z : CoreAlt). length z.steps) same.1 in
       let last = c.last in
       omega (arith, within, last, long)
 

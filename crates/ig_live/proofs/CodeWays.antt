@@ -13,9 +13,9 @@ use Rattle.ig_item.specs.declared.core_grammar.Nonterminal.{Nonterminal}
 use Rattle.ig_item.specs.declared.ways.Way.{Way}
 use Rattle.ig_item.specs.declared.ways.FurtherWay.{FurtherWay}
 use Rattle.ig_item.specs.declared.ways.FurtherEnd.{FurtherEnd}
-use Rattle.ig_forest.specs.CodeGroups.{numbered}
-use Rattle.ig_forest.specs.CodeWays.{AreSameWays, IsSameRun, AreByNumber, AreLinks, regrouped}
-use Rattle.ig_forest.proofs.CodeGroups.{in_groups, of_group, joined_members}
+use Rattle.ig_live.specs.CodeGroups.{numbered}
+use Rattle.ig_live.specs.Links.{AreSameWays, IsSameRun, AreByNumber, AreLinks, regrouped}
+use Rattle.ig_live.proofs.CodeGroups.{in_groups, of_group, joined_members}
 
 module _ {X : Type 0} (number : X → ℕ) where
   -- groups by number have their members in the groups of their numbers

@@ -1,28 +1,14 @@
--- Marks of the live items, which are set along the ways back from the root.
-use Rattle.std.specs.Prelude.{◌≡◌, ◌↔◌, ◌⊎◌, ℕ, List, length, map, filter, true, Some, Contains, slice_get}
-use Rattle.ig_item.specs.Items.{Item, IsComplete}
+-- How the live items are marked: along the ways back from the root.
+use Rattle.std.specs.Prelude.{◌≡◌, ◌↔◌, ◌⊎◌, ℕ, List, length, filter, true, Some, Contains, slice_get}
 use Rattle.ig_item.specs.Recorded.{Recording, IsRecorded}
 use Rattle.ig_item.specs.Ways.{WayLists, WayTo}
-use Rattle.ig_item.specs.declared.core_grammar.Nonterminal.{Nonterminal}
 use Rattle.ig_item.specs.declared.ways.Way.{Way}
 use Rattle.ig_item.specs.declared.ways.Way.TheVariants.{Begin, Pass, Leaf, Node}
 use Rattle.ig_item.specs.declared.ways.FurtherEnd.{FurtherEnd}
-use Rattle.ig_forest.specs.Live.{IsLive}
-use Rattle.ig_forest.specs.CodeLiveOrder.{is_live}
-use Rattle.ig_forest.specs.declared.mark.Mark.{Mark}
-use Rattle.ig_forest.specs.declared.mark.Mark.TheVariants.{Open, Complete}
-use Rattle.ig_forest.specs.declared.marks.Walk.{Walk}
-
--- the item of that number has a mark of live ones
-abbrev pub IsMarked : List Mark → ℕ → Type 0
-IsMarked marks k = slice_get (map is_live marks) k ≡ Some true
-
--- exactly the live items are marked so, and exactly those of them that are complete as complete
-pub record AreMarks (core : List Nonterminal) (text : List ℕ) (items : List Item) (marks : List Mark) : Type 0 where
-  pub long : length marks ≡ length items
-  pub live : (k : ℕ) (x : Item) → slice_get items k ≡ Some x → IsMarked marks k ↔ IsLive core text x
-  pub complete : (k : ℕ) (x : Item) → slice_get items k ≡ Some x →
-      (slice_get marks k ≡ Some Complete) ↔ (IsLive core text x × IsComplete core x)
+use Rattle.ig_live.specs.Marks.{IsMarked, is_live}
+use Rattle.ig_live.specs.declared.mark.Mark.{Mark}
+use Rattle.ig_live.specs.declared.mark.Mark.TheVariants.{Open, Complete}
+use Rattle.ig_live.specs.declared.marks.Walk.{Walk}
 
 -- the way is one of a recording
 pub record IsAWay (r : Recording) (way : Way) : Type 0 where

@@ -7,7 +7,7 @@ use Rattle.ig_item.specs.Tables.{items_of}
 use Rattle.ig_item.specs.Ways.{IsFirstEnd}
 use Rattle.ig_item.specs.declared.core_grammar.Nonterminal.{Nonterminal}
 use Rattle.ig_item.specs.declared.core_grammar.CoreAlt.{CoreAlt}
-use Rattle.ig_forest.specs.Reduced.{root_key}
+use Rattle.ig_live.specs.Live.{root_key}
 
 -- the dot stands behind the last step of that alternative
 pub record IsLastDot (core : List Nonterminal) (n a dot : ℕ) : Type 0 where

@@ -2,14 +2,15 @@
 ghost use Rattle.std.specs.Prelude.{◌≡◌, ◌<◌, IfOk, MatchOption, map, slice_get, Contains, length};
 ghost use Rattle.std.specs.List.Sorted.{IsStrictlySortedBy};
 ghost use Rattle.ig_item.specs.Limits.{numbers_end};
-ghost use Rattle.ig_forest.specs.CodeTables.{AreLists, ArePlaces, list_cmp};
+ghost use Rattle.ig_live.specs.Lists.{AreLists, ArePlaces, list_cmp};
 
 use ig_expr::Value;
 use ig_item::Items;
 use std::alloc::{AllocError, Global};
 
-/// The lists of values of the items, each once, in the order of lists.
-pub(crate) fn lists_of<'a>(alloc: Global, items: &'a Items) -> Result<Vec<&'a [Value]>, AllocError>
+/// The lists of values of the items, each once, in the order of lists. There are less than
+/// 4,294,967,296. Refused for want of memory.
+pub fn lists_of<'a>(alloc: Global, items: &'a Items) -> Result<Vec<&'a [Value]>, AllocError>
     ensures lists { IfOk result (λ lists.
         AreLists items.now.environments (map (λ l. l.now) lists.items)) }
     ensures few { IfOk result (λ lists. length lists.items < numbers_end) }
@@ -37,7 +38,7 @@ fn all_lists<'a>(alloc: Global, items: &'a Items) -> Result<Vec<&'a [Value]>, Al
 }
 
 /// The place of a list among them; `None` exactly where it isn't there.
-pub(crate) fn place_of(lists: &[&[Value]], list: &[Value]) -> Option<u32>
+fn place_of(lists: &[&[Value]], list: &[Value]) -> Option<u32>
     requires order { IsStrictlySortedBy list_cmp (map (λ l. l.now) lists.now) }
     requires few { length lists.now < numbers_end }
     ensures { MatchOption result (Contains (map (λ l. l.now) lists.now) list.now → ⊥)
@@ -49,12 +50,9 @@ pub(crate) fn place_of(lists: &[&[Value]], list: &[Value]) -> Option<u32>
     }
 }
 
-/// Where each environment of the items stands among the lists.
-pub(crate) fn places_of(
-    alloc: Global,
-    items: &Items,
-    lists: &[&[Value]],
-) -> Result<Vec<u32>, AllocError>
+/// Where each environment of the items stands among the lists, from 0, by the numbers of the
+/// environments. Refused for want of memory.
+pub fn places_of(alloc: Global, items: &Items, lists: &[&[Value]]) -> Result<Vec<u32>, AllocError>
     requires lists { AreLists items.now.environments (map (λ l. l.now) lists.now) }
     requires few { length lists.now < numbers_end }
     ensures { IfOk result (λ places.

@@ -1,25 +1,25 @@
-//! What a run found, as the forest reads it.
+//! What a run found, as rows are read off it.
 ghost use Rattle.std.specs.Prelude.{◌≡◌, IfSome, IsTrue, slice_get};
 ghost use Rattle.std.specs.declared.cmp.Ordering.TheVariants.{Less};
-ghost use Rattle.ig_forest.specs.CodeLiveOrder.{IsThere, row_of};
-ghost use Rattle.ig_forest.specs.CodeTables.{row_cmp};
+ghost use Rattle.ig_live.specs.Rows.{IsThere, row_of};
+ghost use Rattle.ig_live.specs.Rows.{row_cmp};
 
 use crate::rows::ItemRow;
 use ig_item::{InstanceKey, Item};
 use std::cmp::Ordering;
 
-/// The items of a run by number, with the instances that they name, and with the place of each
-/// environment in the ordered table of lists.
+/// The items of a run by number, from 0, with the instances that they name, and with the place of
+/// each environment in the ordered table of lists.
 #[derive(Clone, Copy)]
-pub(crate) struct Found<'a> {
+pub struct Found<'a> {
     pub items: &'a [Item],
     pub keys: &'a [InstanceKey],
     pub places: &'a [u32],
 }
 
 impl<'a> Found<'a> {
-    /// The item of that number as a row.
-    pub(crate) fn row(&self, number: u32) -> ItemRow
+    /// The item of that number, from 0, as a row. Takes no memory.
+    pub fn row(&self, number: u32) -> ItemRow
         requires { IsThere self.now.items.now self.now.keys.now self.now.places.now number }
         ensures { result ≡ row_of self.now.items.now self.now.keys.now self.now.places.now number }
     {

@@ -1,10 +1,10 @@
 //! What is known of an item while the live ones are looked for.
 ghost use Rattle.std.specs.Prelude.{◌≡◌};
-ghost use Rattle.ig_forest.specs.CodeLiveOrder.{is_live};
+ghost use Rattle.ig_live.specs.Marks.{is_live};
 
 /// What is known of an item.
 #[derive(Clone, Copy, PartialEq, Eq)]
-pub(crate) enum Mark {
+pub enum Mark {
     /// No way from the root was found that leads to it.
     Dead,
     /// It is live, and comes before a step.
@@ -14,8 +14,8 @@ pub(crate) enum Mark {
 }
 
 impl Mark {
-    /// Whether the item is live.
-    pub(crate) fn is_live(self) -> bool
+    /// Whether the item is live. Takes no memory.
+    pub fn is_live(self) -> bool
         ensures { result ≡ is_live self }
     {
         match self {

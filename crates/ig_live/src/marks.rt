@@ -4,11 +4,12 @@ ghost use Rattle.ig_item.specs.Items.{Reachable};
 ghost use Rattle.ig_item.specs.Recorded.{IsRecorded};
 ghost use Rattle.ig_item.specs.Tables.{items_of};
 ghost use Rattle.ig_item.specs.Ways.{IsFirstEnd};
-ghost use Rattle.ig_forest.specs.CodeLiveOrder.{is_live};
-ghost use Rattle.ig_forest.specs.CodeWayMarks.{AreFound, AreMarks, AreWhole, IsAWay, Leads};
-ghost use Rattle.ig_forest.specs.CodeWayMarks.{LeadsFrom, MarksMore, OfNode};
-ghost use Rattle.ig_forest.specs.Reduced.{root_key};
-ghost use Rattle.ig_forest.specs.declared.mark.Mark.TheVariants.{Complete};
+ghost use Rattle.ig_live.specs.Marks.{is_live};
+ghost use Rattle.ig_live.specs.CodeWayMarks.{AreFound, AreWhole, IsAWay, Leads};
+ghost use Rattle.ig_live.specs.Marks.{AreMarks};
+ghost use Rattle.ig_live.specs.CodeWayMarks.{LeadsFrom, MarksMore, OfNode};
+ghost use Rattle.ig_live.specs.Live.{root_key};
+ghost use Rattle.ig_live.specs.declared.mark.Mark.TheVariants.{Complete};
 
 use crate::mark::Mark;
 use crate::ways::Links;
@@ -23,9 +24,10 @@ struct Walk {
     found: Vec<u32>,
 }
 
-/// The marks of all items. Live are the complete items of the root, of which that number is the
-/// first, and all to which ways lead back from them. Each is visited once.
-pub(crate) fn marks_of(alloc: Global, links: &Links, root: u32) -> Result<Vec<Mark>, AllocError>
+/// The marks of all items, by their numbers from 0. Live are the complete items of the root, of
+/// which that number is the first, and all to which ways lead back from them. Each is visited once.
+/// Refused for want of memory.
+pub fn marks_of(alloc: Global, links: &Links, root: u32) -> Result<Vec<Mark>, AllocError>
     requires { IsFirstEnd links.now.core (Reachable links.now.core links.now.text)
         (items_of links.now.tables) (root_key links.now.text) root }
     ensures { IfOk result (λ marks. AreMarks links.now.core links.now.text

@@ -3,13 +3,13 @@ ghost use Rattle.std.specs.Prelude.{◌≡◌, ◌↔◌, ◌<◌, IsTrue, Match
 ghost use Rattle.ig_item.specs.Gives.{Completes};
 ghost use Rattle.ig_item.specs.Items.{RootIsComplete, root_instance};
 ghost use Rattle.ig_item.specs.Tables.{instance_of, item_of};
-ghost use Rattle.ig_forest.specs.CodeFirstRoot.{IsFirstRoot, IsLastDot};
+ghost use Rattle.ig_live.specs.FirstRoot.{IsFirstRoot, IsLastDot};
 
 use ig_item::{Core, InstanceView, Item, Items, Recorded};
 
-/// The number of the first complete item of the root over the whole text; `None` exactly where
-/// there is none.
-pub(crate) fn first_root(recorded: &Recorded) -> Option<u32>
+/// The number, from 0, of the first complete item of the root over the whole text; `None` exactly
+/// where there is none. Takes no memory.
+pub fn first_root(recorded: &Recorded) -> Option<u32>
     ensures { MatchOption result (RootIsComplete recorded.now.core recorded.now.text → ⊥)
         (IsFirstRoot recorded.now) }
 {

@@ -1,9 +1,10 @@
-//! Items and nodes as rows of numbers.
+//! Items as rows of numbers.
 
-/// An item. Its lists of values are places in an ordered table of lists, so the order of rows is
-/// that of the items.
+/// An item as numbers: positions, dot, nonterminal and places from 0, the alternative from 1. Its
+/// lists of values are places in an ordered table of lists, so the order of rows is that of the
+/// items.
 #[derive(Clone, Copy, PartialEq, Eq, PartialOrd, Ord)]
-pub(crate) struct ItemRow {
+pub struct ItemRow {
     pub start: u32,
     pub position: u32,
     pub nonterminal: u32,
@@ -11,13 +12,4 @@ pub(crate) struct ItemRow {
     pub alternative: u32,
     pub dot: u32,
     pub env: u32,
-}
-
-/// A node: an instance, and where its trees end. Its values are a place in the same table.
-#[derive(Clone, Copy, PartialEq, Eq)]
-pub(crate) struct NodeRow {
-    pub start: u32,
-    pub end: u32,
-    pub nonterminal: u32,
-    pub values: u32,
 }

@@ -1,7 +1,7 @@
 use Rattle.std.proofs.Common.{arith, sym, subst}
 use Rattle.ig_forest.specs.CodeNodes.{Opens}
 use Rattle.ig_forest.specs.CodeDone.{StandsLast}
-use Rattle.ig_forest.specs.declared.rows.NodeRow.{NodeRow}
+use Rattle.ig_forest.specs.declared.node_rows.NodeRow.{NodeRow}
 use Rattle.ig_forest.proofs.CodeNodePass.{here_within, item_added, item_skips, nodes_count, order_short, stands_last}
 use Rattle.ig_forest.proofs.nodes.add_item.Goals as goal
 

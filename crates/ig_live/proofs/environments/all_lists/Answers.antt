@@ -1,6 +1,6 @@
 use Rattle.std.proofs.Common.{refl, sym}
-use Rattle.ig_forest.proofs.CodeEnvironments.{map_next, now_of}
-use Rattle.ig_forest.proofs.environments.all_lists.Goals as goal
+use Rattle.ig_live.proofs.CodeEnvironments.{map_next, now_of}
+use Rattle.ig_live.proofs.environments.all_lists.Goals as goal
 
 pub loop-k-preserved : goal.loop-k-preserved
 loop-k-preserved c =

@@ -1,5 +1,5 @@
-use Rattle.ig_forest.proofs.CodeEnvironments.{are_lists}
-use Rattle.ig_forest.proofs.environments.lists_of.Goals as goal
+use Rattle.ig_live.proofs.CodeEnvironments.{are_lists}
+use Rattle.ig_live.proofs.environments.lists_of.Goals as goal
 
 pub returns-clause-lists : goal.returns-clause-lists
 returns-clause-lists c =

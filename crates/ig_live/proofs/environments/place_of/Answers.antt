@@ -1,5 +1,5 @@
-use Rattle.ig_forest.proofs.CodeEnvironments.{found_place, no_place}
-use Rattle.ig_forest.proofs.environments.place_of.Goals as goal
+use Rattle.ig_live.proofs.CodeEnvironments.{found_place, no_place}
+use Rattle.ig_live.proofs.environments.place_of.Goals as goal
 
 pub returns-in-Ok : goal.returns-in-Ok
 returns-in-Ok c = found_place c.args.lists.now c.args.list c.in-Ok.place c.in-Ok.ensures.bound c.in-Ok.ensures.position

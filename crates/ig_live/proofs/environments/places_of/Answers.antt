@@ -1,6 +1,6 @@
 use Rattle.std.proofs.Common.{sym, map}
-use Rattle.ig_forest.proofs.CodeEnvironments.{place_next, is_placed}
-use Rattle.ig_forest.proofs.environments.places_of.Goals as goal
+use Rattle.ig_live.proofs.CodeEnvironments.{place_next, is_placed}
+use Rattle.ig_live.proofs.environments.places_of.Goals as goal
 
 pub place_of-requires-clause-order : goal.place_of-requires-clause-order
 place_of-requires-clause-order c = c.requires.lists.order

@@ -1,8 +1,8 @@
 use Rattle.std.proofs.Common.{sym, subst, ◌∙◌, ◌≤◌, ℕ}
-use Rattle.ig_forest.specs.CodeWayMarks.{AreFound}
-use Rattle.ig_forest.proofs.CodeWalk.{walk_begins, walk_next, turn_within, walk_stops, walk_runs_out}
-use Rattle.ig_forest.proofs.CodeWayMarks.{reached_live}
-use Rattle.ig_forest.proofs.marks.marks_of.Goals as goal
+use Rattle.ig_live.specs.CodeWayMarks.{AreFound}
+use Rattle.ig_live.proofs.CodeWalk.{walk_begins, walk_next, turn_within, walk_stops, walk_runs_out}
+use Rattle.ig_live.proofs.CodeWayMarks.{reached_live}
+use Rattle.ig_live.proofs.marks.marks_of.Goals as goal
 
 pub loop-turn-init : goal.loop-turn-init
 loop-turn-init c =

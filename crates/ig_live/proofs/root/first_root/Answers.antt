@@ -1,7 +1,7 @@
 use Rattle.std.proofs.Common.{length, ap, arith}
 use Rattle.ig_item.specs.Tables.{Tables}
-use Rattle.ig_forest.proofs.CodeFirstRoot.{first_here, none_here, instance_read, no_root}
-use Rattle.ig_forest.proofs.root.first_root.Goals as goal
+use Rattle.ig_live.proofs.CodeFirstRoot.{first_here, none_here, instance_read, no_root}
+use Rattle.ig_live.proofs.root.first_root.Goals as goal
 
 pub is_root-requires : goal.is_root-requires
 is_root-requires c =

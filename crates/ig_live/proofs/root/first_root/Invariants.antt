@@ -2,8 +2,8 @@ use Rattle.std.proofs.Common.{ℕ, ◌<◌}
 use Rattle.ig_item.specs.Items.{Reachable}
 use Rattle.ig_item.specs.Tables.{items_of}
 use Rattle.ig_item.specs.Ways.{IsEnd}
-use Rattle.ig_forest.specs.Reduced.{root_key}
-use Rattle.ig_forest.proofs.root.first_root.Given as goal
+use Rattle.ig_live.specs.Live.{root_key}
+use Rattle.ig_live.proofs.root.first_root.Given as goal
 
 abbrev pub invariant-loop-number : goal.invariant-loop-number
 invariant-loop-number l =

@@ -1,6 +1,6 @@
 use Rattle.std.proofs.Common.{sym, ap}
-use Rattle.ig_forest.specs.CodeLiveOrder.{is_live}
-use Rattle.ig_forest.proofs.mark.Mark.is_live.Goals as goal
+use Rattle.ig_live.specs.Marks.{is_live}
+use Rattle.ig_live.proofs.mark.Mark.is_live.Goals as goal
 
 pub returns-in-Dead : goal.returns-in-Dead
 returns-in-Dead c = sym (ap is_live c.in-Dead.is)

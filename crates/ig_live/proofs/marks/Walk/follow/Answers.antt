@@ -2,10 +2,10 @@ use Rattle.std.proofs.Common.{◌≡◌, ℕ, refl, sym, subst}
 use Rattle.std.proofs.lemmas.Result.{on_ok_weaker}
 use Rattle.ig_item.specs.declared.ways.Way.{Way}
 use Rattle.ig_item.specs.declared.ways.Way.TheVariants.{Pass, Leaf, Node}
-use Rattle.ig_forest.specs.CodeWayMarks.{HasPrev}
-use Rattle.ig_forest.proofs.CodeWalk.{leads_by_pass, leads_by_leaf, leads_by_node}
-use Rattle.ig_forest.proofs.CodeWayMarks.{prev_fits, prev_whole, done_fits}
-use Rattle.ig_forest.proofs.marks.Walk.follow.Goals as goal
+use Rattle.ig_live.specs.CodeWayMarks.{HasPrev}
+use Rattle.ig_live.proofs.CodeWalk.{leads_by_pass, leads_by_leaf, leads_by_node}
+use Rattle.ig_live.proofs.CodeWayMarks.{prev_fits, prev_whole, done_fits}
+use Rattle.ig_live.proofs.marks.Walk.follow.Goals as goal
 
 by_pass : (way : Way) (k : ℕ) → way ≡ Pass k → HasPrev way k
 by_pass way k is = subst (λ (z : Way). HasPrev z k) (sym is) refl

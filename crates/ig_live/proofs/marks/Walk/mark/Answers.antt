@@ -1,7 +1,7 @@
 use Rattle.std.proofs.Common.{Some, sym, ap, ◌∙◌, refl}
 use Rattle.std.proofs.lemmas.Option.{slice_get-get_or}
-use Rattle.ig_forest.proofs.CodeWalk.{marked_now}
-use Rattle.ig_forest.proofs.marks.Walk.mark.Goals as goal
+use Rattle.ig_live.proofs.CodeWalk.{marked_now}
+use Rattle.ig_live.proofs.marks.Walk.mark.Goals as goal
 
 pub returns : goal.returns
 returns c =

@@ -1,5 +1,5 @@
 use Rattle.std.proofs.Common.{refl}
-use Rattle.ig_forest.proofs.marks.Walk.mark_end.Goals as goal
+use Rattle.ig_live.proofs.marks.Walk.mark_end.Goals as goal
 
 pub mark-requires-clause-found : goal.mark-requires-clause-found
 mark-requires-clause-found c = c.requires.found

@@ -1,7 +1,7 @@
 use Rattle.std.proofs.Common.{refl, arith}
-use Rattle.ig_forest.proofs.CodeWalk.{part_next, part_all, whole_with_node}
-use Rattle.ig_forest.proofs.CodeWayMarks.{end_within, ends_apart}
-use Rattle.ig_forest.proofs.marks.Walk.mark_node.Goals as goal
+use Rattle.ig_live.proofs.CodeWalk.{part_next, part_all, whole_with_node}
+use Rattle.ig_live.proofs.CodeWayMarks.{end_within, ends_apart}
+use Rattle.ig_live.proofs.marks.Walk.mark_node.Goals as goal
 
 pub mark_end-requires-clause-number : goal.mark_end-requires-clause-number
 mark_end-requires-clause-number c =

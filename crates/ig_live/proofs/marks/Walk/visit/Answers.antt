@@ -1,8 +1,8 @@
 use Rattle.std.proofs.Common.{refl}
 use Rattle.std.proofs.lemmas.List.Elements.{Contains-get_or}
 use Rattle.ig_item.specs.Ways.{again}
-use Rattle.ig_forest.proofs.CodeWalk.{led_first, led_next, led_all}
-use Rattle.ig_forest.proofs.marks.Walk.visit.Goals as goal
+use Rattle.ig_live.proofs.CodeWalk.{led_first, led_next, led_all}
+use Rattle.ig_live.proofs.marks.Walk.visit.Goals as goal
 
 pub loop-further-init : goal.loop-further-init
 loop-further-init c = record {

@@ -1,7 +1,7 @@
 use Rattle.std.proofs.Common.{take}
-use Rattle.ig_forest.specs.CodeWayMarks.{AreWhole, MarksMore}
-use Rattle.ig_forest.proofs.CodeWalk.{LedBy}
-use Rattle.ig_forest.proofs.marks.Walk.visit.Given as goal
+use Rattle.ig_live.specs.CodeWayMarks.{AreWhole, MarksMore}
+use Rattle.ig_live.proofs.CodeWalk.{LedBy}
+use Rattle.ig_live.proofs.marks.Walk.visit.Given as goal
 
 abbrev pub invariant-loop-further : goal.invariant-loop-further
 invariant-loop-further l = record {

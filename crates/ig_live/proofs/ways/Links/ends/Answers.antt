@@ -1,8 +1,8 @@
 use Rattle.std.proofs.Common.{ap}
 use Rattle.ig_item.specs.Recorded.{Recording}
 use Rattle.ig_item.specs.declared.ways.FurtherEnd.{FurtherEnd}
-use Rattle.ig_forest.proofs.CodeWays.{group_slice}
-use Rattle.ig_forest.proofs.ways.Links.ends.Goals as goal
+use Rattle.ig_live.proofs.CodeWays.{group_slice}
+use Rattle.ig_live.proofs.ways.Links.ends.Goals as goal
 
 pub returns-clause-ends : goal.returns-clause-ends
 returns-clause-ends c =

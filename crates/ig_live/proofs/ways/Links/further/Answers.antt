@@ -1,8 +1,8 @@
 use Rattle.std.proofs.Common.{ap}
 use Rattle.ig_item.specs.Recorded.{Recording}
 use Rattle.ig_item.specs.declared.ways.FurtherWay.{FurtherWay}
-use Rattle.ig_forest.proofs.CodeWays.{group_slice}
-use Rattle.ig_forest.proofs.ways.Links.further.Goals as goal
+use Rattle.ig_live.proofs.CodeWays.{group_slice}
+use Rattle.ig_live.proofs.ways.Links.further.Goals as goal
 
 pub returns : goal.returns
 returns c =

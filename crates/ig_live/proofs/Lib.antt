@@ -1,0 +1,11 @@
+pub mod CodeOrders
+pub mod CodeSorted
+pub mod CodePlacing
+pub mod CodeEnvironments
+pub mod CodeKeeping
+pub mod CodeGroups
+pub mod CodeLiveOrder
+pub mod CodeWays
+pub mod CodeWalk
+pub mod CodeWayMarks
+pub mod CodeFirstRoot

@@ -1,0 +1,11 @@
+pub mod Live
+pub mod FirstRoot
+pub mod Lists
+pub mod Rows
+pub mod Marks
+pub mod LiveOrder
+pub mod Links
+pub mod Once
+pub mod CodeGroups
+pub mod CodeLiveOrder
+pub mod CodeWayMarks
