@@ -2,21 +2,20 @@
 //!
 //! A forest has nodes with alternatives and item nodes with entries, both numbered from 0.
 //! `specs/Forest.antt` says what it is, and `specs/Unfold.antt` which trees it has to a depth, each
-//! with its cursor. `specs/Live.antt` says which items some tree of the whole text uses, and
-//! `specs/Reduced.antt` which forest is the reduced one: it has the live items and no others, in
-//! the orders of `specs/Orders.antt`. The laws say that a core grammar and a text have one such
-//! forest at most, that it unfolds to exactly their trees, each with one cursor, that cursors are
-//! in the order of the trees with their values where tags rise with the alternatives, and that no
-//! part of it is dead.
+//! with its cursor. `specs/Live.antt` of `ig_live` says which items some tree of the whole text
+//! uses, and `specs/Reduced.antt` which forest is the reduced one: it has the live items and no
+//! others, in the orders of `specs/Orders.antt`. The laws say that a core grammar and a text have
+//! one such forest at most, that it unfolds to exactly their trees, each with one cursor, that
+//! cursors are in the order of the trees with their values where tags rise with the alternatives,
+//! and that no part of it is dead.
 //!
 //! [`Forest::of_recorded`] gives exactly that forest of what a run recorded, `None` exactly where
 //! the root isn't complete; every `Forest` is trim. It reads the ways by which items came about,
-//! and evaluates nothing. Live items are marked from the root backward, by a work list. A counting
-//! sort by starts and a sort of each small group put them into order, as rows of numbers: the lists
-//! of values are numbered in order, too. One pass over them gives the nodes with their
-//! alternatives, which are then put in order where they aren't, and another one the entries of all
-//! items, which stand side by side. [`Forest::build`] makes it of items alone, whose ways it
-//! records first. The readers hand out borrowing views.
+//! and evaluates nothing. `ig_live` marks the live items from the root backward and puts them into
+//! order, as rows of numbers. One pass over them gives the nodes with their alternatives, which are
+//! then put in order where they aren't, and another one the entries of all items, which stand side
+//! by side. [`Forest::build`] makes it of items alone, whose ways it records first. The readers
+//! hand out borrowing views.
 #![tactic(auto)]
 
 mod builder;
