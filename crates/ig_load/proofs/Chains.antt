@@ -4,7 +4,7 @@ use Rattle.std.specs.Prelude.{flat_map}
 use Rattle.std.proofs.lemmas.List.{append-nil}
 use Rattle.std.proofs.lemmas.List.Elements.{All-head, All-tail}
 use Rattle.std.proofs.lemmas.Bool.{cases_lt}
-use Rattle.ig_load.specs.Operators.{Operator, power, times, plus, minus, sign, letter, letters, Step, step_text, chain, HasLetter}
+use Rattle.ig_load_texts.specs.Operators.{Operator, power, times, plus, minus, sign, letter, letters, Step, step_text, chain, HasLetter}
 
 -- a letter, or an operator between two of these
 pub data Term : Type 0 where

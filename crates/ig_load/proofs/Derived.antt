@@ -11,7 +11,7 @@ use Rattle.ig_grammar.specs.declared.declaration.DeclKind.TheVariants.{Syntax}
 use Rattle.ig_grammar.specs.declared.place.Shape.TheVariants as shape
 use Rattle.ig_meaning.specs.Environment.{no_values, no_parameters}
 use Rattle.ig_meaning.specs.Derivation.{Derives, Instance, empty, symbol, literal, one_of, call, alternative, no_layout}
-use Rattle.ig_load.specs.Operators.{Operator, power, times, plus, minus, sign, letter}
+use Rattle.ig_load_texts.specs.Operators.{Operator, power, times, plus, minus, sign, letter}
 use Rattle.ig_load.specs.Grammar.{LoadGrammar, expression, expressions, operand as operand_alternative, operation as operation_alternative, levels}
 use Rattle.ig_load.proofs.Chains.{Term, operand, operation, text, level_of, HasLetters}
 use Rattle.ig_load.proofs.Places.{Stands, stands_first, stands_second, spells_one, is_letter}

@@ -5,7 +5,6 @@ pub mod Spines
 pub mod Permitting
 pub mod Scoped
 pub mod Reading
-pub mod Inputs
 pub mod Refusals
 pub mod Said
 pub mod Dots

@@ -8,7 +8,7 @@ use Rattle.ig_text.specs.Class.{is_in_class}
 use Rattle.ig_text.specs.Place.{Spells}
 use Rattle.ig_text.specs.Pattern.{IsOneOf}
 use Rattle.ig_text.specs.declared.class.Class.TheVariants.{Ranges}
-use Rattle.ig_load.specs.Operators.{letter, letters}
+use Rattle.ig_load_texts.specs.Operators.{letter, letters}
 
 pub record Stands (text word : List ℕ) (i : ℕ) : Type 0 where
   pub before : List ℕ

@@ -4,8 +4,8 @@ use Rattle.ig_grammar.specs.WellScoped.{IsWellScoped}
 use Rattle.ig_notation.specs.Outcome.{IsRead}
 use Rattle.ig_core.specs.Notation.{unchanged}
 use Rattle.ig_parse.specs.Parses.{IsParsed}
-use Rattle.ig_load.specs.Operators.{Step, letters, chain, HasLetter}
-use Rattle.ig_load.specs.Input.{LoadInput}
+use Rattle.ig_load_texts.specs.Operators.{Step, letters, chain, HasLetter}
+use Rattle.ig_load_texts.specs.Input.{LoadInput}
 use Rattle.ig_load.specs.Grammar.{LoadGrammar, load_text}
 
 -- the text reads as the grammar, which is well scoped

@@ -1,5 +1,3 @@
-pub mod Operators
-pub mod Input
 pub mod Grammar
 pub mod Summary
 pub mod Laws

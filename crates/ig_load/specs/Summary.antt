@@ -1,6 +1,5 @@
 -- What a load says: how many items and nodes there are, and whether the forest is ambiguous or cyclic.
-use Rattle.std.specs.Prelude.{◌≡◌, ◌↔◌, ℕ, List, ◌++◌, length, Contains, Bool, true, false, IsTrue, Result, Ok, Err, codes}
-use Rattle.std.specs.Fmt.{decimal}
+use Rattle.std.specs.Prelude.{◌≡◌, ◌↔◌, ℕ, List, length, Contains, IsTrue, Result, Ok, Err}
 use Rattle.ig_grammar.specs.Checked.{CheckedGrammar}
 use Rattle.ig_item.specs.Items.{Item, Reachable}
 use Rattle.ig_item.specs.WellKinded.{NoneTwice}
@@ -11,24 +10,11 @@ use Rattle.ig_core.specs.Notation.{unchanged}
 use Rattle.ig_forest.specs.Forest.{Forest}
 use Rattle.ig_parse.specs.Laws.{HasNoHighest, PermitsTwo}
 use Rattle.ig_parse.specs.Parses.{IsForestOf, IsOver}
-use Rattle.ig_print.specs.Listed.{line_end}
 use Rattle.ig_load.specs.Grammar.{LoadGrammar}
-use Rattle.ig_load.specs.Input.{LoadInput}
+use Rattle.ig_load_texts.specs.Input.{LoadInput}
 use Rattle.ig_load.specs.declared.fault.LoadFault.{LoadFault}
 use Rattle.ig_load.specs.declared.fault.LoadFault.TheVariants.{Budget, Memory}
-use Rattle.ig_load.specs.declared.summary.Summary.{Summary}
-
-abbrev pub answer_text : Bool → List ℕ
-answer_text true = codes "yes"
-answer_text false = codes "no"
-
--- `items A nodes B ambiguous YES cyclic YES`
-abbrev pub summary_text : Summary → List ℕ
-summary_text summary =
-    codes "items " ++ (decimal summary.items ++
-    (codes " nodes " ++ (decimal summary.nodes ++
-    (codes " ambiguous " ++ (answer_text summary.ambiguous ++
-    (codes " cyclic " ++ (answer_text summary.cyclic ++ line_end)))))))
+use Rattle.ig_load_texts.specs.declared.summary.Summary.{Summary}
 
 module _ (c : CheckedGrammar) (text : List ℕ) where
   -- so many items are reachable

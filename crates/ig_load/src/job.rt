@@ -6,18 +6,17 @@ ghost use Rattle.ig_item.specs.Tables.{items_of};
 ghost use Rattle.ig_item.specs.WellKinded.{NoneTwice};
 ghost use Rattle.ig_parse.specs.Parses.{AreReachable, IsParsed};
 ghost use Rattle.ig_load.specs.Grammar.{LoadGrammar};
-ghost use Rattle.ig_load.specs.Input.{most_operands};
+ghost use Rattle.ig_load_texts.specs.Input.{most_operands};
 ghost use Rattle.ig_load.specs.Summary.{IsSummaryOf, Loads};
 
 use crate::fault::LoadFault;
 use crate::grammar::load_grammar;
-use crate::input::load_input;
 use crate::laws::{load_inputs_are_permitted, load_text_reads};
-use crate::summary::Summary;
 use ig_core::{CoreFault, notation_is_buildable};
 use ig_grammar::Checked;
 use ig_heights::Heights;
 use ig_item::Recorded;
+use ig_load_texts::{Summary, load_input};
 use ig_notation::read_grammars_are_regular;
 use ig_parse::{Parser, ambiguity_is_two_permitted, cyclic_is_without_highest};
 use ig_query::is_ambiguous;
@@ -25,7 +24,7 @@ use std::alloc::{AllocError, Global};
 
 /// What the forest of the load's grammar and the input of this size and number has, where no more
 /// items than the budget are reachable. The size is the number of operands, from 1 to
-/// [`MOST_OPERANDS`](crate::MOST_OPERANDS). `Budget` comes exactly where more items are reachable,
+/// [`MOST_OPERANDS`](ig_load_texts::MOST_OPERANDS). `Budget` comes exactly where more items are reachable,
 /// if memory doesn't run out before.
 pub fn load(alloc: Global, size: u32, number: u64, budget: u32) -> Result<Summary, LoadFault>
     requires { size ≤ most_operands }

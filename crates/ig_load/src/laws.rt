@@ -2,6 +2,7 @@
 //! laws.
 ghost use Rattle.ig_load.specs.Laws.{ChainsArePermitted, LoadInputsArePermitted, LoadTextReads};
 
+use ig_load_texts::inputs_are_chains;
 use ig_tokens::ended_tokens_are_longest;
 
 /// The text of the grammar reads as the grammar, which is well scoped. This law computes nothing.
@@ -22,4 +23,5 @@ pub fn load_inputs_are_permitted()
     ensures { LoadInputsArePermitted }
 {
     chains_are_permitted();
+    inputs_are_chains();
 }

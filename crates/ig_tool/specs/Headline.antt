@@ -11,8 +11,9 @@ use Rattle.ig_grammar.specs.Checked.{CheckedGrammar}
 use Rattle.ig_parse.specs.Parses.{IsParsed, IsUnparsed, IsOver, IsForestOf, HasForest}
 use Rattle.ig_tool.specs.declared.status.Status.{Status}
 use Rattle.ig_tool.specs.declared.status.Status.TheVariants as status
-use Rattle.ig_load.specs.Summary.{IsLoadSummary, IsTooLarge, summary_text}
-use Rattle.ig_load.specs.declared.summary.Summary.{Summary}
+use Rattle.ig_load.specs.Summary.{IsLoadSummary, IsTooLarge}
+use Rattle.ig_load_texts.specs.Line.{summary_text}
+use Rattle.ig_load_texts.specs.declared.summary.Summary.{Summary}
 use Rattle.ig_command.specs.Commands.{check, show, core, load, IsCommand}
 use Rattle.ig_tool.specs.Jobs.{Job, print, list, ask, request_for}
 use Rattle.ig_tool.specs.Listing.{IsBounded, Begins}

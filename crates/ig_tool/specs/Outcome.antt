@@ -31,8 +31,9 @@ use Rattle.ig_tool.specs.Accepted.{IsAccepted}
 use Rattle.ig_tool.specs.Refusals.{IsRefused}
 use Rattle.ig_command.specs.Commands.{Request, Listing, check, show, core, load, grammar_file, files_of, IsCommand}
 use Rattle.ig_command.specs.Commands as asked
-use Rattle.ig_load.specs.Summary.{IsLoadSummary, IsTooLarge, summary_text}
-use Rattle.ig_load.specs.declared.summary.Summary.{Summary}
+use Rattle.ig_load.specs.Summary.{IsLoadSummary, IsTooLarge}
+use Rattle.ig_load_texts.specs.Line.{summary_text}
+use Rattle.ig_load_texts.specs.declared.summary.Summary.{Summary}
 use Rattle.ig_tool.specs.Jobs.{Job, print, list, ask, request_for}
 use Rattle.ig_tool.specs.Listing.{IsBounded, IsNoCursor, Begins, IsTreeListing, listing_text}
 use Rattle.ig_tool.specs.Questions.{IsWanted, ArePermittedSpans}

@@ -24,9 +24,10 @@ use Rattle.ig_parse.specs.Parses.{IsUnparsed, IsOver, HasForest}
 use Rattle.ig_print.specs.Listed.{line_end}
 use Rattle.ig_print.specs.CoreText.{core_text}
 use Rattle.ig_print.specs.ForestText.{forest_text}
-use Rattle.ig_load.specs.Summary.{Loads, summary_text}
+use Rattle.ig_load.specs.Summary.{Loads}
+use Rattle.ig_load_texts.specs.Line.{summary_text}
 use Rattle.ig_load.specs.declared.fault.LoadFault.TheVariants.{Budget}
-use Rattle.ig_load.specs.declared.summary.Summary.{Summary}
+use Rattle.ig_load_texts.specs.declared.summary.Summary.{Summary}
 use Rattle.ig_tool.specs.Jobs.{Job}
 use Rattle.ig_tool.specs.Accepted.{IsTextOf, HasFewDots}
 use Rattle.ig_tool.specs.Refusals.{IsRefused, dots_text}

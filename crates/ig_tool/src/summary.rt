@@ -5,7 +5,8 @@ ghost use Rattle.ig_tool.specs.Stops.{LoadsText};
 
 use crate::parse::over_budget;
 use crate::stop::Stop;
-use ig_load::{LoadFault, load, show_summary};
+use ig_load::{LoadFault, load};
+use ig_load_texts::show_summary;
 use std::alloc::Global;
 
 /// The line of what a load of this size and number says.

@@ -50,7 +50,7 @@ const USAGE: &[u8] =
 /// the input, and what they expected there.
 ///
 /// `load SIZE NUMBER` fetches nothing: it puts the line of
-/// [`show_summary`](ig_load::show_summary) for the load of that size and number.
+/// [`show_summary`](ig_load_texts::show_summary) for the load of that size and number.
 ///
 /// The words come without the program's name. All memory is taken before the first put.
 pub fn iguana<F: Shelf, O: Sink, N: Sink>(

@@ -1,6 +1,6 @@
 -- The input of a load, which a size and a number decide.
 use Rattle.std.specs.Prelude.{ℕ, zero, suc, ◌+◌, ◌-◌, ◌*◌, ◌/◌, ◌%◌, ◌^◌, List, [], ◌∷◌}
-use Rattle.ig_load.specs.Operators.{Operator, power, times, plus, minus, Step, letters, chain}
+use Rattle.ig_load_texts.specs.Operators.{Operator, power, times, plus, minus, Step, letters, chain}
 
 -- the most operands, by the characters that a text may have
 abbrev pub most_operands : ℕ

@@ -1,5 +1,5 @@
 -- The input of a load is a chain, and its characters are bytes.
-use Rattle.std.proofs.Common.{◌≡◌, ℕ, zero, suc, ◌+◌, ◌-◌, ◌*◌, ◌<◌, ◌≤◌, List, [], ◌∷◌, ◌++◌, All, length, refl, sym, ap, ◌∙◌, subst, inl, inr, arith}
+use Rattle.std.proofs.Common.{◌≡◌, ℕ, zero, suc, ◌+◌, ◌-◌, ◌*◌, ◌%◌, ◌<◌, ◌≤◌, List, [], ◌∷◌, ◌++◌, All, length, refl, sym, ap, ◌∙◌, subst, inl, inr, arith}
 use Rattle.std.specs.Prelude.{flat_map}
 use Rattle.std.specs.Prelude.{IsUtf8, chars}
 use Rattle.std.specs.Str.{IsAscii}
@@ -8,9 +8,9 @@ use Rattle.std.proofs.lemmas.List.{append_assoc}
 use Rattle.std.proofs.lemmas.Str.{chars-IsAscii, IsUtf8-from_ascii}
 use Rattle.ig_text.specs.Decoding.{IsDecoded, IsFaulty}
 use Rattle.ig_text.specs.declared.text.TextFault.TheVariants.{NotUtf8, TooLong}
-use Rattle.ig_load.specs.Operators.{Operator, power, times, plus, minus, sign, letter, letters, step_text, HasLetter}
-use Rattle.ig_load.specs.Input.{next_state, operand_at, operator_at, steps_from, LoadInput, most_operands}
-use Rattle.ig_load.specs.Laws.{ChainsArePermitted, LoadInputsArePermitted}
+use Rattle.ig_load_texts.specs.Operators.{Operator, power, times, plus, minus, sign, letter, letters, step_text, HasLetter}
+use Rattle.ig_load_texts.specs.Input.{next_state, drawn, operand_at, operator_of, operator_at, steps_from, LoadInput, most_operands}
+use Rattle.ig_load_texts.specs.Laws.{IsChain, InputsAreChains}
 
 pub operand_fits : (state : ℕ) → operand_at state < letters
 operand_fits state = omega arith
@@ -20,11 +20,19 @@ steps_fit zero state = All-nil HasLetter
 steps_fit (suc n) state =
     All-cons HasLetter _ _ (operand_fits (next_state (next_state state))) (steps_fit n (next_state (next_state state)))
 
--- so a tree is permitted
-pub inputs_are_permitted : ChainsArePermitted → LoadInputsArePermitted
-inputs_are_permitted chains size number =
-    chains (operand_at (next_state number)) (steps_from (next_state number) (size - 1)) (operand_fits (next_state number))
-    (steps_fit (size - 1) (next_state number))
+pub inputs_are_chains : InputsAreChains
+inputs_are_chains size number =
+    record {
+      first = operand_at (next_state number);
+      steps = steps_from (next_state number) (size - 1);
+      first_fits = operand_fits (next_state number);
+      steps_fit = steps_fit (size - 1) (next_state number);
+      text_is = refl;
+    }
+
+-- a draw that gives this number modulo 4 gives this operator
+pub one_of_four : (state draw n : ℕ) → draw ≡ drawn state → draw % 4 ≡ n → sign (operator_of n) ≡ sign (operator_at state)
+one_of_four state draw n is modulo = ap (λ k. sign (operator_of k)) (sym modulo ∙ ap (λ d. d % 4) is)
 
 sign_is_ascii : (o : Operator) → sign o < 128
 sign_is_ascii power = omega arith
@@ -61,6 +69,11 @@ steps_width (suc n) state =
 pub input_width : (size number : ℕ) → length (LoadInput size number) ≡ 1 + 2 * (size - 1)
 input_width size number =
     let more = steps_width (size - 1) (next_state number) in omega arith
+
+-- the loop that writes the input begins behind the first operand
+pub first_written : (before out : List ℕ) (size number state first : ℕ) → state ≡ next_state number → first ≡ letter (operand_at state) →
+    before ≡ [] → out ≡ before ++ first ∷ [] → out ++ flat_map step_text (steps_from state (size - 1)) ≡ LoadInput size number
+first_written before out size number state first is_state is_first none is_out = rw (is_out, none, is_first, is_state) refl
 
 -- one step of the loop that writes the input
 pub one_more : (out one two whole : List ℕ) (size counter state first second : ℕ) →

@@ -1,5 +1,10 @@
-use Rattle.ig_load.proofs.Inputs.{one_more}
-use Rattle.ig_load.proofs.input.bytes_of.Goals as goal
+use Rattle.ig_load_texts.proofs.Inputs.{first_written, one_more}
+use Rattle.ig_load_texts.proofs.input.bytes_of.Goals as goal
+
+pub loop-init : goal.loop-init
+loop-init c =
+    first_written c.new-bytes.result.items c.push.new.self.items c.args.size c.args.number c.next_state-state.result c.operand.result
+    c.next_state-state.ensures c.operand.ensures c.new-bytes.ensures.items c.in_ok-push.ensures.items
 
 pub loop-preserved : goal.loop-preserved
 loop-preserved c =

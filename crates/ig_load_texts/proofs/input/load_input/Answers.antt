@@ -1,6 +1,6 @@
 use Rattle.std.proofs.Common.{◌∙◌}
-use Rattle.ig_load.proofs.Inputs.{decoded_input, input_is_utf8, input_is_short}
-use Rattle.ig_load.proofs.input.load_input.Goals as goal
+use Rattle.ig_load_texts.proofs.Inputs.{decoded_input, input_is_utf8, input_is_short}
+use Rattle.ig_load_texts.proofs.input.load_input.Goals as goal
 
 pub returns-in-Ok : goal.returns-in-Ok
 returns-in-Ok c =

@@ -1,7 +1,7 @@
 //! What a load says, and its text.
 ghost use Rattle.std.specs.Prelude.{◌≡◌, ◌++◌, IfOk, OnOk, codes, string_bytes};
 ghost use Rattle.std.specs.Fmt.{decimal};
-ghost use Rattle.ig_load.specs.Summary.{answer_text, summary_text};
+ghost use Rattle.ig_load_texts.specs.Line.{answer_text, summary_text};
 
 use itoa::Buffer;
 use std::alloc::{AllocError, Global};

@@ -1,8 +1,8 @@
 //! The input of a load.
 ghost use Rattle.std.specs.Prelude.{◌≡◌, ◌≤◌, IfOk};
-ghost use Rattle.ig_load.specs.Operators.{letter, sign};
-ghost use Rattle.ig_load.specs.Input.{LoadInput, drawn, most_operands, next_state};
-ghost use Rattle.ig_load.specs.Input.{operand_at, operator_at};
+ghost use Rattle.ig_load_texts.specs.Operators.{letter, sign};
+ghost use Rattle.ig_load_texts.specs.Input.{LoadInput, drawn, most_operands, next_state};
+ghost use Rattle.ig_load_texts.specs.Input.{operand_at, operator_at};
 
 use ig_text::{Text, TextFault};
 use std::alloc::{AllocError, Global};

@@ -1,0 +1,4 @@
+pub mod Operators
+pub mod Input
+pub mod Line
+pub mod Laws
