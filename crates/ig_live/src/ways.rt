@@ -86,8 +86,8 @@ impl<'a> Links<'a> {
         self.recorded.ways().firsts()[number as usize]
     }
 
-    /// The further ways to the item of that number, from 0, in no order that is told; none where the
-    /// number isn't there. Takes no memory.
+    /// The further ways to the item of that number, from 0, in no order that is told; none where
+    /// the number isn't there. Takes no memory.
     pub fn further(&self, number: u32) -> &[FurtherWay]
         ensures { (way : FurtherWay) → Contains result.now way ↔
             (Contains self.now.ways.further way × (way.item ≡ number)) }

@@ -1,6 +1,5 @@
 -- Functions that add items, one after the other.
-use Rattle.std.proofs.lemmas.Option.{same_Some}
-use Rattle.std.proofs.Common.{◌≡◌, ◌⊎◌, ⊎_elim, ℕ, zero, suc, ◌<◌, ◌≤◌, List, [], ◌∷◌, ◌++◌, map, slice_get, Contains, refl, sym, ap, ◌∙◌, subst, arith}
+use Rattle.std.proofs.Common.{◌≡◌, ◌⊎◌, ⊎_elim, ℕ, ◌<◌, ◌≤◌, List, ◌++◌, Contains, refl, sym, ap, ◌∙◌, subst, arith}
 use Rattle.std.specs.Prelude.{Result, Ok, Err, OnOk, IfErr}
 use Rattle.std.specs.Result.{IsErrAnd}
 use Rattle.std.proofs.lemmas.Result.{err_from_is_err_and}
@@ -8,7 +7,7 @@ use Rattle.std.proofs.lemmas.List.Elements.{Contains-append_left, Contains-appen
 use Rattle.std.specs.Prelude.{Option}
 use Rattle.ig_expr.specs.declared.value.Value.{Value}
 use Rattle.ig_item.specs.declared.items.Item as stored
-use Rattle.std.specs.Prelude.{IsTrue, Some, None, true, false, Bool, ◌↔◌}
+use Rattle.std.specs.Prelude.{IsTrue, Some, true, false, Bool, ◌↔◌}
 use Rattle.ig_text.proofs.Lists.{mapped_in}
 use Rattle.ig_expr.specs.Expression.{Expression}
 use Rattle.ig_expr.specs.Evaluation.{value_of}

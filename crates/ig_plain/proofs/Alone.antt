@@ -206,6 +206,13 @@ names_are core it step n names h n_is all =
     all h.before.nonterminal h.before.alternative
     (subst (λ (z : ℕ). IsAlternative core z it.alternative h.before.nonterminal h.before.alternative) (sym n_is) h.before.has) ∙ sym h.before.visible
 
+-- something is known at the dot of an item before a step
+pub is_known : (core : List Nonterminal) (it : Item) (step : Step) (n : ℕ) → Stands core it step → n ≡ it.instance.nonterminal →
+    ((m : Nonterminal) (c : CoreAlt) (t : Step) → IsAlternative core n it.alternative m c → slice_get c.steps it.dot ≡ Some t → ⊥) → ⊥
+is_known core it step n h n_is none =
+    none h.before.nonterminal h.before.alternative step
+    (subst (λ (z : ℕ). IsAlternative core z it.alternative h.before.nonterminal h.before.alternative) (sym n_is) h.before.has) h.before.next
+
 -- the forms that are known at the dot of an item before a step
 pub forms_are : (core : List Nonterminal) (it : Item) (step s : Step) (n : ℕ) (names : List (List ℕ)) (forms : List Form) → Stands core it step →
     step ≡ s → n ≡ it.instance.nonterminal →

@@ -14,7 +14,7 @@ use crate::found::{Found, Taken, go_behind_call, go_later, go_on};
 use crate::trail::Trail;
 use ig_expr::{Expr, Value, Values};
 use ig_item::{RunFault, Way};
-use ig_steps::{Known, Marks, is_true, matches_none, only, span_bound, value};
+use ig_steps::{Known, Qualifiers, is_true, matches_none, only, span_bound, value};
 use ig_text::Pattern;
 use indexmap::IndexSet;
 
@@ -98,7 +98,7 @@ pub(crate) fn go_behind(
     context: &Context<'_>,
     found: &mut Found,
     trail: &mut Trail,
-    marks: &Marks<'_>,
+    qualifiers: &Qualifiers<'_>,
     from: Taken,
     done: u32,
     end: u32,
@@ -107,22 +107,22 @@ pub(crate) fn go_behind(
     requires all_named { AreNamed found.old }
     requires indexed { IsIndexed found.old trail.old }
     requires by_nodes { ComeByNodes found.old trail.old (λ x. MatchesNone context.now.text.now
-        marks.now.not.now from.item.position end × (x ≡ past (means found.old from.item)
-        (span_of marks.now.label.now from.item.position end) end)) }
-    ensures adds { Adds end (λ x. MatchesNone context.now.text.now marks.now.not.now
+        qualifiers.now.not.now from.item.position end × (x ≡ past (means found.old from.item)
+        (span_of qualifiers.now.label.now from.item.position end) end)) }
+    ensures adds { Adds end (λ x. MatchesNone context.now.text.now qualifiers.now.not.now
         from.item.position end × (x ≡ past (means found.old from.item)
-        (span_of marks.now.label.now from.item.position end) end))
+        (span_of qualifiers.now.label.now from.item.position end) end))
         context.now.budget found.old found.new result }
     ensures ways { OnOk result (Records (By (Node from.number done) (λ x. MatchesNone
-        context.now.text.now marks.now.not.now from.item.position end × (x ≡ past (means found.old
-        from.item) (span_of marks.now.label.now from.item.position end) end))) found.old found.new
-        trail.old trail.new) }
+        context.now.text.now qualifiers.now.not.now from.item.position end × (x ≡ past (means
+        found.old from.item) (span_of qualifiers.now.label.now from.item.position end) end)))
+        found.old found.new trail.old trail.new) }
 {
     let start = from.item.position;
-    if !matches_none(marks.not, context.text, start, end) {
+    if !matches_none(qualifiers.not, context.text, start, end) {
         return Ok(());
     }
-    let bound = span_bound(marks.label, start, end);
+    let bound = span_bound(qualifiers.label, start, end);
     go_behind_call(context, found, trail, from, bound, done, end)
 }
 
@@ -133,28 +133,28 @@ pub(crate) fn take_terminal(
     found: &mut Found,
     trail: &mut Trail,
     what: &Pattern,
-    marks: &Marks<'_>,
+    qualifiers: &Qualifiers<'_>,
     from: Taken,
 ) -> Result<(), RunFault>
     requires named { Named found.old from.item }
     requires all_named { AreNamed found.old }
-    requires new { Unfound found.old (IsBehind context.now.text.now what.now marks.now.label.now
-        marks.now.not.now (means found.old from.item)) }
-    ensures adds { AddsTerminal context.now.text.now what.now marks.now.label.now marks.now.not.now
-        context.now.budget from.item.position (means found.old from.item) found.old found.new
-        result }
-    ensures ways { OnOk result (RecordsTerminal context.now.text.now what.now marks.now.label.now
-        marks.now.not.now from.number (means found.old from.item) found.old found.new trail.old
-        trail.new) }
+    requires new { Unfound found.old (IsBehind context.now.text.now what.now
+        qualifiers.now.label.now qualifiers.now.not.now (means found.old from.item)) }
+    ensures adds { AddsTerminal context.now.text.now what.now qualifiers.now.label.now
+        qualifiers.now.not.now context.now.budget from.item.position (means found.old from.item)
+        found.old found.new result }
+    ensures ways { OnOk result (RecordsTerminal context.now.text.now what.now
+        qualifiers.now.label.now qualifiers.now.not.now from.number (means found.old from.item)
+        found.old found.new trail.old trail.new) }
 {
     let start = from.item.position;
     let Some(end) = what.ends_at(context.text, start) else {
         return Ok(());
     };
-    if !matches_none(marks.not, context.text, start, end) {
+    if !matches_none(qualifiers.not, context.text, start, end) {
         return Ok(());
     }
-    let bound = span_bound(marks.label, start, end);
+    let bound = span_bound(qualifiers.label, start, end);
     if end == start {
         let way = Way::Leaf { prev: from.number };
         return go_on(context, found, trail, from.item, bound, end, way);

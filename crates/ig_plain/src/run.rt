@@ -32,7 +32,7 @@ use ig_item::{
     Core, FurtherEnd, InstanceKey, Item, RunFault, Step, Way, Ways, environments_fit,
     items_are_in_text, reachable_is_closed,
 };
-use ig_steps::{Known, Marks, argument_values, known_at};
+use ig_steps::{Known, Qualifiers, argument_values, known_at};
 use std::alloc::AllocError;
 
 /// What a run has come to.
@@ -133,8 +133,8 @@ fn return_to(
     match step {
         Step::Call { label, not, .. } => {
             let not = not.as_slice();
-            let marks = Marks { label, not };
-            go_behind(context, found, trail, &marks, from, done, end)
+            let qualifiers = Qualifiers { label, not };
+            go_behind(context, found, trail, &qualifiers, from, done, end)
         }
         _ => Ok(()),
     }
@@ -218,10 +218,11 @@ fn take_complete(context: &Context<'_>, run: &mut Run, taken: Taken) -> Result<(
 }
 
 /// Whether a call has neither a label nor an excluded pattern.
-fn is_bare(marks: &Marks<'_>) -> bool
-    ensures { IsTrue result ↔ ((marks.now.label.now ≡ None) × (marks.now.not.now ≡ [])) }
+fn is_bare(qualifiers: &Qualifiers<'_>) -> bool
+    ensures { IsTrue result ↔
+        ((qualifiers.now.label.now ≡ None) × (qualifiers.now.not.now ≡ [])) }
 {
-    marks.label.is_none() && marks.not.is_empty()
+    qualifiers.label.is_none() && qualifiers.not.is_empty()
 }
 
 /// Takes an item before a call: it waits for the callee, whose first items are added unless another
@@ -232,7 +233,7 @@ fn take_call(
     known: &Known<'_>,
     nonterminal: u32,
     args: &[Expr],
-    marks: &Marks<'_>,
+    qualifiers: &Qualifiers<'_>,
     taken: Taken,
 ) -> Result<(), RunFault>
     requires taking { Taking context.now.core.now context.now.text.now context.now.budget
@@ -241,7 +242,7 @@ fn take_call(
         run.old.found run.old.waiting run.old.trail }
     requires before { StandsBefore context.now.core.now (means run.old.found taken.item)
         known.now.names.now (Call nonterminal (map expression_of args.now)
-        marks.now.label.now marks.now.not.now) }
+        qualifiers.now.label.now qualifiers.now.not.now) }
     requires compiled { known.now.forms.now ≡
         map (form_of known.now.names.now) (map expression_of args.now) }
     ensures takes { Takes context.now.core.now context.now.text.now context.now.budget taken.item
@@ -264,13 +265,13 @@ fn take_call(
         start,
     };
     let callee = call_instance(context, run, key)?;
-    add_caller(&mut run.waiting, callee, taken, is_bare(marks))?;
+    add_caller(&mut run.waiting, callee, taken, is_bare(qualifiers))?;
     let Some(done) = end_at(&run.waiting, callee, start) else {
         return Ok(());
     };
     let found = &mut run.found;
     let trail = &mut run.trail;
-    go_behind(context, found, trail, marks, taken, done, start)
+    go_behind(context, found, trail, qualifiers, taken, done, start)
 }
 
 /// The number of the instance. Where it is new, its first items are added.
@@ -319,18 +320,18 @@ fn take_step(
     match step {
         Step::Term { what, label, not } => {
             let not = not.as_slice();
-            let marks = Marks { label, not };
-            take_terminal(context, found, trail, what, &marks, taken)
+            let qualifiers = Qualifiers { label, not };
+            take_terminal(context, found, trail, what, &qualifiers, taken)
         }
         Step::Test(condition) => {
             let Some(known) = known_at(context.dots, nonterminal, taken.item) else {
-                return Err(RunFault::Memory);
+                unreachable!()
             };
             take_test(context, found, trail, &known, condition, taken)
         }
         Step::Bind(_, expression) => {
             let Some(known) = known_at(context.dots, nonterminal, taken.item) else {
-                return Err(RunFault::Memory);
+                unreachable!()
             };
             take_bind(context, found, trail, &known, expression, taken)
         }
@@ -341,12 +342,12 @@ fn take_step(
             not,
         } => {
             let Some(known) = known_at(context.dots, nonterminal, taken.item) else {
-                return Err(RunFault::Memory);
+                unreachable!()
             };
             let args = args.as_slice();
             let not = not.as_slice();
-            let marks = Marks { label, not };
-            take_call(context, run, &known, *callee, args, &marks, taken)
+            let qualifiers = Qualifiers { label, not };
+            take_call(context, run, &known, *callee, args, &qualifiers, taken)
         }
     }
 }

@@ -130,6 +130,14 @@ forms_there (m ∷ names) (t ∷ steps) zero visible step forms n s f =
     sym (same_Some (map (form_of m) (expressions_of t)) forms f) ∙ (λ i. map (form_of (a i)) (expressions_of (b i)))
 forms_there (m ∷ names) (t ∷ steps) (suc k) visible step forms n s f = forms_there names steps k visible step forms n s f
 
+-- before a step, where names are visible, there are forms
+pub forms_before : (names : List (List (List ℕ))) (steps : List Step) (k : ℕ) (visible : List (List ℕ)) (step : Step) →
+    slice_get names k ≡ Some visible → slice_get steps k ≡ Some step → slice_get (forms_along names steps) k ≡ None → ⊥
+forms_before [] steps k visible step n s f = cc
+forms_before (m ∷ names) [] k visible step n s f = cc
+forms_before (m ∷ names) (t ∷ steps) zero visible step n s f = cc
+forms_before (m ∷ names) (t ∷ steps) (suc k) visible step n s f = forms_before names steps k visible step n s f
+
 -- the forms of the steps so far, with those of one more
 pub forms_pushed : (names : List (List (List ℕ))) (steps : List Step) (k j : ℕ) (rows after : List (List Form)) (row : List Form)
     (visible : List (List ℕ)) (step : Step) → j ≡ k → Some visible ≡ slice_get names j → slice_get steps k ≡ Some step →

@@ -15,4 +15,6 @@ mod steps;
 
 pub use compiled::{Atom, Form, only, value};
 pub use names::{Dots, Known, dots_of_core, known_at};
-pub use steps::{Arguments, Marks, argument_values, is_true, matches_none, push_value, span_bound};
+pub use steps::{
+    Arguments, Qualifiers, argument_values, is_true, matches_none, push_value, span_bound,
+};

@@ -1,6 +1,7 @@
 //! What is known at each dot before a run: the names that expressions may use, and the forms of the
 //! expressions behind it.
-ghost use Rattle.std.specs.Prelude.{◌≡◌, IfOk, IfSome, List, map, option_map, slice_get};
+ghost use Rattle.std.specs.Prelude.{◌≡◌, IfNone, IfOk, IfSome, List, Some, map, option_map};
+ghost use Rattle.std.specs.Prelude.{slice_get};
 ghost use Rattle.std.specs.Option.{option_copied};
 ghost use Rattle.ig_item.specs.Core.{IsAlternative, numbered};
 ghost use Rattle.ig_item.specs.Step as tree;
@@ -108,7 +109,7 @@ fn forms_along(
 }
 
 /// What is known at the dot of an item of that nonterminal, by what is known at all dots. `None`
-/// where there is no such dot, or no step behind it.
+/// only where there is no such dot, or no step behind it.
 pub fn known_at(dots: &[Sequence<Dots>], nonterminal: u32, item: Item) -> Option<Known<'_>>
     ensures names { IfSome result (λ r. (core : List Nonterminal) (n : Nonterminal) (a : CoreAlt) →
         dots.now ≡ all_dots core → IsAlternative core nonterminal item.alternative n a →
@@ -118,6 +119,10 @@ pub fn known_at(dots: &[Sequence<Dots>], nonterminal: u32, item: Item) -> Option
         IsAlternative core nonterminal item.alternative n a →
         slice_get a.steps item.dot ≡ Some step →
         r.forms.now ≡ map (form_of r.names.now) (expressions_of step)) }
+    ensures none { IfNone result ((core : List Nonterminal) (n : Nonterminal) (a : CoreAlt)
+        (step : tree.Step) → dots.now ≡ all_dots core →
+        IsAlternative core nonterminal item.alternative n a →
+        slice_get a.steps item.dot ≡ Some step → ⊥) }
 {
     names_are_at_dots();
     let alternatives = row_of(dots, nonterminal)?;

@@ -8,7 +8,7 @@ ghost use Rattle.ig_expr.specs.View.{expression_of};
 ghost use Rattle.ig_expr.specs.declared.value.Value.{Value};
 ghost use Rattle.ig_expr.specs.declared.value.Value.TheVariants.{Bool as truth};
 ghost use Rattle.ig_item.specs.Items.{MatchesNone, span_of};
-ghost use Rattle.ig_steps.specs.Compiled.{form_of, values_in};
+ghost use Rattle.ig_steps.specs.Compiled.{AreValuesOf, form_of, values_in};
 ghost use Rattle.ig_steps.specs.declared.steps.Arguments.{Arguments};
 
 use crate::compiled::{Form, are_own, value};
@@ -19,7 +19,7 @@ use std::alloc::{AllocError, Global};
 
 /// What a step says of the text that it covers.
 #[derive(Clone, Copy)]
-pub struct Marks<'a> {
+pub struct Qualifiers<'a> {
     /// The name to which its span is bound, if any.
     pub label: &'a Option<Word>,
     /// The patterns of which it is to be no match.
@@ -111,12 +111,11 @@ pub fn argument_values(
 ) -> Result<Option<Arguments>, AllocError>
     requires { known.now.forms.now ≡
         map (form_of known.now.names.now) (map expression_of arguments.now) }
-    ensures none { IfOk result (λ r. r ≡ None → (vs : List Value) → map (value_of
-        text.now known.now.names.now values.now here) (map expression_of arguments.now)
-        ≡ map Some vs → ⊥) }
-    ensures some { IfOk result (λ r. (a : Arguments) → r ≡ Some a → map (value_of
-        text.now known.now.names.now values.now here) (map expression_of arguments.now)
-        ≡ map Some (values_in values.now a)) }
+    ensures none { IfOk result (λ r. r ≡ None → (vs : List Value) → AreValuesOf text.now
+        known.now.names.now values.now here (map expression_of arguments.now) vs → ⊥) }
+    ensures some { IfOk result (λ r. (a : Arguments) → r ≡ Some a → AreValuesOf text.now
+        known.now.names.now values.now here (map expression_of arguments.now)
+        (values_in values.now a)) }
 {
     if are_own(known.forms, values, here) {
         return Ok(Some(Arguments::Own));
@@ -136,12 +135,11 @@ fn listed(
 ) -> Result<Option<Arguments>, AllocError>
     requires { known.now.forms.now ≡
         map (form_of known.now.names.now) (map expression_of arguments.now) }
-    ensures none { IfOk result (λ r. r ≡ None → (vs : List Value) → map (value_of
-        text.now known.now.names.now values.now here) (map expression_of arguments.now)
-        ≡ map Some vs → ⊥) }
-    ensures some { IfOk result (λ r. (a : Arguments) → r ≡ Some a → map (value_of
-        text.now known.now.names.now values.now here) (map expression_of arguments.now)
-        ≡ map Some (values_in values.now a)) }
+    ensures none { IfOk result (λ r. r ≡ None → (vs : List Value) → AreValuesOf text.now
+        known.now.names.now values.now here (map expression_of arguments.now) vs → ⊥) }
+    ensures some { IfOk result (λ r. (a : Arguments) → r ≡ Some a → AreValuesOf text.now
+        known.now.names.now values.now here (map expression_of arguments.now)
+        (values_in values.now a)) }
 {
     match listed_values(alloc, known, arguments, values, here, text)? {
         Some(list) => Ok(Some(Arguments::Listed(list))),
@@ -160,12 +158,10 @@ fn listed_values(
 ) -> Result<Option<Values>, AllocError>
     requires { known.now.forms.now ≡
         map (form_of known.now.names.now) (map expression_of arguments.now) }
-    ensures none { IfOk result (λ r. r ≡ None → (vs : List Value) → map (value_of
-        text.now known.now.names.now values.now here) (map expression_of arguments.now)
-        ≡ map Some vs → ⊥) }
-    ensures some { IfOk result (λ r. (vs : List Value) → r ≡ Some vs → map (value_of
-        text.now known.now.names.now values.now here) (map expression_of arguments.now)
-        ≡ map Some vs) }
+    ensures none { IfOk result (λ r. r ≡ None → (vs : List Value) → AreValuesOf text.now
+        known.now.names.now values.now here (map expression_of arguments.now) vs → ⊥) }
+    ensures some { IfOk result (λ r. (vs : List Value) → r ≡ Some vs → AreValuesOf text.now
+        known.now.names.now values.now here (map expression_of arguments.now) vs) }
 {
     let mut list = Values::new(alloc);
     for (place, argument) in arguments.iter().enumerate() {

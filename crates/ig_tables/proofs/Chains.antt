@@ -9,11 +9,9 @@ use Rattle.std.proofs.lemmas.Grind.{get_or-set_at}
 use Rattle.std.proofs.lemmas.Bool.Decides.{eqb_tells}
 use Rattle.std.proofs.Common.{Contains}
 use Rattle.std.proofs.lemmas.Option.{slice_get_within, get_or_from_slice_get, slice_get-get_or}
-use Rattle.std.proofs.lemmas.List.Elements.{Contains-append_right}
-use Rattle.ig_text.proofs.Lists.{at_from_contains, contains_from_at, mapped_in, unmapped_in, contains_one, it_is_in}
+use Rattle.ig_text.proofs.Lists.{at_from_contains, contains_from_at, mapped_in, unmapped_in}
 use Rattle.ig_text.proofs.Orders.{below_or_at}
 use Rattle.ig_item.specs.declared.items.Item.{Item}
-use Rattle.ig_item.specs.WellKinded.{NoneTwice}
 use Rattle.ig_tables.specs.declared.returned.Cell.{Cell}
 use Rattle.ig_tables.specs.Returned.{Entry, entry, nothing, last, bucket_of, hash_of, entries_of, AreChained, Walks}
 

@@ -120,8 +120,8 @@ impl Returned {
         None
     }
 
-    /// Adds an item with its number. Refused for want of memory alone, and then the items are as they
-    /// were.
+    /// Adds an item with its number. Refused for want of memory alone, and then the items are as
+    /// they were.
     pub fn add(&mut self, item: Item, number: u32) -> Result<(), AllocError>
         ensures ok { OnOk result (self.new ≡ self.old ++ entry item number ∷ []) }
         ensures err { OnErr result (self.new ≡ self.old) }

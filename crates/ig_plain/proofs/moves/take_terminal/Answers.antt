@@ -10,19 +10,19 @@ use Rattle.ig_plain.proofs.Recording.{records_no_match, records_excluded, record
 use Rattle.ig_plain.proofs.moves.take_terminal.Goals as goal
 
 pub returns-in_default-clause-adds : goal.returns-in_default-clause-adds
-returns-in_default-clause-adds c = no_match c.args.context.now.text.now c.args.what.now c.args.marks.now.label.now c.args.marks.now.not.now c.args.context.now.budget c.args.from.item.position (means c.args.found.now c.args.from.item) c.args.found.now c.in_default.ensures
+returns-in_default-clause-adds c = no_match c.args.context.now.text.now c.args.what.now c.args.qualifiers.now.label.now c.args.qualifiers.now.not.now c.args.context.now.budget c.args.from.item.position (means c.args.found.now c.args.from.item) c.args.found.now c.in_default.ensures
 
 pub returns-in_default-clause-ways : goal.returns-in_default-clause-ways
-returns-in_default-clause-ways c = records_no_match c.args.context.now.text.now c.args.what.now c.args.marks.now.label.now c.args.marks.now.not.now c.args.from.number (means c.args.found.now c.args.from.item) c.args.found.now c.args.trail.now c.in_default.ensures
+returns-in_default-clause-ways c = records_no_match c.args.context.now.text.now c.args.what.now c.args.qualifiers.now.label.now c.args.qualifiers.now.not.now c.args.from.number (means c.args.found.now c.args.from.item) c.args.found.now c.args.trail.now c.in_default.ensures
 
 pub returns-then-not-matches_none-clause-adds : goal.returns-then-not-matches_none-clause-adds
 returns-then-not-matches_none-clause-adds c =
-    excluded_match c.args.context.now.text.now c.args.what.now c.args.marks.now.label.now c.args.marks.now.not.now c.args.context.now.budget c.args.from.item.position (means c.args.found.now c.args.from.item) c.args.found.now
+    excluded_match c.args.context.now.text.now c.args.what.now c.args.qualifiers.now.label.now c.args.qualifiers.now.not.now c.args.context.now.budget c.args.from.item.position (means c.args.found.now c.args.from.item) c.args.found.now
     c.in-Some.end c.in-Some.ensures (false_at c.matches_none.result _ c.matches_none.ensures c.if-not-matches_none.true)
 
 pub returns-then-not-matches_none-clause-ways : goal.returns-then-not-matches_none-clause-ways
 returns-then-not-matches_none-clause-ways c =
-    records_excluded c.args.context.now.text.now c.args.what.now c.args.marks.now.label.now c.args.marks.now.not.now c.args.from.number (means c.args.found.now c.args.from.item) c.args.found.now c.args.trail.now
+    records_excluded c.args.context.now.text.now c.args.what.now c.args.qualifiers.now.label.now c.args.qualifiers.now.not.now c.args.from.number (means c.args.found.now c.args.from.item) c.args.found.now c.args.trail.now
     c.in-Some.end c.in-Some.ensures (false_at c.matches_none.result _ c.matches_none.ensures c.if-not-matches_none.true)
 
 pub go_on-requires-clause-new : goal.go_on-requires-clause-new
@@ -36,7 +36,7 @@ go_on-requires-clause-new c x e =
 
 pub returns-then-end-start-clause-adds : goal.returns-then-end-start-clause-adds
 returns-then-end-start-clause-adds c =
-    match_here c.args.context.now.text.now c.args.what.now c.args.marks.now.label.now c.args.marks.now.not.now c.args.context.now.budget c.args.from.item.position (means c.args.found.now c.args.from.item) c.args.found.now
+    match_here c.args.context.now.text.now c.args.what.now c.args.qualifiers.now.label.now c.args.qualifiers.now.not.now c.args.context.now.budget c.args.from.item.position (means c.args.found.now c.args.from.item) c.args.found.now
     c.go_on.new.found c.go_on.result c.in-Some.end c.if-end-start.true c.in-Some.ensures
     (adds_where c.in-Some.end _ _ c.args.context.now.budget c.args.found.now c.go_on.new.found c.go_on.result (true_at c.matches_none.result _ c.matches_none.ensures c.if-not-matches_none.false)
     (subst (λ z. Adds c.in-Some.end (λ x. x ≡ past (means c.args.found.now c.args.from.item) z c.in-Some.end) c.args.context.now.budget c.args.found.now c.go_on.new.found c.go_on.result)
@@ -45,14 +45,14 @@ returns-then-end-start-clause-adds c =
 pub returns-then-end-start-clause-ways : goal.returns-then-end-start-clause-ways
 returns-then-end-start-clause-ways c =
     on_ok_weaker c.go_on.result
-    (λ r. records_here c.args.context.now.text.now c.args.what.now c.args.marks.now.label.now c.args.marks.now.not.now c.args.from.number (means c.args.found.now c.args.from.item) c.args.found.now c.args.trail.now
+    (λ r. records_here c.args.context.now.text.now c.args.what.now c.args.qualifiers.now.label.now c.args.qualifiers.now.not.now c.args.from.number (means c.args.found.now c.args.from.item) c.args.found.now c.args.trail.now
     c.go_on.new.found c.go_on.new.trail c.in-Some.end c.in-Some.ensures (true_at c.matches_none.result _ c.matches_none.ensures c.if-not-matches_none.false)
     (subst (λ z. Records (By (Leaf c.args.from.number) (λ x. x ≡ past (means c.args.found.now c.args.from.item) z c.in-Some.end)) c.args.found.now c.go_on.new.found c.args.trail.now c.go_on.new.trail)
     c.span_bound-bound.ensures r)) c.go_on.ensures.ways
 
 pub returns-clause-adds : goal.returns-clause-adds
 returns-clause-adds c =
-    match_later c.args.context.now.text.now c.args.what.now c.args.marks.now.label.now c.args.marks.now.not.now c.args.context.now.budget c.args.from.item.position (means c.args.found.now c.args.from.item) c.args.found.now
+    match_later c.args.context.now.text.now c.args.what.now c.args.qualifiers.now.label.now c.args.qualifiers.now.not.now c.args.context.now.budget c.args.from.item.position (means c.args.found.now c.args.from.item) c.args.found.now
     c.go_later.new.found c.go_later.result c.in-Some.end c.in-Some.ensures (true_at c.matches_none.result _ c.matches_none.ensures c.if-not-matches_none.false)
     (subst (λ z. AddsLater c.args.from.item.position (past (means c.args.found.now c.args.from.item) z c.in-Some.end) c.args.context.now.budget c.args.found.now c.go_later.new.found c.go_later.result)
     c.span_bound-bound.ensures c.go_later.ensures.adds)
@@ -60,7 +60,7 @@ returns-clause-adds c =
 pub returns-clause-ways : goal.returns-clause-ways
 returns-clause-ways c =
     on_ok_weaker c.go_later.result
-    (λ r. records_behind c.args.context.now.text.now c.args.what.now c.args.marks.now.label.now c.args.marks.now.not.now c.args.from.number (means c.args.found.now c.args.from.item) c.args.found.now c.args.trail.now
+    (λ r. records_behind c.args.context.now.text.now c.args.what.now c.args.qualifiers.now.label.now c.args.qualifiers.now.not.now c.args.from.number (means c.args.found.now c.args.from.item) c.args.found.now c.args.trail.now
     c.go_later.new.found c.go_later.new.trail c.in-Some.end c.in-Some.ensures (true_at c.matches_none.result _ c.matches_none.ensures c.if-not-matches_none.false)
     (subst (λ z. RecordsLater c.args.from.number (past (means c.args.found.now c.args.from.item) z c.in-Some.end) c.args.found.now c.go_later.new.found c.args.trail.now c.go_later.new.trail)
     c.span_bound-bound.ensures r)) c.go_later.ensures.ways

@@ -26,7 +26,7 @@ returns-in_default-clause-takes c =
     no_call c.args.context.now.core.now c.args.context.now.text.now c.reachable_is_closed.ensures c.items_are_in_text.ensures c.args.context.now.budget c.args.taken.item.position k
     c.args.run.now.found c.args.run.now.waiting c.args.taken.item refl
     (run_at c.args.context.now.core.now c.args.context.now.text.now c.args.context.now.budget c.args.taken.item c.args.run.now.found c.args.run.now.waiting c.requires.taking k e) e
-    c.args.known.now.names.now c.args.nonterminal _ c.args.marks.now.label.now c.args.marks.now.not.now c.requires.before
+    c.args.known.now.names.now c.args.nonterminal _ c.args.qualifiers.now.label.now c.args.qualifiers.now.not.now c.requires.before
     c.values_at-values.result.now c.values_at-values.ensures (c.in_ok-arguments.ensures.none c.in_default.is)
 
 pub returns-in_default-clause-trail : goal.returns-in_default-clause-trail
@@ -38,14 +38,14 @@ returns-in_default-clause-trail c =
     no_call_on c.args.context.now.core.now c.args.context.now.text.now c.reachable_is_closed.ensures c.items_are_in_text.ensures c.args.context.now.budget k c.args.run.now.found
     c.args.run.now.waiting c.args.taken.item
     (run_at c.args.context.now.core.now c.args.context.now.text.now c.args.context.now.budget c.args.taken.item c.args.run.now.found c.args.run.now.waiting c.requires.taking k e) e
-    c.args.known.now.names.now c.args.nonterminal _ c.args.marks.now.label.now c.args.marks.now.not.now c.requires.before c.args.run.now.trail c.args.taken.number h.1 h.0
+    c.args.known.now.names.now c.args.nonterminal _ c.args.qualifiers.now.label.now c.args.qualifiers.now.not.now c.requires.before c.args.run.now.trail c.args.taken.number h.1 h.0
     c.values_at-values.result.now c.values_at-values.ensures (c.in_ok-arguments.ensures.none c.in_default.is)
 
 pub call_instance-requires-clause-all_named : goal.call_instance-requires-clause-all_named
 call_instance-requires-clause-all_named c =
     named_1 c.args.context.now.core.now c.args.context.now.text.now c.reachable_is_closed.ensures c.items_are_in_text.ensures c.args.context.now.budget c.args.taken.item.position
     c.requires.taking.number c.args.run.now.found c.args.run.now.waiting c.args.taken.item refl
-    c.requires.taking.run c.requires.taking.at c.args.known.now.names.now c.args.nonterminal _ c.args.marks.now.label.now c.args.marks.now.not.now c.requires.before
+    c.requires.taking.run c.requires.taking.at c.args.known.now.names.now c.args.nonterminal _ c.args.qualifiers.now.label.now c.args.qualifiers.now.not.now c.requires.before
     _ c.in_ok-env.env c.values_at-values.result.now (values_in c.values_at-values.result.now c.in-Some.arguments) c.values_at-values.ensures
     c.in_ok-env.ensures.extends (c.in_ok-env.ensures.once c.requires.taking.run.taking.stored.tables.environments)
     (there_with c.enter_arguments.new.envs.keys c.in_ok-env.env _ c.values_at-values.result.now c.in-Some.arguments c.values_at-values.ensures
@@ -63,7 +63,7 @@ returns-in_err-callee-clause-takes c =
     (stops c.args.context.now.core.now c.args.context.now.text.now c.reachable_is_closed.ensures c.items_are_in_text.ensures c.args.context.now.budget c.args.taken.item.position k
     c.args.run.now.found c.args.run.now.waiting c.args.taken.item refl
     (run_at c.args.context.now.core.now c.args.context.now.text.now c.args.context.now.budget c.args.taken.item c.args.run.now.found c.args.run.now.waiting c.requires.taking k e) e
-    c.args.known.now.names.now c.args.nonterminal _ c.args.marks.now.label.now c.args.marks.now.not.now c.requires.before
+    c.args.known.now.names.now c.args.nonterminal _ c.args.qualifiers.now.label.now c.args.qualifiers.now.not.now c.requires.before
     _ c.in_ok-env.env c.values_at-values.result.now (values_in c.values_at-values.result.now c.in-Some.arguments) c.values_at-values.ensures
     c.in_ok-env.ensures.extends (c.in_ok-env.ensures.once c.requires.taking.run.taking.stored.tables.environments)
     (there_with c.enter_arguments.new.envs.keys c.in_ok-env.env _ c.values_at-values.result.now c.in-Some.arguments c.values_at-values.ensures
@@ -76,7 +76,7 @@ add_caller-requires c =
     record {
       there = callee_there c.args.context.now.core.now c.args.context.now.text.now c.reachable_is_closed.ensures c.items_are_in_text.ensures c.args.context.now.budget
           c.args.taken.item.position c.requires.taking.number c.args.run.now.found c.args.run.now.waiting c.args.taken.item refl
-          c.requires.taking.run c.requires.taking.at c.args.known.now.names.now c.args.nonterminal _ c.args.marks.now.label.now c.args.marks.now.not.now c.requires.before
+          c.requires.taking.run c.requires.taking.at c.args.known.now.names.now c.args.nonterminal _ c.args.qualifiers.now.label.now c.args.qualifiers.now.not.now c.requires.before
           _ c.in_ok-env.env c.values_at-values.result.now (values_in c.values_at-values.result.now c.in-Some.arguments) c.values_at-values.ensures
           c.in_ok-env.ensures.extends (c.in_ok-env.ensures.once c.requires.taking.run.taking.stored.tables.environments)
           (there_with c.enter_arguments.new.envs.keys c.in_ok-env.env _ c.values_at-values.result.now c.in-Some.arguments c.values_at-values.ensures
@@ -85,7 +85,7 @@ add_caller-requires c =
           c.call_instance.new.run.found c.call_instance.new.run.waiting c.in_ok-callee.callee refl c.in_ok-callee.ensures.enters;
       last = last_2 c.args.context.now.core.now c.args.context.now.text.now c.reachable_is_closed.ensures c.items_are_in_text.ensures c.args.context.now.budget c.args.taken.item.position
           c.requires.taking.number c.args.run.now.found c.args.run.now.waiting c.args.taken.item refl
-          c.requires.taking.run c.requires.taking.at c.args.known.now.names.now c.args.nonterminal _ c.args.marks.now.label.now c.args.marks.now.not.now c.requires.before
+          c.requires.taking.run c.requires.taking.at c.args.known.now.names.now c.args.nonterminal _ c.args.qualifiers.now.label.now c.args.qualifiers.now.not.now c.requires.before
           _ c.in_ok-env.env c.values_at-values.result.now (values_in c.values_at-values.result.now c.in-Some.arguments) c.values_at-values.ensures
           c.in_ok-env.ensures.extends (c.in_ok-env.ensures.once c.requires.taking.run.taking.stored.tables.environments)
           (there_with c.enter_arguments.new.envs.keys c.in_ok-env.env _ c.values_at-values.result.now c.in-Some.arguments c.values_at-values.ensures
@@ -99,7 +99,7 @@ end_at-requires c =
     record {
       there = still_there c.args.context.now.core.now c.args.context.now.text.now c.reachable_is_closed.ensures c.items_are_in_text.ensures c.args.context.now.budget
           c.args.taken.item.position c.requires.taking.number c.args.run.now.found c.args.run.now.waiting c.args.taken.item refl
-          c.requires.taking.run c.requires.taking.at c.args.known.now.names.now c.args.nonterminal _ c.args.marks.now.label.now c.args.marks.now.not.now c.requires.before
+          c.requires.taking.run c.requires.taking.at c.args.known.now.names.now c.args.nonterminal _ c.args.qualifiers.now.label.now c.args.qualifiers.now.not.now c.requires.before
           _ c.in_ok-env.env c.values_at-values.result.now (values_in c.values_at-values.result.now c.in-Some.arguments) c.values_at-values.ensures
           c.in_ok-env.ensures.extends (c.in_ok-env.ensures.once c.requires.taking.run.taking.stored.tables.environments)
           (there_with c.enter_arguments.new.envs.keys c.in_ok-env.env _ c.values_at-values.result.now c.in-Some.arguments c.values_at-values.ensures
@@ -115,7 +115,7 @@ returns-in_default-end_at-clause-takes c =
     only_waits c.args.context.now.core.now c.args.context.now.text.now c.reachable_is_closed.ensures c.items_are_in_text.ensures c.args.context.now.budget c.args.taken.item.position k
     c.args.run.now.found c.args.run.now.waiting c.args.taken.item refl
     (run_at c.args.context.now.core.now c.args.context.now.text.now c.args.context.now.budget c.args.taken.item c.args.run.now.found c.args.run.now.waiting c.requires.taking k e) e
-    c.args.known.now.names.now c.args.nonterminal _ c.args.marks.now.label.now c.args.marks.now.not.now c.requires.before
+    c.args.known.now.names.now c.args.nonterminal _ c.args.qualifiers.now.label.now c.args.qualifiers.now.not.now c.requires.before
     _ c.in_ok-env.env c.values_at-values.result.now (values_in c.values_at-values.result.now c.in-Some.arguments) c.values_at-values.ensures
     c.in_ok-env.ensures.extends (c.in_ok-env.ensures.once c.requires.taking.run.taking.stored.tables.environments)
     (there_with c.enter_arguments.new.envs.keys c.in_ok-env.env _ c.values_at-values.result.now c.in-Some.arguments c.values_at-values.ensures
@@ -133,7 +133,7 @@ returns-in_default-end_at-clause-trail c =
     only_waits_on c.args.context.now.core.now c.args.context.now.text.now c.reachable_is_closed.ensures c.items_are_in_text.ensures c.args.context.now.budget k c.args.run.now.found
     c.args.run.now.waiting c.args.taken.item
     (run_at c.args.context.now.core.now c.args.context.now.text.now c.args.context.now.budget c.args.taken.item c.args.run.now.found c.args.run.now.waiting c.requires.taking k e) e
-    c.args.known.now.names.now c.args.nonterminal _ c.args.marks.now.label.now c.args.marks.now.not.now c.requires.before c.args.run.now.trail c.args.taken.number h.1 h.0
+    c.args.known.now.names.now c.args.nonterminal _ c.args.qualifiers.now.label.now c.args.qualifiers.now.not.now c.requires.before c.args.run.now.trail c.args.taken.number h.1 h.0
     _ c.in_ok-env.env c.values_at-values.result.now (values_in c.values_at-values.result.now c.in-Some.arguments) c.values_at-values.ensures
     c.in_ok-env.ensures.extends (c.in_ok-env.ensures.once c.requires.taking.run.taking.stored.tables.environments)
     (there_with c.enter_arguments.new.envs.keys c.in_ok-env.env _ c.values_at-values.result.now c.in-Some.arguments c.values_at-values.ensures
@@ -147,7 +147,7 @@ pub go_behind-requires-clause-named : goal.go_behind-requires-clause-named
 go_behind-requires-clause-named c =
     named_2 c.args.context.now.core.now c.args.context.now.text.now c.reachable_is_closed.ensures c.items_are_in_text.ensures c.args.context.now.budget c.args.taken.item.position
     c.requires.taking.number c.args.run.now.found c.args.run.now.waiting c.args.taken.item refl
-    c.requires.taking.run c.requires.taking.at c.args.known.now.names.now c.args.nonterminal _ c.args.marks.now.label.now c.args.marks.now.not.now c.requires.before
+    c.requires.taking.run c.requires.taking.at c.args.known.now.names.now c.args.nonterminal _ c.args.qualifiers.now.label.now c.args.qualifiers.now.not.now c.requires.before
     _ c.in_ok-env.env c.values_at-values.result.now (values_in c.values_at-values.result.now c.in-Some.arguments) c.values_at-values.ensures
     c.in_ok-env.ensures.extends (c.in_ok-env.ensures.once c.requires.taking.run.taking.stored.tables.environments)
     (there_with c.enter_arguments.new.envs.keys c.in_ok-env.env _ c.values_at-values.result.now c.in-Some.arguments c.values_at-values.ensures
@@ -159,7 +159,7 @@ pub go_behind-requires-clause-all_named : goal.go_behind-requires-clause-all_nam
 go_behind-requires-clause-all_named c =
     (run_2 c.args.context.now.core.now c.args.context.now.text.now c.reachable_is_closed.ensures c.items_are_in_text.ensures c.args.context.now.budget c.args.taken.item.position
     c.requires.taking.number c.args.run.now.found c.args.run.now.waiting c.args.taken.item refl
-    c.requires.taking.run c.requires.taking.at c.args.known.now.names.now c.args.nonterminal _ c.args.marks.now.label.now c.args.marks.now.not.now c.requires.before
+    c.requires.taking.run c.requires.taking.at c.args.known.now.names.now c.args.nonterminal _ c.args.qualifiers.now.label.now c.args.qualifiers.now.not.now c.requires.before
     _ c.in_ok-env.env c.values_at-values.result.now (values_in c.values_at-values.result.now c.in-Some.arguments) c.values_at-values.ensures
     c.in_ok-env.ensures.extends (c.in_ok-env.ensures.once c.requires.taking.run.taking.stored.tables.environments)
     (there_with c.enter_arguments.new.envs.keys c.in_ok-env.env _ c.values_at-values.result.now c.in-Some.arguments c.values_at-values.ensures
@@ -175,7 +175,7 @@ go_behind-requires-clause-indexed c =
     (trail_2
     c.args.context.now.core.now c.args.context.now.text.now c.reachable_is_closed.ensures c.items_are_in_text.ensures c.args.context.now.budget c.requires.taking.number c.args.run.now.found
     c.args.run.now.waiting c.args.taken.item c.requires.taking.run c.requires.taking.at
-    c.args.known.now.names.now c.args.nonterminal _ c.args.marks.now.label.now c.args.marks.now.not.now c.requires.before c.args.run.now.trail c.args.taken.number h.1 h.0
+    c.args.known.now.names.now c.args.nonterminal _ c.args.qualifiers.now.label.now c.args.qualifiers.now.not.now c.requires.before c.args.run.now.trail c.args.taken.number h.1 h.0
     _ c.in_ok-env.env c.values_at-values.result.now (values_in c.values_at-values.result.now c.in-Some.arguments) c.values_at-values.ensures
     c.in_ok-env.ensures.extends (c.in_ok-env.ensures.once c.requires.taking.run.taking.stored.tables.environments)
     (there_with c.enter_arguments.new.envs.keys c.in_ok-env.env _ c.values_at-values.result.now c.in-Some.arguments c.values_at-values.ensures
@@ -192,7 +192,7 @@ go_behind-requires-clause-by_nodes c =
     by_nodes_2
     c.args.context.now.core.now c.args.context.now.text.now c.reachable_is_closed.ensures c.items_are_in_text.ensures c.args.context.now.budget c.requires.taking.number c.args.run.now.found
     c.args.run.now.waiting c.args.taken.item c.requires.taking.run c.requires.taking.at
-    c.args.known.now.names.now c.args.nonterminal _ c.args.marks.now.label.now c.args.marks.now.not.now c.requires.before c.args.run.now.trail c.args.taken.number h.1 h.0
+    c.args.known.now.names.now c.args.nonterminal _ c.args.qualifiers.now.label.now c.args.qualifiers.now.not.now c.requires.before c.args.run.now.trail c.args.taken.number h.1 h.0
     _ c.in_ok-env.env c.values_at-values.result.now (values_in c.values_at-values.result.now c.in-Some.arguments) c.values_at-values.ensures
     c.in_ok-env.ensures.extends (c.in_ok-env.ensures.once c.requires.taking.run.taking.stored.tables.environments)
     (there_with c.enter_arguments.new.envs.keys c.in_ok-env.env _ c.values_at-values.result.now c.in-Some.arguments c.values_at-values.ensures
@@ -207,7 +207,7 @@ returns-clause-takes c =
     goes_past c.args.context.now.core.now c.args.context.now.text.now c.reachable_is_closed.ensures c.items_are_in_text.ensures c.args.context.now.budget c.args.taken.item.position k
     c.args.run.now.found c.args.run.now.waiting c.args.taken.item refl
     (run_at c.args.context.now.core.now c.args.context.now.text.now c.args.context.now.budget c.args.taken.item c.args.run.now.found c.args.run.now.waiting c.requires.taking k e) e
-    c.args.known.now.names.now c.args.nonterminal _ c.args.marks.now.label.now c.args.marks.now.not.now c.requires.before
+    c.args.known.now.names.now c.args.nonterminal _ c.args.qualifiers.now.label.now c.args.qualifiers.now.not.now c.requires.before
     _ c.in_ok-env.env c.values_at-values.result.now (values_in c.values_at-values.result.now c.in-Some.arguments) c.values_at-values.ensures
     c.in_ok-env.ensures.extends (c.in_ok-env.ensures.once c.requires.taking.run.taking.stored.tables.environments)
     (there_with c.enter_arguments.new.envs.keys c.in_ok-env.env _ c.values_at-values.result.now c.in-Some.arguments c.values_at-values.ensures
@@ -226,7 +226,7 @@ returns-clause-trail c =
     goes_past_on c.args.context.now.core.now c.args.context.now.text.now c.reachable_is_closed.ensures c.items_are_in_text.ensures c.args.context.now.budget k c.args.run.now.found
     c.args.run.now.waiting c.args.taken.item
     (run_at c.args.context.now.core.now c.args.context.now.text.now c.args.context.now.budget c.args.taken.item c.args.run.now.found c.args.run.now.waiting c.requires.taking k e) e
-    c.args.known.now.names.now c.args.nonterminal _ c.args.marks.now.label.now c.args.marks.now.not.now c.requires.before c.args.run.now.trail c.args.taken.number h.1 h.0
+    c.args.known.now.names.now c.args.nonterminal _ c.args.qualifiers.now.label.now c.args.qualifiers.now.not.now c.requires.before c.args.run.now.trail c.args.taken.number h.1 h.0
     _ c.in_ok-env.env c.values_at-values.result.now (values_in c.values_at-values.result.now c.in-Some.arguments) c.values_at-values.ensures
     c.in_ok-env.ensures.extends (c.in_ok-env.ensures.once c.requires.taking.run.taking.stored.tables.environments)
     (there_with c.enter_arguments.new.envs.keys c.in_ok-env.env _ c.values_at-values.result.now c.in-Some.arguments c.values_at-values.ensures

@@ -12,7 +12,7 @@ use Rattle.ig_plain.specs.Trail.{By, Records, RecordsTerminal, Unfound, IsBehind
 use Rattle.ig_plain.proofs.Completes.{run_at}
 use Rattle.ig_plain.proofs.Fresh.{new_test, new_bind, new_terminal}
 use Rattle.ig_plain.proofs.Onward.{trail_at, not_taken}
-use Rattle.ig_plain.proofs.Alone.{takes_test, takes_bind, takes_terminal, names_are, forms_are}
+use Rattle.ig_plain.proofs.Alone.{takes_test, takes_bind, takes_terminal, names_are, forms_are, is_known}
 use Rattle.ig_plain.proofs.TakenOn.{test_on, bind_on, terminal_on}
 use Rattle.ig_plain.proofs.run.take_step.Goals as goal
 
@@ -185,3 +185,18 @@ take_call-requires-clause-compiled c =
     c.requires.stands (ap step_of c.in-Call.is) c.requires.nonterminal
     (λ m d t. c.in-Some-known_at-2.ensures.forms c.args.context.now.core.now m d t c.requires.dots) ∙
     ap (map (form_of c.in-Some-known_at-2.known.names.now)) (sym c.as_slice-args.ensures)
+
+pub unreachable-requires : goal.unreachable-requires
+unreachable-requires c =
+    is_known c.args.context.now.core.now (means c.args.run.now.found c.args.taken.item) _ c.args.nonterminal c.requires.stands c.requires.nonterminal
+    (λ m d s. c.in_default.ensures.none c.args.context.now.core.now m d s c.requires.dots)
+
+pub unreachable-requires-in_default-known_at : goal.unreachable-requires-in_default-known_at
+unreachable-requires-in_default-known_at c =
+    is_known c.args.context.now.core.now (means c.args.run.now.found c.args.taken.item) _ c.args.nonterminal c.requires.stands c.requires.nonterminal
+    (λ m d s. c.in_default-known_at.ensures.none c.args.context.now.core.now m d s c.requires.dots)
+
+pub unreachable-requires-in_default-known_at-2 : goal.unreachable-requires-in_default-known_at-2
+unreachable-requires-in_default-known_at-2 c =
+    is_known c.args.context.now.core.now (means c.args.run.now.found c.args.taken.item) _ c.args.nonterminal c.requires.stands c.requires.nonterminal
+    (λ m d s. c.in_default-known_at-2.ensures.none c.args.context.now.core.now m d s c.requires.dots)

@@ -1,8 +1,7 @@
 use Rattle.std.proofs.Common.{◌≡◌, List, Some, map, subst}
-use Rattle.ig_expr.specs.Evaluation.{value_of}
 use Rattle.ig_expr.specs.View.{expression_of}
 use Rattle.ig_expr.specs.declared.value.Value.{Value}
-use Rattle.ig_steps.specs.Compiled.{values_in}
+use Rattle.ig_steps.specs.Compiled.{AreValuesOf, values_in}
 use Rattle.ig_steps.specs.declared.steps.Arguments.{Arguments}
 use Rattle.ig_steps.specs.declared.steps.Arguments.TheVariants.{Listed}
 use Rattle.ig_steps.proofs.steps.listed.Goals as goal
@@ -17,7 +16,7 @@ pub returns-in-Some : goal.returns-in-Some
 returns-in-Some c =
     record {
       none = λ e. absurd (cc);
-      some = λ a is. listed_at (λ vs. map (value_of c.args.text.now c.args.known.now.names.now c.args.values.now c.args.here) (map expression_of c.args.arguments.now) ≡ map Some vs)
+      some = λ a is. listed_at (AreValuesOf c.args.text.now c.args.known.now.names.now c.args.values.now c.args.here (map expression_of c.args.arguments.now))
           c.args.values.now c.in-Some.list a is (c.in_ok-list.ensures.some c.in-Some.list c.in-Some.is);
     }
 
