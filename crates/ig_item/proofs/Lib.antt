@@ -15,3 +15,4 @@ pub mod Examples
 pub mod FourItems
 pub mod FourWays
 pub mod PartLists
+pub mod Lent
