@@ -1,5 +1,5 @@
 -- Declarations that are added one after another.
-use Rattle.std.proofs.Common.{◌≡◌, ◌∙◌, ℕ, suc, ◌+◌, List, [], ◌∷◌, ◌++◌, Result, Ok, Err, map, sym, ap, append_assoc}
+use Rattle.std.proofs.Common.{◌≡◌, ◌∙◌, ℕ, suc, ◌+◌, List, [], ◌∷◌, ◌++◌, Result, Ok, Err, map, refl, sym, ap, append_assoc}
 use Rattle.std.specs.Prelude.{OnOk}
 use Rattle.std.proofs.lemmas.List.{map-append}
 use Rattle.ig_grammar.specs.Symbol as tree
@@ -20,7 +20,6 @@ use Rattle.ig_ebnf_laws.specs.Laws.{IsGathered}
 use Rattle.ig_ebnf_laws.specs.Lists.{Made, made, alts_of, params_of, decls_of, forms_of, params_for, count, added, added_alts, new_alts}
 use Rattle.ig_ebnf.specs.Growing.{Grows, option_made, star_made, plus_made, sep_star_made, sep_plus_made}
 use Rattle.ig_ebnf.specs.declared.growing.Lowered.{Lowered}
-use Rattle.ig_ebnf.proofs.CodeOfForms.{params_forth}
 
 -- those that are still to be added
 pub record Leads (before : Lowered) (ms : List Made) (after : Lowered) (rest : List Made) : Type 0 where
@@ -87,6 +86,11 @@ module _ (of : List ℕ) (v : Visible) (k : ℕ) (x : Stored) (n : ℕ) where
       (λ i. made (added_name of k) (params_for v (λ m. needs m (symbol_of (sym e i)))) shape.Group
       (sym (gathers.lowered of v (suc k)) i) ∷
       (gathers.added of v (suc k) ∙ ap (λ j. added_alts of v j choices) (sym f)) i)
+
+-- parameters as the program has them
+params_forth : (ps : List Param) → params_of (parameters ps) ≡ ps
+params_forth [] = refl
+params_forth (p ∷ ps) = ap (λ z. p ∷ z) (params_forth ps)
 
 -- a declaration and its shape, pushed
 pub on_ok_pushed : {E : Type 0} (r : Result (Unit {0}) E) (before after : Lowered) (name word : List ℕ)

@@ -11,13 +11,12 @@ ghost use Rattle.ig_ebnf_laws.specs.Lists.{lowered_grammar, lowered};
 ghost use Rattle.ig_ebnf.specs.Growing.{Grows};
 
 use crate::growing::{Lowered, add_alternatives};
-use crate::numbering::{count_alternatives, sum};
 use crate::placing::new_alternatives;
-use crate::variables::Variables;
 use ig_ebnf_laws::lowering_keeps;
-use ig_grammar::{Checked, Decl, Decls, Grammar, Level, Levels};
+use ig_grammar::{Checked, Decl, Decls, Grammar, Level, Levels, Variables};
 use ig_rewrite::{copy_of_shapes, copy_of_start, has_root, push_declaration, push_level, root};
 use ig_text::Copied;
+use ig_variables::{count_alternatives, sum};
 use std::alloc::{AllocError, Global};
 
 /// The levels of the declaration, with what stands for their symbols.

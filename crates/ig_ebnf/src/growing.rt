@@ -12,17 +12,15 @@ ghost use Rattle.ig_ebnf.specs.Growing.{sep_star_made, sep_plus_made};
 ghost use Rattle.ig_grammar.specs.Symbol.{Call};
 ghost use Rattle.ig_grammar.specs.declared.place.Shape.TheVariants as shape;
 
-use crate::entries::{added_name, call};
-use crate::numbering::{count, count_symbols, successor, sum};
 use crate::placing::{new_alternatives, new_part, push_copies, push_new};
-use crate::variables::{Variables, bind};
 use ig_ebnf_laws::groups_are_gathered;
 use ig_grammar::{
     Alt, Alts, Assoc, Decl, DeclKind, Decls, Inner, Lets, Level, Levels, Params, Shape, Shapes,
-    Symbol, Symbols,
+    Symbol, Symbols, Variables,
 };
 use ig_rewrite::{push_alternative, push_declaration, push_level, push_shape, push_symbol};
-use ig_text::Word;
+use ig_text::{Copied, Word};
+use ig_variables::{added_name, bind, call, count, count_symbols, params_for, successor, sum};
 use std::alloc::{AllocError, Global};
 
 /// The declarations of the lowered grammar so far, with a shape for each.
@@ -30,6 +28,22 @@ use std::alloc::{AllocError, Global};
 pub(crate) struct Lowered {
     pub(crate) decls: Decls,
     pub(crate) shapes: Shapes,
+}
+
+/// Which declaration is added: the k-th one for the declaration of this name, of the shape.
+#[derive(Clone, Copy)]
+struct Head<'a> {
+    of: &'a Word,
+    k: u64,
+    shape: Shape,
+}
+
+/// A separated list, with its item and its separator.
+#[derive(Clone, Copy)]
+struct Separated<'a> {
+    whole: &'a Symbol,
+    item: &'a Inner,
+    separator: &'a Inner,
 }
 
 /// Adds the declarations for a symbol, the first of which is the k-th one.
@@ -64,21 +78,22 @@ fn add(
             push_plus(alloc, of, variables, k, symbol, inner, all)?;
             add(alloc, of, variables, successor(k)?, inner.as_symbol(), all)
         }
-        Symbol::SepStar(inner, separator) => {
+        Symbol::SepStar(item, separator) => {
             push_sep_star(alloc, of, variables, k, symbol, all)?;
-            add_separated(
-                alloc,
-                of,
-                variables,
-                successor(k)?,
-                symbol,
-                inner,
+            let list = Separated {
+                whole: symbol,
+                item,
                 separator,
-                all,
-            )
+            };
+            add_separated(alloc, of, variables, successor(k)?, &list, all)
         }
-        Symbol::SepPlus(inner, separator) => {
-            add_separated(alloc, of, variables, k, symbol, inner, separator, all)
+        Symbol::SepPlus(item, separator) => {
+            let list = Separated {
+                whole: symbol,
+                item,
+                separator,
+            };
+            add_separated(alloc, of, variables, k, &list, all)
         }
         Symbol::Group(choices) => {
             groups_are_gathered();
@@ -105,21 +120,20 @@ fn add_separated(
     of: &Word,
     variables: &Variables,
     k: u64,
-    symbol: &Symbol,
-    item: &Inner,
-    separator: &Inner,
+    list: &Separated,
     all: &mut Lowered,
 ) -> Result<(), AllocError>
     ensures { OnOk result (Grows all.old all.new
-        (sep_plus_made of.now variables.now k (symbol_of symbol.now) item.now separator.now
-        ∷ (added of.now variables.now (suc k) item.now
-        ++ added of.now variables.now (suc k + count item.now) separator.now))) }
+        (sep_plus_made of.now variables.now k (symbol_of list.now.whole.now) list.now.item.now
+        list.now.separator.now ∷ (added of.now variables.now (suc k) list.now.item.now
+        ++ added of.now variables.now (suc k + count list.now.item.now) list.now.separator.now))) }
 {
-    push_sep_plus(alloc, of, variables, k, symbol, item, separator, all)?;
+    push_sep_plus(alloc, of, variables, k, list, all)?;
     let inside = successor(k)?;
-    add(alloc, of, variables, inside, item.as_symbol(), all)?;
-    let behind = sum(inside, count(item.as_symbol())?)?;
-    add(alloc, of, variables, behind, separator.as_symbol(), all)
+    add(alloc, of, variables, inside, list.item.as_symbol(), all)?;
+    let behind = sum(inside, count(list.item.as_symbol())?)?;
+    let separator = list.separator.as_symbol();
+    add(alloc, of, variables, behind, separator, all)
 }
 
 /// Adds the declarations for symbols, each of which sees what those before it bind.
@@ -180,10 +194,11 @@ fn push_option(
         (option_made of.now variables.now k (symbol_of symbol.now) item.now ∷ [])) }
 {
     let inside = successor(k)?;
-    let params = variables.params_for(alloc, symbol)?;
+    let params = params_for(alloc, variables, symbol)?;
     let one = new_part(alloc, of, variables, inside, item.as_symbol())?;
     let none = Symbols::new(alloc);
-    push_two(alloc, of, k, params, Shape::Opt, none, one, all)
+    let shape = Shape::Opt;
+    push_two(alloc, &Head { of, k, shape }, params, none, one, all)
 }
 
 /// Adds the declaration for `X*`: nothing, or the list and one more item.
@@ -200,11 +215,12 @@ fn push_star(
         (star_made of.now variables.now k (symbol_of symbol.now) item.now ∷ [])) }
 {
     let inside = successor(k)?;
-    let params = variables.params_for(alloc, symbol)?;
+    let params = params_for(alloc, variables, symbol)?;
     let mut more = call_alone(alloc, of, k, &params)?;
     push_new(alloc, of, variables, inside, item.as_symbol(), &mut more)?;
     let none = Symbols::new(alloc);
-    push_two(alloc, of, k, params, Shape::Star, none, more, all)
+    let shape = Shape::Star;
+    push_two(alloc, &Head { of, k, shape }, params, none, more, all)
 }
 
 /// Adds the declaration for `X+`: one item, or the list and one more.
@@ -221,11 +237,12 @@ fn push_plus(
         (plus_made of.now variables.now k (symbol_of symbol.now) item.now ∷ [])) }
 {
     let inside = successor(k)?;
-    let params = variables.params_for(alloc, symbol)?;
+    let params = params_for(alloc, variables, symbol)?;
     let one = new_part(alloc, of, variables, inside, item.as_symbol())?;
     let mut more = call_alone(alloc, of, k, &params)?;
     push_copies(alloc, &mut more, &one)?;
-    push_two(alloc, of, k, params, Shape::Plus, one, more, all)
+    let shape = Shape::Plus;
+    push_two(alloc, &Head { of, k, shape }, params, one, more, all)
 }
 
 /// Adds the declaration for `{X S}*`: nothing, or the list that isn't empty, whose declaration is
@@ -242,10 +259,11 @@ fn push_sep_star(
         (sep_star_made of.now variables.now k (symbol_of symbol.now) ∷ [])) }
 {
     let next = successor(k)?;
-    let params = variables.params_for(alloc, symbol)?;
+    let params = params_for(alloc, variables, symbol)?;
     let more = call_alone(alloc, of, next, &params)?;
     let none = Symbols::new(alloc);
-    push_two(alloc, of, k, params, Shape::SepStar, none, more, all)
+    let shape = Shape::SepStar;
+    push_two(alloc, &Head { of, k, shape }, params, none, more, all)
 }
 
 /// Adds the declaration for `{X S}+`: one item, or the list, a separator and one more item.
@@ -254,29 +272,23 @@ fn push_sep_plus(
     of: &Word,
     variables: &Variables,
     k: u64,
-    symbol: &Symbol,
-    item: &Inner,
-    separator: &Inner,
+    list: &Separated,
     all: &mut Lowered,
 ) -> Result<(), AllocError>
     ensures { OnOk result (Grows all.old all.new
-        (sep_plus_made of.now variables.now k (symbol_of symbol.now) item.now separator.now ∷ [])) }
+        (sep_plus_made of.now variables.now k (symbol_of list.now.whole.now) list.now.item.now
+        list.now.separator.now ∷ [])) }
 {
     let inside = successor(k)?;
-    let behind = sum(inside, count(item.as_symbol())?)?;
-    let params = variables.params_for(alloc, symbol)?;
-    let one = new_part(alloc, of, variables, inside, item.as_symbol())?;
+    let behind = sum(inside, count(list.item.as_symbol())?)?;
+    let params = params_for(alloc, variables, list.whole)?;
+    let one = new_part(alloc, of, variables, inside, list.item.as_symbol())?;
     let mut longer = call_alone(alloc, of, k, &params)?;
-    push_new(
-        alloc,
-        of,
-        variables,
-        behind,
-        separator.as_symbol(),
-        &mut longer,
-    )?;
+    let separator = list.separator.as_symbol();
+    push_new(alloc, of, variables, behind, separator, &mut longer)?;
     push_copies(alloc, &mut longer, &one)?;
-    push_two(alloc, of, k, params, Shape::SepPlus, one, longer, all)
+    let shape = Shape::SepPlus;
+    push_two(alloc, &Head { of, k, shape }, params, one, longer, all)
 }
 
 /// Adds the declaration for a group, with its alternatives.
@@ -294,9 +306,10 @@ fn push_group(
         (params_for variables.now (λ n. needs n (symbol_of symbol.now))) shape.Group
         (map (λ a. a.symbols) (new_alts of.now variables.now (suc k) choices.now)) ∷ [])) }
 {
-    let params = variables.params_for(alloc, symbol)?;
+    let params = params_for(alloc, variables, symbol)?;
     let alts = new_alternatives(alloc, of, variables, successor(k)?, choices)?;
-    push_made(alloc, of, k, params, Shape::Group, alts, all)
+    let shape = Shape::Group;
+    push_made(alloc, &Head { of, k, shape }, params, alts, all)
 }
 
 /// The call of the k-th declaration, with its own parameters, as a list of one symbol.
@@ -321,39 +334,37 @@ fn alternatives(alloc: Global, first: Symbols, second: Symbols) -> Result<Alts, 
     Ok(alts)
 }
 
-/// Adds the k-th declaration, of the shape, with two alternatives.
+/// Adds the declaration, with two alternatives.
 fn push_two(
     alloc: Global,
-    of: &Word,
-    k: u64,
+    head: &Head,
     params: Params,
-    shape: Shape,
     first: Symbols,
     second: Symbols,
     all: &mut Lowered,
 ) -> Result<(), AllocError>
     ensures { OnOk result (Grows all.old all.new
-        (made (added_name of.now k) (parameters params) shape (first ∷ second ∷ []) ∷ [])) }
+        (made (added_name head.now.of.now head.now.k) (parameters params) head.now.shape
+        (first ∷ second ∷ []) ∷ [])) }
 {
     let alts = alternatives(alloc, first, second)?;
-    push_made(alloc, of, k, params, shape, alts, all)
+    push_made(alloc, head, params, alts, all)
 }
 
-/// Adds the k-th declaration, of the shape: a plain one of one level.
+/// Adds the declaration: a plain one of one level.
 fn push_made(
     alloc: Global,
-    of: &Word,
-    k: u64,
+    head: &Head,
     params: Params,
-    shape: Shape,
     alts: Alts,
     all: &mut Lowered,
 ) -> Result<(), AllocError>
     ensures { OnOk result (Grows all.old all.new
-        (made (added_name of.now k) (parameters params) shape (map (λ a. a.symbols) alts) ∷ [])) }
+        (made (added_name head.now.of.now head.now.k) (parameters params) head.now.shape
+        (map (λ a. a.symbols) alts) ∷ [])) }
 {
     groups_are_gathered();
-    let name = added_name(alloc, of, k)?;
+    let name = added_name(alloc, head.of, head.k)?;
     let decl = Decl {
         kind: DeclKind::Plain,
         name,
@@ -361,7 +372,7 @@ fn push_made(
         levels: one_level(alloc, alts)?,
     };
     push_declaration(&mut all.decls, decl)?;
-    push_shape(&mut all.shapes, shape)
+    push_shape(&mut all.shapes, head.shape)
 }
 
 /// A level without operators.

@@ -5,12 +5,8 @@
 //! refused for want of memory alone.
 #![tactic(auto)]
 
-mod entries;
 mod grammars;
 mod growing;
-mod numbering;
 mod placing;
-mod variables;
-mod wanting;
 
 pub use grammars::lower_ebnf;

@@ -4,12 +4,10 @@ ghost use Rattle.ig_grammar.specs.View.{symbol_of};
 ghost use Rattle.ig_grammar.specs.Symbol.{gathered};
 ghost use Rattle.ig_ebnf_laws.specs.Lists.{new_symbol, new, new_symbols, new_alts};
 
-use crate::entries::{entering, entering_list};
-use crate::numbering::{count, count_symbols, sum};
-use crate::variables::{Variables, bind};
-use ig_grammar::{Alt, Alts, Inner, Symbol, Symbols};
+use ig_grammar::{Alt, Alts, Inner, Symbol, Symbols, Variables};
 use ig_rewrite::{filtered, labelled, push_alternative, push_symbol};
 use ig_text::{Copied, Word};
+use ig_variables::{bind, count, count_symbols, entering, entering_list, sum};
 use std::alloc::{AllocError, Global};
 
 /// What stands for a symbol that is no sequence: for a list, an option, a group or an entry the

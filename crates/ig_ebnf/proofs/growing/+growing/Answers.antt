@@ -1,6 +1,6 @@
 use Rattle.std.proofs.Common.{arith}
 use Rattle.ig_grammar.specs.View.{symbol_of}
-use Rattle.ig_ebnf.proofs.CodeOfSizes.{node_below, choice_below}
+use Rattle.ig_variables.specs.CodingMembers.{node_below, choice_below}
 use Rattle.ig_ebnf.proofs.CodeOfGrowth.{on_ok_then, option_adds, star_adds, plus_adds, sep_star_adds, group_adds}
 use Rattle.ig_ebnf.proofs.growing.+growing.Goals as goal
 
@@ -46,7 +46,7 @@ add-returns-in_ok-successor-in-SepStar t c =
     on_ok_then c.add_separated.result c.args.all.now c.push_sep_star.new.all c.add_separated.new.all _ _ _
     c.in_ok-push_sep_star-in-SepStar.ensures c.add_separated.ensures
     (sep_star_adds c.args.of.now c.args.variables.now c.args.k c.args.symbol.now c.in_ok-successor-in-SepStar.field-0
-    c.in-SepStar.inner c.in-SepStar.separator c.in-SepStar.is
+    c.in-SepStar.item c.in-SepStar.separator c.in-SepStar.is
     c.in_ok-successor-in-SepStar.ensures)
 
 pub add-returns-in_ok-successor-in-Group : goal.add-returns-in_ok-successor-in-Group

@@ -11,7 +11,7 @@ abbrev pub decreases-add : goal.decreases-add
 decreases-add l = 2 * nodes (symbol_of l.symbol.now)
 
 abbrev pub decreases-add_separated : goal.decreases-add_separated
-decreases-add_separated l = 2 * (nodes l.item.now + nodes l.separator.now) + 1
+decreases-add_separated l = 2 * (nodes l.list.now.item.now + nodes l.list.now.separator.now) + 1
 
 abbrev pub decreases-add_each : goal.decreases-add_each
 decreases-add_each l = 2 * nodes_of_symbols (gathered l.symbols.now) + 1

@@ -1,0 +1,2 @@
+pub mod CodeOfNames
+pub mod CodeOfKept
