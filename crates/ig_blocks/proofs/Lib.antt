@@ -1,4 +1,2 @@
 pub mod Bodies
-pub mod Falling
-pub mod KindTable
 pub mod Declaring

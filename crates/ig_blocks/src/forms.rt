@@ -6,11 +6,13 @@ ghost use Rattle.ig_grammar.specs.View.{symbol_of};
 ghost use Rattle.ig_blocks_laws.specs.Setting.{m_of, f_of, inner, pair_bindings};
 ghost use Rattle.ig_blocks_laws.specs.Setting.{column_guards, wrapped, entered};
 ghost use Rattle.ig_blocks_laws.specs.Body.{tests_of, arguments_of};
-ghost use Rattle.ig_blocks.specs.Code.{pair_of, setting_by, kind_by, list_by, item_by};
+ghost use Rattle.ig_columns.specs.Code.{pair_of, setting_by};
+ghost use Rattle.ig_blocks.specs.Code.{list_by, item_by};
 
-use crate::guards::{behind, tests_before};
-use crate::guide::{Guide, is_paired, kind_of};
-use crate::pairs::{Pair, bindings_of, column_of, inner_of, push_pair, start_of};
+use ig_columns::{
+    Guide, Pair, behind, bindings_of, column_of, inner_of, is_paired, kind_of, push_pair, start_of,
+    tests_before,
+};
 use ig_expr::Exprs;
 use ig_grammar::{Inner, Lets, Symbol};
 use ig_rewrite::push_expression;
@@ -26,8 +28,8 @@ pub(crate) fn called(
     arguments: &Exprs,
 ) -> Result<Symbol, AllocError>
     ensures { IfOk result (λ r. symbol_of r ≡ tree.Call name.now
-        (arguments_of (setting_by guide.now) (pair_of pair.now) (kind_by guide.now.kinds name.now)
-        arguments.now)) }
+        (arguments_of (setting_by guide.now) (pair_of pair.now)
+        ((setting_by guide.now).kind_of name.now) arguments.now)) }
 {
     let name_here = name.copy(alloc)?;
     Ok(Symbol::Call(
@@ -45,7 +47,7 @@ fn arguments_of(
     arguments: &Exprs,
 ) -> Result<Exprs, AllocError>
     ensures { IfOk result (λ r. r ≡ arguments_of (setting_by guide.now) (pair_of pair.now)
-        (kind_by guide.now.kinds name.now) arguments.now) }
+        ((setting_by guide.now).kind_of name.now) arguments.now) }
 {
     let mut all = arguments.copy(alloc)?;
     if let Some(kind) = kind_of(guide, name) {

@@ -5,11 +5,7 @@
 #![tactic(auto)]
 
 mod forms;
-mod guards;
-mod guide;
 mod lowering;
-mod marks;
-mod pairs;
 mod symbols;
 
 pub use lowering::lower_blocks;

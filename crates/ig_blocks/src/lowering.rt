@@ -8,13 +8,13 @@ ghost use Rattle.ig_blocks_laws.specs.Setting.{extra_by, pair_by};
 ghost use Rattle.ig_blocks_laws.specs.Blocks.{alternative_by, level_by, int_param, BlocksOf};
 ghost use Rattle.ig_blocks_laws.specs.Blocks.{lowered_declaration, lowered_declarations};
 ghost use Rattle.ig_blocks_laws.specs.Blocks.{lowered_grammar};
-ghost use Rattle.ig_blocks.specs.Code.{setting_by, has_pair};
 ghost use Rattle.ig_blocks_laws.specs.Laws.{PlainIsUnmarked};
+ghost use Rattle.ig_columns.specs.Code.{setting_by};
+ghost use Rattle.ig_blocks.specs.Code.{has_pair};
 
-use crate::guide::{Guide, guide_of, is_paired, is_root};
-use crate::pairs::Pair;
 use crate::symbols::choices;
 use ig_blocks_laws::blocks_keep;
+use ig_columns::{Guide, Pair, guide_of, is_paired, is_root};
 use ig_grammar::{
     Alts, Checked, Decl, DeclKind, Decls, Grammar, Level, Levels, Params, Shape, Shapes,
 };

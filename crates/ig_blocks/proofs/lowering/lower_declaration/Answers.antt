@@ -1,4 +1,4 @@
-use Rattle.ig_blocks.specs.Code.{setting_by}
+use Rattle.ig_columns.specs.Code.{setting_by}
 use Rattle.ig_blocks.proofs.Declaring.{declaration_is}
 use Rattle.ig_blocks.proofs.lowering.lower_declaration.Goals as goal
 

@@ -1,12 +1,16 @@
 use Rattle.std.proofs.Common.{◌≡◌, ◌∙◌, ◌++◌, IfOk, false, true, arith, refl, sym, subst, ap, ap₂}
+use denote.Param.Weighed.{at_most}
 use Rattle.ig_grammar.specs.Symbol as tree
 use Rattle.ig_grammar.specs.Symbol.{gathered}
 use Rattle.ig_grammar.specs.View.{symbol_of}
-use Rattle.ig_grammar.specs.CodingFalls.{symbol_falls, alternative_falls}
+use Rattle.ig_grammar.specs.CodingAlternatives.{alternatives_nodes}
+use Rattle.ig_grammar.specs.CodingFalls.{most_alternatives, most_symbols}
+use Rattle.ig_grammar.specs.CodingSizes.{list_nodes}
+use Rattle.ig_grammar.specs.declared.symbol.Alts.TheDeep.{deep-Symbol, deep-Alt}
 use Rattle.ig_blocks_laws.specs.Setting.{pair_bindings}
 use Rattle.ig_blocks_laws.specs.Body.{body_of}
-use Rattle.ig_blocks.specs.Code.{pair_of, setting_by, item_by, list_by}
-use Rattle.ig_blocks.proofs.Falling.{listed_symbol, listed_alternative}
+use Rattle.ig_columns.specs.Code.{pair_of, setting_by}
+use Rattle.ig_blocks.specs.Code.{item_by, list_by}
 use Rattle.ig_blocks.proofs.Bodies.{copied, formed, separated, grouped, told_inside, choices_told, one_more}
 use Rattle.ig_blocks.proofs.symbols.+bodies.Goals as goal
 
@@ -100,8 +104,10 @@ pub sequence-in_sequence-requires : goal.sequence-in_sequence-requires
 sequence-in_sequence-requires t c = (
   omega (
     arith,
-    symbol_falls c.symbol-item.result,
-    listed_symbol c.as_slice-symbol-items.result.now c.symbol-item.result c.loop-symbol.symbol-index c.args.symbols.now c.as_slice-symbol-items.ensures c.symbol-item.is c.loop-symbol-test.true,
+    ap deep-Symbol c.symbol-item.is,
+    at_most deep-Symbol c.as_slice-symbol-items.result.now c.loop-symbol.symbol-index c.symbol-item.result c.loop-symbol-test.true,
+    most_symbols c.as_slice-symbol-items.result.now,
+    ap list_nodes c.as_slice-symbol-items.ensures,
   ),
   tt,
 )
@@ -110,8 +116,10 @@ pub choices-alternative-requires : goal.choices-alternative-requires
 choices-alternative-requires t c = (
   omega (
     arith,
-    alternative_falls c.cell-item.result,
-    listed_alternative c.as_slice-cell-items.result.now c.args.alternatives.now c.cell-item.result c.loop-cell.cell-index c.as_slice-cell-items.ensures c.cell-item.is c.loop-cell-test.true,
+    ap deep-Alt c.cell-item.is,
+    at_most deep-Alt c.as_slice-cell-items.result.now c.loop-cell.cell-index c.cell-item.result c.loop-cell-test.true,
+    most_alternatives c.as_slice-cell-items.result.now,
+    ap alternatives_nodes c.as_slice-cell-items.ensures,
   ),
   tt,
 )
