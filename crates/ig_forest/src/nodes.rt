@@ -89,10 +89,7 @@ fn add_item(
     let row = found.row(number);
     let tag = tag_of(core, row);
     add_node(&mut nodes.table, node_of(row))?;
-    nodes.table.push_choice(Choice {
-        tag,
-        item: place as u32,
-    })?;
+    nodes.table.push_choice(choice_at(tag, place))?;
     let last = last_number(&nodes.table);
     nodes.numbers.push(last)?;
     Ok(())
@@ -119,6 +116,17 @@ fn tag_of(core: &Core, row: ItemRow) -> Tag
         unreachable!()
     };
     tag
+}
+
+/// The alternative whose complete item stands at that place.
+fn choice_at(tag: Tag, place: usize) -> Choice
+    requires { place < numbers_end }
+    ensures { result ≡ record { tag = tag; item = place } }
+{
+    Choice {
+        tag,
+        item: place as u32,
+    }
 }
 
 /// Adds the node, where it isn't the last one already.

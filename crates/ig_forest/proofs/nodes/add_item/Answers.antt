@@ -1,5 +1,6 @@
-use Rattle.std.proofs.Common.{arith, sym, subst}
+use Rattle.std.proofs.Common.{arith, sym, subst, ap, ◌∙◌}
 use Rattle.ig_forest.specs.CodeNodes.{Opens}
+use Rattle.ig_forest.specs.CodeNodeRows.{with_choice}
 use Rattle.ig_forest.specs.CodeDone.{StandsLast}
 use Rattle.ig_forest.specs.declared.node_rows.NodeRow.{NodeRow}
 use Rattle.ig_forest.proofs.CodeNodePass.{here_within, item_added, item_skips, nodes_count, order_short, stands_last}
@@ -28,8 +29,8 @@ tag_of-tag-requires c =
     (stands_last c.args.found.now.items.now c.args.found.now.keys.now c.args.found.now.places.now c.args.marks.now c.args.order.now c.requires.order
     c.args.core.now c.requires.complete c.args.place _ c.requires.place _ (c.is_complete.ensures.yes c.if-not-is_complete.false))
 
-pub overflow_cast-place : goal.overflow_cast-place
-overflow_cast-place c =
+pub choice_at-requires : goal.choice_at-requires
+choice_at-requires c =
     let short =
     order_short c.args.found.now.items.now c.args.found.now.keys.now c.args.found.now.places.now c.args.marks.now c.args.order.now c.requires.order in
     let few = c.requires.few in
@@ -59,4 +60,4 @@ returns c =
     c.args.core.now c.requires.complete c.args.place _ c.requires.place c.row-row.result c.args.nodes.now.table c.add_node.new.table
     c.push_choice.new.self _ c.push-2.new.self.items c.tag_of-tag.result c.last_number-last.result c.row-row.ensures c.tag_of-tag.ensures
     (subst (λ (z : NodeRow). Opens z c.args.nodes.now.table c.add_node.new.table) c.node_of.ensures c.in_ok-add_node.ensures)
-    c.in_ok-push_choice.ensures c.in_ok-push-2.ensures.items c.last_number-last.ensures c.requires.before
+    (c.in_ok-push_choice.ensures ∙ ap (with_choice c.add_node.new.table) c.choice_at.ensures) c.in_ok-push-2.ensures.items c.last_number-last.ensures c.requires.before
