@@ -20,11 +20,11 @@ use Rattle.ig_item.specs.declared.core_grammar.Nonterminal.{Nonterminal}
 use Rattle.ig_rewrite.specs.Added.{root_name}
 use Rattle.ig_rewrite.specs.Rewriting.{rewritten_declaration}
 use Rattle.ig_rewrite.specs.Rooted.{has_root, is_root, root_declaration, rooted, with_root}
-use Rattle.ig_levels.specs.Levels.{LevelsOf, lowered_grammar as without_levels, lowered_declaration as without_levels_in, names_levelled}
+use Rattle.ig_levels_laws.specs.Levels.{LevelsOf, lowered_grammar as without_levels, lowered_declaration as without_levels_in, names_levelled}
 use Rattle.ig_blocks_laws.specs.Blocks.{BlocksOf, lowered_of as without_blocks, declaration_by, root_by, lowered_declarations, setting_of}
 use Rattle.ig_blocks_laws.specs.Setting.{Setting}
-use Rattle.ig_lexical.specs.Layout.{LayoutOf, laid_of, laid_declaration}
-use Rattle.ig_lexical.specs.Filters.{FiltersOf, attached, attached_of}
+use Rattle.ig_lexical_laws.specs.Layout.{LayoutOf, laid_of, laid_declaration}
+use Rattle.ig_lexical_laws.specs.Filters.{FiltersOf, attached, attached_of}
 use Rattle.ig_ebnf_laws.specs.Lists.{ListsOf, lowered, new_declaration, all_added, decls_of, forms_of}
 use Rattle.ig_core.specs.CoreOf.{Shaped, shaped, unrooted, root_of, numbered, number_of, alternatives_of, nonterminals_of, core_of}
 use Rattle.ig_core.specs.Laws.{NumbersDeclarations}

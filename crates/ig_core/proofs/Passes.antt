@@ -9,12 +9,12 @@ use Rattle.ig_rewrite.specs.Rooted.{RootedIsTheSame}
 use Rattle.ig_rewrite.specs.SameTrees.{PermitSame, SameTreesIsAnEquivalence}
 use Rattle.ig_rewrite.specs.SameValues.{KeepsValues}
 use Rattle.ig_rewrite.specs.Unbound.{IsUnbound}
-use Rattle.ig_levels.specs.Levels.{LevelsOf}
-use Rattle.ig_levels.specs.Laws.{LevelsKeep, KeptByLevels}
+use Rattle.ig_levels_laws.specs.Levels.{LevelsOf}
+use Rattle.ig_levels_laws.specs.Laws.{LevelsKeep, KeptByLevels}
 use Rattle.ig_blocks_laws.specs.Blocks.{BlocksOf}
 use Rattle.ig_blocks_laws.specs.Laws.{BlocksKeep, KeptByBlocks, PlainIsUnmarked}
-use Rattle.ig_lexical.specs.Layout.{LayoutOf}
-use Rattle.ig_lexical.specs.Laws.{LayoutKeeps, KeptByLayout, FiltersKeep, KeptByFilters}
+use Rattle.ig_lexical_laws.specs.Layout.{LayoutOf}
+use Rattle.ig_lexical_laws.specs.Laws.{LayoutKeeps, KeptByLayout, FiltersKeep, KeptByFilters}
 use Rattle.ig_ebnf_laws.specs.Lists.{ListsOf}
 use Rattle.ig_ebnf_laws.specs.Laws.{ListsKeep, KeptByLists}
 use Rattle.ig_core.specs.Lowered.{IsBuildable, BeforeLists, Lowered, CoreOf, IsNumbered}

@@ -10,12 +10,12 @@ use Rattle.ig_grammar.specs.declared.grammar.Grammar.{Grammar}
 use Rattle.ig_rewrite.specs.EachLevel.{of_each_level}
 use Rattle.ig_rewrite.specs.Remaining.{IsRemaining, IsTerm, IsExcluding, Remains}
 use Rattle.ig_rewrite.specs.Sound.{IsUnmarked}
-use Rattle.ig_levels.specs.Levels.{LevelsOf}
-use Rattle.ig_levels.specs.Laws.{LevelsMultiply}
+use Rattle.ig_levels_laws.specs.Levels.{LevelsOf}
+use Rattle.ig_levels_laws.specs.Laws.{LevelsMultiply}
 use Rattle.ig_blocks_laws.specs.Blocks.{BlocksOf}
 use Rattle.ig_blocks_laws.specs.Laws.{BlocksMultiply, PlainIsUnmarked}
-use Rattle.ig_lexical.specs.Layout.{LayoutOf}
-use Rattle.ig_lexical.specs.Laws.{LayoutMultiplies, FiltersMultiply}
+use Rattle.ig_lexical_laws.specs.Layout.{LayoutOf}
+use Rattle.ig_lexical_laws.specs.Laws.{LayoutMultiplies, FiltersMultiply}
 use Rattle.ig_ebnf_laws.specs.Lists.{HasFewLists}
 use Rattle.ig_ebnf_laws.specs.Laws.{ListsAreFew, ListsMultiply}
 use Rattle.ig_core.specs.Laws.{ArePassed, AreRegular, PassesInTurn, PassesAreRegular}

@@ -18,7 +18,7 @@ use Rattle.ig_grammar.specs.declared.symbol.Alt.{Alt}
 use Rattle.ig_rewrite.specs.Added.{left_name, right_name}
 use Rattle.ig_rewrite.specs.Rooted.{rooted, with_root, root_declaration, has_root, RootedIsTheSame}
 use Rattle.ig_rewrite.specs.Sound.{IsSound, IsUnmarked}
-use Rattle.ig_levels.specs.Levels.{Pair, Place, no_pair, pair_at, pair_arguments, with_pair, in_symbols, in_alternatives, is_test, has_left, has_right, lowered, test_of, place_in, lowered_alternative, one_level, lowered_declaration, names_levelled, LevelsOf}
+use Rattle.ig_levels_laws.specs.Levels.{Pair, Place, no_pair, pair_at, pair_arguments, with_pair, in_symbols, in_alternatives, is_test, has_left, has_right, lowered, test_of, place_in, lowered_alternative, one_level, lowered_declaration, names_levelled, LevelsOf}
 use Rattle.ig_blocks_laws.specs.Laws.{PlainIsUnmarked}
 use Rattle.ig_text.proofs.Lists.{contains_first, contains_later, unmapped_in}
 use Rattle.ig_core.proofs.Lookups.{only_member}

@@ -26,12 +26,12 @@ use Rattle.ig_rewrite.specs.SameTrees.{PermitSame}
 use Rattle.ig_rewrite.specs.SameValues.{KeepsValues}
 use Rattle.ig_rewrite.specs.Sound.{RootIsNamed}
 use Rattle.ig_rewrite.specs.Unbound.{IsUnbound}
-use Rattle.ig_levels.specs.Levels.{LevelsOf}
-use Rattle.ig_levels.specs.Laws.{KeptByLevels}
+use Rattle.ig_levels_laws.specs.Levels.{LevelsOf}
+use Rattle.ig_levels_laws.specs.Laws.{KeptByLevels}
 use Rattle.ig_blocks_laws.specs.Blocks.{BlocksOf}
 use Rattle.ig_blocks_laws.specs.Laws.{KeptByBlocks, PlainIsUnmarked}
-use Rattle.ig_lexical.specs.Layout.{LayoutOf}
-use Rattle.ig_lexical.specs.Laws.{KeptByFilters, KeptByLayout}
+use Rattle.ig_lexical_laws.specs.Layout.{LayoutOf}
+use Rattle.ig_lexical_laws.specs.Laws.{KeptByFilters, KeptByLayout}
 use Rattle.ig_ebnf_laws.specs.Laws.{KeptByLists}
 use Rattle.ig_core.specs.CoreOf.{core_of}
 use Rattle.ig_core.specs.Limits.{counts_before_passes, most_declarations}

@@ -5,11 +5,11 @@ use Rattle.ig_item.specs.declared.core_grammar.Nonterminal.{Nonterminal}
 use Rattle.ig_rewrite.specs.Added.{left_name, right_name, margin_name, first_name, column_name}
 use Rattle.ig_rewrite.specs.Sound.{IsSound}
 use Rattle.ig_rewrite.specs.Unbound.{IsUnbound}
-use Rattle.ig_levels.specs.Levels.{LevelsOf}
+use Rattle.ig_levels_laws.specs.Levels.{LevelsOf}
 use Rattle.ig_blocks_laws.specs.Blocks.{BlocksOf}
 use Rattle.ig_blocks_laws.specs.Laws.{PlainIsUnmarked}
-use Rattle.ig_lexical.specs.Layout.{LayoutOf}
-use Rattle.ig_lexical.specs.Filters.{FiltersOf}
+use Rattle.ig_lexical_laws.specs.Layout.{LayoutOf}
+use Rattle.ig_lexical_laws.specs.Filters.{FiltersOf}
 use Rattle.ig_ebnf_laws.specs.Lists.{ListsOf, HasFewLists}
 use Rattle.ig_core.specs.CoreOf.{core_of}
 

@@ -10,8 +10,8 @@ use ig_blocks_laws::{blocks_keep, blocks_multiply};
 use ig_ebnf_laws::{lists_are_few, lists_keep, lists_multiply};
 use ig_grammar::regularity_by_form;
 use ig_item::{names_differ, steps_fit};
-use ig_levels::{levels_keep, levels_multiply};
-use ig_lexical::{filters_keep, filters_multiply, layout_keeps, layout_multiplies};
+use ig_levels_laws::{levels_keep, levels_multiply};
+use ig_lexical_laws::{filters_keep, filters_multiply, layout_keeps, layout_multiplies};
 use ig_meaning::trees_without_operators_are_clean;
 use ig_rewrite::{added_names_are_new, rooted_is_the_same, same_trees_is_an_equivalence};
 

@@ -12,7 +12,7 @@ use Rattle.std.proofs.lemmas.Str.{encodes_same}
 use Rattle.std.proofs.lemmas.Map.Text.{btree_map_updates_str}
 use Rattle.ig_text.specs.Words.{is_word}
 use Rattle.ig_grammar.specs.declared.declaration.Decl.{Decl}
-use Rattle.ig_levels.specs.Levels.{is_levelled, names_levelled}
+use Rattle.ig_levels_laws.specs.Levels.{is_levelled, names_levelled}
 use Rattle.ig_levels.specs.Tables.{lookup, or_false, levelled_by, Tells}
 
 -- nothing is levelled where there is no declaration

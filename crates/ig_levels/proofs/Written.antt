@@ -8,7 +8,7 @@ use Rattle.ig_grammar.specs.declared.symbol.Alt.{Alt}
 use Rattle.ig_grammar.specs.declared.declaration.Level.{Level}
 use Rattle.ig_grammar.specs.declared.declaration.Decl.{Decl}
 use Rattle.ig_grammar.specs.declared.grammar.Grammar.{Grammar}
-use Rattle.ig_levels.specs.Levels.{names_levelled, lowered_declaration, lowered_grammar}
+use Rattle.ig_levels_laws.specs.Levels.{names_levelled, lowered_declaration, lowered_grammar}
 use Rattle.ig_levels.specs.Roles.{numbered}
 use Rattle.ig_levels.specs.Tables.{levelled_by, Tells}
 

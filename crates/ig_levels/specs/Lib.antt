@@ -1,5 +1,2 @@
-pub mod Spines
-pub mod Levels
-pub mod Laws
 pub mod Tables
 pub mod Roles

@@ -6,7 +6,7 @@ use Rattle.ig_grammar.specs.Symbol.{Symbol, Call, Label, Offside, Ignore, Align,
 use Rattle.ig_grammar.specs.declared.declaration.Assoc.{Assoc}
 use Rattle.ig_grammar.specs.declared.symbol.Alt.{Alt}
 use Rattle.ig_rewrite.specs.Added.{left_name, right_name}
-use Rattle.ig_levels.specs.Levels.{Pair, no_pair, pair_arguments, Place}
+use Rattle.ig_levels_laws.specs.Levels.{Pair, no_pair, pair_arguments, Place}
 use Rattle.ig_levels.specs.declared.symbols.Role.{Role}
 use Rattle.ig_levels.specs.declared.symbols.Role.TheVariants.{Outside, LeftOperand, RightOperand}
 use Rattle.ig_levels.specs.declared.operands.Bounds.{Bounds}

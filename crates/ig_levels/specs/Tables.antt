@@ -5,7 +5,7 @@ use Rattle.std.specs.Ordering.{nat_cmp}
 use Rattle.std.specs.BTreeMap.{BTreeMap, get_by}
 use denote.Ref.{Bor}
 use Rattle.ig_grammar.specs.declared.declaration.Decl.{Decl}
-use Rattle.ig_levels.specs.Levels.{names_levelled}
+use Rattle.ig_levels_laws.specs.Levels.{names_levelled}
 
 -- what the table has at a name
 abbrev pub lookup : BTreeMap (Bor (List ℕ)) Bool → List ℕ → Option Bool

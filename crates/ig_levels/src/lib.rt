@@ -1,16 +1,12 @@
 //! Operator levels, as a pass from grammars to grammars with the same trees.
 //!
-//! `specs/Levels.antt` says what becomes of a levelled declaration: it has one level, two more
-//! parameters, `.l` and `.r`, and each of its alternatives first tests its level against them;
-//! calls hand the bounds of operands on. The laws say that the pass changes no tree, keeps a sound
-//! grammar sound, and takes a bound n on its counts to 3 (n + 2).
+//! `ig_levels_laws` says what the pass is, and what it keeps; [`lower_levels`] is exactly that, and
+//! is refused for want of memory alone.
 #![tactic(auto)]
 
-mod laws;
 mod lower;
 mod naming;
 mod operands;
 mod symbols;
 
-pub use laws::{bounds_ask_of_spines, levels_keep, levels_multiply};
 pub use lower::lower_levels;

@@ -1,7 +1,7 @@
 //! The names of bounds, and which declarations are levelled, by their names.
 ghost use Rattle.std.specs.Prelude.{◌≡◌, IfOk};
 ghost use Rattle.ig_rewrite.specs.Added.{left_name, right_name};
-ghost use Rattle.ig_levels.specs.Levels.{is_free, is_levelled};
+ghost use Rattle.ig_levels_laws.specs.Levels.{is_free, is_levelled};
 ghost use Rattle.ig_levels.specs.Tables.{lookup, levelled_by, Tells};
 
 use ig_grammar::{Assoc, Decl, Level};

@@ -3,8 +3,8 @@ ghost use Rattle.std.specs.Prelude.{◌≡◌, ◌+◌, map, true, IfOk};
 ghost use Rattle.ig_text.specs.Words.{is_word};
 ghost use Rattle.ig_grammar.specs.View.{symbol_of};
 ghost use Rattle.ig_meaning.specs.Operands.{more_on_the_left, more_on_the_right};
-ghost use Rattle.ig_levels.specs.Levels.{is_test, only_tests, is_call, is_operand};
-ghost use Rattle.ig_levels.specs.Levels.{is_left, is_right, has_left, has_right, pair_at};
+ghost use Rattle.ig_levels_laws.specs.Levels.{is_test, only_tests, is_call, is_operand};
+ghost use Rattle.ig_levels_laws.specs.Levels.{is_left, is_right, has_left, has_right, pair_at};
 ghost use Rattle.ig_levels.specs.Roles.{pair_of, place_of};
 
 use crate::symbols::Role;

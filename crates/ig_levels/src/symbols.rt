@@ -5,7 +5,7 @@ ghost use Rattle.ig_expr.specs.View.{expression_of};
 ghost use Rattle.ig_grammar.specs.Symbol.{Call};
 ghost use Rattle.ig_grammar.specs.View.{symbol_of};
 ghost use Rattle.ig_rewrite.specs.Added.{right_name};
-ghost use Rattle.ig_levels.specs.Levels.{with_pair, pair_arguments, no_pair};
+ghost use Rattle.ig_levels_laws.specs.Levels.{with_pair, pair_arguments, no_pair};
 ghost use Rattle.ig_levels.specs.Roles.{pair_of, unasked};
 ghost use Rattle.ig_levels.specs.Tables.{levelled_by};
 

@@ -1,4 +1,1 @@
-pub mod Filters
-pub mod Laws
-pub mod Layout
 pub mod Tables

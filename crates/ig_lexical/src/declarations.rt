@@ -5,7 +5,7 @@ ghost use Rattle.ig_grammar.specs.Names.{names};
 ghost use Rattle.ig_grammar.specs.Numbering.{layout_among};
 ghost use Rattle.ig_grammar.specs.declared.declaration.DeclKind.TheVariants.{Layout};
 ghost use Rattle.ig_expr.specs.Names.{place_of};
-ghost use Rattle.ig_lexical.specs.Layout.{declares_lexical, is_lexical};
+ghost use Rattle.ig_lexical_laws.specs.Layout.{declares_lexical, is_lexical};
 
 use ig_grammar::{Decl, DeclKind};
 use ig_text::Word;

@@ -7,17 +7,17 @@ ghost use Rattle.ig_grammar.specs.Symbol.{Guard, Label};
 ghost use Rattle.ig_grammar.specs.View.{symbol_of};
 ghost use Rattle.ig_grammar.specs.WellScoped.{IsWellScoped};
 ghost use Rattle.ig_rewrite.specs.Sound.{IsSound, IsFree, IsUnmarked};
-ghost use Rattle.ig_lexical.specs.Filters.{befores, afters, exclusions, with_filters};
-ghost use Rattle.ig_lexical.specs.Filters.{guarded, attached, attached_of, FiltersOf};
+ghost use Rattle.ig_lexical_laws.specs.Filters.{befores, afters, exclusions, with_filters};
+ghost use Rattle.ig_lexical_laws.specs.Filters.{guarded, attached, attached_of, FiltersOf};
 
-use crate::laws::filters_keep;
 use ig_expr::Expr;
 use ig_grammar::{Checked, Decl, Filter, Filters, Inner, Symbol, Symbols};
+use ig_lexical_laws::filters_keep;
 use ig_rewrite::{OwnRule, copy_of_shapes, has_root, push_symbol, rewrite_grammar, root};
 use ig_text::{Copied, Word};
 use std::alloc::{AllocError, Global};
 
-/// The grammar with its follow and precede filters as guards, exactly as `specs/Filters.antt` says;
+/// The grammar with its follow and precede filters as guards, exactly as `ig_lexical_laws` says;
 /// `$root` is its last declaration where none stood for the root. Refused for want of memory alone.
 pub fn attach_filters(alloc: Global, checked: &Checked) -> Result<Checked, AllocError>
     requires sound { IsSound checked.now }
@@ -49,7 +49,7 @@ fn attach_rooted(alloc: Global, checked: &Checked) -> Result<Checked, AllocError
 struct Attached {}
 
 impl OwnRule for Attached {
-    ghost use Rattle.ig_lexical.specs.Filters.{attached};
+    ghost use Rattle.ig_lexical_laws.specs.Filters.{attached};
 
     ghost rule = { λ s decl x. attached x };
 

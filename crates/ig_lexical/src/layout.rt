@@ -5,14 +5,14 @@ ghost use Rattle.ig_grammar.specs.Checked.{FitShapes};
 ghost use Rattle.ig_grammar.specs.WellScoped.{IsWellScoped};
 ghost use Rattle.ig_rewrite.specs.Sound.{IsSound, IsFree, IsUnmarked};
 ghost use Rattle.ig_grammar.specs.Symbol.{Filtered, Entry};
-ghost use Rattle.ig_lexical.specs.Layout.{is_syntax, is_token, then_layout, laid_inside, laid};
-ghost use Rattle.ig_lexical.specs.Layout.{laid_declaration, laid_grammar, laid_of, LayoutOf};
+ghost use Rattle.ig_lexical_laws.specs.Layout.{is_syntax, is_token, then_layout, laid_inside, laid};
+ghost use Rattle.ig_lexical_laws.specs.Layout.{laid_declaration, laid_grammar, laid_of, LayoutOf};
 
 use crate::declarations::Declarations;
 use crate::filters::relabelled;
-use crate::laws::layout_keeps;
 use ig_expr::Exprs;
 use ig_grammar::{Checked, Decl, DeclKind, Decls, Filters, Grammar, Inner, Lets, Symbol, Symbols};
+use ig_lexical_laws::layout_keeps;
 use ig_rewrite::{
     OwnRule, copy_of_shapes, copy_of_start, has_root, push_declaration, push_symbol,
     rewrite_levels, root,
@@ -20,7 +20,7 @@ use ig_rewrite::{
 use ig_text::{Copied, Word};
 use std::alloc::{AllocError, Global};
 
-/// The grammar with layout called in the open, exactly as `specs/Layout.antt` says: each
+/// The grammar with layout called in the open, exactly as `ig_lexical_laws` says: each
 /// declaration is plain, and in those that were syntax declarations a call of the layout
 /// nonterminal stands behind each token. Where none stood for the root, `$root` is the last
 /// declaration. Refused for want of memory alone.
@@ -97,7 +97,7 @@ struct Laid<'a> {
 
 impl<'a> OwnRule for Laid<'a> {
     ghost use Rattle.ig_grammar.specs.Numbering.{layout_among};
-    ghost use Rattle.ig_lexical.specs.Layout.{laid_in};
+    ghost use Rattle.ig_lexical_laws.specs.Layout.{laid_in};
 
     ghost rule = { λ s decl x.
         laid_in (layout_among s.declared.now) s.declared.now decl.kind x };

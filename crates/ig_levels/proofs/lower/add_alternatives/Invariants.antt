@@ -1,5 +1,5 @@
 use Rattle.std.proofs.Common.{◌≡◌, ◌++◌, map, take}
-use Rattle.ig_levels.specs.Levels.{lowered_alternative}
+use Rattle.ig_levels_laws.specs.Levels.{lowered_alternative}
 use Rattle.ig_levels.specs.Roles.{numbered}
 use Rattle.ig_levels.specs.Tables.{levelled_by}
 use Rattle.ig_levels.proofs.lower.add_alternatives.Given as goal

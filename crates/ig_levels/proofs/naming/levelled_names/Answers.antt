@@ -1,6 +1,6 @@
 use Rattle.std.proofs.Common.{◌≡◌, ◌∙◌, ◌+◌, ◌-◌, ap, refl, sym, subst, drop, arith, ℕ}
 use Rattle.ig_text.proofs.Characters.{word_bytes}
-use Rattle.ig_levels.specs.Levels.{is_levelled}
+use Rattle.ig_levels_laws.specs.Levels.{is_levelled}
 use Rattle.ig_levels.specs.Tables.{Tells}
 use Rattle.ig_levels.proofs.Telling.{tells_more}
 use Rattle.ig_levels.proofs.naming.levelled_names.Goals as goal

@@ -1,6 +1,6 @@
 use Rattle.std.proofs.Common.{◌≡◌, map, true, length}
 use Rattle.ig_grammar.specs.View.{symbol_of}
-use Rattle.ig_levels.specs.Levels.{has_left}
+use Rattle.ig_levels_laws.specs.Levels.{has_left}
 use Rattle.ig_levels.specs.Roles.{place_of}
 use Rattle.ig_levels.proofs.operands.has_left.Given as goal
 

@@ -1,6 +1,6 @@
 use Rattle.std.proofs.Common.{◌≡◌, map, length}
 use Rattle.ig_grammar.specs.View.{symbol_of}
-use Rattle.ig_levels.specs.Levels.{only_tests}
+use Rattle.ig_levels_laws.specs.Levels.{only_tests}
 use Rattle.ig_levels.proofs.operands.only_tests.Given as goal
 
 abbrev pub invariant-loop-rest : goal.invariant-loop-rest

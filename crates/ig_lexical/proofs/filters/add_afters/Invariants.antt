@@ -1,6 +1,6 @@
 use Rattle.std.proofs.Common.{◌≡◌, ◌++◌, drop, map}
 use Rattle.ig_grammar.specs.Symbol.{Guard}
-use Rattle.ig_lexical.specs.Filters.{afters}
+use Rattle.ig_lexical_laws.specs.Filters.{afters}
 use Rattle.ig_lexical.proofs.filters.add_afters.Given as goal
 
 abbrev pub invariant-loop-filter : goal.invariant-loop-filter

@@ -1,6 +1,6 @@
 use Rattle.std.proofs.Common.{◌≡◌, ◌++◌, drop, map}
 use Rattle.ig_grammar.specs.Symbol.{Guard}
-use Rattle.ig_lexical.specs.Filters.{befores}
+use Rattle.ig_lexical_laws.specs.Filters.{befores}
 use Rattle.ig_lexical.proofs.filters.add_befores.Given as goal
 
 abbrev pub invariant-loop-filter : goal.invariant-loop-filter

@@ -1,5 +1,5 @@
 use Rattle.std.proofs.Common.{◌≡◌, ◌++◌, drop}
-use Rattle.ig_lexical.specs.Filters.{exclusions}
+use Rattle.ig_lexical_laws.specs.Filters.{exclusions}
 use Rattle.ig_lexical.proofs.filters.exclusions.Given as goal
 
 abbrev pub invariant-loop-filter : goal.invariant-loop-filter

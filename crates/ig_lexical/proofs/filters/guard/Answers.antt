@@ -3,7 +3,7 @@ use Rattle.std.proofs.lemmas.Bool.{false≢true}
 use Rattle.ig_expr.specs.Expression.{Expression}
 use Rattle.ig_grammar.specs.Symbol.{Symbol, Guard, Seq, gathered}
 use Rattle.ig_grammar.specs.View.{symbol_of}
-use Rattle.ig_lexical.specs.Filters.{befores, afters, guarded}
+use Rattle.ig_lexical_laws.specs.Filters.{befores, afters, guarded}
 use Rattle.ig_lexical.proofs.filters.guard.Goals as goal
 
 -- where a guard stands before or behind it, the symbol becomes a sequence

@@ -2,7 +2,7 @@ use Rattle.std.proofs.Common.{◌≡◌, ◌∙◌, List, [], ◌∷◌, refl, s
 use Rattle.std.proofs.lemmas.Bool.{false≢true}
 use Rattle.ig_grammar.specs.Symbol.{Symbol, Filtered}
 use Rattle.ig_grammar.specs.declared.filter.Filter.{Filter}
-use Rattle.ig_lexical.specs.Filters.{with_filters}
+use Rattle.ig_lexical_laws.specs.Filters.{with_filters}
 use Rattle.ig_lexical.proofs.filters.with_filters.Goals as goal
 
 with_some : (x : Symbol) (fs : List Filter) → (fs ≡ [] → ⊥) → Filtered x fs ≡ with_filters x fs

@@ -2,7 +2,7 @@ use Rattle.std.proofs.Common.{◌≡◌, ◌∙◌, IfOk, sym, ap, subst}
 use Rattle.std.specs.Prelude.{if◌then◌else◌}
 use Rattle.ig_grammar.specs.Symbol.{Label, Filtered}
 use Rattle.ig_grammar.specs.View.{symbol_of}
-use Rattle.ig_lexical.specs.Layout.{then_layout, laid_inside}
+use Rattle.ig_lexical_laws.specs.Layout.{then_layout, laid_inside}
 use Rattle.ig_lexical.proofs.layout.+laying.Goals as goal
 
 pub lay_inside-returns-in_ok-inside-in-Label : goal.lay_inside-returns-in_ok-inside-in-Label

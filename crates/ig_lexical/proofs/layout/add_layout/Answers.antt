@@ -4,7 +4,7 @@ use Rattle.ig_grammar.specs.Checked.{CheckedGrammar, FitShapes}
 use Rattle.ig_grammar.specs.WellScoped.{IsWellScoped}
 use Rattle.ig_grammar.specs.declared.declaration.DeclKind.TheVariants.{Syntax}
 use Rattle.ig_rewrite.specs.Rooted.{has_root, rooted, with_root}
-use Rattle.ig_lexical.specs.Layout.{laid_of}
+use Rattle.ig_lexical_laws.specs.Layout.{laid_of}
 use Rattle.ig_lexical.proofs.layout.add_layout.Goals as goal
 
 stays : (c : CheckedGrammar) → has_root c.shapes ≡ true → rooted Syntax c ≡ c

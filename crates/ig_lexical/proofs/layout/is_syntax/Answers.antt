@@ -1,5 +1,5 @@
 use Rattle.std.proofs.Common.{ap, sym}
-use Rattle.ig_lexical.specs.Layout.{is_syntax}
+use Rattle.ig_lexical_laws.specs.Layout.{is_syntax}
 use Rattle.ig_lexical.proofs.layout.is_syntax.Goals as goal
 
 pub returns-in-Syntax : goal.returns-in-Syntax

@@ -1,5 +1,5 @@
 use Rattle.std.proofs.Common.{◌≡◌, map, take}
-use Rattle.ig_lexical.specs.Layout.{laid_declaration}
+use Rattle.ig_lexical_laws.specs.Layout.{laid_declaration}
 use Rattle.ig_lexical.proofs.layout.lay_declarations.Given as goal
 
 abbrev pub invariant-loop-decl : goal.invariant-loop-decl

@@ -1,7 +1,7 @@
 use Rattle.std.proofs.Common.{◌∙◌, ap, sym, subst}
 use Rattle.ig_grammar.specs.Checked.{FitShapes}
 use Rattle.ig_grammar.specs.WellScoped.{IsWellScoped}
-use Rattle.ig_lexical.specs.Layout.{laid_grammar}
+use Rattle.ig_lexical_laws.specs.Layout.{laid_grammar}
 use Rattle.ig_lexical.proofs.layout.lay_rooted.Goals as goal
 
 pub with_shapes-requires-clause-scoped : goal.with_shapes-requires-clause-scoped

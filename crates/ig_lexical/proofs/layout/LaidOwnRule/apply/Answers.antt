@@ -4,7 +4,7 @@ use Rattle.ig_grammar.specs.View.{symbol_of}
 use Rattle.ig_grammar.specs.declared.declaration.Decl.{Decl}
 use Rattle.ig_grammar.specs.declared.declaration.DeclKind.{DeclKind}
 use Rattle.ig_grammar.specs.declared.declaration.DeclKind.TheVariants.{Syntax, Lexical, Layout, Plain}
-use Rattle.ig_lexical.specs.Layout.{is_syntax, laid, laid_in}
+use Rattle.ig_lexical_laws.specs.Layout.{is_syntax, laid, laid_in}
 use Rattle.ig_lexical.proofs.layout.LaidOwnRule.apply.Goals as goal
 
 in_syntax : (w : List ℕ) (decls : List Decl) (kind : DeclKind) (x : Symbol) → is_syntax kind ≡ true →
