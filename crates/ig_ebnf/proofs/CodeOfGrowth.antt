@@ -18,8 +18,8 @@ use Rattle.ig_rewrite.specs.Added.{added_name}
 use Rattle.ig_rewrite.specs.Needs.{needs}
 use Rattle.ig_ebnf_laws.specs.Laws.{IsGathered}
 use Rattle.ig_ebnf_laws.specs.Lists.{Made, made, alts_of, params_of, decls_of, forms_of, params_for, count, added, added_alts, new_alts}
-use Rattle.ig_ebnf.specs.Growing.{Grows, option_made, star_made, plus_made, sep_star_made, sep_plus_made}
-use Rattle.ig_ebnf.specs.declared.growing.Lowered.{Lowered}
+use Rattle.ig_lists.specs.Made.{Grows, option_made, star_made, plus_made, sep_star_made, sep_plus_made}
+use Rattle.ig_lists.specs.declared.made.Lowered.{Lowered}
 
 -- those that are still to be added
 pub record Leads (before : Lowered) (ms : List Made) (after : Lowered) (rest : List Made) : Type 0 where
@@ -86,25 +86,3 @@ module _ (of : List ℕ) (v : Visible) (k : ℕ) (x : Stored) (n : ℕ) where
       (λ i. made (added_name of k) (params_for v (λ m. needs m (symbol_of (sym e i)))) shape.Group
       (sym (gathers.lowered of v (suc k)) i) ∷
       (gathers.added of v (suc k) ∙ ap (λ j. added_alts of v j choices) (sym f)) i)
-
--- parameters as the program has them
-params_forth : (ps : List Param) → params_of (parameters ps) ≡ ps
-params_forth [] = refl
-params_forth (p ∷ ps) = ap (λ z. p ∷ z) (params_forth ps)
-
--- a declaration and its shape, pushed
-pub on_ok_pushed : {E : Type 0} (r : Result (Unit {0}) E) (before after : Lowered) (name word : List ℕ)
-    (params kept : List Param) (s : Shape) (alts : List Alt)
-    (levels : List Level) → IsGathered alts → word ≡ name → kept ≡ params → levels ≡ record { assoc = Free; alts = alts } ∷ [] →
-    after.decls ≡ before.decls ++ record { kind = Plain; name = word; params = kept; levels = levels } ∷ [] →
-    OnOk r (after.shapes ≡ before.shapes ++ s ∷ []) →
-    OnOk r (Grows before after (made name (parameters params) s (map (λ (a : Alt). a.symbols) alts) ∷ []))
-on_ok_pushed (Err f) before after name word params kept s alts levels gathers n p l d h = tt
-on_ok_pushed (Ok u) before after name word params kept s alts levels gathers n p l d h =
-    let one : levels ≡ record { assoc = Free; alts = alts_of (map (λ (a : Alt). a.symbols) alts) } ∷ [] =
-    l ∙ ap (λ z. record { assoc = Free; alts = z } ∷ []) (sym gathers.stored) in
-    let all : kept ≡ params_of (parameters params) = p ∙ sym (params_forth params) in
-    record {
-      decls = d ∙ (λ i. before.decls ++ record { kind = Plain; name = n i; params = all i; levels = one i } ∷ []);
-      shapes = h;
-    }

@@ -8,12 +8,12 @@ ghost use Rattle.ig_rewrite.specs.Sound.{IsSound, IsFree, IsUnmarked, HasExclusi
 ghost use Rattle.ig_ebnf_laws.specs.Lists.{new_levels, new_declaration, added_by, all_added};
 ghost use Rattle.ig_ebnf_laws.specs.Lists.{count_levels, HasFewLists, ListsOf};
 ghost use Rattle.ig_ebnf_laws.specs.Lists.{lowered_grammar, lowered};
-ghost use Rattle.ig_ebnf.specs.Growing.{Grows};
+ghost use Rattle.ig_lists.specs.Made.{Grows};
 
-use crate::growing::{Lowered, add_alternatives};
-use crate::placing::new_alternatives;
+use crate::growing::add_alternatives;
 use ig_ebnf_laws::lowering_keeps;
 use ig_grammar::{Checked, Decl, Decls, Grammar, Level, Levels, Variables};
+use ig_lists::{Lowered, new_alternatives};
 use ig_rewrite::{copy_of_shapes, copy_of_start, has_root, push_declaration, push_level, root};
 use ig_text::Copied;
 use ig_variables::{count_alternatives, sum};

@@ -7,6 +7,5 @@
 
 mod grammars;
 mod growing;
-mod placing;
 
 pub use grammars::lower_ebnf;

@@ -1,4 +1,4 @@
--- How declarations are added one after another, as the program does it.
+-- The declaration that is added for a list, an option or a group, and how it is added.
 use Rattle.std.specs.Prelude.{◌≡◌, ℕ, suc, ◌+◌, List, [], ◌∷◌, ◌++◌}
 use Rattle.ig_grammar.specs.Symbol.{Symbol}
 use Rattle.ig_grammar.specs.Visible.{Visible}
@@ -6,7 +6,7 @@ use Rattle.ig_grammar.specs.declared.place.Shape.TheVariants as shape
 use Rattle.ig_rewrite.specs.Added.{added_name}
 use Rattle.ig_rewrite.specs.Needs.{needs}
 use Rattle.ig_ebnf_laws.specs.Lists.{Made, made, decls_of, forms_of, params_for, entering, new, count}
-use Rattle.ig_ebnf.specs.declared.growing.Lowered.{Lowered}
+use Rattle.ig_lists.specs.declared.made.Lowered.{Lowered}
 
 -- these stand behind what stood there
 pub record Grows (before after : Lowered) (ms : List Made) : Type 0 where

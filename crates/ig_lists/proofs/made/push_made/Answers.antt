@@ -1,5 +1,5 @@
-use Rattle.ig_ebnf.proofs.CodeOfGrowth.{on_ok_pushed}
-use Rattle.ig_ebnf.proofs.growing.push_made.Goals as goal
+use Rattle.ig_lists.proofs.CodeOfMade.{on_ok_pushed}
+use Rattle.ig_lists.proofs.made.push_made.Goals as goal
 
 pub returns : goal.returns
 returns c =

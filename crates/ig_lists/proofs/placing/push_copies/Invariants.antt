@@ -1,6 +1,6 @@
 use Rattle.std.proofs.Common.{◌≡◌, ◌++◌, drop, map}
 use Rattle.ig_grammar.specs.View.{symbol_of}
-use Rattle.ig_ebnf.proofs.placing.push_copies.Given as goal
+use Rattle.ig_lists.proofs.placing.push_copies.Given as goal
 
 abbrev pub invariant-loop-symbol : goal.invariant-loop-symbol
 invariant-loop-symbol l =

@@ -3,7 +3,7 @@ use Rattle.ig_grammar.specs.View.{symbol_of}
 use Rattle.ig_grammar.specs.CodingSizes.{nodes, nodes_of_symbols}
 use Rattle.ig_grammar.specs.Symbol.{gathered}
 use Rattle.ig_ebnf_laws.specs.Lists.{new_symbols}
-use Rattle.ig_ebnf.proofs.placing.+placing.Given as goal
+use Rattle.ig_lists.proofs.placing.+placing.Given as goal
 
 abbrev pub decreases-push_new : goal.decreases-push_new
 decreases-push_new l = 2 * nodes (symbol_of l.symbol.now)

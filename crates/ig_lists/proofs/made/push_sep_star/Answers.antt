@@ -4,8 +4,8 @@ use Rattle.ig_grammar.specs.Symbol.{Call}
 use Rattle.ig_grammar.specs.declared.place.Shape.TheVariants as shape
 use Rattle.ig_rewrite.specs.Added.{added_name}
 use Rattle.ig_ebnf_laws.specs.Lists.{made, arguments}
-use Rattle.ig_ebnf.specs.Growing.{Grows}
-use Rattle.ig_ebnf.proofs.growing.push_sep_star.Goals as goal
+use Rattle.ig_lists.specs.Made.{Grows}
+use Rattle.ig_lists.proofs.made.push_sep_star.Goals as goal
 
 pub returns : goal.returns
 returns c =

@@ -1,6 +1,6 @@
 use Rattle.std.proofs.Common.{◌≡◌, ◌++◌, drop}
 use Rattle.ig_ebnf_laws.specs.Lists.{new_alts}
-use Rattle.ig_ebnf.proofs.placing.new_alternatives.Given as goal
+use Rattle.ig_lists.proofs.placing.new_alternatives.Given as goal
 
 abbrev pub invariant-loop-alternative : goal.invariant-loop-alternative
 invariant-loop-alternative l =

@@ -1,6 +1,6 @@
 use Rattle.std.proofs.Common.{arith}
 use Rattle.ig_variables.specs.CodingMembers.{node_below}
-use Rattle.ig_ebnf.proofs.placing.+placing.Goals as goal
+use Rattle.ig_lists.proofs.placing.+placing.Goals as goal
 
 pub push_each-push_new-requires : goal.push_each-push_new-requires
 push_each-push_new-requires t c =

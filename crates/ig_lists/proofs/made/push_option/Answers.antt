@@ -3,8 +3,8 @@ use Rattle.std.specs.Prelude.{OnOk}
 use Rattle.ig_grammar.specs.declared.place.Shape.TheVariants as shape
 use Rattle.ig_rewrite.specs.Added.{added_name}
 use Rattle.ig_ebnf_laws.specs.Lists.{made, new}
-use Rattle.ig_ebnf.specs.Growing.{Grows}
-use Rattle.ig_ebnf.proofs.growing.push_option.Goals as goal
+use Rattle.ig_lists.specs.Made.{Grows}
+use Rattle.ig_lists.proofs.made.push_option.Goals as goal
 
 pub returns : goal.returns
 returns c =
