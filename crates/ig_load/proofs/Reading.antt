@@ -23,7 +23,7 @@ use Rattle.ig_syntax.specs.Rules.{FollowsRules, ReadsSymbol, ReadsAlternative, R
 use Rattle.ig_syntax.specs.Rules as rules
 use Rattle.ig_syntax.specs.Notation.{most_bytes}
 use Rattle.ig_tokens.specs.Laws.{EndedTokensAreLongest, ends}
-use Rattle.ig_notation.specs.Limits.{NumberFits, NumbersFit, IsShallow, opened, open_behind}
+use Rattle.ig_limits.specs.Limits.{NumberFits, NumbersFit, IsShallow, opened, open_behind}
 use Rattle.ig_notation.specs.Outcome.{IsRead, unplaced}
 use Rattle.ig_load.specs.Grammar.{LoadGrammar, load_text, levels, operand, operation, expression}
 use Rattle.ig_load.specs.Laws.{LoadTextReads}

@@ -15,7 +15,7 @@ use Rattle.ig_rules.specs.Reading.{Goes}
 use Rattle.ig_notation.specs.declared.fault.RuleFault.{RuleFault}
 use Rattle.ig_notation.specs.declared.expressions.Named.{Named}
 use Rattle.ig_notation.specs.declared.expressions.Named.TheVariants as named
-use Rattle.ig_notation.specs.Limits.{NumberFits, number_bound}
+use Rattle.ig_limits.specs.Limits.{NumberFits, number_bound}
 use Rattle.ig_notation.specs.Readers.{Stands, Takes, Misses, StopsAt, Runs, Finds, Closed, Front, IsNamed, named_wants, ReadsNamed}
 use Rattle.ig_notation.proofs.Names.{named_rows}
 use Rattle.ig_notation.proofs.Lists.{one_more, the_last, no_more_arguments}
@@ -117,7 +117,7 @@ numeral T i n z h e =
     (by_itself ReadsTerm want.term [] (Number n) T i (Integer (pos n)) h refl (λ r. rule.number n r))
 
 pub no_larger : (T : List Token) (i n : ℕ) → All NumberFits T → Stands T i (Number n) → number_bound ≤ n → ⊥
-no_larger T i n a h l = let m : n < number_bound = each_there NumberFits T i (Number n) a (record { there = h.there; within = h.within }) in omega arith
+no_larger T i n a h l = let m : n < number_bound = each_there NumberFits T i (Number n) a h in omega arith
 
 pub variable : (T : List Token) (i : ℕ) (x y : List ℕ) → Stands T i (Name x) → y ≡ x → Goes Expression ReadsTerm (want.term ∷ []) [] T i (i + 1) (Variable y)
 variable T i x y h e =

@@ -5,7 +5,6 @@ pub mod ExpressionParts
 pub mod FilterParts
 pub mod SymbolParts
 pub mod DeclarationParts
-pub mod LimitParts
 pub mod Outcomes
 pub mod Readings
 pub mod Regularity

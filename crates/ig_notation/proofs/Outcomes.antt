@@ -1,7 +1,8 @@
 -- What the tests of a text find.
-use Rattle.std.proofs.Common.{◌≡◌, ℕ, zero, suc, ◌≤◌, ◌<◌, List, [], ◌∷◌, length, get_or, refl, sym, ap, subst, arith}
-use Rattle.std.specs.Prelude.{Result, Ok, Err, IfErr, chars}
+use Rattle.std.proofs.Common.{◌≡◌, ◌↔◌, Bool, false, ℕ, ◌≤◌, ◌<◌, List, [], ◌∷◌, length, refl, sym, ap, subst, arith}
+use Rattle.std.specs.Prelude.{Result, Ok, Err, IfErr, IsTrue, chars}
 use Rattle.std.specs.Result.{IsErrAnd}
+use Rattle.std.proofs.lemmas.Bool.Decides.{not_from_Decides}
 use Rattle.ig_syntax.specs.Notation.{most_bytes}
 use Rattle.ig_syntax.specs.Rules.{FollowsRules}
 use Rattle.ig_syntax.specs.Lexing.{Lexes}
@@ -19,13 +20,17 @@ use Rattle.ig_notation.specs.declared.fault.RuleFault.TheVariants.{Unexpected, M
 use Rattle.ig_notation.specs.declared.fault.ReadFault.{ReadFault}
 use Rattle.ig_notation.specs.declared.fault.ReadFault.TheVariants as faults
 use Rattle.ig_notation.specs.declared.fault.Large.TheVariants as large
-use Rattle.ig_notation.specs.Limits.{NumbersFit, IsShallow}
-use Rattle.ig_notation.specs.Outcome.{unplaced, HasTokens, IsRead, byte_of, fault_of, refusal_of, IsReadFault, no_token, large_number, deep, against_rules, no_memory}
-use Rattle.ig_notation.specs.Readers.{meanings, FailsAt}
+use Rattle.ig_limits.specs.Limits.{NumbersFit, IsShallow, byte_of, meanings}
+use Rattle.ig_notation.specs.Outcome.{unplaced, HasTokens, IsRead, fault_of, refusal_of, IsReadFault, no_token, large_number, deep, against_rules, no_memory}
+use Rattle.ig_notation.specs.Readers.{FailsAt}
 
 same_tokens : (placed : List Placed) → meanings placed ≡ unplaced (tokens_of placed)
 same_tokens [] = refl
 same_tokens (p ∷ placed) = ap (λ z. token_of p.token ∷ z) (same_tokens placed)
+
+-- a text that is not too long
+pub short_enough : (b : Bool) (most n : ℕ) → (IsTrue b ↔ (most < n)) → b ≡ false → n ≤ most
+short_enough b most n h e = let f = not_from_Decides b h e in omega arith
 
 -- the text and its tokens, as the tests find them
 pub has_tokens : (source : List ℕ) (items placed : List Placed) → length source ≤ most_bytes → Lexes 0 (chars source) (tokens_of items) → placed ≡ items →
@@ -62,18 +67,6 @@ is_read source placed g h f s r = record {
   shallow = subst IsShallow (same_tokens placed) s;
   follows = subst (λ z. FollowsRules z g) (same_tokens placed) r;
 }
-
--- the byte of a token
-pub byte_there : (end : ℕ) (placed : List Placed) (i : ℕ) (p : Placed) → i < length placed → ((d : Placed) → p ≡ get_or placed i d) →
-    p.at ≡ byte_of end (tokens_of placed) i
-byte_there end [] i p l e = absurd (omega arith)
-byte_there end (q ∷ qs) zero p l e = ap (λ z. z.at) (e q)
-byte_there end (q ∷ qs) (suc i) p l e = byte_there end qs i p (omega arith) e
-
-pub byte_past : (end : ℕ) (placed : List Placed) (i : ℕ) → length placed ≤ i → end ≡ byte_of end (tokens_of placed) i
-byte_past end [] i l = refl
-byte_past end (q ∷ qs) zero l = absurd (omega arith)
-byte_past end (q ∷ qs) (suc i) l = byte_past end qs i (omega arith)
 
 pub exits_with : {X : Type 0} (source : List ℕ) (r : Result X ReadFault) (fault : TokenFault) → IsErrAnd r (λ y. y ≡ fault_of fault) →
     IsReadFault source (fault_of fault) → IfErr r (IsReadFault source)

@@ -7,7 +7,7 @@ use Rattle.ig_syntax.specs.Rules.{FollowsRules}
 use Rattle.ig_grammar.specs.declared.grammar.Grammar.{Grammar}
 use Rattle.ig_tokens.specs.Laws.{TokensAreSingle, NeverBoth}
 use Rattle.ig_rules.specs.Laws as rules
-use Rattle.ig_notation.specs.Limits.{NumbersFit, IsShallow}
+use Rattle.ig_limits.specs.Limits.{NumbersFit, IsShallow}
 use Rattle.ig_notation.specs.Outcome.{HasTokens, IsRead, too_many_bytes, no_token, large_number, deep, against_rules, no_memory, OneReading, ReadOrRefused, unplaced}
 
 same_tokens : TokensAreSingle → (source : List ℕ) (g : Grammar) (read : IsRead source g) (tokens : List (Token × ℕ)) → HasTokens source tokens →

@@ -11,7 +11,8 @@ use Rattle.ig_rules.specs.Machine.{Want, may_lack, all_may_lack, after, before, 
 use Rattle.ig_rules.specs.Reading.{Goes}
 use Rattle.ig_notation.specs.declared.fault.RuleFault.{RuleFault}
 use Rattle.ig_notation.specs.declared.fault.RuleFault.TheVariants.{Unexpected, Memory}
-use Rattle.ig_notation.specs.Readers.{meanings, IsPlace, Stands, Takes, Misses, at_end, at_token, MissesAt, EndsAt, StopsAt, Runs, Finds, Behind}
+use Rattle.ig_limits.specs.Limits.{meanings}
+use Rattle.ig_notation.specs.Readers.{IsPlace, Stands, Takes, Misses, at_end, at_token, MissesAt, EndsAt, StopsAt, Runs, Finds, Behind}
 
 -- the token of a number
 further : (t u : Token) (T : List Token) (i : ℕ) → drop i T ≡ t ∷ drop (i + 1) T → drop (suc i) (u ∷ T) ≡ t ∷ drop (suc i + 1) (u ∷ T)
@@ -321,11 +322,6 @@ then_sign R w t a T i j k v g h e =
     in_turn R ReadsToken (λ s r x. R s (t ∷ r) x) a (w ∷ []) [] T i j k v t v g (the_sign w t T j k h e)
     (λ s m r x y. subst (λ z. R s z v) y x)
 
--- the token of number i is t
-pub record IsAt (T : List Token) (i : ℕ) (t : Token) : Type 0 where
-  pub there : drop i T ≡ t ∷ drop (i + 1) T
-  pub within : i < length T
-
 -- what holds of each token holds of one that stands somewhere
 read_there : (T rest : List Token) (i : ℕ) (t : Token) → drop i T ≡ t ∷ rest → get_or T i t ≡ t
 read_there [] rest zero t e = absurd (cc)
@@ -333,10 +329,7 @@ read_there [] rest (suc i) t e = absurd (cc)
 read_there (u ∷ T) rest zero t e = cc
 read_there (u ∷ T) rest (suc i) t e = read_there T rest i t e
 
-pub one_there : (T : List Token) (i : ℕ) (t : Token) → IsAt T i t → get_or T i t ≡ t
-one_there T i t h = read_there T (drop (i + 1) T) i t h.there
-
-pub each_there : (P : Token → Type 0) (T : List Token) (i : ℕ) (t : Token) → All P T → IsAt T i t → P t
+pub each_there : (P : Token → Type 0) (T : List Token) (i : ℕ) (t : Token) → All P T → Stands T i t → P t
 each_there P T i t a h = subst P (read_there T (drop (i + 1) T) i t h.there) (a i t h.within)
 
 -- some token stands before the end
@@ -345,15 +338,12 @@ some_there [] i l = absurd (omega arith)
 some_there (t ∷ T) zero l = (t, refl)
 some_there (t ∷ T) (suc i) l = let h = some_there T i (omega arith) in (h.0, further h.0 t T i h.1)
 
--- there are as many meanings as tokens
+-- behind the last token
 behind_all : (placed : List Placed) (i : ℕ) → length placed ≤ i → drop i (meanings placed) ≡ []
 behind_all [] zero l = refl
 behind_all [] (suc i) l = refl
 behind_all (p ∷ placed) zero l = absurd (omega arith)
 behind_all (p ∷ placed) (suc i) l = behind_all placed i (omega arith)
-
-pub behind_meanings : (placed : List Placed) (i : ℕ) → length placed ≤ i → length (meanings placed) ≤ i
-behind_meanings placed i l = rw (length-map placed (λ p. token_of p.token)) l
 
 -- tokens as contracts see them
 pub seen : (placed : List Placed) (T : List Token) (i : ℕ) (p : Placed) → meanings placed ≡ T → i < length placed → IsPlace i →
@@ -365,16 +355,3 @@ seen_past placed T i e l = subst (λ z. drop i z ≡ []) e (behind_all placed i 
 
 pub as_many : (placed : List Placed) (T : List Token) → meanings placed ≡ T → length placed ≡ length T
 as_many placed T e = subst (λ z. length placed ≡ length z) e (sym (length-map placed (λ p. token_of p.token)))
-
--- a token that a loop reads
-read_any : (placed : List Placed) (i : ℕ) (d e : Placed) → i < length placed → get_or placed i d ≡ get_or placed i e
-read_any [] i d e l = absurd (omega arith)
-read_any (p ∷ placed) zero d e l = refl
-read_any (p ∷ placed) (suc i) d e l = read_any placed i d e (omega arith)
-
-pub stands_read : (placed : List Placed) (i : ℕ) (d : Placed) → i < length placed →
-    IsAt (meanings placed) i (token_of (get_or placed i d).token)
-stands_read placed i d l = record {
-  there = placed_there placed i (get_or placed i d) l (λ e. read_any placed i d e l);
-  within = within_meanings placed i l;
-}

@@ -1,5 +1,5 @@
 -- Which texts are read, and why others aren't.
-use Rattle.std.specs.Prelude.{◌≡◌, ◌≢◌, ℕ, zero, suc, ◌<◌, ◌≤◌, List, [], ◌∷◌, All, Contains, length, map, chars, IsUtf8}
+use Rattle.std.specs.Prelude.{◌≡◌, ◌≢◌, ℕ, suc, ◌<◌, ◌≤◌, List, All, Contains, length, map, chars, IsUtf8}
 use Rattle.ig_syntax.specs.Token.{Token}
 use Rattle.ig_syntax.specs.Rules.{FollowsRules}
 use Rattle.ig_syntax.specs.Lexing.{Lexes, Breaks}
@@ -13,7 +13,7 @@ use Rattle.ig_grammar.specs.declared.declaration.DeclKind.TheVariants.{Plain}
 use Rattle.ig_grammar.specs.declared.grammar.Grammar.{Grammar}
 use Rattle.ig_rules.specs.Laws.{AreOfGrammar}
 use Rattle.ig_rules.specs.Names.{HasNames}
-use Rattle.ig_notation.specs.Limits.{NumbersFit, IsShallow}
+use Rattle.ig_limits.specs.Limits.{NumbersFit, IsShallow, byte_of}
 use Rattle.ig_tokens.specs.declared.token.TokenFault.{TokenFault}
 use Rattle.ig_tokens.specs.declared.token.TokenFault.TheVariants.{Broken, Memory as OutOfMemory}
 use Rattle.ig_notation.specs.declared.fault.RuleFault.{RuleFault}
@@ -38,12 +38,6 @@ pub record IsRead (source : List ℕ) (g : Grammar) : Type 0 where
   pub numbers : NumbersFit (unplaced tokens)
   pub shallow : IsShallow (unplaced tokens)
   pub follows : FollowsRules (unplaced tokens) g
-
--- the first byte of the token of this number, or the end of the text where there is none
-abbrev pub byte_of : ℕ → List (Token × ℕ) → ℕ → ℕ
-byte_of end [] number = end
-byte_of end (p ∷ tokens) zero = p.1
-byte_of end (p ∷ tokens) (suc number) = byte_of end tokens number
 
 -- the fault of a text that isn't a sequence of tokens, and of one whose tokens don't follow the rules
 abbrev pub fault_of : TokenFault → ReadFault

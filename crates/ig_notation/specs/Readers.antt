@@ -14,8 +14,6 @@ use Rattle.ig_grammar.specs.declared.declaration.DeclKind.{DeclKind}
 use Rattle.ig_grammar.specs.declared.declaration.Param.{Param}
 use Rattle.ig_grammar.specs.declared.declaration.Level.{Level}
 use Rattle.ig_grammar.specs.declared.declaration.Decl.{Decl}
-use Rattle.ig_tokens.specs.View.{token_of}
-use Rattle.ig_tokens.specs.declared.token.Placed.{Placed}
 use Rattle.ig_rules.specs.Machine as want
 use Rattle.ig_rules.specs.Machine.{Want, after, run}
 use Rattle.ig_rules.specs.Reading.{Stopped}
@@ -32,10 +30,6 @@ use Rattle.ig_notation.specs.declared.symbols.Repetition.TheVariants as repetiti
 use Rattle.ig_notation.specs.declared.symbols.ListSign.{ListSign}
 use Rattle.ig_notation.specs.declared.symbols.ListSign.TheVariants as lists
 use Rattle.ig_grammar.specs.declared.filter.Filter.TheVariants as filters
-
--- what the tokens mean, without their places
-abbrev pub meanings : List Placed → List Token
-meanings placed = map (λ p. token_of p.token) placed
 
 -- a place in a list that the machine holds
 pub record IsPlace (i : ℕ) : Type 0 where

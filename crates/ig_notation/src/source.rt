@@ -1,16 +1,16 @@
 //! Reading a grammar text.
 
-ghost use Rattle.std.specs.Prelude.{◌≡◌, ◌≤◌, ◌<◌, ◌↔◌, IsTrue, IfOk, IfErr, length};
+ghost use Rattle.std.specs.Prelude.{◌≡◌, ◌≤◌, IfOk, IfErr, length};
 ghost use Rattle.ig_syntax.specs.Notation.{most_bytes};
 ghost use Rattle.ig_tokens.specs.View.{tokens_of};
-ghost use Rattle.ig_notation.specs.Outcome.{IsRead, IsReadFault, byte_of, refusal_of};
+ghost use Rattle.ig_notation.specs.Outcome.{IsRead, IsReadFault, refusal_of};
 
 use crate::declarations::read_grammar;
 use crate::fault::{Large, ReadFault, RuleFault};
-use crate::limits::{is_shallow, numbers_fit};
 use crate::tokens::Tokens;
 use ig_grammar::Grammar;
-use ig_tokens::{MOST_BYTES, Placed, tokenize};
+use ig_limits::{byte_of, is_shallow, is_too_long, numbers_fit};
+use ig_tokens::{Placed, tokenize};
 use std::alloc::Global;
 
 /// The grammar that a text reads as. The first test that fails decides: more than 262,144 bytes are
@@ -48,13 +48,6 @@ pub fn read(alloc: Global, source: &str) -> Result<Grammar, ReadFault>
     }
 }
 
-/// Whether the text has more than 262,144 bytes.
-fn is_too_long(source: &str) -> bool
-    ensures { IsTrue result ↔ (most_bytes < length source.now) }
-{
-    source.len() > MOST_BYTES
-}
-
 /// The fault of the text, of which the tokens are at fault by the rules.
 fn refusal(tokens: &[Placed], fault: RuleFault, source: &str) -> ReadFault
     requires { length source.now ≤ most_bytes }
@@ -65,16 +58,5 @@ fn refusal(tokens: &[Placed], fault: RuleFault, source: &str) -> ReadFault
             at: byte_of(tokens, token, source),
         },
         RuleFault::Memory => ReadFault::Memory,
-    }
-}
-
-/// The first byte of the token of that number, or the length of the text where there is none.
-fn byte_of(tokens: &[Placed], number: usize, source: &str) -> u32
-    requires { length source.now ≤ most_bytes }
-    ensures { result ≡ byte_of (length source.now) (tokens_of tokens.now) number }
-{
-    match tokens.get(number) {
-        Some(placed) => placed.at,
-        None => source.len() as u32,
     }
 }

@@ -2,8 +2,8 @@
 
 ghost use Rattle.std.specs.Prelude.{◌≡◌, [], drop, length, IfOk, IfErr, MatchOption};
 ghost use Rattle.ig_tokens.specs.View.{token_of};
-ghost use Rattle.ig_notation.specs.Limits.{NumbersFit};
-ghost use Rattle.ig_notation.specs.Readers.{meanings, Stands, EndsAt};
+ghost use Rattle.ig_limits.specs.Limits.{NumbersFit, meanings};
+ghost use Rattle.ig_notation.specs.Readers.{Stands, EndsAt};
 
 use crate::fault::RuleFault;
 use ig_tokens::{Placed, Token};
@@ -19,8 +19,7 @@ pub(crate) struct Tokens<'a> {
 impl<'a> Model for Tokens<'a> {
     ghost use Rattle.std.specs.Prelude.{◌^◌, ◌<◌, List, length};
     ghost use Rattle.ig_syntax.specs.Token.{Token};
-    ghost use Rattle.ig_notation.specs.Limits.{NumbersFit};
-    ghost use Rattle.ig_notation.specs.Readers.{meanings};
+    ghost use Rattle.ig_limits.specs.Limits.{NumbersFit, meanings};
 
     ghost Value = { List Token };
 

@@ -1,5 +1,5 @@
 use Rattle.std.proofs.Common.{subst}
-use Rattle.ig_notation.specs.Limits.{NumbersFit}
+use Rattle.ig_limits.specs.Limits.{NumbersFit}
 use Rattle.ig_notation.proofs.tokens.Tokens.numbers_fit.Goals as goal
 
 pub returns : goal.returns

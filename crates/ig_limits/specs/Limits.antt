@@ -1,6 +1,18 @@
--- The limits that the tokens of a grammar text keep.
-use Rattle.std.specs.Prelude.{◌≡◌, ℕ, ◌+◌, ◌-◌, ◌^◌, ◌<◌, ◌≤◌, List, [], ◌∷◌, ◌++◌, All}
+-- The limits that the bytes and the tokens of a grammar text keep, and the byte at which a token stands.
+use Rattle.std.specs.Prelude.{◌≡◌, ℕ, zero, suc, ◌+◌, ◌-◌, ◌^◌, ◌<◌, ◌≤◌, List, [], ◌∷◌, ◌++◌, All, map}
 use Rattle.ig_syntax.specs.Token.{Token, Head, Number, Open, Close, OpenBrace, CloseBrace}
+use Rattle.ig_tokens.specs.View.{token_of}
+use Rattle.ig_tokens.specs.declared.token.Placed.{Placed}
+
+-- what the tokens mean, without their places
+abbrev pub meanings : List Placed → List Token
+meanings placed = map (λ p. token_of p.token) placed
+
+-- the first byte of the token of this number, or the end of the text where there is none
+abbrev pub byte_of : ℕ → List (Token × ℕ) → ℕ → ℕ
+byte_of end [] number = end
+byte_of end (p ∷ tokens) zero = p.1
+byte_of end (p ∷ tokens) (suc number) = byte_of end tokens number
 
 -- each number is below this one
 abbrev pub number_bound : ℕ

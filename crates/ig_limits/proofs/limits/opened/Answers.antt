@@ -1,7 +1,7 @@
 use Rattle.std.proofs.Common.{sym, ap, ◌∙◌}
 use Rattle.ig_tokens.specs.View.{token_of}
-use Rattle.ig_notation.specs.Limits.{opened}
-use Rattle.ig_notation.proofs.limits.opened.Goals as goal
+use Rattle.ig_limits.specs.Limits.{opened}
+use Rattle.ig_limits.proofs.limits.opened.Goals as goal
 
 pub returns-in-Close : goal.returns-in-Close
 returns-in-Close c = c.saturating_sub.ensures ∙ ap (λ t. opened c.args.before (token_of t)) (sym c.in-Close.is)

@@ -2,8 +2,8 @@
 
 ghost use Rattle.std.specs.Prelude.{◌≡◌, ◌≤◌, ◌↔◌, IsTrue};
 ghost use Rattle.ig_tokens.specs.View.{token_of};
-ghost use Rattle.ig_notation.specs.Limits.{NumberFits, NumbersFit, IsShallow, most_open, opened};
-ghost use Rattle.ig_notation.specs.Readers.{meanings};
+ghost use Rattle.ig_limits.specs.Limits.{NumberFits, NumbersFit, IsShallow, meanings};
+ghost use Rattle.ig_limits.specs.Limits.{most_open, opened};
 
 use ig_tokens::{Placed, Token, number_of};
 
@@ -11,7 +11,7 @@ use ig_tokens::{Placed, Token, number_of};
 const MOST_OPEN: usize = 64;
 
 /// Whether each number is at most 9,223,372,036,854,775,807.
-pub(crate) fn numbers_fit(tokens: &[Placed]) -> bool
+pub fn numbers_fit(tokens: &[Placed]) -> bool
     ensures { IsTrue result ↔ NumbersFit (meanings tokens.now) }
 {
     for placed in tokens {
@@ -37,7 +37,7 @@ fn number_fits(token: Token) -> bool
 
 /// Whether at most 64 brackets are open at each place: a head, `(` and `{` open one, `)` and `}`
 /// close one, where one is open.
-pub(crate) fn is_shallow(tokens: &[Placed]) -> bool
+pub fn is_shallow(tokens: &[Placed]) -> bool
     ensures { IsTrue result ↔ IsShallow (meanings tokens.now) }
 {
     let mut open = 0;
