@@ -9,3 +9,4 @@ pub mod Ruling
 pub mod Linking
 pub mod Answering
 pub mod Endless
+pub mod Firing
