@@ -10,8 +10,8 @@ use Rattle.ig_item.specs.Step.{Step}
 use Rattle.ig_item.specs.declared.core_grammar.Nonterminal.{Nonterminal}
 use Rattle.ig_item.specs.declared.core_grammar.CoreAlt.{CoreAlt}
 use Rattle.ig_item.specs.Limits.{most_dots}
-use Rattle.ig_core.specs.Steps.{steps_of}
-use Rattle.ig_core.specs.CoreOf.{shaped, unrooted, alternative_of, alternatives_of, nonterminal_of, nonterminals_of}
+use Rattle.ig_core_laws.specs.Steps.{steps_of}
+use Rattle.ig_core_laws.specs.CoreOf.{shaped, unrooted, alternative_of, alternatives_of, nonterminal_of, nonterminals_of}
 use Rattle.ig_rewrite.specs.Rooted.{is_root}
 
 -- the rest of a list, as its first member and what is behind that
@@ -26,7 +26,7 @@ module _ (number : List ℕ → ℕ) where
       let next : m ≡ suc k + length xs = omega (arith, e) in
       ap (λ (z : List CoreAlt). alternative_of number s n k x ∷ z) (alts_split s n (suc k) m xs ys next)
 
-  pub alts_length : (s : Shape) (n k : ℕ) (alts : List Alt) → length (alternatives_of number s n k alts) ≡ length alts
+  alts_length : (s : Shape) (n k : ℕ) (alts : List Alt) → length (alternatives_of number s n k alts) ≡ length alts
   alts_length s n k [] = refl
   alts_length s n k (alt ∷ alts) = ap suc (alts_length s n (suc k) alts)
 

@@ -12,9 +12,9 @@ use Rattle.ig_blocks_laws.specs.Laws.{PlainIsUnmarked}
 use Rattle.ig_lexical_laws.specs.Layout.{LayoutOf}
 use Rattle.ig_lexical_laws.specs.Filters.{FiltersOf}
 use Rattle.ig_ebnf_laws.specs.Lists.{ListsOf, HasFewLists}
-use Rattle.ig_core.specs.CoreOf.{core_of}
-use Rattle.ig_core.specs.Laws.{ArePassed}
-use Rattle.ig_core.specs.Lowered.{BeforeLists, Lowered, CoreOf, IsNumbered}
+use Rattle.ig_core_laws.specs.CoreOf.{core_of}
+use Rattle.ig_core_laws.specs.Laws.{ArePassed}
+use Rattle.ig_core_laws.specs.Lowered.{BeforeLists, Lowered, CoreOf, IsNumbered}
 
 pub record AtLevels (x : CheckedGrammar) : Type 0 where
   pub sound : IsSound x

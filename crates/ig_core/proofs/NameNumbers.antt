@@ -17,9 +17,8 @@ use Rattle.std.proofs.lemmas.Option.{slice_get_read}
 use Rattle.ig_grammar.specs.Names.{names, AreDistinct}
 use Rattle.ig_grammar.specs.declared.declaration.Decl.{Decl}
 use Rattle.ig_grammar.specs.declared.place.Shape.{Shape}
-use Rattle.ig_core.proofs.Places.{origin}
 use Rattle.ig_core.proofs.Building.{row_added, row_passed, count_more, count_same}
-use Rattle.ig_core.specs.CoreOf.{Shaped, shaped, unrooted, place, number_in}
+use Rattle.ig_core_laws.specs.CoreOf.{Shaped, shaped, unrooted, place, number_in}
 use Rattle.ig_rewrite.specs.Rooted.{is_root}
 use Rattle.ig_core.specs.Tables.{lookup, given, number_by, found_from, Numbers}
 
@@ -99,31 +98,30 @@ numbers_push m t all x bytes w h e b v u =
         y ∙ h name ∙ sym (other_name all x name (λ p.
         let z : bytes_eq bytes (encode_utf8_all name) ≡ true = (bytes_eq-Decides bytes (encode_utf8_all name)).1 (b ∙ ap encode_utf8_all p) in cc))
 
--- where it is found, it is the name of one of them
-among : (n : ℕ) (all : List Shaped) (name : List ℕ) (k : ℕ) → found_from n all name ≡ Some k → (m : ℕ) × (x : Shaped) × (slice_get all m ≡ Some x) × (x.decl.name ≡ name)
-among n [] name k e = cc
-among n (y ∷ all) name k e = go (is_word y.decl.name name) refl (λ h. among (suc n) all name k h)
+-- a name of none of the declarations isn't found
+absent : (n : ℕ) (decls : List Decl) (shapes : List Shape) (name : List ℕ) →
+    ((k : ℕ) (d : Decl) → slice_get decls k ≡ Some d → d.name ≡ name → ⊥) → found_from n (unrooted decls shapes) name ≡ None
+absent n [] shapes name none = refl
+absent n (d ∷ decls) [] name none = refl
+absent n (d ∷ decls) (s ∷ shapes) name none =
+    go (is_root s) (is_word d.name name) refl (λ m. absent m decls shapes name (λ k x at. none (suc k) x at))
   where
-    go : (b : Bool) → is_word y.decl.name name ≡ b →
-        (found_from (suc n) all name ≡ Some k → (m : ℕ) × (x : Shaped) × (slice_get all m ≡ Some x) × (x.decl.name ≡ name)) →
-        (m : ℕ) × (x : Shaped) × (slice_get (y ∷ all) m ≡ Some x) × (x.decl.name ≡ name)
-    go true is others = (0, y, refl, (bytes_decides y.decl.name name).0 is)
-    go false is others = let h = others (let f : found_from (suc n) all name ≡ Some k = rw is at e in f) in (suc h.0, h.1, h.2, h.3)
+    go : (b w : Bool) → is_word d.name name ≡ w → ((m : ℕ) → found_from m (unrooted decls shapes) name ≡ None) →
+        found_from n (if b then unrooted decls shapes else shaped d s ∷ unrooted decls shapes) name ≡ None
+    go true w is others = others n
+    go false true is others = absurd (none 0 d refl ((bytes_decides d.name name).0 is))
+    go false false is others = ap (λ (w : Bool). if w then Some n else found_from (suc n) (unrooted decls shapes) name) is ∙ others (suc n)
 
 pub fresh : (decls : List Decl) (shapes : List Shape) (i : ℕ) (decl : Decl) → AreDistinct (names decls) → i < length decls → decl ≡ get_or decls i decl →
     found_from 1 (unrooted (take i decls) (take i shapes)) decl.name ≡ None
-fresh decls shapes i decl distinct within read = go (found_from 1 (unrooted (take i decls) (take i shapes)) decl.name) refl
-  where
-    go : (o : Option ℕ) → found_from 1 (unrooted (take i decls) (take i shapes)) decl.name ≡ o → o ≡ None
-    go None e = refl
-    go (Some k) e =
-        let h = among 1 (unrooted (take i decls) (take i shapes)) decl.name k e in
-        let o = origin (take i decls) (take i shapes) h.0 h.1 h.2 in
-        let w = within_take decls i o.k h.1.decl o.decl_at in
-        let here : slice_get decls i ≡ Some decl = slice_get_read decls (length decls) i decl refl within read in
-        let same = distinct o.k i decl.name (mapped_at (λ (z : Decl). z.name) decls o.k h.1.decl w.1 ∙ ap Some h.3) (mapped_at (λ (z : Decl). z.name) decls i decl here) in
-        let less = w.0 in
-        absurd (omega (arith, same, less))
+fresh decls shapes i decl distinct within read =
+    absent 1 (take i decls) (take i shapes) decl.name
+    (λ k d at same.
+    let w = within_take decls i k d at in
+    let here : slice_get decls i ≡ Some decl = slice_get_read decls (length decls) i decl refl within read in
+    let one = distinct k i decl.name (mapped_at (λ (z : Decl). z.name) decls k d w.1 ∙ ap Some same) (mapped_at (λ (z : Decl). z.name) decls i decl here) in
+    let less = w.0 in
+    absurd (omega (arith, one, less)))
 
 -- a table without entries has no names
 pub numbers_begin : (m : BTreeMap (Bor (List ℕ)) ℕ) → m.entries ≡ [] → Numbers m []

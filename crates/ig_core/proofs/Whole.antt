@@ -1,6 +1,6 @@
 -- The whole core grammar, put together.
 use Rattle.std.proofs.Common.{◌≡◌, ℕ, zero, suc, ◌+◌, ◌<◌, ◌≤◌, List, [], ◌∷◌, ◌++◌, length, refl, sym, ap, ap₂, ◌∙◌, arith, Option, Some, None, subst, Contains}
-use Rattle.std.specs.Prelude.{slice_get, sum_by, ◌≢◌}
+use Rattle.std.specs.Prelude.{slice_get, sum_by}
 use Rattle.std.proofs.Math.Path.{fun_ext}
 use Rattle.std.proofs.lemmas.List.Sums.{sum_by-cons}
 use Rattle.std.specs.BTreeMap.{BTreeMap}
@@ -18,17 +18,18 @@ use Rattle.ig_item.specs.Core.{dots, dots_of_nonterminal, dots_of_alternative}
 use Rattle.ig_item.specs.declared.core_grammar.Nonterminal.{Nonterminal}
 use Rattle.ig_item.specs.declared.core_grammar.CoreAlt.{CoreAlt}
 use Rattle.ig_core.specs.Tables.{number_by, Numbers}
-use Rattle.ig_core.specs.CoreOf.{Shaped, shaped, unrooted, number_of, nonterminal_of, nonterminals_of, alternative_of, alternatives_of, core_of, root_of, root_among, written_root, start_symbols, call_of}
+use Rattle.ig_core_laws.specs.CoreOf.{Shaped, shaped, unrooted, number_of, nonterminal_of, nonterminals_of, alternative_of, alternatives_of, core_of, root_of, root_among, written_root, start_symbols, call_of}
 use Rattle.ig_rewrite.specs.Rooted.{is_root}
-use Rattle.ig_core.specs.Steps.{step_of, steps_of}
+use Rattle.ig_core_laws.specs.Steps.{step_of, steps_of}
 use Rattle.std.specs.Prelude.{if◌then◌else◌, MatchOption, is_some}
 use Rattle.std.specs.Bool.{Decides}
-use Rattle.std.proofs.Common.{Bool, true, false, drop, get_or}
+use Rattle.std.proofs.Common.{Bool, true, false, drop, get_or, take}
 use Rattle.std.proofs.lemmas.List.{length-map, drop_more}
 use Rattle.std.proofs.lemmas.List.Sums.{sum_by-append}
+use Rattle.std.proofs.lemmas.Option.{same_Some}
 use Rattle.ig_grammar.specs.declared.declaration.Level.{Level}
 use Rattle.ig_core.specs.Dots.{alt_dots, level_dots, decl_dots, row_dots, row}
-use Rattle.ig_core.proofs.Building.{rest_is}
+use Rattle.ig_core.proofs.Building.{more_taken, rest_is}
 use Rattle.ig_item.specs.Step.{Step}
 use Rattle.ig_item.specs.Limits.{most_dots}
 use Rattle.ig_expr.specs.declared.kind.Kind.{Kind}
@@ -37,10 +38,7 @@ use Rattle.ig_text.proofs.Lists.{at_from_contains}
 use Rattle.ig_text.proofs.Pairwise.{beside}
 use Rattle.std.specs.Prelude.{codes}
 use Rattle.std.specs.Option.{unwrap_or}
-use Rattle.ig_core.proofs.Building.{alts_length}
 use Rattle.ig_core.proofs.NameNumbers.{number_is}
-use Rattle.ig_core.proofs.Places.{kept, nonterminal_at}
-use Rattle.ig_core.proofs.WellKinded.{unrooted_few}
 
 -- the table is the numbering
 pub numbering : (g : Grammar) (shapes : List Shape) (table : BTreeMap (Bor (List ℕ)) ℕ) (past : ℕ) → Numbers table (unrooted g.decls shapes) →
@@ -59,57 +57,6 @@ pub core_is : (g : Grammar) (shapes : List Shape) (number : List ℕ → ℕ) (r
 core_is g shapes number root whole same first all =
     all ∙ ap (λ z. z ∷ nonterminals_of number 1 (unrooted g.decls shapes)) first ∙
     ap (λ n. nonterminal_of n 0 (shaped (root_of g shapes) Root) ∷ nonterminals_of n 1 (unrooted g.decls shapes)) same
-
-within : {X : Type 0} (f : X → ℕ) (xs : List X) (n : ℕ) (x : X) → slice_get xs n ≡ Some x → f x ≤ sum_by f xs
-within f [] n x e = cc
-within f (y ∷ ys) zero x e =
-    let same : f y ≡ f x = cc in
-    let j : sum_by f (y ∷ ys) ≡ f y + sum_by f ys = sum_by-cons f y ys in
-    omega (arith, same, j)
-within f (y ∷ ys) (suc n) x e =
-    let i : f x ≤ sum_by f ys = within f ys n x e in
-    let j : sum_by f (y ∷ ys) ≡ f y + sum_by f ys = sum_by-cons f y ys in
-    omega (arith, i, j)
-
-alts_within : (alts : List CoreAlt) → length alts ≤ sum_by dots_of_alternative alts
-alts_within [] = omega arith
-alts_within (alt ∷ alts) =
-    let i : length alts ≤ sum_by dots_of_alternative alts = alts_within alts in
-    let j : sum_by dots_of_alternative (alt ∷ alts) ≡ length alt.steps + 1 + sum_by dots_of_alternative alts = sum_by-cons dots_of_alternative alt alts in
-    omega (arith, i, j)
-
-few_in : (core : List Nonterminal) (n : ℕ) (number : List ℕ → ℕ) (m : ℕ) (x : Shaped) → slice_get core n ≡ Some (nonterminal_of number m x) → dots core ≤ most_dots →
-    length (alternatives x.decl.levels) ≤ most_dots
-few_in core n number m x at few =
-    let a : dots_of_nonterminal (nonterminal_of number m x) ≤ dots core = within dots_of_nonterminal core n (nonterminal_of number m x) at in
-    let b : length (alternatives_of number x.shape m 1 (alternatives x.decl.levels)) ≤ dots_of_nonterminal (nonterminal_of number m x) =
-    alts_within (alternatives_of number x.shape m 1 (alternatives x.decl.levels)) in
-    let e : length (alternatives_of number x.shape m 1 (alternatives x.decl.levels)) ≡ length (alternatives x.decl.levels) =
-    alts_length number x.shape m 1 (alternatives x.decl.levels) in
-    omega (arith, a, b, e, few)
-
-pub few_root : (g : Grammar) (shapes : List Shape) → dots (core_of g shapes) ≤ most_dots → length (alternatives (root_of g shapes).levels) ≤ most_dots
-few_root g shapes few = few_in (core_of g shapes) 0 (number_of g shapes) 0 (shaped (root_of g shapes) Root) refl few
-
-pub few_each : (g : Grammar) (shapes : List Shape) → FitShapes g shapes → dots (core_of g shapes) ≤ most_dots → (decl : Decl) → Contains g.decls decl →
-    length (alternatives decl.levels) ≤ most_dots
-few_each g shapes fit few decl among =
-    let at = at_from_contains g.decls decl among in
-    let shape = beside g.decls shapes at.0 decl fit.counted at.1 in
-    go at.0 at.1 shape.0 shape.1
-  where
-    other : (k : ℕ) → slice_get g.decls k ≡ Some decl → (s : Shape) → slice_get shapes k ≡ Some s → s ≢ Root → length (alternatives decl.levels) ≤ most_dots
-    other k e s f differs =
-        let one = kept g.decls shapes k decl s e f differs in
-        few_in (core_of g shapes) (suc one.m) (number_of g shapes) (suc one.m) (shaped decl s)
-        (nonterminal_at (number_of g shapes) (unrooted g.decls shapes) one.m (shaped decl s) one.at) few
-
-    go : (k : ℕ) → slice_get g.decls k ≡ Some decl → (s : Shape) → slice_get shapes k ≡ Some s → length (alternatives decl.levels) ≤ most_dots
-    go k e Root f = let one : length (alternatives decl.levels) ≡ 1 = (fit.each k decl Root e f).count in omega (arith, one)
-    go k e s f = other k e s f (λ h. cc)
-
-pub few_names : (decls : List Decl) (shapes : List Shape) → length (unrooted decls shapes) ≤ length decls
-few_names decls shapes = unrooted_few decls shapes
 
 pub made_is : (number : List ℕ → ℕ) (g : Grammar) (name : List ℕ) (params : List (List ℕ)) (kinds : List Kind) (steps : List Step) (a b alts : List CoreAlt) →
     layout_among g.decls ≡ None → name ≡ codes "$root" → params ≡ [] → kinds ≡ [] → steps ≡ steps_of number (call_of g.start) →
@@ -171,6 +118,77 @@ pub dots_are : (g : Grammar) (shapes : List Shape) → dots (core_of g shapes) �
 dots_are g shapes =
     dots_of_rows (number_of g shapes) 0 (shaped (root_of g shapes) Root ∷ unrooted g.decls shapes) ∙
     sum_by-cons row_dots (shaped (root_of g shapes) Root) (unrooted g.decls shapes)
+
+-- a declaration has no more alternatives than dots
+alts_within : (alts : List Alt) → length alts ≤ sum_by alt_dots alts
+alts_within [] = omega arith
+alts_within (alt ∷ alts) =
+    let i : length alts ≤ sum_by alt_dots alts = alts_within alts in
+    let j : sum_by alt_dots (alt ∷ alts) ≡ length alt.symbols + 1 + sum_by alt_dots alts = sum_by-cons alt_dots alt alts in
+    omega (arith, i, j)
+
+few_by : (decl : Decl) → length (alternatives decl.levels) ≤ decl_dots decl
+few_by decl =
+    let a : length (alternatives decl.levels) ≤ sum_by alt_dots (alternatives decl.levels) = alts_within (alternatives decl.levels) in
+    let b : sum_by alt_dots (alternatives decl.levels) ≡ decl_dots decl = dots_by_level decl.levels in
+    omega (arith, a, b)
+
+-- and one that doesn't stand for the root has no more dots than all of them
+row_within : (decls : List Decl) (shapes : List Shape) (k : ℕ) (decl : Decl) (s : Shape) → slice_get decls k ≡ Some decl → slice_get shapes k ≡ Some s →
+    is_root s ≡ false → decl_dots decl ≤ sum_by row_dots (unrooted decls shapes)
+row_within [] shapes k decl s e f other = cc
+row_within (d ∷ decls) [] k decl s e f other = cc
+row_within (d ∷ decls) (t ∷ shapes) zero decl s e f other = go (is_root t) (ap is_root (same_Some t s f) ∙ other)
+  where
+    go : (b : Bool) → b ≡ false → decl_dots decl ≤ sum_by row_dots (if b then unrooted decls shapes else shaped d t ∷ unrooted decls shapes)
+    go true is = cc
+    go false is =
+        let same : decl_dots d ≡ decl_dots decl = ap decl_dots (same_Some d decl e) in
+        let j : sum_by row_dots (shaped d t ∷ unrooted decls shapes) ≡ decl_dots d + sum_by row_dots (unrooted decls shapes) =
+        sum_by-cons row_dots (shaped d t) (unrooted decls shapes) in
+        omega (arith, same, j)
+row_within (d ∷ decls) (t ∷ shapes) (suc k) decl s e f other = go (is_root t) (row_within decls shapes k decl s e f other)
+  where
+    go : (b : Bool) → decl_dots decl ≤ sum_by row_dots (unrooted decls shapes) →
+        decl_dots decl ≤ sum_by row_dots (if b then unrooted decls shapes else shaped d t ∷ unrooted decls shapes)
+    go true h = h
+    go false h =
+        let j : sum_by row_dots (shaped d t ∷ unrooted decls shapes) ≡ decl_dots d + sum_by row_dots (unrooted decls shapes) =
+        sum_by-cons row_dots (shaped d t) (unrooted decls shapes) in
+        omega (arith, h, j)
+
+pub few_root : (g : Grammar) (shapes : List Shape) → dots (core_of g shapes) ≤ most_dots → length (alternatives (root_of g shapes).levels) ≤ most_dots
+few_root g shapes few =
+    let a = few_by (root_of g shapes) in
+    let e = dots_are g shapes in
+    omega (arith, a, e, few)
+
+pub few_each : (g : Grammar) (shapes : List Shape) → FitShapes g shapes → dots (core_of g shapes) ≤ most_dots → (decl : Decl) → Contains g.decls decl →
+    length (alternatives decl.levels) ≤ most_dots
+few_each g shapes fit few decl among =
+    let at = at_from_contains g.decls decl among in
+    let shape = beside g.decls shapes at.0 decl fit.counted at.1 in
+    go at.0 at.1 shape.0 shape.1
+  where
+    other : (k : ℕ) → slice_get g.decls k ≡ Some decl → (s : Shape) → slice_get shapes k ≡ Some s → is_root s ≡ false → length (alternatives decl.levels) ≤ most_dots
+    other k e s f differs =
+        let a = few_by decl in
+        let b = row_within g.decls shapes k decl s e f differs in
+        let all = dots_are g shapes in
+        omega (arith, a, b, all, few)
+
+    go : (k : ℕ) → slice_get g.decls k ≡ Some decl → (s : Shape) → slice_get shapes k ≡ Some s → length (alternatives decl.levels) ≤ most_dots
+    go k e Root f = let one : length (alternatives decl.levels) ≡ 1 = (fit.each k decl Root e f).count in omega (arith, one)
+    go k e s f = other k e s f refl
+
+-- one alternative more
+pub dots_more : (alts : List Alt) (i : ℕ) (alt : Alt) (before dots symbols : ℕ) → i < length alts → alt ≡ get_or alts i alt →
+    dots ≡ before + sum_by alt_dots (take i alts) → symbols ≡ length alt.symbols → dots + (symbols + 1) ≡ before + sum_by alt_dots (take (i + 1) alts)
+dots_more alts i alt before dots symbols within read have is =
+    let a = ap (sum_by alt_dots) (more_taken alts i alt alt within read) in
+    let b = sum_by-append alt_dots (take i alts) (alt ∷ []) in
+    let e : sum_by alt_dots (alt ∷ []) ≡ 0 + (length alt.symbols + 1) = refl in
+    omega (arith, a, b, e, have, is)
 
 left : (decls : List Decl) (shapes : List Shape) (i : ℕ) (decl : Decl) (r : Shape) → length shapes ≡ length decls → i < length decls →
     decl ≡ get_or decls i decl →

@@ -1,9 +1,2 @@
-pub mod Limits
-pub mod Steps
-pub mod CoreOf
-pub mod Ready
-pub mod Lowered
-pub mod Notation
 pub mod Tables
 pub mod Dots
-pub mod Laws

@@ -3,10 +3,10 @@ ghost use Rattle.std.specs.Prelude.{◌≡◌, IfOk};
 ghost use Rattle.ig_rewrite.specs.Sound.{IsSound, IsFree, IsUnmarked};
 ghost use Rattle.ig_lexical_laws.specs.Layout.{LayoutOf};
 ghost use Rattle.ig_lexical_laws.specs.Filters.{FiltersOf};
-ghost use Rattle.ig_core.specs.Lowered.{IsBuildable, IsNumbered, Lowered};
+ghost use Rattle.ig_core_laws.specs.Lowered.{IsBuildable, IsNumbered, Lowered};
 
-use crate::laws::passes_in_turn;
 use ig_blocks::lower_blocks;
+use ig_core_laws::passes_in_turn;
 use ig_ebnf::lower_ebnf;
 use ig_grammar::Checked;
 use ig_levels::lower_levels;

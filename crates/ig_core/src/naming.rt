@@ -1,8 +1,8 @@
 //! The numbers of nonterminals.
-ghost use Rattle.std.specs.Prelude.{◌≡◌, ◌<◌, length, IfOk};
+ghost use Rattle.std.specs.Prelude.{◌≡◌, ◌<◌, ◌≤◌, length, IfOk};
 ghost use Rattle.ig_grammar.specs.Names.{AreDistinct, names};
-ghost use Rattle.ig_core.specs.CoreOf.{unrooted};
-ghost use Rattle.ig_core.specs.Limits.{most_declarations};
+ghost use Rattle.ig_core_laws.specs.CoreOf.{unrooted};
+ghost use Rattle.ig_core_laws.specs.Limits.{most_declarations};
 ghost use Rattle.ig_core.specs.Tables.{Numbers};
 
 use crate::roots::is_root;
@@ -36,7 +36,8 @@ pub(crate) fn number_names<'a>(
 pub(crate) fn count(decls: &[Decl], checked: &Checked) -> u32
     requires beside { length checked.now.shapes ≡ length decls.now }
     requires few { length decls.now < most_declarations }
-    ensures { result ≡ length (unrooted decls.now checked.now.shapes) }
+    ensures counted { result ≡ length (unrooted decls.now checked.now.shapes) }
+    ensures few { result ≤ length decls.now }
 {
     let mut number = 0;
     for (index, _) in decls.iter().enumerate() {

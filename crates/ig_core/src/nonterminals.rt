@@ -4,9 +4,9 @@ ghost use Rattle.ig_grammar.specs.Numbering.{alternatives, tag_of, tag_among};
 ghost use Rattle.ig_grammar.specs.declared.declaration.Decl.{Decl};
 ghost use Rattle.ig_grammar.specs.declared.place.Shape.TheVariants.{Rule};
 ghost use Rattle.ig_item.specs.Limits.{most_dots};
-ghost use Rattle.ig_core.specs.CoreOf.{alternatives_of, nonterminal_of, nonterminals_of};
-ghost use Rattle.ig_core.specs.CoreOf.{shaped, unrooted};
-ghost use Rattle.ig_core.specs.Limits.{most_declarations};
+ghost use Rattle.ig_core_laws.specs.CoreOf.{alternatives_of, nonterminal_of, nonterminals_of};
+ghost use Rattle.ig_core_laws.specs.CoreOf.{shaped, unrooted};
+ghost use Rattle.ig_core_laws.specs.Limits.{most_declarations};
 ghost use Rattle.ig_core.specs.Tables.{number_by};
 
 use crate::roots::is_root;

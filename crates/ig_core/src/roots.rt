@@ -4,10 +4,10 @@ ghost use Rattle.std.specs.Option.{option_copied};
 ghost use Rattle.ig_grammar.specs.Numbering.{alternatives, layout_among};
 ghost use Rattle.ig_grammar.specs.declared.place.Shape.TheVariants.{Root, Rule};
 ghost use Rattle.ig_item.specs.Limits.{most_dots};
-ghost use Rattle.ig_core.specs.CoreOf.{root_among, root_of, written_root, call_of};
+ghost use Rattle.ig_core_laws.specs.CoreOf.{root_among, root_of, written_root, call_of};
 ghost use Rattle.ig_rewrite.specs.Rooted.{is_root};
-ghost use Rattle.ig_core.specs.CoreOf.{nonterminal_of, shaped};
-ghost use Rattle.ig_core.specs.Steps.{steps_of};
+ghost use Rattle.ig_core_laws.specs.CoreOf.{nonterminal_of, shaped};
+ghost use Rattle.ig_core_laws.specs.Steps.{steps_of};
 ghost use Rattle.ig_core.specs.Tables.{number_by};
 
 use crate::nonterminals::build_nonterminal;

@@ -8,7 +8,7 @@ ghost use Rattle.ig_text.specs.declared.pattern.Pattern.TheVariants as pattern;
 ghost use Rattle.ig_item.specs.View.{step_of};
 ghost use Rattle.ig_rewrite.specs.Remaining.{label_of, unlabelled, unfiltered};
 ghost use Rattle.ig_rewrite.specs.Remaining.{excluded_of, exclusions};
-ghost use Rattle.ig_core.specs.Steps as steps;
+ghost use Rattle.ig_core_laws.specs.Steps as steps;
 ghost use Rattle.ig_core.specs.Tables.{lookup, number_by};
 
 use ig_expr::{Expr, Exprs};

@@ -2,8 +2,8 @@
 use Rattle.std.proofs.Common.{◌≤◌, lit≤}
 use Rattle.ig_item.specs.Core.{dots}
 use Rattle.ig_item.specs.Limits.{most_dots}
-use Rattle.ig_core.specs.Lowered.{CoreOf, Lowered, BeforeLists}
-use Rattle.ig_core.specs.Notation.{unchanged}
+use Rattle.ig_core_laws.specs.Lowered.{CoreOf, Lowered, BeforeLists}
+use Rattle.ig_core_laws.specs.Notation.{unchanged}
 use Rattle.ig_load.specs.Grammar.{LoadGrammar}
 
 pub few_dots : dots (CoreOf (unchanged LoadGrammar)) ≤ most_dots

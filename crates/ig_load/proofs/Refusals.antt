@@ -3,7 +3,7 @@ use Rattle.std.proofs.Common.{◌≡◌, ap, sym, ◌∙◌, subst}
 use Rattle.ig_grammar.specs.Checked.{CheckedGrammar, rules}
 use Rattle.ig_grammar.specs.WellScoped.{IsWellScoped}
 use Rattle.ig_grammar.specs.declared.grammar.Grammar.{Grammar}
-use Rattle.ig_core.specs.Notation.{unchanged}
+use Rattle.ig_core_laws.specs.Notation.{unchanged}
 use Rattle.ig_notation.specs.Outcome.{IsReadFault, ReadOrRefused}
 use Rattle.ig_notation.specs.declared.fault.ReadFault.{ReadFault}
 use Rattle.ig_notation.specs.declared.fault.ReadFault.TheVariants.{Memory}

@@ -14,9 +14,9 @@ use Rattle.ig_grammar.specs.declared.declaration.DeclKind.TheVariants.{Plain}
 use Rattle.ig_grammar.specs.declared.declaration.Level.{Level}
 use Rattle.ig_grammar.specs.Name.{IsName}
 use Rattle.ig_expr.specs.Expression.{Expression}
-use Rattle.ig_core.specs.Lowered.{IsBuildable}
-use Rattle.ig_core.specs.Laws.{NotationIsBuildable}
-use Rattle.ig_core.specs.Notation.{IsSaid, IsOfNotation, unchanged}
+use Rattle.ig_core_laws.specs.Lowered.{IsBuildable}
+use Rattle.ig_core_laws.specs.Laws.{NotationIsBuildable}
+use Rattle.ig_core_laws.specs.Notation.{IsSaid, IsOfNotation, unchanged}
 use Rattle.ig_notation.specs.Outcome.{ReadGrammarsAreRegular}
 use Rattle.ig_load.specs.Grammar.{LoadGrammar, expressions, levels}
 use Rattle.ig_load.specs.Laws.{LoadTextReads}

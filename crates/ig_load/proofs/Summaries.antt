@@ -10,7 +10,7 @@ use Rattle.ig_heights.specs.Heights.{Heights, AreHeights}
 use Rattle.ig_query.specs.Ambiguity.{IsAmbiguous}
 use Rattle.ig_parse.specs.Laws.{AmbiguityIsTwoPermitted, CyclicIsWithoutHighest}
 use Rattle.ig_parse.specs.Parses.{AreReachable, IsForestOf}
-use Rattle.ig_core.specs.Notation.{unchanged}
+use Rattle.ig_core_laws.specs.Notation.{unchanged}
 use Rattle.ig_parse.specs.Parses.{IsOver, IsParsed}
 use Rattle.ig_load.specs.Grammar.{LoadGrammar}
 use Rattle.ig_load_texts.specs.Input.{LoadInput}

@@ -2,7 +2,7 @@
 use Rattle.std.specs.Prelude.{ℕ, ◌<◌, List, All, IsUtf8}
 use Rattle.ig_grammar.specs.WellScoped.{IsWellScoped}
 use Rattle.ig_notation.specs.Outcome.{IsRead}
-use Rattle.ig_core.specs.Notation.{unchanged}
+use Rattle.ig_core_laws.specs.Notation.{unchanged}
 use Rattle.ig_parse.specs.Parses.{IsParsed}
 use Rattle.ig_load_texts.specs.Operators.{Step, letters, chain, HasLetter}
 use Rattle.ig_load_texts.specs.Input.{LoadInput}

@@ -1,6 +1,6 @@
 //! The grammar of a load.
 ghost use Rattle.std.specs.Prelude.{◌≡◌, IfOk};
-ghost use Rattle.ig_core.specs.Notation.{unchanged};
+ghost use Rattle.ig_core_laws.specs.Notation.{unchanged};
 ghost use Rattle.ig_load.specs.Grammar.{LoadGrammar};
 
 use crate::laws::load_text_reads;

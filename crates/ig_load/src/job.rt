@@ -1,7 +1,7 @@
 //! The whole of a load.
 ghost use Rattle.std.specs.Prelude.{◌≡◌, ◌≤◌, IfOk};
-ghost use Rattle.ig_core.specs.Lowered.{CoreOf};
-ghost use Rattle.ig_core.specs.Notation.{unchanged};
+ghost use Rattle.ig_core_laws.specs.Lowered.{CoreOf};
+ghost use Rattle.ig_core_laws.specs.Notation.{unchanged};
 ghost use Rattle.ig_item.specs.Tables.{items_of};
 ghost use Rattle.ig_item.specs.WellKinded.{NoneTwice};
 ghost use Rattle.ig_parse.specs.Parses.{AreReachable, IsParsed};
@@ -12,7 +12,8 @@ ghost use Rattle.ig_load.specs.Summary.{IsSummaryOf, Loads};
 use crate::fault::LoadFault;
 use crate::grammar::load_grammar;
 use crate::laws::{load_inputs_are_permitted, load_text_reads};
-use ig_core::{CoreFault, notation_is_buildable};
+use ig_core::CoreFault;
+use ig_core_laws::notation_is_buildable;
 use ig_grammar::Checked;
 use ig_heights::Heights;
 use ig_item::Recorded;

@@ -14,8 +14,8 @@ use Rattle.ig_item.specs.WellKinded.{IsWellKinded}
 use Rattle.ig_item.specs.declared.run_fault.RunFault.{RunFault}
 use Rattle.ig_item.specs.declared.run_fault.RunFault.TheVariants as run_fault
 use Rattle.ig_item.specs.declared.core_grammar.Nonterminal.{Nonterminal}
-use Rattle.ig_core.specs.Lowered.{CoreOf, IsBuildable, IsNumbered}
-use Rattle.ig_core.specs.Laws.{CoreTreesArePermitted, TagsRiseInCores, ValuesAreThoseOfCore}
+use Rattle.ig_core_laws.specs.Lowered.{CoreOf, IsBuildable, IsNumbered}
+use Rattle.ig_core_laws.specs.Laws.{CoreTreesArePermitted, TagsRiseInCores, ValuesAreThoseOfCore}
 use Rattle.ig_forest.specs.Cursors.{Less}
 use Rattle.ig_forest.specs.Forest.{Forest}
 use Rattle.ig_forest.specs.Laws.{CursorsAreOrderedAsTrees, UnfoldsToCoreTrees, HasOneCursor, OnlyOne, RootIsThere}

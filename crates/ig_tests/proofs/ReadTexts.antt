@@ -2,8 +2,8 @@
 use Rattle.std.proofs.Common.{◌≡◌, ℕ, List, sym, subst, [], ◌∷◌, length, map, replicate, refl, ap, ◌∙◌}
 use Rattle.ig_grammar.specs.Checked.{CheckedGrammar, rules}
 use Rattle.ig_grammar.specs.declared.grammar.Grammar.{Grammar}
-use Rattle.ig_core.specs.Lowered.{IsBuildable}
-use Rattle.ig_core.specs.Notation.{unchanged}
+use Rattle.ig_core_laws.specs.Lowered.{IsBuildable}
+use Rattle.ig_core_laws.specs.Notation.{unchanged}
 use Rattle.ig_tool.specs.Accepted.{IsTextOf}
 use Rattle.ig_tool.specs.Laws.{ReadGrammarsAreBuildable}
 use Rattle.ig_grammar.specs.declared.declaration.Decl.{Decl}

@@ -1,7 +1,7 @@
 //! Parsing from the text of a grammar, as a program would embed it: the forest of a text, and the
 //! parts of a parser.
 ghost use Rattle.std.specs.Prelude.{IfOk};
-ghost use Rattle.ig_core.specs.Lowered.{IsBuildable};
+ghost use Rattle.ig_core_laws.specs.Lowered.{IsBuildable};
 
 use ig_forest::Forest;
 use ig_grammar::Checked;

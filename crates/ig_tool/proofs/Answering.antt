@@ -3,8 +3,8 @@ use Rattle.std.proofs.Common.{◌≢◌, ◌≡◌, ◌↔◌, ℕ, List, [], �
 use Rattle.ig_text.proofs.Lists.{none_in_nil}
 use Rattle.ig_grammar.specs.Checked.{CheckedGrammar}
 use Rattle.ig_item.specs.WellKinded.{IsWellKinded}
-use Rattle.ig_core.specs.Lowered.{CoreOf}
-use Rattle.ig_core.specs.Notation.{unchanged}
+use Rattle.ig_core_laws.specs.Lowered.{CoreOf}
+use Rattle.ig_core_laws.specs.Notation.{unchanged}
 use Rattle.ig_forest.specs.Forest.{Forest}
 use Rattle.ig_forest.specs.Unfold.{IsTrim}
 use Rattle.ig_heights.specs.Laws.{DepthsAreHeights}

@@ -5,7 +5,7 @@ use Rattle.ig_text.specs.Tree.{Tree}
 use Rattle.ig_outside.specs.States.{ShelfState, SinkState}
 use Rattle.ig_grammar.specs.Checked.{CheckedGrammar}
 use Rattle.ig_grammar.specs.declared.grammar.Grammar.{Grammar}
-use Rattle.ig_core.specs.Notation.{unchanged}
+use Rattle.ig_core_laws.specs.Notation.{unchanged}
 use Rattle.ig_forest.specs.Forest.{Forest}
 use Rattle.ig_parse.specs.Parses.{IsParsed, IsOver, IsForestOf}
 use Rattle.ig_tool.specs.declared.status.Status.{Status}

@@ -8,8 +8,8 @@ use Rattle.ig_outside.specs.States.{ShelfState, SinkState}
 use Rattle.ig_outside.specs.Told.{Told}
 use Rattle.ig_grammar.specs.Checked.{CheckedGrammar}
 use Rattle.ig_grammar.specs.declared.grammar.Grammar.{Grammar}
-use Rattle.ig_core.specs.Lowered.{CoreOf, IsBuildable}
-use Rattle.ig_core.specs.Notation.{unchanged}
+use Rattle.ig_core_laws.specs.Lowered.{CoreOf, IsBuildable}
+use Rattle.ig_core_laws.specs.Notation.{unchanged}
 use Rattle.ig_print.specs.CoreText.{core_text}
 use Rattle.ig_tool.specs.Change.{Change, change, raised, Fetched, Stood, Untouched}
 use Rattle.ig_tool.specs.declared.stop.Stop.{Stop}

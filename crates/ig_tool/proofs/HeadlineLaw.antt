@@ -18,8 +18,8 @@ use Rattle.ig_tool.specs.declared.status.Status.{Status}
 use Rattle.ig_tool.specs.declared.status.Status.TheVariants as status
 use Rattle.ig_item.specs.Core.{dots}
 use Rattle.ig_item.specs.Limits.{most_dots}
-use Rattle.ig_core.specs.Lowered.{CoreOf}
-use Rattle.ig_core.specs.Notation.{unchanged}
+use Rattle.ig_core_laws.specs.Lowered.{CoreOf}
+use Rattle.ig_core_laws.specs.Notation.{unchanged}
 use Rattle.ig_command.specs.Commands.{Request, request_of, check, show, core, forest, trees, query, load, grammar_file, IsCommand}
 use Rattle.ig_tool.specs.Jobs.{Job, print, list, ask, request_for}
 use Rattle.ig_tool.specs.Accepted.{IsAccepted}

@@ -3,7 +3,7 @@ use Rattle.std.proofs.Common.{◌≢◌, ◌↔◌, inl, inr, ℕ, ◌≤◌, Li
 use Rattle.std.proofs.lemmas.List.Elements.{Contains-get_or}
 use Rattle.ig_text.specs.Tree.{Tree, height}
 use Rattle.ig_grammar.specs.Checked.{CheckedGrammar}
-use Rattle.ig_core.specs.Lowered.{CoreOf}
+use Rattle.ig_core_laws.specs.Lowered.{CoreOf}
 use Rattle.ig_forest.specs.Cursors.{Less}
 use Rattle.ig_forest.specs.Forest.{Forest}
 use Rattle.ig_forest.specs.Unfold.{Unfold}

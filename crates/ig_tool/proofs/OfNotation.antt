@@ -11,9 +11,9 @@ use Rattle.ig_rules.specs.Names.{own_names}
 use Rattle.ig_notation.specs.Outcome.{IsOfText, ReadGrammarsAreRegular, ReadGrammarsAreWritten, ReadNamesAreNames}
 use Rattle.ig_rewrite.specs.Unbound.{own_variables}
 use Rattle.ig_syntax.specs.Notation.{most_bytes}
-use Rattle.ig_core.specs.Laws.{NotationIsBuildable, PassesAreRegular}
-use Rattle.ig_core.specs.Limits.{counts_before_passes}
-use Rattle.ig_core.specs.Notation.{IsSaid, IsOfNotation, unchanged}
+use Rattle.ig_core_laws.specs.Laws.{NotationIsBuildable, PassesAreRegular}
+use Rattle.ig_core_laws.specs.Limits.{counts_before_passes}
+use Rattle.ig_core_laws.specs.Notation.{IsSaid, IsOfNotation, unchanged}
 use Rattle.ig_tool.specs.Accepted.{IsTextOf}
 use Rattle.ig_tool.specs.Laws.{ReadGrammarsAreBuildable, ReadGrammarsStayRegular}
 

@@ -4,7 +4,7 @@ use Rattle.ig_grammar.specs.Checked.{CheckedGrammar, rules}
 use Rattle.ig_grammar.specs.declared.declaration.Decl.{Decl}
 use Rattle.ig_grammar.specs.declared.place.Shape.{Shape}
 use Rattle.ig_grammar.specs.declared.place.Shape.TheVariants.{Rule}
-use Rattle.ig_core.specs.Notation.{unchanged}
+use Rattle.ig_core_laws.specs.Notation.{unchanged}
 
 all_rules : (decls : List Decl) → replicate (length decls) Rule ≡ map (λ (decl : Decl). Rule) decls
 all_rules [] = refl

@@ -5,8 +5,8 @@ use Rattle.ig_grammar.specs.declared.grammar.Grammar.{Grammar}
 use Rattle.ig_notation.specs.Outcome.{IsRead}
 use Rattle.ig_item.specs.Core.{dots}
 use Rattle.ig_item.specs.Limits.{most_dots}
-use Rattle.ig_core.specs.Lowered.{CoreOf}
-use Rattle.ig_core.specs.Notation.{unchanged}
+use Rattle.ig_core_laws.specs.Lowered.{CoreOf}
+use Rattle.ig_core_laws.specs.Notation.{unchanged}
 
 -- its core grammar has no more dots than one may have
 abbrev pub HasFewDots : Grammar → Type 0

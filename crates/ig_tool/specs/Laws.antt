@@ -1,9 +1,9 @@
 -- What holds of grammars that are read.
 use Rattle.std.specs.Prelude.{ℕ, List}
 use Rattle.ig_grammar.specs.declared.grammar.Grammar.{Grammar}
-use Rattle.ig_core.specs.Laws.{AreRegular}
-use Rattle.ig_core.specs.Lowered.{IsBuildable}
-use Rattle.ig_core.specs.Notation.{unchanged}
+use Rattle.ig_core_laws.specs.Laws.{AreRegular}
+use Rattle.ig_core_laws.specs.Lowered.{IsBuildable}
+use Rattle.ig_core_laws.specs.Notation.{unchanged}
 use Rattle.ig_tool.specs.Accepted.{IsTextOf}
 
 -- a grammar that is read from a text and well scoped can be built, as it is written

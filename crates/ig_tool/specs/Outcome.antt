@@ -10,8 +10,8 @@ use Rattle.ig_outside.specs.Told.{Told, silent, nothing, bytes}
 use Rattle.ig_outside.specs.States.{ShelfState, SinkState}
 use Rattle.ig_grammar.specs.Checked.{CheckedGrammar}
 use Rattle.ig_grammar.specs.declared.grammar.Grammar.{Grammar}
-use Rattle.ig_core.specs.Lowered.{CoreOf}
-use Rattle.ig_core.specs.Notation.{unchanged}
+use Rattle.ig_core_laws.specs.Lowered.{CoreOf}
+use Rattle.ig_core_laws.specs.Notation.{unchanged}
 use Rattle.ig_forest.specs.Forest.{Forest}
 use Rattle.ig_parse.specs.Parses.{IsUnparsed, IsOver, HasForest}
 use Rattle.ig_parse.specs.Laws.{HasNoHighest, PermitsTwo}

@@ -12,8 +12,8 @@ use Rattle.ig_notation.specs.Outcome.{IsRead, IsReadFault}
 use Rattle.ig_tool.specs.Accepted.{IsTextOf}
 use Rattle.ig_item.specs.Core.{dots}
 use Rattle.ig_item.specs.Limits.{most_dots}
-use Rattle.ig_core.specs.Lowered.{CoreOf}
-use Rattle.ig_core.specs.Notation.{unchanged}
+use Rattle.ig_core_laws.specs.Lowered.{CoreOf}
+use Rattle.ig_core_laws.specs.Notation.{unchanged}
 use Rattle.ig_notation.specs.declared.fault.Large.{Large}
 use Rattle.ig_notation.specs.declared.fault.Large.TheVariants as large
 use Rattle.ig_notation.specs.declared.fault.ReadFault.TheVariants as read

@@ -1,7 +1,7 @@
 //! What holds of grammars that are read. The functions do nothing: their contracts are the laws.
 ghost use Rattle.ig_tool.specs.Laws.{ReadGrammarsAreBuildable, ReadGrammarsStayRegular};
 
-use ig_core::{notation_is_buildable, passes_are_regular};
+use ig_core_laws::{notation_is_buildable, passes_are_regular};
 use ig_notation::{read_grammars_are_regular, read_grammars_are_written, read_names_are_names};
 
 /// A grammar that is read from a text and well scoped can be built, as it is written. This law

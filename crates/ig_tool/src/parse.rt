@@ -1,8 +1,8 @@
 //! Running a grammar on an input.
 ghost use Rattle.std.specs.Prelude.{◌≡◌, ◌++◌, OnOk, codes};
 ghost use Rattle.std.specs.Fmt.{decimal};
-ghost use Rattle.ig_core.specs.Lowered.{CoreOf, IsBuildable};
-ghost use Rattle.ig_core.specs.Notation.{unchanged};
+ghost use Rattle.ig_core_laws.specs.Lowered.{CoreOf, IsBuildable};
+ghost use Rattle.ig_core_laws.specs.Notation.{unchanged};
 ghost use Rattle.ig_parse.specs.Parses.{AreReachable};
 ghost use Rattle.ig_tool.specs.Jobs.{stored_job};
 ghost use Rattle.ig_tool.specs.Pages.{ComesOf, IsPrintable};

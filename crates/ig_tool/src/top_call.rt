@@ -1,6 +1,6 @@
 //! The top call.
 ghost use Rattle.std.specs.Prelude.{◌≡◌, ℕ, List, map, string_bytes};
-ghost use Rattle.ig_core.specs.Notation.{unchanged};
+ghost use Rattle.ig_core_laws.specs.Notation.{unchanged};
 ghost use Rattle.ig_tool.specs.Change.{change, Fetched};
 ghost use Rattle.ig_tool.specs.Outcome.{Answers, usage_note};
 ghost use Rattle.ig_tool.specs.Headline.{Completeness, GrammarCommands, Headline};

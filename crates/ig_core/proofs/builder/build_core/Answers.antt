@@ -4,8 +4,7 @@ use Rattle.ig_grammar.specs.Names.{AreDistinct, names}
 use Rattle.ig_item.specs.WellKinded.{IsWellKinded}
 use Rattle.std.specs.Prelude.{Contains}
 use Rattle.ig_grammar.specs.declared.grammar.Grammar.{Grammar}
-use Rattle.ig_core.proofs.Scoped.{ready_has_core}
-use Rattle.ig_core.proofs.Whole.{few_root, few_each, few_names, built_whole}
+use Rattle.ig_core.proofs.Whole.{few_root, few_each, built_whole}
 use Rattle.ig_core.proofs.builder.build_core.Goals as goal
 
 abbrev declarations : Grammar → List Decl
@@ -14,13 +13,12 @@ declarations g = g.decls
 pub number_names-requires-clause-distinct : goal.number_names-requires-clause-distinct
 number_names-requires-clause-distinct c =
     subst (λ (z : List Decl). AreDistinct (names z)) (sym (c.as_slice-decls.ensures ∙ ap declarations c.grammar.ensures.same))
-    (ready_has_core c.args.lowered.now.grammar c.args.lowered.now.shapes (record { scoped = c.grammar.ensures.scoped; fit = c.grammar.ensures.fit; remaining = c.requires.remaining })).distinct
+    (c.declarations_are_found.ensures.distinct c.args.lowered.now.grammar c.grammar.ensures.scoped)
 
 pub overflow_add-missing : goal.overflow_add-missing
 overflow_add-missing c =
-    let a = few_names c.as_slice-decls.result.now c.args.lowered.now.shapes in
     let b = ap length (c.as_slice-decls.ensures ∙ ap declarations c.grammar.ensures.same) in
-    let d = c.count-missing.ensures in
+    let d = c.count-missing.ensures.few in
     let e = c.requires.few in
     omega arith
 
@@ -38,7 +36,7 @@ of-requires c =
     subst IsWellKinded
     (sym (built_whole c.args.lowered.now.grammar c.args.lowered.now.shapes c.as_slice-decls.result.now c.in_ok-numbers.numbers c.count-missing.result
     (c.count-missing.result + 1) c.in_ok-root.root c.new-built.result.items c.push.new.self.items c.add_nonterminals.new.built.items c.from_vec.result
-    (c.as_slice-decls.ensures ∙ ap declarations c.grammar.ensures.same) c.in_ok-numbers.ensures c.count-missing.ensures refl c.in_ok-root.ensures c.new-built.ensures.items c.in_ok-push.ensures.items
+    (c.as_slice-decls.ensures ∙ ap declarations c.grammar.ensures.same) c.in_ok-numbers.ensures c.count-missing.ensures.counted refl c.in_ok-root.ensures c.new-built.ensures.items c.in_ok-push.ensures.items
     c.in_ok-add_nonterminals.ensures c.from_vec.ensures))
     (c.cores_are_well_kinded.ensures c.args.lowered.now.grammar c.args.lowered.now.shapes
     (record { scoped = c.grammar.ensures.scoped; fit = c.grammar.ensures.fit; remaining = c.requires.remaining })
@@ -48,5 +46,5 @@ pub returns : goal.returns
 returns c =
     built_whole c.args.lowered.now.grammar c.args.lowered.now.shapes c.as_slice-decls.result.now c.in_ok-numbers.numbers c.count-missing.result
     (c.count-missing.result + 1) c.in_ok-root.root c.new-built.result.items c.push.new.self.items c.add_nonterminals.new.built.items c.of.result
-    (c.as_slice-decls.ensures ∙ ap declarations c.grammar.ensures.same) c.in_ok-numbers.ensures c.count-missing.ensures refl c.in_ok-root.ensures c.new-built.ensures.items c.in_ok-push.ensures.items
+    (c.as_slice-decls.ensures ∙ ap declarations c.grammar.ensures.same) c.in_ok-numbers.ensures c.count-missing.ensures.counted refl c.in_ok-root.ensures c.new-built.ensures.items c.in_ok-push.ensures.items
     c.in_ok-add_nonterminals.ensures (c.of.ensures ∙ c.from_vec.ensures)

@@ -1,5 +1,5 @@
 use Rattle.std.proofs.Common.{◌≡◌, take, length, ◌≤◌}
-use Rattle.ig_core.specs.CoreOf.{unrooted}
+use Rattle.ig_core_laws.specs.CoreOf.{unrooted}
 use Rattle.ig_core.proofs.naming.count.Given as goal
 
 abbrev pub invariant-loop-index : goal.invariant-loop-index

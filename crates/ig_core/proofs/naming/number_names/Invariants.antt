@@ -1,5 +1,5 @@
 use Rattle.std.proofs.Common.{◌≡◌, take, length, ◌≤◌, suc}
-use Rattle.ig_core.specs.CoreOf.{unrooted}
+use Rattle.ig_core_laws.specs.CoreOf.{unrooted}
 use Rattle.ig_core.specs.Tables.{Numbers}
 use Rattle.ig_core.proofs.naming.number_names.Given as goal
 

@@ -1,5 +1,5 @@
 use Rattle.std.proofs.Common.{◌≡◌, ◌++◌, drop, length, ◌≤◌, ◌+◌}
-use Rattle.ig_core.specs.CoreOf.{nonterminals_of, unrooted}
+use Rattle.ig_core_laws.specs.CoreOf.{nonterminals_of, unrooted}
 use Rattle.ig_core.specs.Tables.{number_by}
 use Rattle.ig_core.proofs.nonterminals.add_nonterminals.Given as goal
 

@@ -1,5 +1,5 @@
 use Rattle.std.proofs.Common.{◌≡◌, drop}
-use Rattle.ig_core.specs.CoreOf.{root_among}
+use Rattle.ig_core_laws.specs.CoreOf.{root_among}
 use Rattle.ig_core.proofs.roots.find_root.Given as goal
 
 abbrev pub invariant-loop-index : goal.invariant-loop-index

@@ -1,5 +1,5 @@
 use Rattle.std.proofs.Common.{◌∙◌, sym, subst, arith}
-use Rattle.ig_core.specs.Lowered.{IsBuildable}
+use Rattle.ig_core_laws.specs.Lowered.{IsBuildable}
 use Rattle.ig_load.proofs.Dots.{few_dots}
 use Rattle.ig_load.proofs.Said.{buildable}
 use Rattle.ig_load.proofs.job.parser_of.Goals as goal

@@ -1,5 +1,5 @@
 use Rattle.std.proofs.Common.{refl, sym, subst}
-use Rattle.ig_core.specs.Lowered.{CoreOf}
+use Rattle.ig_core_laws.specs.Lowered.{CoreOf}
 use Rattle.ig_item.specs.WellKinded.{IsWellKinded}
 use Rattle.ig_parse.specs.Parses.{AreReachable, IsParsed, IsForestOf, IsUnparsed, HasItems}
 use Rattle.ig_tool.specs.Jobs.{stored_job}

@@ -1,0 +1,15 @@
+use Rattle.ig_core_laws.proofs.Passes.{passes_in_turn}
+use Rattle.ig_core_laws.proofs.laws.passes_in_turn.Goals as goal
+
+pub returns : goal.returns
+returns c =
+    passes_in_turn
+    (record {
+      levels = c.levels_keep.ensures;
+      blocks = c.blocks_keep.ensures;
+      layout = c.layout_keeps.ensures;
+      filters = c.filters_keep.ensures;
+      forms = c.regularity_by_form.ensures;
+      root = c.rooted_is_the_same.ensures;
+    })
+    c.lists_keep.ensures
