@@ -1,5 +1,5 @@
 use Rattle.std.proofs.Common.{sym, subst}
-use Rattle.ig_core.specs.Notation.{unchanged}
+use Rattle.ig_core_laws.specs.Notation.{unchanged}
 use Rattle.ig_load.specs.Grammar.{LoadGrammar}
 use Rattle.ig_parse.specs.Parses.{IsParsed}
 use Rattle.ig_load.proofs.laws.load_inputs_are_permitted.Goals as goal
