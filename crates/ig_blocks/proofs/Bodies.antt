@@ -10,7 +10,7 @@ use Rattle.ig_blocks_laws.specs.Setting.{Setting, Pair, inner, wrapped}
 use Rattle.ig_blocks_laws.specs.Body.{tests_of, body_of, choices_of}
 use Rattle.ig_blocks_laws.specs.Blocks.{symbols_by, alternative_by}
 use Rattle.ig_blocks_laws.specs.Laws.{AreGathered}
-use Rattle.ig_blocks.specs.Code.{item_by, list_by}
+use Rattle.ig_forms.specs.Code.{item_by, list_by}
 
 -- a form, from what was made of the symbols inside it
 module _ {E : Type 0} (s : Setting) (al : Bool) (p : Pair) where

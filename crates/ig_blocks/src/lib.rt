@@ -4,7 +4,6 @@
 //! is refused for want of memory alone.
 #![tactic(auto)]
 
-mod forms;
 mod lowering;
 mod symbols;
 

@@ -2,8 +2,8 @@ use Rattle.std.proofs.Common.{◌≡◌, IfOk, subst, false}
 use Rattle.ig_grammar.specs.Symbol as tree
 use Rattle.ig_grammar.specs.View.{symbol_of}
 use Rattle.ig_columns.specs.Code.{pair_of, setting_by}
-use Rattle.ig_blocks.specs.Code.{list_by}
-use Rattle.ig_blocks.proofs.forms.optional.Goals as goal
+use Rattle.ig_forms.specs.Code.{list_by}
+use Rattle.ig_forms.proofs.forms.optional.Goals as goal
 
 pub returns : goal.returns
 returns c =

@@ -7,7 +7,7 @@ ghost use Rattle.ig_blocks_laws.specs.Setting.{m_of, f_of, inner, pair_bindings}
 ghost use Rattle.ig_blocks_laws.specs.Setting.{column_guards, wrapped, entered};
 ghost use Rattle.ig_blocks_laws.specs.Body.{tests_of, arguments_of};
 ghost use Rattle.ig_columns.specs.Code.{pair_of, setting_by};
-ghost use Rattle.ig_blocks.specs.Code.{list_by, item_by};
+ghost use Rattle.ig_forms.specs.Code.{list_by, item_by};
 
 use ig_columns::{
     Guide, Pair, behind, bindings_of, column_of, inner_of, is_paired, kind_of, push_pair, start_of,
@@ -19,8 +19,8 @@ use ig_rewrite::push_expression;
 use ig_text::{Copied, Word};
 use std::alloc::{AllocError, Global};
 
-/// A call, with the pair where its declaration gets it.
-pub(crate) fn called(
+/// A call, with the pair where its declaration gets it. Refused for want of memory alone.
+pub fn called(
     alloc: Global,
     guide: &Guide<'_>,
     pair: &Pair,
@@ -72,8 +72,8 @@ fn push_values(
     push_expression(all, start_of(alloc, guide, pair)?)
 }
 
-/// An option, of its item without tests.
-pub(crate) fn optional(
+/// An option, of its item without tests. Refused for want of memory alone.
+pub fn optional(
     alloc: Global,
     guide: &Guide<'_>,
     pair: &Pair,
@@ -88,8 +88,8 @@ pub(crate) fn optional(
     entered_by(alloc, guide, pair, false, Symbol::Opt(inner))
 }
 
-/// A list that may be empty, of its item without tests.
-pub(crate) fn starred(
+/// A list that may be empty, of its item without tests. Refused for want of memory alone.
+pub fn starred(
     alloc: Global,
     guide: &Guide<'_>,
     pair: &Pair,
@@ -105,8 +105,8 @@ pub(crate) fn starred(
     entered_by(alloc, guide, pair, aligned, Symbol::Star(star))
 }
 
-/// A list that isn't empty, of its item without tests.
-pub(crate) fn repeated(
+/// A list that isn't empty, of its item without tests. Refused for want of memory alone.
+pub fn repeated(
     alloc: Global,
     guide: &Guide<'_>,
     pair: &Pair,
@@ -122,8 +122,9 @@ pub(crate) fn repeated(
     entered_by(alloc, guide, pair, aligned, Symbol::Plus(inner))
 }
 
-/// The item of a list, and its separator, of the separator without tests.
-pub(crate) fn both(
+/// The item of a list, and its separator, of the separator without tests. Refused for want of
+/// memory alone.
+pub fn both(
     alloc: Global,
     guide: &Guide<'_>,
     pair: &Pair,
@@ -144,8 +145,8 @@ pub(crate) fn both(
     }
 }
 
-/// An item, with its tests.
-pub(crate) fn item_of(
+/// An item, with its tests. Refused for want of memory alone.
+pub fn item_of(
     alloc: Global,
     guide: &Guide<'_>,
     pair: &Pair,
@@ -176,8 +177,8 @@ fn separator_of(
     item_of(alloc, guide, pair, false, separator, made)
 }
 
-/// What was made of a symbol, behind the tests of the symbol.
-pub(crate) fn behind_tests(
+/// What was made of a symbol, behind the tests of the symbol. Refused for want of memory alone.
+pub fn behind_tests(
     alloc: Global,
     guide: &Guide<'_>,
     pair: &Pair,
@@ -198,8 +199,9 @@ pub(crate) fn behind_tests(
     }
 }
 
-/// A list, an option or a group, with the bindings of the pair where it changes.
-pub(crate) fn entered_by(
+/// A list, an option or a group, with the bindings of the pair where it changes. Refused for want of
+/// memory alone.
+pub fn entered_by(
     alloc: Global,
     guide: &Guide<'_>,
     pair: &Pair,
@@ -218,8 +220,8 @@ pub(crate) fn entered_by(
     }
 }
 
-/// An entry, with the bindings of the pair behind its own.
-pub(crate) fn entered_again(
+/// An entry, with the bindings of the pair behind its own. Refused for want of memory alone.
+pub fn entered_again(
     alloc: Global,
     guide: &Guide<'_>,
     pair: &Pair,

@@ -1,4 +1,0 @@
-use Rattle.ig_blocks.proofs.forms.separator_of.Goals as goal
-
-pub returns : goal.returns
-returns c = c.item_of.ensures
