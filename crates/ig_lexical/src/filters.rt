@@ -145,15 +145,14 @@ fn guard(alloc: Global, filters: &Filters, symbol: Symbol) -> Result<Symbol, All
     if excludes_only(filters) {
         return Ok(symbol);
     }
-    let mut symbols = Symbols::new(alloc);
     // A call lets go of the symbol: where `?` does, its proof goes through all forms.
-    match add_guards(alloc, true, filters, &mut symbols) {
-        Ok(()) => {}
+    let mut symbols = match guards_before(alloc, filters) {
+        Ok(guards) => guards,
         Err(refused) => {
             drop(symbol);
             return Err(refused);
         }
-    }
+    };
     push_symbol(&mut symbols, symbol)?;
     add_guards(alloc, false, filters, &mut symbols)?;
     Ok(Symbol::Seq(symbols))
@@ -171,6 +170,15 @@ fn excludes_only(filters: &[Filter]) -> bool
         }
     }
     true
+}
+
+/// The guards that stand before the symbol.
+fn guards_before(alloc: Global, filters: &[Filter]) -> Result<Symbols, AllocError>
+    ensures { IfOk result (λ r. r ≡ map Guard (befores filters.now)) }
+{
+    let mut symbols = Symbols::new(alloc);
+    add_guards(alloc, true, filters, &mut symbols)?;
+    Ok(symbols)
 }
 
 /// Adds the guards that stand before the symbol, or those that stand behind it.

@@ -161,15 +161,7 @@ fn lay_inside(
             let inside = lay_inside(alloc, declared, layout, inner.into_symbol())?;
             relabelled(alloc, name, inside)
         }
-        Symbol::Filtered(inner, filters) => {
-            match lay_inside(alloc, declared, layout, inner.into_symbol()) {
-                Ok(inside) => refiltered(alloc, inside, filters),
-                Err(refused) => {
-                    drop(filters);
-                    Err(refused)
-                }
-            }
-        }
+        Symbol::Filtered(inner, filters) => lay_filtered(alloc, declared, layout, inner, filters),
         Symbol::Entry(bindings, inner) => {
             match lay(alloc, declared, layout, inner.into_symbol()) {
                 Ok(inside) => reentered(alloc, bindings, inside),
@@ -180,6 +172,27 @@ fn lay_inside(
             }
         }
         other => Ok(other),
+    }
+}
+
+/// What [`lay_inside`] makes of the symbol, with the filters round it.
+#[cycle(laying)]
+fn lay_filtered(
+    alloc: Global,
+    declared: &Declarations,
+    layout: &Word,
+    inner: Inner,
+    filters: Filters,
+) -> Result<Symbol, AllocError>
+    ensures { IfOk result (λ r.
+        symbol_of r ≡ Filtered (laid_inside declared.now layout.now inner) filters) }
+{
+    match lay_inside(alloc, declared, layout, inner.into_symbol()) {
+        Ok(inside) => refiltered(alloc, inside, filters),
+        Err(refused) => {
+            drop(filters);
+            Err(refused)
+        }
     }
 }
 

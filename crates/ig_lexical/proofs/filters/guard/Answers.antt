@@ -13,20 +13,17 @@ in_sequence [] [] x h = absurd (h (refl, refl))
 in_sequence [] (b ∷ after) x h = refl
 in_sequence (a ∷ before) after x h = refl
 
-one_by_one : (before after : List Expression) (x : Symbol) (start xs ys zs : List Symbol) → start ≡ [] →
-    xs ≡ start ++ map Guard before → ys ≡ xs ++ x ∷ [] → zs ≡ ys ++ map Guard after →
-    zs ≡ map Guard before ++ x ∷ map Guard after
-one_by_one before after x start xs ys zs s e f g =
-    g ∙ ap (λ z. z ++ map Guard after) (f ∙ ap (λ z. z ++ x ∷ []) (e ∙ ap (λ z. z ++ map Guard before) s)) ∙
-    append_assoc (map Guard before) (x ∷ []) (map Guard after)
+one_by_one : (before after : List Expression) (x : Symbol) (xs ys zs : List Symbol) → xs ≡ map Guard before →
+    ys ≡ xs ++ x ∷ [] → zs ≡ ys ++ map Guard after → zs ≡ map Guard before ++ x ∷ map Guard after
+one_by_one before after x xs ys zs e f g =
+    g ∙ ap (λ z. z ++ map Guard after) (f ∙ ap (λ z. z ++ x ∷ []) e) ∙ append_assoc (map Guard before) (x ∷ []) (map Guard after)
 
 pub returns : goal.returns
 returns c =
     let fs = c.as_slice-filters.result.now in
     let x = symbol_of c.args.symbol in
-    subst (λ gs. Seq (gathered c.add_guards-2.new.symbols) ≡ guarded (befores gs) (afters gs) x) c.as_slice-filters.ensures
-    (ap (λ z. Seq (gathered z)) (one_by_one (befores fs) (afters fs) x c.new-symbols.result
-    c.add_guards.new.symbols c.push_symbol.new.all c.add_guards-2.new.symbols c.new-symbols.ensures c.in-Ok.ensures
-    c.in_ok-push_symbol.ensures c.in_ok-add_guards.ensures) ∙
+    subst (λ gs. Seq (gathered c.add_guards.new.symbols) ≡ guarded (befores gs) (afters gs) x) c.as_slice-filters.ensures
+    (ap (λ z. Seq (gathered z)) (one_by_one (befores fs) (afters fs) x c.in-Ok.guards c.push_symbol.new.all
+    c.add_guards.new.symbols c.in-Ok.ensures c.in_ok-push_symbol.ensures c.in_ok-add_guards.ensures) ∙
     in_sequence (befores fs) (afters fs) x
     (λ none. false≢true (sym c.if-excludes_only.false ∙ c.excludes_only.ensures.1 none)))

@@ -12,12 +12,17 @@ lay_inside-returns-in_ok-inside-in-Label t c =
     (ap (λ y. Label c.in-Label.name y) (c.in_ok-inside-in-Label.ensures ∙ ap laid c.into_symbol.ensures) ∙
     ap (λ s. laid (symbol_of s)) (sym c.in-Label.is)) c.relabelled.ensures
 
-pub lay_inside-returns-in-Ok : goal.lay_inside-returns-in-Ok
-lay_inside-returns-in-Ok t c =
+pub lay_inside-returns-in-Filtered : goal.lay_inside-returns-in-Filtered
+lay_inside-returns-in-Filtered t c =
+    let laid = laid_inside c.args.declared.now c.args.layout.now in
+    subst (λ y. IfOk c.lay_filtered.result (λ r. symbol_of r ≡ y))
+    (ap (λ s. laid (symbol_of s)) (sym c.in-Filtered.is)) c.lay_filtered.ensures
+
+pub lay_filtered-returns-in-Ok : goal.lay_filtered-returns-in-Ok
+lay_filtered-returns-in-Ok t c =
     let laid = laid_inside c.args.declared.now c.args.layout.now in
     subst (λ y. IfOk c.refiltered.result (λ r. symbol_of r ≡ y))
-    (ap (λ y. Filtered y c.in-Filtered.filters) (c.in-Ok.ensures ∙ ap laid c.into_symbol-in-Filtered.ensures) ∙
-    ap (λ s. laid (symbol_of s)) (sym c.in-Filtered.is)) c.refiltered.ensures
+    (ap (λ y. Filtered y c.args.filters) (c.in-Ok.ensures ∙ ap laid c.into_symbol.ensures)) c.refiltered.ensures
 
 pub lay-returns-then-is_token : goal.lay-returns-then-is_token
 lay-returns-then-is_token t c =
