@@ -1,3 +1,1 @@
-pub mod Rewritten
-pub mod Telling
 pub mod Written

@@ -5,8 +5,5 @@
 #![tactic(auto)]
 
 mod lower;
-mod naming;
-mod operands;
-mod symbols;
 
 pub use lower::lower_levels;

@@ -11,17 +11,19 @@ ghost use Rattle.ig_levels_laws.specs.Levels.{lowered_alternative, lowered_decla
 ghost use Rattle.ig_levels_laws.specs.Levels.{is_levelled, lowered_grammar, one_level, LevelsOf};
 ghost use Rattle.ig_levels_laws.specs.Levels.{has_left, has_right};
 ghost use Rattle.ig_meaning.specs.Operands.{more_on_the_left, more_on_the_right};
-ghost use Rattle.ig_levels.specs.Roles.{numbered, place_of};
-ghost use Rattle.ig_levels.specs.Tables.{levelled_by};
+ghost use Rattle.ig_operands.specs.Roles.{place_of};
+ghost use Rattle.ig_operands.specs.Tables.{levelled_by};
+ghost use Rattle.ig_levels.specs.Numbered.{numbered};
 
-use crate::naming::{is_levelled, left_word, levelled_names, right_word};
-use crate::operands::{Bounds, asks_left, asks_right, bounds_at, is_test, role_at};
-use crate::symbols::with_bounds;
 use ig_expr::{Expr, Op, Operand};
 use ig_grammar::{
     Alt, Alts, Assoc, Checked, Decl, Decls, Grammar, Level, Levels, Params, Symbol, Symbols,
 };
 use ig_levels_laws::levels_keep;
+use ig_operands::{
+    Bounds, asks_left, asks_right, bounds_at, is_levelled, is_test, left_word, levelled_names,
+    right_word, role_at, with_bounds,
+};
 use ig_rewrite::{
     copy_of_shapes, copy_of_start, push_alternative, push_declaration, push_integer, push_level,
     push_symbol, root,
