@@ -8,9 +8,10 @@ ghost use Rattle.ig_core_laws.specs.Lowered.{IsBuildable, IsNumbered, Lowered};
 use ig_blocks::lower_blocks;
 use ig_core_laws::passes_in_turn;
 use ig_ebnf::lower_ebnf;
+use ig_filters::attach_filters;
 use ig_grammar::Checked;
+use ig_layout::add_layout;
 use ig_levels::lower_levels;
-use ig_lexical::{add_layout, attach_filters};
 use ig_lexical_laws::layout_keeps;
 use std::alloc::{AllocError, Global};
 
