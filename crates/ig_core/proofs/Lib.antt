@@ -1,4 +1,2 @@
-pub mod NameNumbers
-pub mod Building
 pub mod Whole
 pub mod InTurn

@@ -16,58 +16,49 @@ use Rattle.ig_grammar.specs.declared.place.Shape.{Shape}
 use Rattle.ig_grammar.specs.declared.place.Shape.TheVariants.{Root}
 use Rattle.ig_item.specs.Core.{dots, dots_of_nonterminal, dots_of_alternative}
 use Rattle.ig_item.specs.declared.core_grammar.Nonterminal.{Nonterminal}
-use Rattle.ig_item.specs.declared.core_grammar.CoreAlt.{CoreAlt}
-use Rattle.ig_core.specs.Tables.{number_by, Numbers}
-use Rattle.ig_core_laws.specs.CoreOf.{Shaped, shaped, unrooted, number_of, nonterminal_of, nonterminals_of, alternative_of, alternatives_of, core_of, root_of, root_among, written_root, start_symbols, call_of}
+use Rattle.ig_nonterminals.specs.Tables.{given, number_by, found_from, Numbers}
+use Rattle.ig_core_laws.specs.CoreOf.{Shaped, shaped, unrooted, place, number_in, number_of, nonterminal_of, nonterminals_of, alternative_of, alternatives_of, core_of, root_of, root_among, written_root, start_symbols, call_of}
 use Rattle.ig_rewrite.specs.Rooted.{is_root}
 use Rattle.ig_core_laws.specs.Steps.{step_of, steps_of}
 use Rattle.std.specs.Prelude.{if◌then◌else◌, MatchOption, is_some}
 use Rattle.std.specs.Bool.{Decides}
 use Rattle.std.proofs.Common.{Bool, true, false, drop, get_or, take}
-use Rattle.std.proofs.lemmas.List.{length-map, drop_more}
+use Rattle.std.proofs.lemmas.List.{length-map, drop_more, take_more}
 use Rattle.std.proofs.lemmas.List.Sums.{sum_by-append}
 use Rattle.std.proofs.lemmas.Option.{same_Some}
 use Rattle.ig_grammar.specs.declared.declaration.Level.{Level}
 use Rattle.ig_core.specs.Dots.{alt_dots, level_dots, decl_dots, row_dots, row}
-use Rattle.ig_core.proofs.Building.{more_taken, rest_is}
-use Rattle.ig_item.specs.Step.{Step}
 use Rattle.ig_item.specs.Limits.{most_dots}
-use Rattle.ig_expr.specs.declared.kind.Kind.{Kind}
-use Rattle.ig_text.specs.declared.tag.Tag.TheVariants as tag
+use Rattle.ig_text.specs.Words.{is_word}
 use Rattle.ig_text.proofs.Lists.{at_from_contains}
 use Rattle.ig_text.proofs.Pairwise.{beside}
-use Rattle.std.specs.Prelude.{codes}
 use Rattle.std.specs.Option.{unwrap_or}
-use Rattle.ig_core.proofs.NameNumbers.{number_is}
+
+-- the number of a name is that of the table
+number_from : (n past : ℕ) (all : List Shaped) (name : List ℕ) → past ≡ n + length all → given (found_from n all name) past ≡ n + place all name
+number_from n past [] name is = is
+number_from n past (x ∷ all) name is = go (is_word x.decl.name name) (number_from (suc n) past all name (omega (arith, is)))
+  where
+    go : (b : Bool) → given (found_from (suc n) all name) past ≡ suc n + place all name →
+        given (if b then Some n else found_from (suc n) all name) past ≡ n + (if b then 0 else suc (place all name))
+    go true h = omega arith
+    go false h = h ∙ (let e : suc n + place all name ≡ n + suc (place all name) = omega arith in e)
+
+pub number_is : (table : BTreeMap (Bor (List ℕ)) ℕ) (past : ℕ) (all : List Shaped) → Numbers table all → past ≡ suc (length all) → (name : List ℕ) →
+    number_by table past name ≡ number_in all name
+number_is table past all numbers is name =
+    ap (λ o. given o past) (numbers name) ∙ number_from 1 past all name (omega (arith, is)) ∙ (let e : 1 + place all name ≡ suc (place all name) = omega arith in e)
 
 -- the table is the numbering
 pub numbering : (g : Grammar) (shapes : List Shape) (table : BTreeMap (Bor (List ℕ)) ℕ) (past : ℕ) → Numbers table (unrooted g.decls shapes) →
     past ≡ suc (length (unrooted g.decls shapes)) → number_by table past ≡ number_of g shapes
 numbering g shapes table past numbers is = fun_ext (number_is table past (unrooted g.decls shapes) numbers is)
 
-pub start_is : (g : Grammar) → layout_among g.decls ≡ None → start_symbols g g.start ≡ call_of g.start
-start_is g none = go g.start
-  where
-    go : (o : Option (List ℕ)) → start_symbols g o ≡ call_of o
-    go None = refl
-    go (Some start) = ap (λ z. behind_layout z (Call start [] ∷ [])) none
-
 pub core_is : (g : Grammar) (shapes : List Shape) (number : List ℕ → ℕ) (root : Nonterminal) (whole : List Nonterminal) → number ≡ number_of g shapes →
     root ≡ nonterminal_of number 0 (shaped (root_of g shapes) Root) → whole ≡ root ∷ nonterminals_of number 1 (unrooted g.decls shapes) → whole ≡ core_of g shapes
 core_is g shapes number root whole same first all =
     all ∙ ap (λ z. z ∷ nonterminals_of number 1 (unrooted g.decls shapes)) first ∙
     ap (λ n. nonterminal_of n 0 (shaped (root_of g shapes) Root) ∷ nonterminals_of n 1 (unrooted g.decls shapes)) same
-
-pub made_is : (number : List ℕ → ℕ) (g : Grammar) (name : List ℕ) (params : List (List ℕ)) (kinds : List Kind) (steps : List Step) (a b alts : List CoreAlt) →
-    layout_among g.decls ≡ None → name ≡ codes "$root" → params ≡ [] → kinds ≡ [] → steps ≡ steps_of number (call_of g.start) →
-    a ≡ [] → b ≡ a ++ record { tag = tag.Root; steps = steps } ∷ [] → alts ≡ b →
-    record { name = name; params = params; kinds = kinds; alternatives = alts } ≡ nonterminal_of number 0 (shaped (written_root g) Root)
-made_is number g name params kinds steps a b alts none named no_params no_kinds made empty pushed is =
-    let all : alts ≡ record { tag = tag.Root; steps = steps } ∷ [] = is ∙ pushed ∙ ap (λ z. z ++ record { tag = tag.Root; steps = steps } ∷ []) empty in
-    let steps_are : steps ≡ steps_of number (start_symbols g g.start) = made ∙ ap (steps_of number) (sym (start_is g none)) in
-    let alts_are : alts ≡ record { tag = tag.Root; steps = steps_of number (start_symbols g g.start) } ∷ [] =
-    all ∙ ap (λ z. record { tag = tag.Root; steps = z } ∷ []) steps_are in
-    rw (named, no_params, no_kinds, alts_are) refl
 
 pub built_whole : (g : Grammar) (shapes : List Shape) (decls : List Decl) (table : BTreeMap (Bor (List ℕ)) ℕ) (cnt past : ℕ) (root : Nonterminal)
     (a b whole result : List Nonterminal) → decls ≡ g.decls → Numbers table (unrooted decls shapes) → cnt ≡ length (unrooted decls shapes) → past ≡ cnt + 1 →
@@ -185,7 +176,7 @@ few_each g shapes fit few decl among =
 pub dots_more : (alts : List Alt) (i : ℕ) (alt : Alt) (before dots symbols : ℕ) → i < length alts → alt ≡ get_or alts i alt →
     dots ≡ before + sum_by alt_dots (take i alts) → symbols ≡ length alt.symbols → dots + (symbols + 1) ≡ before + sum_by alt_dots (take (i + 1) alts)
 dots_more alts i alt before dots symbols within read have is =
-    let a = ap (sum_by alt_dots) (more_taken alts i alt alt within read) in
+    let a = ap (sum_by alt_dots) (take_more alts i alt within ∙ ap (λ z. take i alts ++ z ∷ []) (sym read)) in
     let b = sum_by-append alt_dots (take i alts) (alt ∷ []) in
     let e : sum_by alt_dots (alt ∷ []) ≡ 0 + (length alt.symbols + 1) = refl in
     omega (arith, a, b, e, have, is)
@@ -195,7 +186,7 @@ left : (decls : List Decl) (shapes : List Shape) (i : ℕ) (decl : Decl) (r : Sh
     unrooted (drop i decls) (drop i shapes) ≡
     (if is_root (get_or shapes i r) then unrooted (drop (i + 1) decls) (drop (i + 1) shapes) else shaped decl (get_or shapes i r) ∷ unrooted (drop (i + 1) decls) (drop (i + 1) shapes))
 left decls shapes i decl r same within read =
-    ap₂ unrooted (rest_is decls i decl within read) (drop_more shapes i r (omega (arith, same, within)))
+    ap₂ unrooted (drop_more decls i decl within ∙ ap (λ z. z ∷ drop (i + 1) decls) (sym read)) (drop_more shapes i r (omega (arith, same, within)))
 
 -- one row of the sum
 pub sum_passed : (decls : List Decl) (shapes : List Shape) (i : ℕ) (decl : Decl) (r : Shape) → length shapes ≡ length decls → i < length decls →
@@ -228,8 +219,12 @@ row_sum decls shapes i decl r same within read = ap (sum_by row_dots) (left decl
 pub made_root_dots : (g : Grammar) → layout_among g.decls ≡ None → decl_dots (written_root g) ≡ length (call_of g.start) + 1
 made_root_dots g none =
     let a : decl_dots (written_root g) ≡ 0 + (0 + (length (start_symbols g g.start) + 1)) = refl in
-    let b = ap length (start_is g none) in
+    let b = go g.start in
     omega (arith, a, b)
+  where
+    go : (o : Option (List ℕ)) → length (start_symbols g o) ≡ length (call_of o)
+    go None = refl
+    go (Some start) = ap (λ z. length (behind_layout z (Call start [] ∷ []))) none
 
 pub root_dots_none : (g : Grammar) (shapes : List Shape) → root_among g.decls shapes ≡ None → layout_among g.decls ≡ None →
     decl_dots (root_of g shapes) ≡ length (call_of g.start) + 1

@@ -12,12 +12,10 @@ ghost use Rattle.ig_core.specs.declared.fault.CoreFault.TheVariants.{TooManyDots
 use crate::dots::has_few_dots;
 use crate::fault::CoreFault;
 use crate::lowering::lower;
-use crate::naming::{count, number_names};
-use crate::nonterminals::add_nonterminals;
-use crate::roots::build_root;
 use ig_core_laws::{cores_are_well_kinded, passes_keep};
 use ig_grammar::Checked;
 use ig_item::Core;
+use ig_nonterminals::{add_nonterminals, build_root, count, number_names};
 use ig_rewrite::declarations_are_found;
 use ig_text::Sequence;
 use std::alloc::{AllocError, Global};

@@ -1,19 +1,15 @@
 //! The core grammar of a checked grammar.
 //!
 //! [`build`] runs all passes, in the order of `specs/Lowered.antt` of `ig_core_laws`, and then the
-//! last step. `ig_core_laws` says what the core grammar is, and that it has the trees that the
-//! grammar permits; [`build`] gives exactly that one. Where there would be more than 65,536 dots
-//! the grammar is refused, before a nonterminal is made.
+//! last step, by `ig_nonterminals`. `ig_core_laws` says what the core grammar is, and that it has
+//! the trees that the grammar permits; [`build`] gives exactly that one. Where there would be more
+//! than 65,536 dots the grammar is refused, before a nonterminal is made.
 #![tactic(auto)]
 
 mod builder;
 mod dots;
 mod fault;
 mod lowering;
-mod naming;
-mod nonterminals;
-mod roots;
-mod steps;
 
 pub use builder::build;
 pub use fault::CoreFault;
