@@ -17,7 +17,7 @@ use Rattle.ig_tool.specs.declared.status.Status.TheVariants as status
 use Rattle.ig_command.specs.Commands as asked
 use Rattle.ig_command.specs.Commands.{Question}
 use Rattle.ig_tool.specs.Jobs.{ask}
-use Rattle.ig_tool.specs.Questions.{TellsAmbiguous, TellsCyclic, TellsSpans, Tells}
+use Rattle.ig_answers.specs.Questions.{TellsAmbiguous, TellsCyclic, TellsSpans, Tells}
 use Rattle.ig_tool.specs.Outcome.{Finishes, told_ambiguous, told_cyclic, told_spans, told_report}
 use Rattle.ig_tool.specs.Pages.{GivesAnswer}
 use Rattle.ig_tool.specs.Stops.{FinishesJob}

@@ -13,7 +13,8 @@ use Rattle.ig_scope.specs.Causes.{condition_of}
 use Rattle.ig_scope.specs.declared.fault.ScopeCause.{ScopeCause}
 use Rattle.ig_tool.specs.declared.stop.Stop.{Stop}
 use Rattle.ig_tool.specs.declared.stop.Stop.TheVariants as halt
-use Rattle.ig_tool.specs.Refusals.{IsRefused, not_grammar, too_large, not_scoped, large_text, condition_text, place_text}
+use Rattle.ig_refusals.specs.Texts.{condition_text, place_text}
+use Rattle.ig_tool.specs.Refusals.{IsRefused, not_grammar, too_large, not_scoped, large_text}
 use Rattle.ig_tool.specs.Stops.{IsWrittenIn, ReadsGrammar, RefusesWith}
 use Rattle.ig_tool.proofs.Written.{checked_written}
 

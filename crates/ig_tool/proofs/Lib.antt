@@ -5,9 +5,8 @@ pub mod HeadlineLaw
 pub mod CompletenessLaw
 pub mod LoadLaw
 pub mod Loading
-pub mod Pages
-pub mod Starting
 pub mod Listings
 pub mod Parsing
 pub mod Written
 pub mod OfNotation
+pub mod Noting

@@ -3,6 +3,7 @@ use Rattle.std.proofs.Common.{◌≢◌, ◌↔◌, inl, inr, ℕ, ◌≤◌, Li
 use Rattle.std.proofs.lemmas.List.Elements.{Contains-get_or}
 use Rattle.ig_text.specs.Tree.{Tree, height}
 use Rattle.ig_grammar.specs.Checked.{CheckedGrammar}
+use Rattle.ig_item.specs.declared.core_grammar.Nonterminal.{Nonterminal}
 use Rattle.ig_core_laws.specs.Lowered.{CoreOf}
 use Rattle.ig_forest.specs.Cursors.{Less}
 use Rattle.ig_forest.specs.Forest.{Forest}
@@ -21,10 +22,24 @@ use Rattle.ig_tool.specs.Listing as listing
 use Rattle.ig_tool.specs.Listing.{IsBounded, IsEligible, IsNoCursor, Begins, IsTreeListing, IsListedOrBehind, StandsBefore, StandsBehind}
 use Rattle.ig_walker.specs.Listing.{IsBehind}
 use Rattle.ig_walker.specs.Listed.{Listed, IsListedOrLater, IsListing}
-use Rattle.ig_tool.specs.Outcome.{Finishes, depth_needed, bad_cursor, listed}
-use Rattle.ig_tool.specs.Pages as pages
-use Rattle.ig_tool.specs.Pages.{IsDepthFor, StandsAt, IsLost, IsListed, StopsListing, Lists}
-use Rattle.ig_tool.specs.Stops.{FinishesJob}
+use Rattle.ig_tool.specs.Outcome.{Finishes, depth_needed, bad_cursor, listed, depth_needed_note, no_cursor_note}
+use Rattle.ig_pages.specs.Pages as pages
+use Rattle.ig_pages.specs.Pages.{IsDepthFor, NeedsDepth, StandsAt, IsLost, IsListed}
+use Rattle.ig_tool.specs.Pages as stops
+use Rattle.ig_tool.specs.Pages.{StopsListing, ListsPage}
+use Rattle.ig_tool.specs.Stops.{FinishesJob, StopsWith}
+
+-- a listing that has no text stops a command
+module _ (core : List Nonterminal) (f : Forest) (l : Listing) where
+  pub page_needs_depth : (stop : Stop) → NeedsDepth f l.depth → StopsWith status.DepthNeeded depth_needed_note stop →
+      ListsPage core f l (Err stop)
+  page_needs_depth (halt.Note s line) needs h = stops.needs_depth s line.items needs h.0 h.1
+  page_needs_depth halt.Memory needs h = tt
+
+  pub page_lost : (stop : Stop) → (d : ℕ) × IsDepthFor f l.depth d × IsLost f d l.after →
+      StopsWith status.BadCursor no_cursor_note stop → ListsPage core f l (Err stop)
+  page_lost (halt.Note s line) lost h = stops.lost s line.items lost.0 lost.1 lost.2 h.0 h.1
+  page_lost halt.Memory lost h = tt
 
 module _ (c : CheckedGrammar) (text : List ℕ) (f : Forest) (is : IsForestOf c text f) (low : HasLowTrees f)
     (unbounded : IsCyclic f ↔ HasNoHighest c text) where
@@ -106,12 +121,12 @@ module _ (c : CheckedGrammar) (text : List ℕ) (f : Forest) (is : IsForestOf c 
 
   stopped : (l : Listing) (s : Status) (note : List ℕ) → StopsListing f l s note →
       Finishes c text f (list l) s [] note × (s ≢ status.Done)
-  stopped l s note (pages.needs_depth t line needs p q) =
+  stopped l s note (stops.needs_depth t line needs p q) =
       (rw (p, q) (depth_needed l needs.0 (unbounded.0 needs.1)), λ e. cc)
-  stopped l s note (pages.lost t line d h x p q) =
+  stopped l s note (stops.lost t line d h x p q) =
       (rw (p, q) (bad_cursor l x.word (bounded l.depth d h) x.given (no_cursor l.depth d h l.after x)), λ e. cc)
 
-  pub finishes_listing : (l : Listing) (r : Result (Vec ℕ Global) Stop) → Lists (CoreOf c) f l r → FinishesJob c text f (list l) r
+  pub finishes_listing : (l : Listing) (r : Result (Vec ℕ Global) Stop) → ListsPage (CoreOf c) f l r → FinishesJob c text f (list l) r
   finishes_listing l (Ok out) h = made l out.items h
   finishes_listing l (Err (halt.Note s line)) h = stopped l s line.items h
   finishes_listing l (Err halt.Memory) h = tt

@@ -21,7 +21,8 @@ use Rattle.ig_tool.specs.declared.stop.Stop.TheVariants as halt
 use Rattle.ig_tool.specs.declared.status.Status.TheVariants as status
 use Rattle.ig_tool.specs.Jobs.{Job, print, list, ask}
 use Rattle.ig_tool.specs.Outcome.{Finishes, printed}
-use Rattle.ig_tool.specs.Pages.{ComesOf, IsPrintable}
+use Rattle.ig_pages.specs.Pages.{IsPrintable}
+use Rattle.ig_tool.specs.Pages.{ComesOf}
 use Rattle.ig_tool.specs.Stops.{ShowsForest, FinishesJob, ParsesText, over_budget, no_parse, at_job, IsOverBudget, TellsPlace, Prepares, RefusesWith}
 use Rattle.ig_tool.proofs.Answering.{Laws, finishes_question}
 use Rattle.ig_tool.proofs.Listings.{finishes_listing}

@@ -2,7 +2,6 @@ pub mod Accepted
 pub mod Refusals
 pub mod Jobs
 pub mod Listing
-pub mod Questions
 pub mod Change
 pub mod Outcome
 pub mod Stops

@@ -1,16 +1,14 @@
 -- The listing of the trees that a grammar permits for a text, in their order, with the cursors that they have in a forest.
-use Rattle.std.specs.Prelude.{◌≡◌, ◌⊎◌, ℕ, ◌≤◌, List, ◌++◌, Contains, Option, Some, None, codes, flat_map, length}
+use Rattle.std.specs.Prelude.{◌≡◌, ◌⊎◌, ℕ, ◌≤◌, List, Contains, Option, Some, None, length}
 use Rattle.std.specs.List.{AllPairs}
 use Rattle.ig_text.specs.Tree.{Tree, height}
 use Rattle.ig_grammar.specs.Checked.{CheckedGrammar}
-use Rattle.ig_item.specs.declared.core_grammar.Nonterminal.{Nonterminal}
 use Rattle.ig_meaning.specs.Order.{Precedes}
 use Rattle.ig_meaning.specs.Permitted.{Permitted}
 use Rattle.ig_forest.specs.Forest.{Forest}
 use Rattle.ig_forest.specs.Unfold.{Unfold}
 use Rattle.ig_parse.specs.Laws.{HasNoHighest}
-use Rattle.ig_print.specs.Listed.{line_end}
-use Rattle.ig_print.specs.TreeText.{tree_text, cursor_text}
+use Rattle.ig_print.specs.TreeText.{cursor_text}
 use Rattle.ig_walker.specs.Listed.{Listed}
 
 -- the tree is at most so high; without a depth each tree is
@@ -68,10 +66,3 @@ module _ (c : CheckedGrammar) (text : List ℕ) where
       pub order : AllPairs (λ x y. StandsBefore x.tree y.tree) trees
       pub few : length trees ≤ count
       pub whole : (x : Listed) → IsEligible x → StandsBehind last x.tree → IsListedOrBehind count trees x
-
--- `CURSOR TREE`
-abbrev pub line_text : List Nonterminal → Listed → List ℕ
-line_text core x = cursor_text x.cursor ++ (codes " " ++ (tree_text core x.tree ++ line_end))
-
-abbrev pub listing_text : List Nonterminal → List Listed → List ℕ
-listing_text core trees = flat_map (line_text core) trees

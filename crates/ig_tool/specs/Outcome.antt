@@ -35,8 +35,9 @@ use Rattle.ig_load.specs.Summary.{IsLoadSummary, IsTooLarge}
 use Rattle.ig_load_texts.specs.Line.{summary_text}
 use Rattle.ig_load_texts.specs.declared.summary.Summary.{Summary}
 use Rattle.ig_tool.specs.Jobs.{Job, print, list, ask, request_for}
-use Rattle.ig_tool.specs.Listing.{IsBounded, IsNoCursor, Begins, IsTreeListing, listing_text}
-use Rattle.ig_tool.specs.Questions.{IsWanted, ArePermittedSpans}
+use Rattle.ig_tool.specs.Listing.{IsBounded, IsNoCursor, Begins, IsTreeListing}
+use Rattle.ig_answers.specs.Questions.{IsWanted, ArePermittedSpans}
+use Rattle.ig_pages.specs.Lines.{listing_text}
 use Rattle.ig_walker.specs.Listed.{Listed}
 
 abbrev pub number_of : Status → ℕ

@@ -3,12 +3,12 @@ use Rattle.std.specs.Prelude.{ℕ, ◌<◌, ◌≤◌, List, ◌++◌, length, I
 use Rattle.std.specs.Fmt.{decimal}
 use Rattle.std.specs.Str.{IsValidUpTo}
 use Rattle.ig_syntax.specs.Notation.{most_bytes}
-use Rattle.ig_grammar.specs.Condition as condition
 use Rattle.ig_grammar.specs.Condition.{Condition}
 use Rattle.ig_grammar.specs.WellScoped.{IsFirst}
 use Rattle.ig_grammar.specs.declared.grammar.Grammar.{Grammar}
 use Rattle.ig_grammar.specs.declared.place.Place.{Place}
 use Rattle.ig_notation.specs.Outcome.{IsRead, IsReadFault}
+use Rattle.ig_refusals.specs.Texts.{condition_text, place_text}
 use Rattle.ig_tool.specs.Accepted.{IsTextOf}
 use Rattle.ig_item.specs.Core.{dots}
 use Rattle.ig_item.specs.Limits.{most_dots}
@@ -17,31 +17,6 @@ use Rattle.ig_core_laws.specs.Notation.{unchanged}
 use Rattle.ig_notation.specs.declared.fault.Large.{Large}
 use Rattle.ig_notation.specs.declared.fault.Large.TheVariants as large
 use Rattle.ig_notation.specs.declared.fault.ReadFault.TheVariants as read
-
--- the text of a condition that holds somewhere
-abbrev pub condition_text : Condition → List ℕ
-condition_text condition.DuplicateName = codes "duplicate name"
-condition_text condition.UnknownName = codes "unknown name"
-condition_text condition.WrongArity = codes "wrong arity"
-condition_text condition.UnknownVariable = codes "unknown variable"
-condition_text condition.DuplicateVariable = codes "duplicate variable"
-condition_text condition.KindMismatch = codes "kind mismatch"
-condition_text condition.NoStart = codes "no start"
-condition_text condition.StartHasParameters = codes "start has parameters"
-condition_text condition.LayoutNotPlain = codes "layout not plain"
-condition_text condition.AlignNotList = codes "align not list"
-condition_text condition.MarkInLexical = codes "mark in lexical"
-condition_text condition.SyntaxInLexical = codes "syntax in lexical"
-condition_text (condition.TooMany condition.Nonterminals) = codes "too many nonterminals"
-condition_text (condition.TooMany condition.Parameters) = codes "too many parameters"
-condition_text (condition.TooMany condition.Variables) = codes "too many variables"
-
--- the text of a place
-abbrev pub place_text : Place → List ℕ
-place_text place =
-    codes " at declaration " ++ (decimal place.decl ++
-    (codes ", alternative " ++ (decimal place.alt ++
-    (codes ", symbol " ++ decimal place.symbol))))
 
 -- the text of a limit that is passed
 abbrev pub large_text : Large → List ℕ

@@ -1,19 +1,20 @@
 //! From bytes to a grammar, or to the note that says why they are none.
 
-ghost use Rattle.std.specs.Prelude.{◌≡◌, ◌≤◌, ◌++◌, length, OnOk};
+ghost use Rattle.std.specs.Prelude.{◌≡◌, ◌≤◌, ◌++◌, length};
 ghost use Rattle.std.specs.Fmt.{decimal};
 ghost use Rattle.ig_syntax.specs.Notation.{most_bytes};
 ghost use Rattle.ig_scope.specs.Causes.{condition_of};
-ghost use Rattle.ig_tool.specs.Refusals.{condition_text, large_text, place_text};
+ghost use Rattle.ig_refusals.specs.Texts.{condition_text, place_text};
+ghost use Rattle.ig_tool.specs.Refusals.{large_text};
 ghost use Rattle.ig_tool.specs.Stops.{ReadsGrammar, RefusesWith};
 
 use crate::status::Status;
 use crate::stop::{Stop, stop_with};
 use ig_grammar::{Checked, Place};
 use ig_notation::{Large, ReadFault, read, read_grammars_are_regular};
-use ig_scope::{Many, ScopeCause, ScopeFault, check};
-use itoa::Buffer;
-use std::alloc::{AllocError, Global};
+use ig_refusals::{push_cause, push_numbered};
+use ig_scope::{ScopeCause, ScopeFault, check};
+use std::alloc::Global;
 use std::str;
 
 /// The well-scoped grammar that the bytes read as; or the note on the first of these tests that
@@ -77,60 +78,8 @@ fn not_scoped(alloc: Global, cause: ScopeCause, place: Place) -> Stop
     ensures { RefusesWith (condition_text (condition_of cause) ++ place_text place) result }
 {
     let mut line = Vec::new(alloc);
-    match push_broken(&mut line, cause, place) {
+    match push_cause(&mut line, cause, place) {
         Ok(()) => refuse(alloc, line.as_slice()),
         Err(error) => Stop::from(error),
-    }
-}
-
-/// Adds the texts of the cause and the place.
-fn push_broken(line: &mut Vec<u8>, cause: ScopeCause, place: Place) -> Result<(), AllocError>
-    ensures { OnOk result (line.new.items
-        ≡ line.old.items ++ (condition_text (condition_of cause) ++ place_text place)) }
-{
-    line.extend_from_slice(cause_text(cause).as_bytes())?;
-    push_numbered(line, b" at declaration ", place.decl)?;
-    push_numbered(line, b", alternative ", place.alt)?;
-    push_numbered(line, b", symbol ", place.symbol)
-}
-
-/// Adds the text and the number.
-fn push_numbered(line: &mut Vec<u8>, text: &[u8], number: u32) -> Result<(), AllocError>
-    ensures { OnOk result (line.new.items ≡ line.old.items ++ (text.now ++ decimal number)) }
-{
-    let mut digits = Buffer::new();
-    line.extend_from_slice(text)?;
-    line.extend_from_slice(digits.format(number).as_bytes())
-}
-
-/// The text of a cause.
-fn cause_text(cause: ScopeCause) -> &'static str
-    ensures { result.now ≡ condition_text (condition_of cause) }
-{
-    match cause {
-        ScopeCause::DuplicateName => "duplicate name",
-        ScopeCause::UnknownName => "unknown name",
-        ScopeCause::WrongArity => "wrong arity",
-        ScopeCause::UnknownVariable => "unknown variable",
-        ScopeCause::DuplicateVariable => "duplicate variable",
-        ScopeCause::KindMismatch => "kind mismatch",
-        ScopeCause::NoStart => "no start",
-        ScopeCause::StartHasParameters => "start has parameters",
-        ScopeCause::LayoutNotPlain => "layout not plain",
-        ScopeCause::AlignNotList => "align not list",
-        ScopeCause::MarkInLexical => "mark in lexical",
-        ScopeCause::SyntaxInLexical => "syntax in lexical",
-        ScopeCause::TooMany { which } => many_text(which),
-    }
-}
-
-/// The text of a limit of the notation.
-fn many_text(which: Many) -> &'static str
-    ensures { result.now ≡ condition_text (condition_of (ScopeCause.TooMany which)) }
-{
-    match which {
-        Many::Nonterminals => "too many nonterminals",
-        Many::Parameters => "too many parameters",
-        Many::Variables => "too many variables",
     }
 }

@@ -7,17 +7,17 @@
 //! theorem, `specs/Outcome.antt` all answers.
 //!
 //! What the words ask for, `ig_command` says. Inside, a grammar text is read and its scopes are
-//! checked, or a note says why it is refused (`grammar_text`). Each grammar that is read can be
-//! built, which [`read_grammars_are_buildable`] says, so its parser is made, unless its core
-//! grammar has too many dots, and a forest is that parser's (`parse`). Its trees are listed
-//! (`listing`), or a question on it is answered (`answer`). A load has its line (`summary`).
+//! checked, or a note says why it is refused (`grammar_text`, by the texts of `ig_refusals`). Each
+//! grammar that is read can be built, which [`read_grammars_are_buildable`] says, so its parser is
+//! made, unless its core grammar has too many dots, and a forest is that parser's (`parse`). It is
+//! printed, or its trees are listed by `ig_pages`, or a question on it is answered by `ig_answers`
+//! (`finish`). A load has its line (`summary`).
 #![tactic(auto)]
 
-mod answer;
+mod finish;
 mod grammar_text;
 mod job;
 mod laws;
-mod listing;
 mod load;
 mod parse;
 pub mod status;

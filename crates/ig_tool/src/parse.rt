@@ -1,29 +1,26 @@
 //! Running a grammar on an input.
 ghost use Rattle.std.specs.Prelude.{◌≡◌, ◌++◌, OnOk, codes};
 ghost use Rattle.std.specs.Fmt.{decimal};
-ghost use Rattle.ig_core_laws.specs.Lowered.{CoreOf, IsBuildable};
+ghost use Rattle.ig_core_laws.specs.Lowered.{IsBuildable};
 ghost use Rattle.ig_core_laws.specs.Notation.{unchanged};
-ghost use Rattle.ig_parse.specs.Parses.{AreReachable};
 ghost use Rattle.ig_tool.specs.Jobs.{stored_job};
-ghost use Rattle.ig_tool.specs.Pages.{ComesOf, IsPrintable};
 ghost use Rattle.ig_tool.specs.Stops.{IsOverBudget, ParsesText, Prepares};
-ghost use Rattle.ig_tool.specs.Stops.{ShowsForest, TellsPlace};
+ghost use Rattle.ig_tool.specs.Stops.{TellsPlace};
 
-use crate::answer::answer;
+use crate::finish::finish;
 use crate::grammar_text::refuse;
 use crate::job::Job;
-use crate::listing::list;
 use crate::status::Status;
 use crate::stop::{Stop, stop_with};
 use ig_core::CoreFault;
-use ig_forest::{Forest, cursors_are_short, tags_name_nonterminals};
+use ig_forest::{cursors_are_short, tags_name_nonterminals};
 use ig_grammar::Checked;
 use ig_heights::depths_are_heights;
-use ig_item::{Items, RunFault};
+use ig_item::RunFault;
 use ig_parse::{
     Parser, ambiguity_is_two_permitted, cyclic_is_without_highest, spans_are_of_declarations,
 };
-use ig_print::{Report, show_forest, show_report};
+use ig_print::{Report, show_report};
 use ig_text::Text;
 use itoa::Buffer;
 use std::alloc::{AllocError, Global};
@@ -72,38 +69,6 @@ pub(crate) fn parse(
     let _root = forest.root();
     cursors_are_short(&forest);
     finish(alloc, parser, input, recorded.into_items(), &forest, job)
-}
-
-/// What comes of a job by the forest of the parser's grammar and the input, whose reachable items
-/// these are. They are many, so they go before a text is made that doesn't tell of them.
-fn finish(
-    alloc: Global,
-    parser: &Parser<'_>,
-    input: &Text,
-    items: Items,
-    forest: &Forest,
-    job: Job<'_>,
-) -> Result<Vec<u8>, Stop>
-    requires reachable { AreReachable parser.now input.now items }
-    requires printable { IsPrintable (CoreOf parser.now) forest.now }
-    ensures { ComesOf parser.now input.now forest.now (stored_job job.entry) result }
-{
-    match job {
-        Job::Print => {
-            drop(items);
-            show(alloc, forest)
-        }
-        Job::List(listing) => list(alloc, parser.core(), forest, listing),
-        Job::Ask(question) => answer(alloc, parser, input, &items, forest, question),
-    }
-}
-
-/// The text of the forest.
-fn show(alloc: Global, forest: &Forest) -> Result<Vec<u8>, Stop>
-    ensures { ShowsForest forest.now result }
-{
-    let text = show_forest(alloc, forest)?;
-    Ok(text)
 }
 
 /// More items are reachable than the budget allows.
