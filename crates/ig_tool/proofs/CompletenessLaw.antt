@@ -1,5 +1,5 @@
 -- Completeness, from the main theorem.
-use Rattle.std.proofs.Common.{◌≡◌, ℕ, List, [], ◌⊎◌, inl, inr, refl, sym, ◌∙◌, subst, Option, Some, None}
+use Rattle.std.proofs.Common.{◌≡◌, ℕ, List, [], ◌⊎◌, inl, inr, refl, sym, ◌∙◌, subst, Option, Some}
 use Rattle.std.proofs.lemmas.Option.{same_Some}
 use Rattle.ig_text.specs.Tree.{Tree}
 use Rattle.ig_outside.specs.States.{ShelfState, SinkState}

@@ -1,6 +1,6 @@
 //! From bytes to a grammar, or to the note that says why they are none.
 
-ghost use Rattle.std.specs.Prelude.{◌≡◌, ◌≤◌, ◌++◌, length};
+ghost use Rattle.std.specs.Prelude.{◌≤◌, ◌++◌, length};
 ghost use Rattle.std.specs.Fmt.{decimal};
 ghost use Rattle.ig_syntax.specs.Notation.{most_bytes};
 ghost use Rattle.ig_scope.specs.Causes.{condition_of};
