@@ -65,3 +65,12 @@ returns-in-Err-Note-clause-loads g c = load_commands _ _ _ _ _ (returns-in-Err-N
 
 pub returns-in-Err-Memory-clause-loads : goal.returns-in-Err-Memory-clause-loads
 returns-in-Err-Memory-clause-loads g c = load_commands _ _ _ _ _ (returns-in-Err-Memory-clause-answer g c)
+
+pub returns-in-Ok-clause-same : goal.returns-in-Ok-clause-same
+returns-in-Ok-clause-same g c = c.in-Ok.ensures.same
+
+pub returns-in-Err-Note-clause-same : goal.returns-in-Err-Note-clause-same
+returns-in-Err-Note-clause-same g c = c.in-Err-Note.ensures.same
+
+pub returns-in-Err-Memory-clause-same : goal.returns-in-Err-Memory-clause-same
+returns-in-Err-Memory-clause-same g c = c.in-Err-Memory.ensures.same

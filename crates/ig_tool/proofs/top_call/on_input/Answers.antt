@@ -1,4 +1,4 @@
-use Rattle.std.proofs.Common.{subst, sym}
+use Rattle.std.proofs.Common.{subst, sym, ◌∙◌}
 use Rattle.ig_tool.specs.Change.{change}
 use Rattle.ig_tool.specs.Jobs.{stored_job}
 use Rattle.ig_tool.specs.Stops.{Decides}
@@ -37,3 +37,12 @@ returns-clause-answer g c = λ words command.
 pub run-requires : goal.run-requires
 run-requires g c =
     record { as_it_is = still_unchanged c.in_ok-checked.checked.grammar c.in_ok-parser.parser c.in_ok-parser.ensures.0 }
+
+pub returns-in_err-checked-clause-same : goal.returns-in_err-checked-clause-same
+returns-in_err-checked-clause-same g c = c.in_err-checked.ensures.same
+
+pub returns-in_err-parser-clause-same : goal.returns-in_err-parser-clause-same
+returns-in_err-parser-clause-same g c = c.in_ok-checked.ensures.same
+
+pub returns-clause-same : goal.returns-clause-same
+returns-clause-same g c = λ n. c.run.ensures.same n ∙ c.in_ok-checked.ensures.same n
