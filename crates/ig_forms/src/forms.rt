@@ -199,8 +199,8 @@ pub fn behind_tests(
     }
 }
 
-/// A list, an option or a group, with the bindings of the pair where it changes. Refused for want of
-/// memory alone.
+/// A list, an option or a group, with the bindings of the pair where it changes. Refused for want
+/// of memory alone.
 pub fn entered_by(
     alloc: Global,
     guide: &Guide<'_>,

@@ -3,8 +3,8 @@
 //!
 //! [`new_alternatives`] gives what stands for alternatives, with a call of an added declaration for
 //! each list, option and group. [`push_option`] and its like add that declaration to those that are
-//! there: exactly those that `specs/Made.antt` and `ig_ebnf_laws` say. A call is refused for want of
-//! memory alone.
+//! there: exactly those that `specs/Made.antt` and `ig_ebnf_laws` say. A call is refused for want
+//! of memory alone.
 #![tactic(auto)]
 
 mod made;

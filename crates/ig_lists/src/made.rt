@@ -94,8 +94,8 @@ pub fn push_star(
     push_two(alloc, &Head { of, k, shape }, params, none, more, all)
 }
 
-/// Adds the declaration for `X+`, the k-th one: one item, or the list and one more. Refused for want
-/// of memory alone.
+/// Adds the declaration for `X+`, the k-th one: one item, or the list and one more. Refused for
+/// want of memory alone.
 pub fn push_plus(
     alloc: Global,
     of: &Word,
@@ -164,8 +164,8 @@ pub fn push_sep_plus(
     push_two(alloc, &Head { of, k, shape }, params, one, longer, all)
 }
 
-/// Adds the declaration for a group, the k-th one, with its alternatives. Refused for want of memory
-/// alone.
+/// Adds the declaration for a group, the k-th one, with its alternatives. Refused for want of
+/// memory alone.
 pub fn push_group(
     alloc: Global,
     of: &Word,

@@ -128,8 +128,8 @@ fn new_alternative(
     Ok(Alt { symbols })
 }
 
-/// Alternatives, with what stands for their symbols. The first declaration that is added for them is
-/// the k-th one. Refused for want of memory alone.
+/// Alternatives, with what stands for their symbols. The first declaration that is added for them
+/// is the k-th one. Refused for want of memory alone.
 pub fn new_alternatives(
     alloc: Global,
     of: &Word,

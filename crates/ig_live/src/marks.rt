@@ -1,7 +1,6 @@
 //! The items that some tree of the whole text uses, by a work list.
 ghost use Rattle.std.specs.Prelude.{◌≡◌, ◌<◌, [], IfOk, OnOk, true, length, slice_get};
 ghost use Rattle.ig_item.specs.Items.{Reachable};
-ghost use Rattle.ig_item.specs.Recorded.{IsRecorded};
 ghost use Rattle.ig_item.specs.Tables.{items_of};
 ghost use Rattle.ig_item.specs.Ways.{IsFirstEnd};
 ghost use Rattle.ig_live.specs.Marks.{is_live};

@@ -25,8 +25,8 @@ use std::alloc::{AllocError, Global};
 
 /// What the forest of the load's grammar and the input of this size and number has, where no more
 /// items than the budget are reachable. The size is the number of operands, from 1 to
-/// [`MOST_OPERANDS`](ig_load_texts::MOST_OPERANDS). `Budget` comes exactly where more items are reachable,
-/// if memory doesn't run out before.
+/// [`MOST_OPERANDS`](ig_load_texts::MOST_OPERANDS). `Budget` comes exactly where more items are
+/// reachable, if memory doesn't run out before.
 pub fn load(alloc: Global, size: u32, number: u64, budget: u32) -> Result<Summary, LoadFault>
     requires { size ≤ most_operands }
     ensures { Loads size number budget result }

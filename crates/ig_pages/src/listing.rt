@@ -24,8 +24,8 @@ use std::alloc::{AllocError, Global};
 
 /// The text of a listing of the forest's trees, whose tags name nonterminals of the core grammar.
 /// `DepthNeeded` comes exactly where no depth is given and the forest has no highest tree, else
-/// `NoCursor` exactly where a word is given that is the text of no cursor of a tree up to the depth,
-/// if memory doesn't run out before.
+/// `NoCursor` exactly where a word is given that is the text of no cursor of a tree up to the
+/// depth, if memory doesn't run out before.
 pub fn list(
     alloc: Global,
     core: &Core,

@@ -1,6 +1,6 @@
 //! The environments of called instances.
 ghost use Rattle.std.specs.Prelude.{◌≡◌, ◌↔◌, ◌<◌, [], length, slice_get};
-ghost use Rattle.std.specs.Prelude.{IfOk, IsTrue, OnOk, Some, slice_index_or};
+ghost use Rattle.std.specs.Prelude.{IfOk, IsTrue, Some, slice_index_or};
 ghost use Rattle.ig_item.specs.WellKinded.{NoneTwice};
 ghost use Rattle.ig_steps.specs.Compiled.{values_in};
 ghost use Rattle.ig_tables.specs.Extends.{Enters, Extends};

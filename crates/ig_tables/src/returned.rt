@@ -53,7 +53,7 @@ pub struct Returned {
 }
 
 impl Model for Returned {
-    ghost use Rattle.std.specs.Prelude.{List, map};
+    ghost use Rattle.std.specs.Prelude.{List};
     ghost use Rattle.ig_tables.specs.Returned.{AreChained, Entry, entries_of};
 
     ghost Value = { List Entry };
