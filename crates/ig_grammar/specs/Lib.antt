@@ -16,5 +16,6 @@ pub mod CodingBindings
 pub mod CodingSymbols
 pub mod CodingAlternatives
 pub mod CodingSizes
+pub mod CodingMembers
 pub mod CodingFalls
 pub mod CodingChecked

@@ -1,12 +1,9 @@
 -- Sequences and groups, in two parts.
-use Rattle.std.proofs.Common.{◌≡◌, ℕ, zero, suc, ◌<◌, ◌≤◌, List, [], ◌∷◌, ◌++◌, length, get_or, map, refl, sym, ◌∙◌, ap, subst, arith, append_assoc}
+use Rattle.std.proofs.Common.{◌≡◌, List, [], ◌∷◌, ◌++◌, refl, sym, ◌∙◌, ap, append_assoc}
 use Rattle.std.proofs.lemmas.List.{append-nil}
-use Rattle.ig_grammar.specs.CodingSizes.{nodes, nodes_of_symbols, nodes_of_alternatives}
 use Rattle.ig_grammar.specs.Symbol.{Symbol, gathered}
 use Rattle.ig_grammar.specs.Alternative.{gathered_alternatives}
 use Rattle.ig_grammar.specs.Visible.{Visible, inside_sequence, inside_choices, binds, all_bind}
-use Rattle.ig_grammar.specs.View.{symbol_of}
-use Rattle.ig_grammar.specs.declared.symbol.Symbol.{Symbol as Stored}
 use Rattle.ig_grammar.specs.declared.symbol.Alt.{Alt}
 use Rattle.ig_scope.specs.Told.{from}
 
@@ -47,28 +44,3 @@ inside_push v xs x = inside_append v xs (x ∷ []) ∙ ap (λ z. inside_sequence
 pub choices_push : (v : Visible) (xs : List Alt) (x : Alt) →
     inside_choices v (gathered_alternatives (xs ++ x ∷ [])) ≡ inside_choices v (gathered_alternatives xs) ++ inside_sequence v (gathered x.symbols)
 choices_push v xs x = choices_append v xs (x ∷ []) ∙ ap (λ z. inside_choices v (gathered_alternatives xs) ++ z) (append-nil (inside_sequence v (gathered x.symbols)))
-
--- a member has no more nodes than the whole
-pub nodes_at : (xs : List Symbol) (i : ℕ) (x : Symbol) → i < length xs → x ≡ get_or xs i x → nodes x ≤ nodes_of_symbols (gathered xs)
-nodes_at [] i x l e = let f : ⊥ = omega arith in absurd f
-nodes_at (y ∷ xs) zero x l e = let n : nodes x ≡ nodes y = ap nodes e in omega arith
-nodes_at (y ∷ xs) (suc i) x l e = let h = nodes_at xs i x (omega arith) e in omega arith
-
-pub choice_at : (xs : List Alt) (i : ℕ) (x : Alt) → i < length xs → x ≡ get_or xs i x →
-    nodes_of_symbols (gathered x.symbols) < nodes_of_alternatives (gathered_alternatives xs)
-choice_at [] i x l e = let f : ⊥ = omega arith in absurd f
-choice_at (y ∷ xs) zero x l e =
-    let n : nodes_of_symbols (gathered x.symbols) ≡ nodes_of_symbols (gathered y.symbols) = ap (λ (z : Alt). nodes_of_symbols (gathered z.symbols)) e in omega arith
-choice_at (y ∷ xs) (suc i) x l e = let h = choice_at xs i x (omega arith) e in omega arith
-
--- a symbol of the program, in the list of syntax trees
-pub node_below : (cells : List Stored) (xs : List Symbol) (i : ℕ) (x : Stored) → map symbol_of cells ≡ xs → i < length cells → x ≡ get_or cells i x →
-    nodes (symbol_of x) ≤ nodes_of_symbols (gathered xs)
-node_below [] xs i x m l e = let f : ⊥ = omega arith in absurd f
-node_below (y ∷ cells) xs i x m l e = subst (λ z. nodes (symbol_of x) ≤ nodes_of_symbols (gathered z)) m (go i l e (node_below cells (map symbol_of cells)))
-  where
-    go : (i : ℕ) → i < length (y ∷ cells) → x ≡ get_or (y ∷ cells) i x →
-        ((j : ℕ) (z : Stored) → map symbol_of cells ≡ map symbol_of cells → j < length cells → z ≡ get_or cells j z → nodes (symbol_of z) ≤ nodes_of_symbols (gathered (map symbol_of cells))) →
-        nodes (symbol_of x) ≤ nodes_of_symbols (gathered (map symbol_of (y ∷ cells)))
-    go zero l e h = let n : nodes (symbol_of x) ≡ nodes (symbol_of y) = ap (λ z. nodes (symbol_of z)) e in omega arith
-    go (suc j) l e h = let n = h j x refl (omega arith) e in omega arith

@@ -1,41 +1,24 @@
--- A member of a list has no more nodes than the list.
-use Rattle.std.proofs.Common.{◌≡◌, ◌∙◌, ap, sym, ℕ, suc, zero, ◌+◌, ◌<◌, ◌≤◌, List, [], ◌∷◌, length, map, arith}
+-- A member behind the first one of a list has no more nodes than the list.
+use Rattle.std.proofs.Common.{◌≡◌, ◌∙◌, ap, sym, refl, ℕ, ◌+◌, ◌<◌, ◌≤◌, List, ◌∷◌, length, map, arith}
 use Rattle.std.proofs.Math.ListN.{get_or}
 use Rattle.ig_grammar.specs.Symbol as tree
 use Rattle.ig_grammar.specs.CodingSizes.{nodes, list_nodes}
 use Rattle.ig_grammar.specs.CodingAlternatives.{alternatives_nodes}
+use Rattle.ig_grammar.specs.CodingMembers.{choice_below, node_below}
 use Rattle.ig_grammar.specs.View.{symbol_of}
 use Rattle.ig_grammar.specs.declared.symbol.Alt.{Alt}
 use Rattle.ig_grammar.specs.declared.symbol.Symbol.{Symbol}
 
-pub symbol_within : (xs : List Symbol) (i : ℕ) (d : Symbol) → i < length xs →
-    nodes (symbol_of (get_or xs i d)) ≤ list_nodes (map symbol_of xs)
-symbol_within [] i d h = omega arith
-symbol_within (x ∷ xs) zero d h = omega arith
-symbol_within (x ∷ xs) (suc i) d h =
-    let below : i < length xs = omega arith in
-    let inside : nodes (symbol_of (get_or xs i d)) ≤ list_nodes (map symbol_of xs) = symbol_within xs i d below in omega arith
-
 pub other_symbol : (all others : List Symbol) (first x : Symbol) (i : ℕ) (seen : List tree.Symbol) → map symbol_of all ≡ seen → all ≡ first ∷ others →
     x ≡ get_or others i x → i < length others → nodes (symbol_of x) ≤ list_nodes seen
 other_symbol all others first x i seen e p g h =
-    let here : nodes (symbol_of x) ≡ nodes (symbol_of (get_or others i x)) = ap (λ z. nodes (symbol_of z)) g in
-    let inside : nodes (symbol_of (get_or others i x)) ≤ list_nodes (map symbol_of others) = symbol_within others i x h in
+    let inside : nodes (symbol_of x) ≤ list_nodes (map symbol_of others) = node_below others (map symbol_of others) i x refl h g in
     let whole : list_nodes seen ≡ list_nodes (map symbol_of (first ∷ others)) = ap list_nodes (sym e) ∙ ap (λ z. list_nodes (map symbol_of z)) p in
     omega arith
-
-pub alternative_within : (ys : List Alt) (i : ℕ) (d : Alt) → i < length ys →
-    list_nodes (get_or ys i d).symbols + 1 ≤ alternatives_nodes ys
-alternative_within [] i d h = omega arith
-alternative_within (y ∷ ys) zero d h = omega arith
-alternative_within (y ∷ ys) (suc i) d h =
-    let below : i < length ys = omega arith in
-    let inside : list_nodes (get_or ys i d).symbols + 1 ≤ alternatives_nodes ys = alternative_within ys i d below in omega arith
 
 pub other_alternative : (all others seen : List Alt) (first y : Alt) (i : ℕ) → all ≡ seen → all ≡ first ∷ others →
     y ≡ get_or others i y → i < length others → list_nodes y.symbols + 1 ≤ alternatives_nodes seen
 other_alternative all others seen first y i e p g h =
-    let here : list_nodes y.symbols ≡ list_nodes (get_or others i y).symbols = ap (λ z. list_nodes z.symbols) g in
-    let inside : list_nodes (get_or others i y).symbols + 1 ≤ alternatives_nodes others = alternative_within others i y h in
+    let inside : list_nodes y.symbols < alternatives_nodes others = choice_below others others i y refl h g in
     let whole : alternatives_nodes seen ≡ alternatives_nodes (first ∷ others) = ap alternatives_nodes (sym e ∙ p) in
     omega arith

@@ -1,6 +1,6 @@
 use Rattle.std.proofs.Common.{arith}
 use Rattle.ig_grammar.specs.View.{symbol_of}
-use Rattle.ig_variables.specs.CodingMembers.{node_below, choice_below}
+use Rattle.ig_grammar.specs.CodingMembers.{node_below, choice_below}
 use Rattle.ig_ebnf.proofs.CodeOfGrowth.{on_ok_then, option_adds, star_adds, plus_adds, sep_star_adds, group_adds}
 use Rattle.ig_ebnf.proofs.growing.+growing.Goals as goal
 

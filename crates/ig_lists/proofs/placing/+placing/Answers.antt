@@ -1,5 +1,5 @@
 use Rattle.std.proofs.Common.{arith}
-use Rattle.ig_variables.specs.CodingMembers.{node_below}
+use Rattle.ig_grammar.specs.CodingMembers.{node_below}
 use Rattle.ig_lists.proofs.placing.+placing.Goals as goal
 
 pub push_each-push_new-requires : goal.push_each-push_new-requires

@@ -1,13 +1,15 @@
-use Rattle.std.proofs.Common.{◌≡◌, ◌∙◌, ◌<◌, length, get_or, refl, sym, subst, ap, ap₂, arith}
+use Rattle.std.proofs.Common.{◌∙◌, refl, sym, ap, ap₂, arith}
 use Rattle.ig_grammar.specs.Symbol as tree
 use Rattle.ig_grammar.specs.View.{symbol_of}
 use Rattle.ig_rewrite.specs.Rewriting.{within}
-use Rattle.ig_rewrite.proofs.Gathering.{copied, formed, sequence_within, group_within, choice_at, node_below}
+use Rattle.ig_grammar.specs.CodingMembers.{choice_below, node_below}
+use Rattle.ig_rewrite.proofs.Gathering.{copied, formed, sequence_within, group_within}
 use Rattle.ig_rewrite.proofs.rewriting.+rewriting.Goals as goal
 
 pub rewritten_alternatives-rewritten_sequence-requires : goal.rewritten_alternatives-rewritten_sequence-requires
 rewritten_alternatives-rewritten_sequence-requires g t c κs rest =
-    let n = choice_at c.args.choices.now c.loop-choice.choice-index c.choice-item.result (subst (λ z. c.loop-choice.choice-index < length z) c.as_slice-choice-items.ensures c.loop-choice-test.true) (subst (λ z. c.choice-item.result ≡ get_or z c.loop-choice.choice-index c.choice-item.result) c.as_slice-choice-items.ensures c.choice-item.is) in
+    let n = choice_below c.as_slice-choice-items.result.now c.args.choices.now c.loop-choice.choice-index
+    c.choice-item.result c.as_slice-choice-items.ensures c.loop-choice-test.true c.choice-item.is in
     (omega arith, rest)
 
 pub rewritten_sequence-rewrite_symbol-requires : goal.rewritten_sequence-rewrite_symbol-requires

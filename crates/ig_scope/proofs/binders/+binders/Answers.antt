@@ -1,4 +1,4 @@
-use Rattle.std.proofs.Common.{◌≡◌, ◌<◌, ◌++◌, ◌∷◌, [], Some, ap, sym, ◌∙◌, refl, subst, arith, length, get_or, take, map}
+use Rattle.std.proofs.Common.{◌++◌, ◌∷◌, [], Some, ap, sym, ◌∙◌, refl, subst, arith, take, map}
 use Rattle.std.proofs.lemmas.List.{take_more}
 use Rattle.ig_expr.specs.View.{expression_of}
 use Rattle.ig_grammar.specs.View.{symbol_of}
@@ -7,7 +7,8 @@ use Rattle.ig_grammar.specs.Symbol.{gathered}
 use Rattle.ig_grammar.specs.Alternative.{gathered_alternatives}
 use Rattle.ig_grammar.specs.Visible.{inside_sequence, inside_choices, all_bind, replaced}
 use Rattle.ig_scope.specs.Told.{from}
-use Rattle.ig_scope.proofs.Sequences.{choice_at, node_below, inside_append, inside_push, choices_append, choices_push}
+use Rattle.ig_grammar.specs.CodingMembers.{choice_below, node_below}
+use Rattle.ig_scope.proofs.Sequences.{inside_append, inside_push, choices_append, choices_push}
 use Rattle.ig_scope.proofs.Loops.{Splits, split_at, split_map, more_mapped}
 use Rattle.ig_scope.proofs.Rooms.{leaves_form, leaves_itself_none, leaves_form_none, leaves_pair, leaves_more, leaves_past}
 use Rattle.ig_scope.proofs.binders.+binders.Goals as goal
@@ -104,7 +105,8 @@ leave-returns-in-Seq t c =
 
 pub leave_choices-leave_sequence-requires : goal.leave_choices-leave_sequence-requires
 leave_choices-leave_sequence-requires t c =
-    let n = choice_at c.args.choices.now c.loop-choice.choice-index c.choice-item.result (subst (λ z. c.loop-choice.choice-index < length z) c.as_slice-choice-items.ensures c.loop-choice-test.true) (subst (λ z. c.choice-item.result ≡ get_or z c.loop-choice.choice-index c.choice-item.result) c.as_slice-choice-items.ensures c.choice-item.is) in
+    let n = choice_below c.as_slice-choice-items.result.now c.args.choices.now c.loop-choice.choice-index
+    c.choice-item.result c.as_slice-choice-items.ensures c.loop-choice-test.true c.choice-item.is in
     omega arith
 
 pub leave_choices-returns-in_err-left : goal.leave_choices-returns-in_err-left

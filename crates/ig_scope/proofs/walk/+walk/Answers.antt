@@ -1,4 +1,4 @@
-use Rattle.std.proofs.Common.{◌<◌, ◌≡◌, length, get_or, take, map, subst, arith, Ok, ◌+◌, ◌++◌, ◌∷◌, [], ap, sym, ◌∙◌, refl}
+use Rattle.std.proofs.Common.{take, map, subst, arith, Ok, ◌+◌, ◌++◌, ◌∷◌, [], ap, sym, ◌∙◌, refl}
 use Rattle.std.proofs.lemmas.List.{append-nil, take_more}
 use Rattle.ig_grammar.specs.View.{symbol_of}
 use Rattle.ig_grammar.specs.Symbol as tree
@@ -6,7 +6,7 @@ use Rattle.ig_grammar.specs.Symbol.{gathered}
 use Rattle.ig_grammar.specs.Alternative.{gathered_alternatives}
 use Rattle.ig_grammar.specs.Visible.{at, inside, inside_sequence, inside_choices, binds, all_bind}
 use Rattle.ig_scope.specs.Told.{from, Walked}
-use Rattle.ig_scope.proofs.Sequences.{choice_at, node_below}
+use Rattle.ig_grammar.specs.CodingMembers.{choice_below, node_below}
 use Rattle.ig_scope.proofs.Loops.{Splits, split_at, split_map, more_mapped, sequence_step, sequence_stop, sequence_fits, choices_step, choices_stop, choices_fits}
 use Rattle.ig_scope.proofs.Walks.{walked_form, walked_form_stopped, walked_fault, walked_pair, walked_aside, walked_apart}
 use Rattle.ig_scope.proofs.walk.+walk.Goals as goal
@@ -87,7 +87,8 @@ walk_symbol-returns-in-Some t c =
 
 pub walk_choices-walk_sequence-requires : goal.walk_choices-walk_sequence-requires
 walk_choices-walk_sequence-requires t c =
-    let n = choice_at c.args.choices.now c.loop-choice.choice-index c.choice-item.result (subst (λ z. c.loop-choice.choice-index < length z) c.as_slice-choice-items.ensures c.loop-choice-test.true) (subst (λ z. c.choice-item.result ≡ get_or z c.loop-choice.choice-index c.choice-item.result) c.as_slice-choice-items.ensures c.choice-item.is) in
+    let n = choice_below c.as_slice-choice-items.result.now c.args.choices.now c.loop-choice.choice-index
+    c.choice-item.result c.as_slice-choice-items.ensures c.loop-choice-test.true c.choice-item.is in
     (omega arith, choices_fits c.args.around.now c.args.before c.args.variables.now c.args.choices.now (take c.loop-choice.choice-index c.as_slice-choice-items.result.now) c.choice-item.result c.loop-choice.variables c.loop-choice.next (subst (λ z. Splits z (take c.loop-choice.choice-index c.as_slice-choice-items.result.now) c.choice-item.result) c.as_slice-choice-items.ensures (split_at c.as_slice-choice-items.result.now c.loop-choice.choice-index c.choice-item.result c.loop-choice-test.true c.choice-item.is)) c.loop-choice.invariant c.requires)
 
 pub walk_choices-returns-in_err-next : goal.walk_choices-returns-in_err-next

@@ -1,5 +1,5 @@
 use Rattle.std.proofs.Common.{arith, IfOk, suc, subst, sym, ◌∙◌, ◌≡◌}
-use Rattle.ig_variables.specs.CodingMembers.{node_below, choice_below}
+use Rattle.ig_grammar.specs.CodingMembers.{node_below, choice_below}
 use Rattle.ig_variables.proofs.numbering.+numbering.Goals as goal
 
 pub count_symbols-count-requires : goal.count_symbols-count-requires

@@ -2,7 +2,7 @@ use Rattle.std.proofs.Common.{◌∙◌, ◌++◌, ap, arith, sym}
 use Rattle.std.proofs.lemmas.List.{append-nil}
 use Rattle.ig_grammar.specs.View.{symbol_of}
 use Rattle.ig_grammar.specs.Visible.{binds}
-use Rattle.ig_variables.specs.CodingMembers.{node_below}
+use Rattle.ig_grammar.specs.CodingMembers.{node_below}
 use Rattle.ig_variables.proofs.variables.+binding.Goals as goal
 
 pub bind_each-bind-requires : goal.bind_each-bind-requires

@@ -1,5 +1,5 @@
 use Rattle.std.proofs.Common.{arith}
-use Rattle.ig_variables.specs.CodingMembers.{node_below, choice_below}
+use Rattle.ig_grammar.specs.CodingMembers.{node_below, choice_below}
 use Rattle.ig_variables.proofs.wanting.+wanting.Goals as goal
 
 pub symbols_need-needs-requires : goal.symbols_need-needs-requires

@@ -1,5 +1,5 @@
--- For the proof checker alone: a reader need not read this file. Its lemmas stand here with their proofs, since the crate
--- above goes through symbols, too.
+-- For the proof checker alone: a reader need not read this file. Its lemmas stand here with their proofs, since crates
+-- above go through symbols.
 -- A symbol has no more nodes than the sequence in which it stands, and an alternative fewer than its group.
 use Rattle.std.proofs.Common.{◌≡◌, ℕ, zero, suc, ◌<◌, ◌≤◌, List, [], ◌∷◌, length, get_or, map, ap, subst, arith}
 use Rattle.ig_grammar.specs.Symbol as tree
