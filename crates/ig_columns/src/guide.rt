@@ -76,14 +76,14 @@ pub fn is_root(shape: Shape) -> bool
 
 /// The kind of the declaration of a name, where one may be called by it.
 pub fn kind_of(guide: &Guide<'_>, name: &Word) -> Option<DeclKind>
-    ensures { result ≡ kind_by guide.now.kinds name.now }
+    ensures { result ≡ (setting_by guide.now).kind_of name.now }
 {
     guide.kinds.get(name.as_str()).copied()
 }
 
 /// Whether declarations of the kind get the pair.
 pub fn is_paired(guide: &Guide<'_>, kind: DeclKind) -> bool
-    ensures { result ≡ paired_by guide.now.marked kind }
+    ensures { result ≡ (setting_by guide.now).paired kind }
 {
     guide.marked && may_be_paired(kind)
 }
