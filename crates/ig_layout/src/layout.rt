@@ -8,7 +8,7 @@ ghost use Rattle.ig_grammar.specs.Symbol.{Filtered, Entry};
 ghost use Rattle.ig_lexical_laws.specs.Layout.{is_syntax, is_token, then_layout, laid_inside, laid};
 ghost use Rattle.ig_lexical_laws.specs.Layout.{laid_declaration, laid_grammar, laid_of, LayoutOf};
 
-use crate::declarations::Declarations;
+use crate::guide::Guide;
 use ig_expr::Exprs;
 use ig_filters::relabelled;
 use ig_grammar::{Checked, Decl, DeclKind, Decls, Filters, Grammar, Inner, Lets, Symbol, Symbols};
@@ -54,33 +54,29 @@ fn lay_grammar(alloc: Global, grammar: &Grammar) -> Result<Grammar, AllocError>
     ensures { IfOk result (λ r. r ≡ laid_grammar grammar.now) }
 {
     let start = copy_of_start(alloc, &grammar.start)?;
-    let declared = Declarations::new(alloc, grammar.decls.as_slice())?;
-    let decls = lay_declarations(alloc, &declared, grammar.decls.as_slice())?;
+    let guide = Guide::new(alloc, grammar.decls.as_slice())?;
+    let decls = lay_declarations(alloc, &guide, grammar.decls.as_slice())?;
     Ok(Grammar { start, decls })
 }
 
 /// The declarations, which are plain, with layout called in the open.
-fn lay_declarations(
-    alloc: Global,
-    declared: &Declarations,
-    decls: &[Decl],
-) -> Result<Decls, AllocError>
-    ensures { IfOk result (λ r. r ≡ map (laid_declaration declared.now) decls.now) }
+fn lay_declarations(alloc: Global, guide: &Guide, decls: &[Decl]) -> Result<Decls, AllocError>
+    ensures { IfOk result (λ r. r ≡ map (laid_declaration guide.now) decls.now) }
 {
     let mut all = Decls::new(alloc);
     for decl in decls {
-        push_declaration(&mut all, lay_declaration(alloc, declared, decl)?)?;
+        push_declaration(&mut all, lay_declaration(alloc, guide, decl)?)?;
     }
     Ok(all)
 }
 
 /// The declaration, which is plain, with layout called in the open.
-fn lay_declaration(alloc: Global, declared: &Declarations, decl: &Decl) -> Result<Decl, AllocError>
-    ensures { IfOk result (λ r. r ≡ laid_declaration declared.now decl.now) }
+fn lay_declaration(alloc: Global, guide: &Guide, decl: &Decl) -> Result<Decl, AllocError>
+    ensures { IfOk result (λ r. r ≡ laid_declaration guide.now decl.now) }
 {
     let name = decl.name.copy(alloc)?;
     let params = decl.params.copy(alloc)?;
-    let levels = rewrite_levels(&Laid { declared }, alloc, decl)?;
+    let levels = rewrite_levels(&Laid { guide }, alloc, decl)?;
     Ok(Decl {
         kind: DeclKind::Plain,
         name,
@@ -92,7 +88,7 @@ fn lay_declaration(alloc: Global, declared: &Declarations, decl: &Decl) -> Resul
 /// The own rule of the layout pass.
 #[derive(Drop)]
 struct Laid<'a> {
-    declared: &'a Declarations<'a>,
+    guide: &'a Guide<'a>,
 }
 
 impl<'a> OwnRule for Laid<'a> {
@@ -100,14 +96,14 @@ impl<'a> OwnRule for Laid<'a> {
     ghost use Rattle.ig_lexical_laws.specs.Layout.{laid_in};
 
     ghost rule = { λ s decl x.
-        laid_in (layout_among s.declared.now) s.declared.now decl.kind x };
+        laid_in (layout_among s.guide.now) s.guide.now decl.kind x };
 
     fn apply(&self, alloc: Global, decl: &Decl, symbol: Symbol) -> Result<Symbol, AllocError> {
-        match self.declared.layout() {
+        match self.guide.layout() {
             None => Ok(symbol),
             Some(layout) => {
                 if is_syntax(decl.kind) {
-                    lay(alloc, self.declared, layout, symbol)
+                    lay(alloc, self.guide, layout, symbol)
                 } else {
                     Ok(symbol)
                 }
@@ -130,18 +126,13 @@ fn is_syntax(kind: DeclKind) -> bool
 
 /// The symbol of a syntax declaration, with layout behind each of its tokens.
 #[cycle(laying)]
-fn lay(
-    alloc: Global,
-    declared: &Declarations,
-    layout: &Word,
-    symbol: Symbol,
-) -> Result<Symbol, AllocError>
-    ensures { IfOk result (λ r. symbol_of r ≡ laid declared.now layout.now (symbol_of symbol)) }
+fn lay(alloc: Global, guide: &Guide, layout: &Word, symbol: Symbol) -> Result<Symbol, AllocError>
+    ensures { IfOk result (λ r. symbol_of r ≡ laid guide.now layout.now (symbol_of symbol)) }
 {
-    if is_token(declared, &symbol) {
+    if is_token(guide, &symbol) {
         then_layout(alloc, layout, symbol)
     } else {
-        lay_inside(alloc, declared, layout, symbol)
+        lay_inside(alloc, guide, layout, symbol)
     }
 }
 
@@ -149,21 +140,21 @@ fn lay(
 #[cycle(laying)]
 fn lay_inside(
     alloc: Global,
-    declared: &Declarations,
+    guide: &Guide,
     layout: &Word,
     symbol: Symbol,
 ) -> Result<Symbol, AllocError>
     ensures { IfOk result (λ r.
-        symbol_of r ≡ laid_inside declared.now layout.now (symbol_of symbol)) }
+        symbol_of r ≡ laid_inside guide.now layout.now (symbol_of symbol)) }
 {
     match symbol {
         Symbol::Label(name, inner) => {
-            let inside = lay_inside(alloc, declared, layout, inner.into_symbol())?;
+            let inside = lay_inside(alloc, guide, layout, inner.into_symbol())?;
             relabelled(alloc, name, inside)
         }
-        Symbol::Filtered(inner, filters) => lay_filtered(alloc, declared, layout, inner, filters),
+        Symbol::Filtered(inner, filters) => lay_filtered(alloc, guide, layout, inner, filters),
         Symbol::Entry(bindings, inner) => {
-            match lay(alloc, declared, layout, inner.into_symbol()) {
+            match lay(alloc, guide, layout, inner.into_symbol()) {
                 Ok(inside) => reentered(alloc, bindings, inside),
                 Err(refused) => {
                     drop(bindings);
@@ -179,15 +170,15 @@ fn lay_inside(
 #[cycle(laying)]
 fn lay_filtered(
     alloc: Global,
-    declared: &Declarations,
+    guide: &Guide,
     layout: &Word,
     inner: Inner,
     filters: Filters,
 ) -> Result<Symbol, AllocError>
     ensures { IfOk result (λ r.
-        symbol_of r ≡ Filtered (laid_inside declared.now layout.now inner) filters) }
+        symbol_of r ≡ Filtered (laid_inside guide.now layout.now inner) filters) }
 {
-    match lay_inside(alloc, declared, layout, inner.into_symbol()) {
+    match lay_inside(alloc, guide, layout, inner.into_symbol()) {
         Ok(inside) => refiltered(alloc, inside, filters),
         Err(refused) => {
             drop(filters);
@@ -226,15 +217,15 @@ fn reentered(alloc: Global, bindings: Lets, inside: Symbol) -> Result<Symbol, Al
 }
 
 /// Whether the symbol is a token, with its labels and filters.
-fn is_token(declared: &Declarations, symbol: &Symbol) -> bool
-    ensures { result ≡ is_token declared.now (symbol_of symbol.now) }
+fn is_token(guide: &Guide, symbol: &Symbol) -> bool
+    ensures { result ≡ is_token guide.now (symbol_of symbol.now) }
 {
     match symbol {
         Symbol::Literal(_) => true,
         Symbol::Class(_) => true,
-        Symbol::Call(name, _) => declared.has_lexical(name),
-        Symbol::Label(_, inner) => is_token(declared, inner.as_symbol()),
-        Symbol::Filtered(inner, _) => is_token(declared, inner.as_symbol()),
+        Symbol::Call(name, _) => guide.has_lexical(name),
+        Symbol::Label(_, inner) => is_token(guide, inner.as_symbol()),
+        Symbol::Filtered(inner, _) => is_token(guide, inner.as_symbol()),
         _ => false,
     }
 }

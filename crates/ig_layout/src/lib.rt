@@ -4,7 +4,7 @@
 //! is refused for want of memory alone.
 #![tactic(auto)]
 
-mod declarations;
+mod guide;
 mod layout;
 
 pub use layout::add_layout;

@@ -1,4 +1,3 @@
-pub mod FirstPlaces
 pub mod Firsts
 pub mod Walks
 pub mod Sequences

@@ -1,5 +1,4 @@
 pub mod Places
-pub mod Tables
 pub mod Causes
 pub mod Told
 pub mod Binders

@@ -9,11 +9,11 @@ ghost use Rattle.ig_scope.specs.Told.{TellsDeclaration, TellsDeclarations};
 ghost use Rattle.ig_scope.specs.Told.{TellsFault, TellsGrammar};
 
 use crate::alternatives::check_alternatives;
-use crate::declarations::Declarations;
 use crate::fault::ScopeFault;
 use crate::heads::{Head, head_cause};
 use crate::numbered::{Numbered, room_of};
 use crate::starts::start_cause;
+use ig_declarations::Declarations;
 use ig_grammar::{Checked, DeclKind, Grammar, Place, is_name};
 use std::alloc::Global;
 

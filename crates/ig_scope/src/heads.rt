@@ -7,9 +7,9 @@ ghost use Rattle.ig_scope.specs.Causes.{Tells};
 ghost use Rattle.ig_scope.specs.Heads.{HasRepeated, HaveAssociativity, LimitMeets, count_names};
 ghost use Rattle.ig_scope.specs.Heads.{have_layout};
 
-use crate::declarations::Declarations;
 use crate::fault::{Many, ScopeCause};
 use crate::names::count_named;
+use ig_declarations::Declarations;
 use ig_grammar::{Assoc, Decl, DeclKind, Level, Param, is_name};
 use indexmap::IndexSet;
 use std::alloc::{AllocError, Global};

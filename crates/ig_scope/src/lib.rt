@@ -9,7 +9,6 @@
 mod alternatives;
 mod binders;
 mod checking;
-mod declarations;
 mod expressions;
 mod fault;
 mod heads;

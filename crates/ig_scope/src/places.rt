@@ -2,8 +2,8 @@ ghost use Rattle.std.specs.Prelude.{◌≡◌, ◌+◌, ◌<◌};
 ghost use Rattle.ig_grammar.specs.Regular.{counts_bound};
 ghost use Rattle.ig_scope.specs.Told.{fault_at};
 
-use crate::declarations::Declarations;
 use crate::fault::{ScopeCause, ScopeFault};
+use ig_declarations::Declarations;
 use ig_grammar::{DeclKind, Place};
 
 /// The alternative in which symbols stand, and the declarations that they call.

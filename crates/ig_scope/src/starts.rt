@@ -4,8 +4,8 @@ ghost use Rattle.std.specs.Prelude.{◌≡◌};
 ghost use Rattle.ig_grammar.specs.Condition.{StartMeets};
 ghost use Rattle.ig_scope.specs.Causes.{Tells};
 
-use crate::declarations::Declarations;
 use crate::fault::ScopeCause;
+use ig_declarations::Declarations;
 use ig_grammar::Grammar;
 
 /// Of the conditions that hold at the start line the one of the least number; `None` exactly where

@@ -3,4 +3,4 @@ use Rattle.ig_lexical_laws.specs.Layout.{laid_declaration}
 use Rattle.ig_layout.proofs.layout.lay_declarations.Given as goal
 
 abbrev pub invariant-loop-decl : goal.invariant-loop-decl
-invariant-loop-decl l = l.all ≡ map (laid_declaration l.declared) (take l.decl-index l.decls)
+invariant-loop-decl l = l.all ≡ map (laid_declaration l.guide) (take l.decl-index l.decls)

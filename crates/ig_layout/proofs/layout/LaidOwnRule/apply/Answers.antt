@@ -23,7 +23,7 @@ in_others w decls Plain x e = refl
 
 pub returns-then-is_syntax : goal.returns-then-is_syntax
 returns-then-is_syntax c =
-    let decls = c.args.self.now.declared.now in
+    let decls = c.args.self.now.guide.now in
     let kind = c.args.decl.now.kind in
     let x = symbol_of c.args.symbol in
     subst (λ y. IfOk c.lay.result (λ r. symbol_of r ≡ y))
@@ -32,7 +32,7 @@ returns-then-is_syntax c =
 
 pub returns-else-is_syntax : goal.returns-else-is_syntax
 returns-else-is_syntax c =
-    let decls = c.args.self.now.declared.now in
+    let decls = c.args.self.now.guide.now in
     let kind = c.args.decl.now.kind in
     let x = symbol_of c.args.symbol in
     in_others c.in-Some.layout.now decls kind x (sym c.is_syntax.ensures ∙ c.if-is_syntax.false) ∙

@@ -1,3 +1,4 @@
+//! Declarations found by their names.
 ghost use Rattle.std.specs.Prelude.{◌≡◌, IfOk, MatchOption, None, Some};
 ghost use Rattle.ig_expr.specs.Names.{place_of};
 ghost use Rattle.ig_grammar.specs.Names.{names};
@@ -11,7 +12,7 @@ use std::marker::Model;
 
 /// The declarations of a grammar, found by their names.
 #[derive(Drop)]
-pub(crate) struct Declarations<'a> {
+pub struct Declarations<'a> {
     decls: &'a [Decl],
     /// The place of the first declaration of each name.
     places: IndexMap<&'a [char], usize>,
@@ -20,7 +21,7 @@ pub(crate) struct Declarations<'a> {
 impl<'a> Model for Declarations<'a> {
     ghost use Rattle.std.specs.Prelude.{List};
     ghost use Rattle.ig_grammar.specs.declared.declaration.Decl.{Decl};
-    ghost use Rattle.ig_scope.specs.Tables.{HasPlaces};
+    ghost use Rattle.ig_declarations.specs.Tables.{HasPlaces};
 
     ghost Value = { List Decl };
 
@@ -35,8 +36,8 @@ impl<'a> Model for Declarations<'a> {
 }
 
 impl<'a> Declarations<'a> {
-    /// The declarations.
-    pub(crate) fn new(alloc: Global, decls: &'a [Decl]) -> Result<Declarations<'a>, AllocError>
+    /// The declarations. Refused for want of memory alone.
+    pub fn new(alloc: Global, decls: &'a [Decl]) -> Result<Declarations<'a>, AllocError>
         ensures { IfOk result (λ d. d ≡ decls.now) }
     {
         let mut places = IndexMap::with_capacity(alloc, decls.len())?;
@@ -50,21 +51,22 @@ impl<'a> Declarations<'a> {
     }
 
     /// The declarations, in order.
-    pub(crate) fn as_slice(&self) -> &'a [Decl]
+    pub fn as_slice(&self) -> &'a [Decl]
         ensures { result.now ≡ self.now }
     {
         self.decls
     }
 
-    /// How many declarations stand before the first of this name.
-    pub(crate) fn place_of(&self, name: &Word) -> Option<usize>
+    /// How many declarations stand before the first of this name; `None` exactly where there is
+    /// none.
+    pub fn place_of(&self, name: &Word) -> Option<usize>
         ensures { result ≡ place_of (names self.now) name.now }
     {
         self.places.get(name.as_chars()).copied()
     }
 
     /// The declaration of the name, the first with it; `None` exactly where there is none.
-    pub(crate) fn find(&self, name: &Word) -> Option<&'a Decl>
+    pub fn find(&self, name: &Word) -> Option<&'a Decl>
         ensures { MatchOption result (declaration_of self.now name.now ≡ None)
             (λ d. declaration_of self.now name.now ≡ Some d.now) }
     {

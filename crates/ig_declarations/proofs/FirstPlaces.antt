@@ -8,7 +8,7 @@ use Rattle.indexmap.specs.IndexMap.{IndexMap, get_by}
 use Rattle.ig_text.specs.Words.{is_word}
 use Rattle.ig_text.proofs.WordPlaces.{place_kept, place_grown}
 use Rattle.ig_grammar.specs.declared.declaration.Decl.{Decl}
-use Rattle.ig_scope.specs.Tables.{HasPlaces}
+use Rattle.ig_declarations.specs.Tables.{HasPlaces}
 
 -- a name that has a place keeps it
 pub places_kept : {S : Type 0} (table : IndexMap (Bor (List ℕ)) ℕ S) (ds : List Decl) (i : ℕ) (d : Decl) (word : List ℕ) →

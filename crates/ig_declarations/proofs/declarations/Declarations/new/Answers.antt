@@ -1,9 +1,9 @@
 use Rattle.std.proofs.Common.{sym, ◌∙◌, ◌+◌, take, subst}
 use Rattle.std.proofs.lemmas.List.{take_all}
-use Rattle.ig_layout.specs.Tables.{HasPlaces}
-use Rattle.ig_layout.proofs.FirstPlaces.{places_kept, places_grown}
-use Rattle.ig_layout.proofs.declarations.Declarations.new.Goals as goal
-use Rattle.ig_layout.proofs.declarations.Declarations.new.Goals.{then-not-contains_key+in_ok-insert, else-not-contains_key}
+use Rattle.ig_declarations.specs.Tables.{HasPlaces}
+use Rattle.ig_declarations.proofs.FirstPlaces.{places_kept, places_grown}
+use Rattle.ig_declarations.proofs.declarations.Declarations.new.Goals as goal
+use Rattle.ig_declarations.proofs.declarations.Declarations.new.Goals.{then-not-contains_key+in_ok-insert, else-not-contains_key}
 
 pub loop-place-preserved : goal.loop-place-preserved
 loop-place-preserved c =
@@ -23,5 +23,4 @@ loop-place-preserved c =
     ]
 
 pub invariant_of-result : goal.invariant_of-result
-invariant_of-result c =
-    (subst (HasPlaces c.loop-place.places) (take_all c.loop-place.place c.args.decls.now c.loop-place-test.false) c.loop-place.invariant, c.layout_among-layout.ensures)
+invariant_of-result c = subst (HasPlaces c.loop-place.places) (take_all c.loop-place.place c.args.decls.now c.loop-place-test.false) c.loop-place.invariant
