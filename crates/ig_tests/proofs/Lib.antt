@@ -1,3 +1,2 @@
 pub mod Barren
 pub mod LoneRoot
-pub mod ReadTexts

@@ -37,7 +37,13 @@ fn copies_values(rt: HostRuntime) -> Result<(), Fail> {
 
 /// Adds an expression.
 fn push_here(exprs: &mut Exprs) -> Result<(), AllocError> {
-    exprs.push(Expr::Here).map_err(|refused| refused.1)
+    match exprs.push(Expr::Here) {
+        Ok(()) => Ok(()),
+        Err((expression, refused)) => {
+            drop(expression);
+            Err(refused)
+        }
+    }
 }
 
 #[test]

@@ -4,6 +4,7 @@ use ig_expr::{Expr, Kind};
 use ig_grammar::{
     Alt, Alts, Filter, Filters, Inner, Lets, Param, Params, Shape, Shapes, Symbol, Symbols,
 };
+use ig_rewrite::{push_alternative, push_symbol};
 use ig_text::{Class, Copied, Pattern, Word};
 use std::alloc::{AllocError, Global};
 use std::process::Abort;
@@ -50,7 +51,13 @@ fn copies_filters(rt: HostRuntime) -> Result<(), Fail> {
 }
 
 fn push_let(lets: &mut Lets, name: Word) -> Result<(), AllocError> {
-    lets.push((name, Expr::Here)).map_err(|refused| refused.1)
+    match lets.push((name, Expr::Here)) {
+        Ok(()) => Ok(()),
+        Err((binding, refused)) => {
+            drop(binding);
+            Err(refused)
+        }
+    }
 }
 
 #[test]
@@ -70,20 +77,12 @@ fn keeps_shapes(rt: HostRuntime) -> Result<(), Fail> {
     Ok(())
 }
 
-fn push_symbol(symbols: &mut Symbols, symbol: Symbol) -> Result<(), AllocError> {
-    symbols.push(symbol).map_err(|refused| refused.1)
-}
-
-fn push_alternative(alts: &mut Alts, symbols: Symbols) -> Result<(), AllocError> {
-    alts.push(Alt { symbols }).map_err(|refused| refused.1)
-}
-
 // The alternative of one symbol.
 pub(crate) fn alternatives_of(alloc: Global, symbol: Symbol) -> Result<Alts, AllocError> {
     let mut symbols = Symbols::new(alloc);
     push_symbol(&mut symbols, symbol)?;
     let mut alts = Alts::new(alloc);
-    push_alternative(&mut alts, symbols)?;
+    push_alternative(&mut alts, Alt { symbols })?;
     Ok(alts)
 }
 

@@ -7,14 +7,31 @@ use std::alloc::{AllocError, Global};
 use std::process::Abort;
 use std::test::Fail;
 
+fn push_step(steps: &mut Steps, step: Step) -> Result<(), AllocError> {
+    match steps.push(step) {
+        Ok(()) => Ok(()),
+        Err((step, refused)) => {
+            drop(step);
+            Err(refused)
+        }
+    }
+}
+
+/// The binding of `x` to the position here.
+fn bound(alloc: Global) -> Result<Steps, AllocError> {
+    let mut steps = Steps::new(alloc);
+    push_step(&mut steps, Step::Bind(Word::new(alloc, "x")?, Expr::Here))?;
+    Ok(steps)
+}
+
 #[test]
 fn steps_are_added_with_their_names(rt: HostRuntime) -> Result<(), Fail> {
     let alloc = rt.alloc();
-    let mut steps = Steps::new(alloc);
-    let step = Step::Bind(Word::new(alloc, "x")?, Expr::Here);
-    steps.push(step).map_err(|refused| refused.1)?;
+    let steps = bound(alloc)?;
     assert_eq!(rt; steps.as_slice().len(), 1);
-    let names = VisibleNames::of(alloc, &Words::new(alloc), &steps)?;
+    let names = VisibleNames::of(alloc, &Words::new(alloc), &steps);
+    drop(steps);
+    let names = names?;
     assert_eq!(rt; names.at(0).map(|seen| seen.len()), Some(0));
     assert_eq!(rt; names.at(1).map(|seen| seen.len()), Some(1));
     assert!(rt; names.at(2).is_none());

@@ -1,9 +1,9 @@
-//! The tests of the libraries: public calls that take memory, each once with ample memory.
+//! The tests of the libraries by themselves: public calls that take memory, each once with ample
+//! memory.
 //!
-//! `letters` makes a core grammar by hand, whose items, forest and report are known; `parsing` goes
-//! from the text of a grammar to a forest, as a program would embed it, and its forests are walked
-//! and asked. The passes run there inside a parser alone. Each function owns few values, since at
-//! each `?` all that is owned is dropped, and that is proved.
+//! `letters` makes a core grammar by hand, whose items, forest and report are known. Each function
+//! owns few values, since at each `?` all that is owned is dropped, and that is proved. What goes
+//! from the text of a grammar to a forest is tried in `ig_parse_tests`.
 //!
 //! They stand in a crate of their own, since the program of a crate's tests is proved whole, with
 //! all of that crate; over libraries, which are proved already, only the tests are. Worked rows on
@@ -23,15 +23,15 @@ mod item;
 #[cfg(test)]
 mod letters;
 #[cfg(test)]
-mod listings;
+mod loads;
 #[cfg(test)]
 mod notation;
 #[cfg(test)]
 mod outside;
 #[cfg(test)]
-mod parsing;
+mod refusals;
 #[cfg(test)]
-mod queries;
+mod reports;
 #[cfg(test)]
 mod rewrite;
 #[cfg(test)]
@@ -40,5 +40,3 @@ mod show;
 mod text;
 #[cfg(test)]
 mod tokens;
-#[cfg(test)]
-mod top_call;

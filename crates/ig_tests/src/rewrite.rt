@@ -10,6 +10,7 @@ use ig_grammar::{
 use ig_rewrite::{OwnRule, copy_of_shapes, has_root, rewrite_grammar, rewrite_levels, root};
 use ig_text::{Copied, Word};
 use std::alloc::{AllocError, Global};
+use std::process::Abort;
 use std::test::Fail;
 
 /// A rule that changes nothing.
@@ -83,13 +84,21 @@ fn barren_grammar(alloc: Global, name: Word) -> Result<Grammar, AllocError>
     Ok(Grammar { start, decls })
 }
 
+/// Asserts that there are two declarations, of which one stands for the root.
+fn expect_root(rt: &impl Abort, alloc: Global, rooted: &Checked) -> Result<(), Fail> {
+    assert!(rt; has_root(rooted));
+    assert_eq!(rt; rooted.grammar().decls.len(), 2);
+    assert_eq!(rt; copy_of_shapes(alloc, rooted)?.len(), 2);
+    Ok(())
+}
+
 #[test]
 fn writes_the_root(rt: HostRuntime) -> Result<(), Fail> {
     let alloc = rt.alloc();
     let checked = Checked::of(barren_grammar(alloc, Word::new(alloc, "S")?)?);
-    let rooted = root(alloc, &checked)?;
-    assert!(rt; !has_root(&checked) && has_root(&rooted));
-    assert_eq!(rt; rooted.grammar().decls.len(), 2);
-    assert_eq!(rt; copy_of_shapes(alloc, &rooted)?.len(), 2);
-    Ok(())
+    let rooted = root(alloc, &checked);
+    assert!(rt; !has_root(&checked));
+    drop(checked);
+    let rooted = rooted?;
+    expect_root(&rt, alloc, &rooted)
 }

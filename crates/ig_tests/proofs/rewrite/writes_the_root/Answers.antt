@@ -6,5 +6,5 @@ use Rattle.ig_tests.proofs.rewrite.writes_the_root.Goals as goal
 pub of-checked-requires : goal.of-checked-requires
 of-checked-requires g c = subst IsWellScoped (sym c.in_ok-barren_grammar.ensures) (barren_is_scoped _)
 
-pub root-requires : goal.root-requires
-root-requires g c = record { fresh = λ e. named_s_is_fresh _ _ (c.of-checked.ensures.grammar ∙ c.in_ok-barren_grammar.ensures) c.in_ok-new.ensures }
+pub root-rooted-requires : goal.root-rooted-requires
+root-rooted-requires g c = record { fresh = λ e. named_s_is_fresh _ _ (c.of-checked.ensures.grammar ∙ c.in_ok-barren_grammar.ensures) c.in_ok-new.ensures }

@@ -67,6 +67,29 @@ fn prints_a_forest(rt: HostRuntime) -> Result<(), Fail> {
     Ok(())
 }
 
+/// The grammar of pairs, under which three letters have two trees.
+const PAIRS: &[u8] = b"start S; syntax S = S S | \"a\";";
+
+const PAIRS_TREES: &[u8] =
+    b"0 ($root 0..3 (S.1 0..3 (S.2 0..1 0..1) (S.1 1..3 (S.2 1..2 1..2) (S.2 2..3 2..3))))\n\
+        1 ($root 0..3 (S.1 0..3 (S.1 0..2 (S.2 0..1 0..1) (S.2 1..2 1..2)) (S.2 2..3 2..3)))\n";
+
+#[test]
+fn lists_trees(rt: HostRuntime) -> Result<(), Fail> {
+    let ended = end_of(rt.alloc(), &["trees", "g", "i"], PAIRS, b"aaa")?;
+    assert_eq!(rt; ended.status, Status::Done);
+    assert_eq!(rt; ended.out.bytes(), PAIRS_TREES);
+    Ok(())
+}
+
+#[test]
+fn answers_a_question(rt: HostRuntime) -> Result<(), Fail> {
+    let ended = end_of(rt.alloc(), &["query", "g", "i"], PAIRS, b"aaa")?;
+    assert_eq!(rt; ended.status, Status::Done);
+    assert_eq!(rt; ended.out.bytes(), b"ambiguous yes\nS () 0..3\n".as_slice());
+    Ok(())
+}
+
 /// Asserts that the command on this shelf can't read a file: what notes got, and the shelf's count.
 fn expect_unread(
     rt: &impl Abort,
@@ -110,28 +133,44 @@ fn files_that_cannot_be_read(rt: HostRuntime) -> Result<(), Fail> {
     expect_unread(&rt, alloc, forest, &mut shelf, "cannot read i\n", 2)
 }
 
+/// Asserts what comes of the forest of a letter where out keeps so many bytes of the first put.
+fn expect_unwritten(
+    rt: &impl Abort,
+    alloc: Global,
+    words: &[String],
+    kept: u64,
+) -> Result<(), Fail> {
+    let mut shelf = shelf_of(alloc, LETTER.as_bytes(), b"a")?;
+    let mut out = MemorySink::new(alloc, ROOM)?;
+    out.fail(1, kept)?;
+    let mut notes = MemorySink::new(alloc, ROOM)?;
+    let status = iguana(alloc, words, &mut shelf, &mut out, &mut notes);
+    assert_eq!(rt; status, Status::WriteFault);
+    assert_eq!(rt; out.bytes().len() as u64, kept);
+    assert!(rt; LETTER_FOREST.as_bytes().starts_with(out.bytes()));
+    assert_eq!(rt; notes.bytes(), b"cannot write\n".as_slice());
+    Ok(())
+}
+
+/// Asserts what comes of an input without a tree where notes keeps three bytes of the first put.
+fn expect_unnoted(rt: &impl Abort, alloc: Global, words: &[String]) -> Result<(), Fail> {
+    let mut shelf = shelf_of(alloc, LETTER.as_bytes(), b"")?;
+    let mut out = MemorySink::new(alloc, ROOM)?;
+    let mut notes = MemorySink::new(alloc, ROOM)?;
+    notes.fail(1, 3)?;
+    let status = iguana(alloc, words, &mut shelf, &mut out, &mut notes);
+    assert_eq!(rt; status, Status::WriteFault);
+    assert_eq!(rt; out.bytes(), b"".as_slice());
+    assert_eq!(rt; notes.bytes(), b"no ".as_slice());
+    Ok(())
+}
+
 #[test]
 fn sinks_that_fail(rt: HostRuntime) -> Result<(), Fail> {
     let alloc = rt.alloc();
     let words = words_of(alloc, &["forest", "g", "i"])?;
     for kept in [0, 7, 218] {
-        let mut shelf = shelf_of(alloc, LETTER.as_bytes(), b"a")?;
-        let mut out = MemorySink::new(alloc, ROOM)?;
-        out.fail(1, kept)?;
-        let mut notes = MemorySink::new(alloc, ROOM)?;
-        let status = iguana(alloc, words.as_slice(), &mut shelf, &mut out, &mut notes);
-        assert_eq!(rt; status, Status::WriteFault);
-        assert_eq!(rt; out.bytes().len() as u64, kept);
-        assert!(rt; LETTER_FOREST.as_bytes().starts_with(out.bytes()));
-        assert_eq!(rt; notes.bytes(), b"cannot write\n".as_slice());
+        expect_unwritten(&rt, alloc, words.as_slice(), kept)?;
     }
-    let mut shelf = shelf_of(alloc, LETTER.as_bytes(), b"")?;
-    let mut out = MemorySink::new(alloc, ROOM)?;
-    let mut notes = MemorySink::new(alloc, ROOM)?;
-    notes.fail(1, 3)?;
-    let status = iguana(alloc, words.as_slice(), &mut shelf, &mut out, &mut notes);
-    assert_eq!(rt; status, Status::WriteFault);
-    assert_eq!(rt; out.bytes(), b"".as_slice());
-    assert_eq!(rt; notes.bytes(), b"no ".as_slice());
-    Ok(())
+    expect_unnoted(&rt, alloc, words.as_slice())
 }

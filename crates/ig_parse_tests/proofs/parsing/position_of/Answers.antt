@@ -1,6 +1,6 @@
 use Rattle.std.proofs.Common.{sym, subst}
 use Rattle.ig_parse.specs.Parses.{AreReachable, HasItems}
-use Rattle.ig_tests.proofs.parsing.position_of.Goals as goal
+use Rattle.ig_parse_tests.proofs.parsing.position_of.Goals as goal
 
 pub report-requires : goal.report-requires
 report-requires c =

@@ -8,6 +8,7 @@ use ig_grammar::Checked;
 use ig_notation::{read, read_grammars_are_regular};
 use ig_parse::{ParseFault, Parser, parse};
 use ig_print::{show_core, show_forest};
+use ig_query::is_ambiguous;
 use ig_scope::check;
 use ig_text::Text;
 use ig_tool::read_grammars_are_buildable;
@@ -49,6 +50,15 @@ pub(crate) fn forest_under(alloc: Global, grammar: &str, text: &[u8]) -> Result<
     Ok(forest)
 }
 
+/// A grammar with each form of declarations, levels and symbols, so that each part of each pass has
+/// something to do.
+const FORMS: &str = "start P; layout W = [ ]* !>> [ ]; lexical Id = [a-z]+ !<< [a-z] !>> [a-z]; \
+        syntax P = align (offside D)* ignore (\";\"?); syntax D = n: Id \"=\" E L? \
+        when (size(n) > 0) let k = (size(n)) R(k); syntax E = V > left E \"+\" E > \"-\" E; \
+        syntax V = Id \\ \"if\"; syntax L = \"[\" {V \",\"}* \"]\" | \
+        (\"<\" {V \",\"}+ \">\" | \"(\" V+ \")\"); \
+        syntax R(k: int) = when (k > 1) \"!\" | when (k <= 1) \".\";";
+
 const LETTER_FOREST: &str =
     "forest 2 4\nnode 0 $root () 0..1\nalt $root 2\nnode 1 S () 0..1\nalt S.1 3\nitem 0 $root () \
         1 0 [] 0..0\nbegin\nitem 1 S () 1 0 [] 0..0\nbegin\nitem 2 $root () 1 1 [] 0..1\ntake 0 \
@@ -60,8 +70,16 @@ fn parses(rt: HostRuntime) -> Result<(), Fail> {
     let forest = forest_under(alloc, LETTER, b"a")?;
     assert_eq!(rt; forest.nodes(), 2);
     assert_eq!(rt; forest.items(), 4);
-    let shown = show_forest(alloc, &forest)?;
-    assert_eq!(rt; shown.as_slice(), LETTER_FOREST.as_bytes());
+    let shown = show_forest(alloc, &forest);
+    drop(forest);
+    assert_eq!(rt; shown?.as_slice(), LETTER_FOREST.as_bytes());
+    Ok(())
+}
+
+#[test]
+fn parses_with_each_form(rt: HostRuntime) -> Result<(), Fail> {
+    let forest = forest_under(rt.alloc(), FORMS, b"a = b + - c [d, e] .;")?;
+    assert!(rt; !is_ambiguous(&forest));
     Ok(())
 }
 

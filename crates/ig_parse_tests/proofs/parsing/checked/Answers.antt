@@ -1,5 +1,5 @@
-use Rattle.ig_tests.proofs.ReadTexts.{checked_is_buildable}
-use Rattle.ig_tests.proofs.parsing.checked.Goals as goal
+use Rattle.ig_parse_tests.proofs.ReadTexts.{checked_is_buildable}
+use Rattle.ig_parse_tests.proofs.parsing.checked.Goals as goal
 
 pub check-requires : goal.check-requires
 check-requires c = (c.read_grammars_are_regular.ensures c.args.source.now c.in_ok-grammar.grammar c.utf8.source c.in_ok-grammar.ensures.ok).0

@@ -15,16 +15,21 @@ const PAIRS: &str = "start S; syntax S = S S | \"a\";";
 /// A grammar whose trees of the empty text have every height above one.
 const CYCLIC: &str = "start S; syntax S = S |;";
 
+/// Asserts the least heights of the pairs: of the root over `S` over a pair over a letter, and of
+/// the first letter alone.
+fn expect_heights(rt: &impl Abort, root: u32, heights: &Heights) {
+    assert_eq!(rt; heights.least(root), Some(4));
+    assert_eq!(rt; heights.least(0), Some(1));
+    assert_eq!(rt; heights.least(7), None);
+    assert!(rt; !heights.is_cyclic());
+}
+
 #[test]
 fn tells_heights(rt: HostRuntime) -> Result<(), Fail> {
     let alloc = rt.alloc();
     let forest = forest_under(alloc, PAIRS, b"aaa")?;
     let heights = Heights::of(alloc, &forest)?;
-    // The root over `S` over a pair over a letter, and the first letter alone.
-    assert_eq!(rt; heights.least(forest.root()), Some(4));
-    assert_eq!(rt; heights.least(0), Some(1));
-    assert_eq!(rt; heights.least(7), None);
-    assert!(rt; !heights.is_cyclic());
+    expect_heights(&rt, forest.root(), &heights);
     Ok(())
 }
 
@@ -100,14 +105,26 @@ fn has_tree(
     Ok(walker.next()?.is_some())
 }
 
+/// Asserts that there is a tree of at most height 4, and none of at most height 3.
+fn expect_height(
+    rt: &impl Abort,
+    alloc: Global,
+    forest: &Forest,
+    heights: &Heights,
+) -> Result<(), Fail>
+    requires { AreHeights forest.now heights.now }
+{
+    assert!(rt; has_tree(alloc, forest, heights, 4)?);
+    assert!(rt; !has_tree(alloc, forest, heights, 3)?);
+    Ok(())
+}
+
 #[test]
 fn lists_no_higher_trees(rt: HostRuntime) -> Result<(), Fail> {
     let alloc = rt.alloc();
     let forest = forest_under(alloc, PAIRS, b"aaa")?;
     let heights = Heights::of(alloc, &forest)?;
-    assert!(rt; has_tree(alloc, &forest, &heights, 4)?);
-    assert!(rt; !has_tree(alloc, &forest, &heights, 3)?);
-    Ok(())
+    expect_height(&rt, alloc, &forest, &heights)
 }
 
 /// The cursor of that one number.
@@ -157,12 +174,24 @@ fn is_refused(
     }
 }
 
+/// Asserts that there is a tree of the cursor of number 1, and none of number 2.
+fn expect_refused(
+    rt: &impl Abort,
+    alloc: Global,
+    forest: &Forest,
+    heights: &Heights,
+) -> Result<(), Fail>
+    requires { AreHeights forest.now heights.now }
+{
+    assert!(rt; !is_refused(alloc, forest, heights, 1)?);
+    assert!(rt; is_refused(alloc, forest, heights, 2)?);
+    Ok(())
+}
+
 #[test]
 fn refuses_a_cursor(rt: HostRuntime) -> Result<(), Fail> {
     let alloc = rt.alloc();
     let forest = forest_under(alloc, PAIRS, b"aaa")?;
     let heights = Heights::of(alloc, &forest)?;
-    assert!(rt; !is_refused(alloc, &forest, &heights, 1)?);
-    assert!(rt; is_refused(alloc, &forest, &heights, 2)?);
-    Ok(())
+    expect_refused(&rt, alloc, &forest, &heights)
 }

@@ -1,0 +1,16 @@
+//! The tests of what goes from the text of a grammar to a forest, as a program would embed it.
+//!
+//! `parsing` parses, and tries parsers; its forests are walked and asked in `listings` and
+//! `queries`. The passes, the crates of their parts included, run there inside a parser, once over
+//! each form of symbol. `top_call` tries the commands over a shelf and sinks in memory, which may
+//! fail. Tests of libraries by themselves stand in `ig_tests`.
+#![tactic(auto)]
+
+#[cfg(test)]
+mod listings;
+#[cfg(test)]
+mod parsing;
+#[cfg(test)]
+mod queries;
+#[cfg(test)]
+mod top_call;
