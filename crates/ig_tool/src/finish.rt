@@ -106,6 +106,6 @@ fn answer(
     ensures { GivesAnswer parser.now input.now forest.now (stored_question question.entry)
         result }
 {
-    let text = answer_text(alloc, parser, input, items, forest, question)?;
-    Ok(text)
+    let told = answer_text(alloc, parser, input, items, forest, question)?;
+    Ok(told)
 }
