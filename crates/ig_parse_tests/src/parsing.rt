@@ -50,8 +50,8 @@ pub(crate) fn forest_under(alloc: Global, grammar: &str, text: &[u8]) -> Result<
     Ok(forest)
 }
 
-/// A grammar with each form of declarations, levels and symbols, so that each part of each pass has
-/// something to do.
+/// A grammar with each form of declarations and symbols, and with levels, so that each part of each
+/// pass has something to do.
 const FORMS: &str = "start P; layout W = [ ]* !>> [ ]; lexical Id = [a-z]+ !<< [a-z] !>> [a-z]; \
         syntax P = align (offside D)* ignore (\";\"?); syntax D = n: Id \"=\" E L? \
         when (size(n) > 0) let k = (size(n)) R(k); syntax E = V > left E \"+\" E > \"-\" E; \

@@ -1,5 +1,5 @@
 //! A grammar of one declaration through the traversal, and with its root, with ample memory.
-ghost use Rattle.std.specs.Prelude.{◌≡◌, IfOk};
+ghost use Rattle.std.specs.Prelude.{◌≡◌, IfOk, chars, codes};
 ghost use Rattle.ig_tests.specs.Barren.{barren_grammar};
 
 use crate::grammar::alternatives_of;
@@ -84,6 +84,14 @@ fn barren_grammar(alloc: Global, name: Word) -> Result<Grammar, AllocError>
     Ok(Grammar { start, decls })
 }
 
+/// The grammar of a declaration `S` without alternatives, checked.
+fn barren(alloc: Global) -> Result<Checked, AllocError>
+    ensures { IfOk result (λ checked. checked.grammar ≡ barren_grammar (chars (codes "S"))) }
+{
+    let name = Word::new(alloc, "S")?;
+    Ok(Checked::of(barren_grammar(alloc, name)?))
+}
+
 /// Asserts that there are two declarations, of which one stands for the root.
 fn expect_root(rt: &impl Abort, alloc: Global, rooted: &Checked) -> Result<(), Fail> {
     assert!(rt; has_root(rooted));
@@ -95,7 +103,7 @@ fn expect_root(rt: &impl Abort, alloc: Global, rooted: &Checked) -> Result<(), F
 #[test]
 fn writes_the_root(rt: HostRuntime) -> Result<(), Fail> {
     let alloc = rt.alloc();
-    let checked = Checked::of(barren_grammar(alloc, Word::new(alloc, "S")?)?);
+    let checked = barren(alloc)?;
     let rooted = root(alloc, &checked);
     assert!(rt; !has_root(&checked));
     drop(checked);
