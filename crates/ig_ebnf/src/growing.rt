@@ -1,5 +1,5 @@
 //! The declarations that are added for a symbol: its own, then those of what stands inside it.
-ghost use Rattle.std.specs.Prelude.{◌≡◌, suc, ◌+◌, ◌∷◌, ◌++◌, OnOk};
+ghost use Rattle.std.specs.Prelude.{suc, ◌+◌, ◌∷◌, ◌++◌, OnOk};
 ghost use Rattle.ig_grammar.specs.View.{symbol_of};
 ghost use Rattle.ig_grammar.specs.Symbol.{gathered};
 ghost use Rattle.ig_ebnf_laws.specs.Lists.{count, added, added_symbols, added_alts};

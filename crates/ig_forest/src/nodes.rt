@@ -5,7 +5,6 @@ ghost use Rattle.ig_live.specs.declared.mark.Mark.TheVariants.{Complete};
 ghost use Rattle.ig_forest.specs.CodeDone.{IsTagged, StandsLast};
 ghost use Rattle.ig_live.specs.LiveOrder.{AreLiveInOrder};
 ghost use Rattle.ig_live.specs.Rows.{IsThere, number_cmp};
-ghost use Rattle.ig_forest.specs.CodeNodeRows.{with_choice};
 ghost use Rattle.ig_forest.specs.CodeNodes.{AreNodesWith, EndsWith, MarkComplete, NodesUpTo, Opens};
 ghost use Rattle.ig_forest.specs.CodeNodes.{rows_of};
 ghost use Rattle.ig_forest.specs.CodeTables.{node_of};

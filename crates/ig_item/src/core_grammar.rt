@@ -1,5 +1,5 @@
 //! Core grammars: what a grammar becomes before it is run.
-ghost use Rattle.std.specs.Prelude.{◌≡◌, ◌≤◌, length, slice_get, option_map, sum_by, IfOk};
+ghost use Rattle.std.specs.Prelude.{◌≡◌, ◌≤◌, length, slice_get, option_map, IfOk};
 ghost use Rattle.std.specs.Option.{option_copied};
 ghost use Rattle.ig_item.specs.Behind.{behind_of, behind_at};
 ghost use Rattle.ig_item.specs.Core.{alternative_at, steps_at, numbered};

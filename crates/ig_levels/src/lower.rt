@@ -1,5 +1,5 @@
 //! A grammar without levels.
-ghost use Rattle.std.specs.Prelude.{◌≡◌, ◌+◌, ◌-◌, ◌<◌, [], ◌∷◌, ◌++◌, map, true};
+ghost use Rattle.std.specs.Prelude.{◌≡◌, ◌+◌, ◌-◌, ◌<◌, ◌++◌, map, true};
 ghost use Rattle.std.specs.Prelude.{IfOk, OnOk};
 ghost use Rattle.ig_grammar.specs.Numbering.{by_level};
 ghost use Rattle.ig_grammar.specs.View.{symbol_of};

@@ -1,5 +1,5 @@
 //! The declaration that is added for a list, an option or a group.
-ghost use Rattle.std.specs.Prelude.{◌≡◌, suc, [], ◌∷◌, ◌++◌, map, IfOk, OnOk};
+ghost use Rattle.std.specs.Prelude.{◌≡◌, suc, [], ◌∷◌, map, IfOk, OnOk};
 ghost use Rattle.ig_grammar.specs.View.{symbol_of};
 ghost use Rattle.ig_grammar.specs.Visible.{parameters};
 ghost use Rattle.ig_rewrite.specs.Added.{added_name};

@@ -14,7 +14,7 @@ use crate::steps::build_steps;
 use ig_expr::Kinds;
 use ig_grammar::{Alt, Checked, Decl, Level, Param, Shape};
 use ig_item::{CoreAlt, CoreAlts, Nonterminal};
-use ig_text::{Copied, Sequence, Tag, Word, Words};
+use ig_text::{Copied, Sequence, Tag, Words};
 use std::alloc::{AllocError, Global};
 use std::collections::BTreeMap;
 

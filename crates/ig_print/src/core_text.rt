@@ -1,13 +1,11 @@
 //! The text of a core grammar.
 
 ghost use Rattle.std.specs.Prelude.{◌≡◌, ◌++◌, OnOk, IfOk, Some, string_bytes, encode_utf8_all};
-ghost use Rattle.std.specs.Prelude.{codes, flat_map, map};
-ghost use Rattle.std.specs.Fmt.{decimal};
+ghost use Rattle.std.specs.Prelude.{flat_map, map};
 ghost use Rattle.ig_expr.specs.View.{expression_of};
 ghost use Rattle.ig_item.specs.View.{step_of};
 ghost use Rattle.ig_show.specs.CanonicalText.{expression_bytes};
-ghost use Rattle.ig_print.specs.Listed.{line_end, comma_separated, numbered_texts};
-ghost use Rattle.ig_print.specs.TagText.{tag_text};
+ghost use Rattle.ig_print.specs.Listed.{comma_separated, numbered_texts};
 ghost use Rattle.ig_print.specs.CoreText.{label_text};
 ghost use Rattle.ig_print.specs.CoreText.{excluded_text, arguments_text, step_text, steps_text};
 ghost use Rattle.ig_print.specs.CoreText.{alternative_text, nonterminal_line, nonterminal_text};
@@ -16,7 +14,7 @@ ghost use Rattle.ig_print.specs.CoreText.{core_text};
 use crate::tags::push_tag;
 use crate::values::{push_count, push_number, push_word};
 use ig_expr::{Expr, Exprs};
-use ig_item::{Core, CoreAlt, Nonterminal, Step, Steps};
+use ig_item::{Core, CoreAlt, Nonterminal, Step};
 use ig_show::{push_expression_text, push_pattern_text};
 use ig_text::{Pattern, Word};
 use std::alloc::{AllocError, Global};

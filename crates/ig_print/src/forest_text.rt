@@ -6,8 +6,7 @@ ghost use Rattle.std.specs.Prelude.{◌≡◌, ◌++◌, ◌≤◌, OnOk, encode
 ghost use Rattle.std.specs.Prelude.{IfOk, flat_map};
 ghost use Rattle.std.specs.Fmt.{decimal};
 ghost use Rattle.ig_print.specs.Listed.{line_end, numbered_texts};
-ghost use Rattle.ig_print.specs.TagText.{tag_text};
-ghost use Rattle.ig_print.specs.ValueText.{places_text, span_text, values_text, environment_text};
+ghost use Rattle.ig_print.specs.ValueText.{places_text, span_text, values_text};
 ghost use Rattle.ig_forest.specs.CodeViews.{node_view, item_node_view};
 ghost use Rattle.ig_print.specs.ForestText.{choice_text, entry_text};
 ghost use Rattle.ig_print.specs.ForestText.{node_line, node_text, place_text, item_line};

@@ -1,7 +1,6 @@
 //! How tags print.
 
-ghost use Rattle.std.specs.Prelude.{◌≡◌, ◌++◌, OnOk, [], string_bytes, encode_utf8_all, codes};
-ghost use Rattle.std.specs.Fmt.{decimal};
+ghost use Rattle.std.specs.Prelude.{◌≡◌, ◌++◌, OnOk, [], string_bytes};
 ghost use Rattle.ig_print.specs.TagText.{tag_text};
 
 use crate::values::{push_number, push_word};

@@ -1,8 +1,8 @@
 //! The text of a tree: a part after the other, and a bracket closed once all children of its node
 //! are written. What is still to come of each open node is kept on a stack.
 
-ghost use Rattle.std.specs.Prelude.{◌≡◌, ◌++◌, ◌<◌, ℕ, Some, OnOk, IfOk, [], length, reverse};
-ghost use Rattle.std.specs.Prelude.{string_bytes, vec_items, codes};
+ghost use Rattle.std.specs.Prelude.{◌≡◌, ◌++◌, ◌<◌, ℕ, Some, OnOk, IfOk, length, reverse};
+ghost use Rattle.std.specs.Prelude.{string_bytes, vec_items};
 ghost use Rattle.ig_text.specs.Tree.{Tree};
 ghost use Rattle.ig_text.specs.declared.tag.Tag.TheVariants.{Rule};
 ghost use Rattle.ig_forest.specs.Flat.{flat};

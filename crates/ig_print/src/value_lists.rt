@@ -1,7 +1,7 @@
 //! How the names and the values of nodes and items print.
 
 ghost use Rattle.std.specs.Prelude.{◌≡◌, ◌++◌, OnOk, encode_utf8_all, codes};
-ghost use Rattle.std.specs.Prelude.{drop, length, flat_map};
+ghost use Rattle.std.specs.Prelude.{drop, length};
 ghost use Rattle.std.specs.Fmt.{signed_decimal};
 ghost use Rattle.ig_print.specs.Listed.{comma_separated};
 ghost use Rattle.ig_print.specs.ValueText.{places_text, value_text, values_text};

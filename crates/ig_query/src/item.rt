@@ -1,8 +1,7 @@
 //! Where an item stands.
-ghost use Rattle.std.specs.Prelude.{◌≡◌, ◌↔◌, ◌<◌, Contains, IsTrue, MatchOption, length};
+ghost use Rattle.std.specs.Prelude.{◌≡◌, ◌↔◌, ◌<◌, Contains, IsTrue};
 ghost use Rattle.ig_item.specs.Items.{IsCompleteRoot, root_instance};
 ghost use Rattle.ig_item.specs.Tables.{instance_of, item_of};
-ghost use Rattle.ig_text.specs.declared.pattern.Pattern.{Pattern};
 ghost use Rattle.ig_query.specs.CodeReport.{Reports, dot_of, pattern_at};
 
 use crate::dots::{Dot, is_last, pattern_at};

@@ -1,12 +1,12 @@
 //! Expressions and their lists.
 
-ghost use Rattle.std.specs.Prelude.{◌≡◌, ◌++◌, ◌∷◌, [], OnOk, map, chars, string_bytes};
-ghost use Rattle.ig_syntax.specs.Token.{Name, Head, Literal, Comma, Close};
+ghost use Rattle.std.specs.Prelude.{◌≡◌, ◌∷◌, OnOk, map, chars, string_bytes};
+ghost use Rattle.ig_syntax.specs.Token.{Head, Literal, Close};
 ghost use Rattle.ig_expr.specs.Expression.{Truth};
 ghost use Rattle.ig_expr.specs.View.{expression_of};
 ghost use Rattle.ig_show.specs.Pieces.{token, blank};
 ghost use Rattle.ig_show.specs.CanonicalText.{expression_pieces, part_pieces, operator_token};
-ghost use Rattle.ig_show.specs.CanonicalText.{function_name, has_operator, joined, separated};
+ghost use Rattle.ig_show.specs.CanonicalText.{function_name, has_operator, joined};
 ghost use Rattle.ig_show.specs.CanonicalText.{comma, call_pieces, pattern_token};
 ghost use Rattle.ig_show.specs.Writing.{Adds, AddsBefore};
 

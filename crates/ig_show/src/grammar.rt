@@ -1,10 +1,10 @@
 //! Grammars and their declarations.
 
-ghost use Rattle.std.specs.Prelude.{◌≡◌, ◌++◌, ◌∷◌, [], OnOk, IfOk, Some, IsUtf8, map, chars};
+ghost use Rattle.std.specs.Prelude.{◌≡◌, ◌++◌, ◌∷◌, [], OnOk, IfOk, Some};
 ghost use Rattle.std.specs.Prelude.{string_bytes};
 ghost use Rattle.ig_expr.specs.View.{expression_of};
-ghost use Rattle.ig_syntax.specs.Token.{Name, Head, Semicolon, Colon, Greater};
-ghost use Rattle.ig_show.specs.Pieces.{token, blank, line_end};
+ghost use Rattle.ig_syntax.specs.Token.{Colon, Greater};
+ghost use Rattle.ig_show.specs.Pieces.{token, blank};
 ghost use Rattle.ig_show.specs.CanonicalText.{text_of, expression_text, pattern_text};
 ghost use Rattle.ig_show.specs.CanonicalText.{associativity_pieces, level_pieces, levels_pieces};
 ghost use Rattle.ig_show.specs.CanonicalText.{parameter_pieces, head_pieces, joined, comma};

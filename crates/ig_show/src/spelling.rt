@@ -1,10 +1,10 @@
 //! How tokens that hold something are spelled: numbers, literals and classes.
 
-ghost use Rattle.std.specs.Prelude.{◌≡◌, ◌++◌, ◌∷◌, [], OnOk, IfOk, chars, string_bytes, flat_map};
+ghost use Rattle.std.specs.Prelude.{◌∷◌, [], OnOk, chars, string_bytes, flat_map};
 ghost use Rattle.ig_syntax.specs.Token.{Name, Head, Literal, OneOf};
 ghost use Rattle.ig_show.specs.Pieces.{token};
 ghost use Rattle.ig_show.specs.Spelling.{literal_character, class_character, range_spelling};
-ghost use Rattle.ig_show.specs.Spelling.{negation, class_spelling, literal_spelling};
+ghost use Rattle.ig_show.specs.Spelling.{negation, class_spelling};
 ghost use Rattle.ig_show.specs.CanonicalText.{integer_pieces, pattern_token};
 ghost use Rattle.ig_show.specs.Writing.{Adds, Appends};
 

@@ -1,6 +1,6 @@
 //! Symbols, alternatives and filters.
 
-ghost use Rattle.std.specs.Prelude.{◌≡◌, ◌++◌, ◌∷◌, [], OnOk, map, chars, string_bytes};
+ghost use Rattle.std.specs.Prelude.{◌≡◌, ◌∷◌, [], OnOk, map, chars, string_bytes};
 ghost use Rattle.ig_grammar.specs.Symbol.{gathered};
 ghost use Rattle.ig_grammar.specs.Alternative.{gathered_alternatives};
 ghost use Rattle.ig_grammar.specs.Binding.{binding_of};
@@ -17,7 +17,7 @@ ghost use Rattle.ig_show.specs.Writing.{Adds, AddsBefore, AddsBehind};
 use crate::expressions::{push_call, push_expression};
 use crate::spelling::{push_class, push_literal, push_name, push_pattern, push_text};
 use ig_expr::Expr;
-use ig_grammar::{Alt, Alts, Filter, Inner, Symbol, Symbols};
+use ig_grammar::{Alts, Filter, Inner, Symbol, Symbols};
 use ig_text::{Pattern, Word};
 use std::alloc::AllocError;
 

@@ -1,5 +1,5 @@
 ghost use Rattle.std.specs.Prelude.{◌≡◌, ◌+◌, ◌<◌, ◌↔◌, IfOk, IsTrue};
-ghost use Rattle.ig_text.specs.Ranges.{NoneFalls, Ascends, is_among, IsNormalFormOf};
+ghost use Rattle.ig_text.specs.Ranges.{NoneFalls, Ascends, IsNormalFormOf};
 ghost use Rattle.ig_text.specs.Ranges.{HasOneNormalForm, normal_form, NormalFormIsNormal};
 ghost use Rattle.ig_text.specs.Ranges.{NormalRangesStay};
 ghost use Rattle.ig_text.specs.declared.class.Class.TheVariants as class;

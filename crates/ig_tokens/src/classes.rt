@@ -1,8 +1,7 @@
 //! Classes with ranges.
 
 ghost use Rattle.std.specs.Prelude.{◌≡◌, [], ◌++◌, chars, is_some, IfOk, OnOk, false, option_map};
-ghost use Rattle.std.specs.Prelude.{option_to_list, MatchOption, ◌&&◌, ◌==◌, not};
-ghost use Rattle.ig_text.specs.Ranges.{NoneFalls};
+ghost use Rattle.std.specs.Prelude.{option_to_list, ◌&&◌, ◌==◌, not};
 ghost use Rattle.ig_tokens.specs.Scanner.{class_token, class_of, class_step, ranges_of, dash};
 ghost use Rattle.ig_tokens.specs.Scanner.{character, between};
 ghost use Rattle.ig_tokens.specs.View.{class_within};

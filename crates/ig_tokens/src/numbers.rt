@@ -1,6 +1,6 @@
 //! Numbers.
 
-ghost use Rattle.std.specs.Prelude.{◌≡◌, ◌<◌, ◌^◌, ℕ, ◌≤◌, ◌+◌, ◌-◌, ◌*◌, true, chars, pos};
+ghost use Rattle.std.specs.Prelude.{◌≡◌, ◌<◌, ◌^◌, ◌≤◌, ◌+◌, ◌-◌, ◌*◌, true, chars, pos};
 ghost use Rattle.std.specs.Prelude.{MatchOption, SomeIff};
 ghost use Rattle.ig_text.specs.Words.{is_digit};
 ghost use Rattle.ig_expr.specs.Reading.{spelled};

@@ -1,6 +1,6 @@
 //! What stands first in a text.
 
-ghost use Rattle.std.specs.Prelude.{◌≡◌, ◌∷◌, chars};
+ghost use Rattle.std.specs.Prelude.{◌≡◌, chars};
 ghost use Rattle.ig_syntax.specs.Spelling.{is_one_of, blanks};
 ghost use Rattle.ig_tokens.specs.Scanner.{next, comment};
 ghost use Rattle.ig_tokens.specs.Steps.{Begins, Gives};

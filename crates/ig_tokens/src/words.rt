@@ -1,6 +1,6 @@
 //! Names, heads, keywords and the classes that have a name.
 
-ghost use Rattle.std.specs.Prelude.{◌≡◌, chars, option_map, length};
+ghost use Rattle.std.specs.Prelude.{◌≡◌, chars, option_map};
 ghost use Rattle.ig_syntax.specs.Token.{OneOf};
 ghost use Rattle.ig_syntax.specs.Spelling.{entry, keywords, named_classes};
 ghost use Rattle.ig_tokens.specs.Scanner.{word_token, name_token, named_class};
