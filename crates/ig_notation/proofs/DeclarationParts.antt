@@ -16,13 +16,14 @@ use Rattle.ig_grammar.specs.declared.declaration.Decl.{Decl}
 use Rattle.ig_syntax.specs.Rules as rule
 use Rattle.ig_syntax.specs.Rules.{IsKind, IsDeclKind, ReadsAssociativity, ReadsAlternatives, ReadsLevel, ReadsLevels, ReadsParameters, ReadsDeclaration, ReadsDeclarations, FollowsRules}
 use Rattle.ig_rules.specs.Machine as want
-use Rattle.ig_rules.specs.Machine.{Want, after, before, run, go, step, chosen, after_kind, after_declaration, after_declarations, after_grammar, alternatives_wants, level_wants, levels_wants, parameters_wants, declaration_wants}
+use Rattle.ig_rules.specs.Machine.{Want, before, run, go, step, chosen, after_kind, after_declaration, alternatives_wants, level_wants, levels_wants, parameters_wants, declaration_wants}
 use Rattle.ig_rules.specs.Reading.{Goes}
-use Rattle.ig_notation.specs.declared.fault.RuleFault.{RuleFault}
-use Rattle.ig_notation.specs.declared.fault.RuleFault.TheVariants.{Unexpected, Memory}
-use Rattle.ig_notation.specs.Readers.{Stands, Takes, Misses, MissesAt, StopsAt, FailsAt, Runs, Finds, Closed, Front, ReadsHeading, ReadsParameter, ReadsFirst}
-use Rattle.ig_notation.proofs.Lists.{one_more, the_last, no_more_parameters, snoc}
-use Rattle.ig_notation.proofs.Steps.{passed, missed, some_there, stop_first, stop_past, stop_token, by_token, by_itself, in_turn, nothing, ReadsToken, the_token, the_sign, After, sign_then, then_sign}
+use Rattle.ig_readers.specs.declared.fault.RuleFault.{RuleFault}
+use Rattle.ig_readers.specs.declared.fault.RuleFault.TheVariants.{Unexpected, Memory}
+use Rattle.ig_readers.specs.Readers.{Stands, Takes, Misses, at_end, at_token, MissesAt, StopsAt, Runs, Finds, Closed, Front}
+use Rattle.ig_notation.specs.Parts.{FailsAt, ReadsHeading, ReadsParameter, ReadsFirst}
+use Rattle.ig_readers.specs.Lists.{one_more, the_last, snoc}
+use Rattle.ig_readers.specs.Steps.{passed, missed, some_there, stop_first, stop_past, stop_token, by_token, by_itself, in_turn, nothing, ReadsToken, the_token, the_sign, After, sign_then, then_sign}
 
 -- kinds
 kind_row : (t : Token) (k : Kind) → IsKind t k → after_kind t ≡ Some []
@@ -66,6 +67,15 @@ pub more_parameters : (T : List Token) (i j k : ℕ) (ps qs : List Param) (p : P
     Goes (List Param) (Front ReadsParameters) parameters_wants parameters_wants T i (k + 1) qs
 more_parameters T i j k ps qs p g h c e =
     one_more ReadsParameter ReadsParameters (want.parameter ∷ []) want.parameters_rest Comma T i j k ps qs p refl further_parameter g h c e
+
+-- where no comma stands, no further parameter does
+no_parameter : (t : Token) → want.after_comma t ≡ None → want.after_parameters_rest t ≡ None
+no_parameter Comma e = cc
+no_parameter t e = refl
+
+no_more_parameters : (T : List Token) (i : ℕ) → Misses want.comma T i → Misses want.parameters_rest T i
+no_more_parameters T i (at_end e) = at_end e
+no_more_parameters T i (at_token t h e) = at_token t h (no_parameter t e)
 
 pub closed_parameters : (T : List Token) (i j k l : ℕ) (ps qs rs : List Param) (p : Param) →
     Goes (List Param) (Front ReadsParameters) parameters_wants parameters_wants T i j ps →

@@ -1,8 +1,3 @@
-pub mod Steps
-pub mod Names
-pub mod Lists
-pub mod ExpressionParts
-pub mod FilterParts
 pub mod SymbolParts
 pub mod DeclarationParts
 pub mod Outcomes

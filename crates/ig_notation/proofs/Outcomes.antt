@@ -15,14 +15,14 @@ use Rattle.ig_tokens.specs.declared.token.TokenFault.{TokenFault}
 use Rattle.ig_tokens.specs.declared.token.TokenFault.TheVariants.{Broken, Memory as OutOfMemory}
 use Rattle.ig_rules.specs.Laws.{AreOfGrammar, RunStops}
 use Rattle.ig_rules.specs.Machine as want
-use Rattle.ig_notation.specs.declared.fault.RuleFault.{RuleFault}
-use Rattle.ig_notation.specs.declared.fault.RuleFault.TheVariants.{Unexpected, Memory}
+use Rattle.ig_readers.specs.declared.fault.RuleFault.{RuleFault}
+use Rattle.ig_readers.specs.declared.fault.RuleFault.TheVariants.{Unexpected, Memory}
 use Rattle.ig_notation.specs.declared.fault.ReadFault.{ReadFault}
 use Rattle.ig_notation.specs.declared.fault.ReadFault.TheVariants as faults
 use Rattle.ig_notation.specs.declared.fault.Large.TheVariants as large
 use Rattle.ig_limits.specs.Limits.{NumbersFit, IsShallow, byte_of, meanings}
 use Rattle.ig_notation.specs.Outcome.{unplaced, HasTokens, IsRead, fault_of, refusal_of, IsReadFault, no_token, large_number, deep, against_rules, no_memory}
-use Rattle.ig_notation.specs.Readers.{FailsAt}
+use Rattle.ig_notation.specs.Parts.{FailsAt}
 
 same_tokens : (placed : List Placed) → meanings placed ≡ unplaced (tokens_of placed)
 same_tokens [] = refl

@@ -13,16 +13,17 @@ use Rattle.ig_grammar.specs.declared.filter.Filter.{Filter}
 use Rattle.ig_syntax.specs.Rules as rule
 use Rattle.ig_syntax.specs.Rules.{IsPattern, IsSeparated, ReadsExpression, ReadsArguments, ReadsFilters, ReadsSign, ReadsSymbol, ReadsMarked, ReadsPost, ReadsAtom, ReadsAlternative, ReadsAlternatives, filtered}
 use Rattle.ig_rules.specs.Machine as want
-use Rattle.ig_rules.specs.Machine.{Want, after, before, run, all_may_lack, after_symbol, after_atom, after_pattern, arguments_wants, alternatives_wants}
+use Rattle.ig_rules.specs.Machine.{Want, after, before, run, after_symbol, after_atom, arguments_wants, alternatives_wants}
 use Rattle.ig_rules.specs.Reading.{Goes}
-use Rattle.ig_notation.specs.declared.fault.RuleFault.{RuleFault}
+use Rattle.ig_readers.specs.declared.fault.RuleFault.{RuleFault}
 use Rattle.ig_notation.specs.declared.symbols.Repetition.{Repetition}
 use Rattle.ig_notation.specs.declared.symbols.Repetition.TheVariants as repetitions
 use Rattle.ig_notation.specs.declared.symbols.ListSign.{ListSign}
 use Rattle.ig_notation.specs.declared.symbols.ListSign.TheVariants as lists
-use Rattle.ig_notation.specs.Readers.{Stands, Takes, Misses, at_end, at_token, StopsAt, Runs, Finds, Behind, Closed, Front, ReadsBare, terminal_of, repetition_token, repeated_of, list_token, separated_of}
-use Rattle.ig_notation.proofs.Lists.{one_more, the_last, finish, snoc}
-use Rattle.ig_notation.proofs.Steps.{taken, passed, front, joined, in_row, stop_later, stop_first, stop_token, runs_of, by_token, by_itself, in_turn, otherwise, the_same, ReadsToken, the_token, alike_at, rows_alike, rows_same, and_none, relay, reread, After, token_then, sign_then, then_sign, row_more}
+use Rattle.ig_readers.specs.Readers.{Stands, Takes, Misses, at_end, at_token, StopsAt, Runs, Finds, Behind, Closed, Front}
+use Rattle.ig_notation.specs.Parts.{ReadsBare, terminal_of, repetition_token, repeated_of, list_token, separated_of}
+use Rattle.ig_readers.specs.Lists.{one_more, the_last, finish, snoc}
+use Rattle.ig_readers.specs.Steps.{taken, passed, front, joined, in_row, stop_later, stop_first, stop_token, runs_of, by_token, by_itself, in_turn, otherwise, the_same, ReadsToken, the_token, alike_at, rows_alike, rows_same, and_none, relay, reread, After, token_then, sign_then, then_sign, row_more}
 
 -- guards and lets
 pub guard : (T : List Token) (i j k : ℕ) (e : Expression) → Takes Open T i j →

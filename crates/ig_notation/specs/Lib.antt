@@ -1,2 +1,2 @@
-pub mod Readers
+pub mod Parts
 pub mod Outcome

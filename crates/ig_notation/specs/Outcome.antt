@@ -16,8 +16,8 @@ use Rattle.ig_rules.specs.Names.{HasNames}
 use Rattle.ig_limits.specs.Limits.{NumbersFit, IsShallow, byte_of}
 use Rattle.ig_tokens.specs.declared.token.TokenFault.{TokenFault}
 use Rattle.ig_tokens.specs.declared.token.TokenFault.TheVariants.{Broken, Memory as OutOfMemory}
-use Rattle.ig_notation.specs.declared.fault.RuleFault.{RuleFault}
-use Rattle.ig_notation.specs.declared.fault.RuleFault.TheVariants.{Unexpected, Memory}
+use Rattle.ig_readers.specs.declared.fault.RuleFault.{RuleFault}
+use Rattle.ig_readers.specs.declared.fault.RuleFault.TheVariants.{Unexpected, Memory}
 use Rattle.ig_notation.specs.declared.fault.ReadFault.{ReadFault}
 use Rattle.ig_notation.specs.declared.fault.ReadFault.TheVariants as faults
 use Rattle.ig_notation.specs.declared.fault.Large.TheVariants as large

@@ -1,9 +1,8 @@
 //! Why a text gave no grammar.
 
-ghost use Rattle.std.specs.Prelude.{◌≡◌, [], ◌∷◌, ◌++◌, OnOk};
+ghost use Rattle.std.specs.Prelude.{◌≡◌};
 
 use ig_tokens::TokenFault;
-use std::alloc::AllocError;
 use thiserror::Error;
 
 /// What a grammar text may be too large in.
@@ -42,42 +41,4 @@ impl From<TokenFault> for ReadFault {
             TokenFault::Memory => ReadFault::Memory,
         }
     }
-}
-
-/// Why tokens gave no part of a grammar.
-#[derive(Clone, Copy)]
-pub(crate) enum RuleFault {
-    /// The token of this number, counted from 0, can't stand here; or the tokens end, and theirs is
-    /// the number.
-    Unexpected { token: usize },
-    /// Memory ran out.
-    Memory,
-}
-
-impl From<AllocError> for RuleFault {
-    ghost use Rattle.ig_notation.specs.declared.fault.RuleFault.TheVariants.{Memory};
-
-    ghost from_gives = { λ _ fault. fault ≡ Memory };
-
-    fn from(_error: AllocError) -> RuleFault {
-        RuleFault::Memory
-    }
-}
-
-impl<T: Drop> From<(T, AllocError)> for RuleFault {
-    ghost use Rattle.ig_notation.specs.declared.fault.RuleFault.TheVariants.{Memory};
-
-    ghost from_gives = { λ _ fault. fault ≡ Memory };
-
-    fn from(_refused: (T, AllocError)) -> RuleFault {
-        RuleFault::Memory
-    }
-}
-
-/// Adds the value at the end of the list.
-pub(crate) fn add<T: Drop>(list: &mut Vec<T>, value: T) -> Result<(), AllocError>
-    ensures ok { OnOk result (list.new.items ≡ list.old.items ++ value ∷ []) }
-{
-    list.push(value)?;
-    Ok(())
 }

@@ -6,10 +6,10 @@ ghost use Rattle.ig_tokens.specs.View.{tokens_of};
 ghost use Rattle.ig_notation.specs.Outcome.{IsRead, IsReadFault, refusal_of};
 
 use crate::declarations::read_grammar;
-use crate::fault::{Large, ReadFault, RuleFault};
-use crate::tokens::Tokens;
+use crate::fault::{Large, ReadFault};
 use ig_grammar::Grammar;
 use ig_limits::{byte_of, is_shallow, is_too_long, numbers_fit};
+use ig_readers::{RuleFault, Tokens};
 use ig_tokens::{Placed, tokenize};
 use std::alloc::Global;
 

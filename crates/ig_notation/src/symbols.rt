@@ -3,7 +3,6 @@
 
 ghost use Rattle.std.specs.Prelude.{◌≡◌, ◌≤◌, ◌<◌, [], ◌∷◌, ◌++◌, length, true, false, Some};
 ghost use Rattle.std.specs.Prelude.{is_some, IfOk, IfErr, OnOk, MatchOption};
-ghost use Rattle.ig_text.specs.declared.pattern.Pattern.{Pattern as SpecPattern};
 ghost use Rattle.ig_tokens.specs.View.{token_of};
 ghost use Rattle.ig_syntax.specs.Token as spec;
 ghost use Rattle.ig_grammar.specs.Symbol as tree;
@@ -15,17 +14,16 @@ ghost use Rattle.ig_syntax.specs.Rules.{ReadsAlternative, ReadsAlternatives, fil
 ghost use Rattle.ig_rules.specs.Machine as want;
 ghost use Rattle.ig_rules.specs.Machine.{after_symbol, alternatives_wants, close_brace};
 ghost use Rattle.ig_rules.specs.Reading.{Goes};
-ghost use Rattle.ig_notation.specs.Readers.{Stands, Misses, MissesAt, Finds, StopsAt};
-ghost use Rattle.ig_notation.specs.Readers.{Behind, ReadsBare, terminal_of, repetition_token};
-ghost use Rattle.ig_notation.specs.Readers.{repeated_of, list_token, separated_of};
+ghost use Rattle.ig_readers.specs.Readers.{Stands, Misses, MissesAt, Finds, StopsAt, Behind};
+ghost use Rattle.ig_notation.specs.Parts.{ReadsBare, terminal_of, repetition_token};
+ghost use Rattle.ig_notation.specs.Parts.{repeated_of, list_token, separated_of};
 
-use crate::expressions::{read_arguments, read_closed};
-use crate::fault::RuleFault;
-use crate::filters::{pattern_of, read_filters};
-use crate::signs::{Sign, read_name, read_sign, stands_at};
-use crate::tokens::Tokens;
 use ig_expr::Exprs;
 use ig_grammar::{Alt, Alts, Filters, Inner, Symbol, Symbols};
+use ig_readers::{
+    RuleFault, Sign, Tokens, pattern_of, read_arguments, read_closed, read_filters, read_name,
+    read_sign, stands_at,
+};
 use ig_text::{Pattern, Word};
 use ig_tokens::Token;
 use std::alloc::Global;

@@ -3,7 +3,7 @@ use Rattle.ig_syntax.specs.Rules.{ReadsLevels}
 use Rattle.ig_grammar.specs.declared.declaration.Level.{Level}
 use Rattle.ig_rules.specs.Machine.{levels_wants}
 use Rattle.ig_rules.specs.Reading.{Goes}
-use Rattle.ig_notation.specs.Readers.{Front}
+use Rattle.ig_readers.specs.Readers.{Front}
 use Rattle.ig_notation.proofs.declarations.read_levels.Given as goal
 
 -- what is read so far is the front of the levels

@@ -3,7 +3,7 @@ use Rattle.ig_syntax.specs.Rules.{ReadsParameters}
 use Rattle.ig_grammar.specs.declared.declaration.Param.{Param}
 use Rattle.ig_rules.specs.Machine.{parameters_wants}
 use Rattle.ig_rules.specs.Reading.{Goes}
-use Rattle.ig_notation.specs.Readers.{Front}
+use Rattle.ig_readers.specs.Readers.{Front}
 use Rattle.ig_notation.proofs.declarations.read_parameters.Given as goal
 
 -- what is read so far is the front of the parameters

@@ -7,7 +7,7 @@ use Rattle.ig_grammar.specs.declared.symbol.Alt.{Alt}
 use Rattle.ig_rules.specs.Machine as want
 use Rattle.ig_rules.specs.Machine.{alternatives_wants}
 use Rattle.ig_rules.specs.Reading.{Goes}
-use Rattle.ig_notation.specs.Readers.{Front}
+use Rattle.ig_readers.specs.Readers.{Front}
 use Rattle.ig_notation.proofs.symbols.+symbols.Given as goal
 
 -- how many tokens are left, and how deep the function stands among those that read from the same token

@@ -1,5 +1,5 @@
 use Rattle.std.proofs.Common.{sym, ◌∙◌}
-use Rattle.ig_notation.specs.Readers.{at_token}
+use Rattle.ig_readers.specs.Readers.{at_token}
 use Rattle.ig_notation.proofs.SymbolParts.{no_alternative}
 use Rattle.ig_notation.proofs.symbols.begins_symbol.Goals as goal
 

@@ -1,7 +1,7 @@
 use Rattle.std.proofs.Common.{refl, [], ◌∷◌}
 use Rattle.ig_syntax.specs.Token.{Open}
 use Rattle.ig_rules.specs.Machine as want
-use Rattle.ig_notation.proofs.Steps.{missed, stop_sign, exits}
+use Rattle.ig_readers.specs.Steps.{missed, stop_sign, exits}
 use Rattle.ig_notation.proofs.SymbolParts.{guard}
 use Rattle.ig_notation.proofs.symbols.read_guard.Goals as goal
 

@@ -1,6 +1,6 @@
 use Rattle.std.proofs.Common.{rules}
-use Rattle.ig_notation.specs.Readers.{at_token}
-use Rattle.ig_notation.proofs.Steps.{stands_as}
+use Rattle.ig_readers.specs.Readers.{at_token}
+use Rattle.ig_readers.specs.Steps.{stands_as}
 use Rattle.ig_notation.proofs.symbols.repetition_at.Goals as goal
 
 pub returns-in_default : goal.returns-in_default

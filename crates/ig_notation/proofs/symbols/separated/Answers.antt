@@ -1,5 +1,5 @@
 use Rattle.std.proofs.Common.{sym, ap}
-use Rattle.ig_notation.specs.Readers.{separated_of}
+use Rattle.ig_notation.specs.Parts.{separated_of}
 use Rattle.ig_notation.proofs.symbols.separated.Goals as goal
 
 pub returns-in-Star : goal.returns-in-Star

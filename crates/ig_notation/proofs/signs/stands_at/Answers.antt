@@ -1,5 +1,0 @@
-use Rattle.ig_notation.specs.Readers.{at_token}
-use Rattle.ig_notation.proofs.signs.stands_at.Goals as goal
-
-pub returns-in-Some-clause-no : goal.returns-in-Some-clause-no
-returns-in-Some-clause-no c = λ e. at_token _ c.in-Some.ensures (c.is_sign.ensures.no e)

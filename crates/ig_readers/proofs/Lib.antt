@@ -1,0 +1,4 @@
+pub mod Stored
+pub mod Names
+pub mod ExpressionParts
+pub mod FilterParts

@@ -1,0 +1,3 @@
+pub mod Readers
+pub mod Steps
+pub mod Lists
