@@ -1,4 +1,3 @@
-pub mod SymbolParts
 pub mod DeclarationParts
 pub mod Outcomes
 pub mod Readings

@@ -21,10 +21,10 @@ ghost use Rattle.ig_readers.specs.Readers.{Runs, Closed};
 ghost use Rattle.ig_notation.specs.Parts.{FailsAt, ReadsHeading, ReadsParameter};
 ghost use Rattle.ig_notation.specs.Parts.{IsAssociativity};
 
-use crate::symbols::read_alternatives;
 use ig_expr::Kind;
 use ig_grammar::{Assoc, Decl, DeclKind, Decls, Grammar, Level, Levels, Param, Params};
 use ig_readers::{RuleFault, Sign, Tokens, add, read_name, read_sign, stands_at};
+use ig_symbols::read_alternatives;
 use ig_text::Word;
 use ig_tokens::Token;
 use std::alloc::Global;

@@ -3,17 +3,17 @@
 //! [`read`] gives the grammar that a text reads as, or why it doesn't read as one. It tests the
 //! number of bytes, the tokens, the numbers, the nesting of brackets, and last the rules, by
 //! recursive descent over the tokens; the limits are those of ig_limits. `specs/Outcome.antt` says
-//! which texts are read and what each fault means. What stands inside symbols is read by ig_readers,
-//! and each function that reads a part promises here what it does there: that the tokens which it
-//! takes read as what it returns by the rules, and that the machine of ig_rules does the same on
-//! every stack; so where it stops, the tokens stop following the rules.
+//! which texts are read and what each fault means. Alternatives and symbols are read by ig_symbols,
+//! what stands inside these by ig_readers, and each function that reads a part promises here what
+//! it does there: that the tokens which it takes read as what it returns by the rules, and that the
+//! machine of ig_rules does the same on every stack; so where it stops, the tokens stop following
+//! the rules.
 #![tactic(auto)]
 
 mod declarations;
 mod fault;
 mod laws;
 mod source;
-mod symbols;
 
 pub use fault::{Large, ReadFault};
 pub use ig_tokens::MOST_BYTES;

@@ -15,8 +15,8 @@ ghost use Rattle.ig_rules.specs.Machine as want;
 ghost use Rattle.ig_rules.specs.Machine.{after_symbol, alternatives_wants, close_brace};
 ghost use Rattle.ig_rules.specs.Reading.{Goes};
 ghost use Rattle.ig_readers.specs.Readers.{Stands, Misses, MissesAt, Finds, StopsAt, Behind};
-ghost use Rattle.ig_notation.specs.Parts.{ReadsBare, terminal_of, repetition_token};
-ghost use Rattle.ig_notation.specs.Parts.{repeated_of, list_token, separated_of};
+ghost use Rattle.ig_symbols.specs.Parts.{ReadsBare, terminal_of, repetition_token};
+ghost use Rattle.ig_symbols.specs.Parts.{repeated_of, list_token, separated_of};
 
 use ig_expr::Exprs;
 use ig_grammar::{Alt, Alts, Filters, Inner, Symbol, Symbols};
@@ -45,7 +45,7 @@ pub(crate) enum ListSign {
 
 /// Reads alternatives, with `|` between them.
 #[cycle(symbols)]
-pub(crate) fn read_alternatives(
+pub fn read_alternatives(
     alloc: Global,
     tokens: &Tokens,
     at: usize,

@@ -8,7 +8,7 @@ use Rattle.ig_rules.specs.Machine as want
 use Rattle.ig_rules.specs.Machine.{alternatives_wants}
 use Rattle.ig_rules.specs.Reading.{Goes}
 use Rattle.ig_readers.specs.Readers.{Front}
-use Rattle.ig_notation.proofs.symbols.+symbols.Given as goal
+use Rattle.ig_symbols.proofs.symbols.+symbols.Given as goal
 
 -- how many tokens are left, and how deep the function stands among those that read from the same token
 

@@ -5,8 +5,8 @@ use Rattle.ig_syntax.specs.Rules.{ReadsSymbol, ReadsMarked, ReadsAlternatives}
 use Rattle.ig_rules.specs.Machine as want
 use Rattle.ig_rules.specs.Machine.{arguments_wants, alternatives_wants}
 use Rattle.ig_readers.specs.Steps.{stands_as, missed, stop_later, stop_first, stop_past, stop_token, stop_sign, stop_end, runs_of, behind, farther, exits}
-use Rattle.ig_notation.proofs.SymbolParts.{more_symbols, symbol_stops, all_symbols, more_alternatives, all_alternatives, bare_call, call, group, terminal, atom_first, no_braces, no_braces_stop, offside, ignore, align, post_first, unmarked, once, repeated, separated, name_first, marked_first, unlabelled, labelled, labelled_stops, in_braces, in_braces_stop}
-use Rattle.ig_notation.proofs.symbols.+symbols.Goals as goal
+use Rattle.ig_symbols.proofs.SymbolParts.{more_symbols, symbol_stops, all_symbols, more_alternatives, all_alternatives, bare_call, call, group, terminal, atom_first, no_braces, no_braces_stop, offside, ignore, align, post_first, unmarked, once, repeated, separated, name_first, marked_first, unlabelled, labelled, labelled_stops, in_braces, in_braces_stop}
+use Rattle.ig_symbols.proofs.symbols.+symbols.Goals as goal
 
 pub read_alternative-returns-in_err-symbol-clause-err : goal.read_alternative-returns-in_err-symbol-clause-err
 read_alternative-returns-in_err-symbol-clause-err t c =
