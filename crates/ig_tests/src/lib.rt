@@ -13,6 +13,8 @@
 #[cfg(test)]
 mod arena;
 #[cfg(test)]
+mod entries;
+#[cfg(test)]
 mod expr;
 #[cfg(test)]
 mod forests;

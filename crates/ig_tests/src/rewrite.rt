@@ -1,5 +1,5 @@
 //! A grammar of one declaration through the traversal, and with its root, with ample memory.
-ghost use Rattle.std.specs.Prelude.{◌≡◌, IfOk, chars, codes};
+ghost use Rattle.std.specs.Prelude.{◌≡◌, IfOk, chars, codes, length};
 ghost use Rattle.ig_tests.specs.Barren.{barren_grammar};
 
 use crate::grammar::alternatives_of;
@@ -85,8 +85,10 @@ fn barren_grammar(alloc: Global, name: Word) -> Result<Grammar, AllocError>
 }
 
 /// The grammar of a declaration `S` without alternatives, checked.
-fn barren(alloc: Global) -> Result<Checked, AllocError>
-    ensures { IfOk result (λ checked. checked.grammar ≡ barren_grammar (chars (codes "S"))) }
+pub(crate) fn barren(alloc: Global) -> Result<Checked, AllocError>
+    ensures grammar { IfOk result (λ checked.
+        checked.grammar ≡ barren_grammar (chars (codes "S"))) }
+    ensures shapes { IfOk result (λ checked. length checked.shapes ≡ 1) }
 {
     let name = Word::new(alloc, "S")?;
     Ok(Checked::of(barren_grammar(alloc, name)?))

@@ -12,7 +12,7 @@ use ig_print::{
     CursorFault, Report, read_cursor, show_cursor, show_cyclic, show_furthest, show_report,
     show_spans, show_tree,
 };
-use ig_show::{show_expression, show_grammar, show_pattern};
+use ig_show::{push_expression_text, show_expression, show_grammar, show_pattern};
 use ig_text::{Class, Pattern, Patterns, Span, Tag, Word};
 use std::alloc::{AllocError, Global};
 use std::test::Fail;
@@ -37,6 +37,14 @@ fn shows_an_expression(rt: HostRuntime) -> Result<(), Fail> {
     let shown = show_expression(rt.alloc(), &sum);
     drop(sum);
     assert_eq!(rt; shown?.as_slice(), b"(- size(x)) + here".as_slice());
+    Ok(())
+}
+
+#[test]
+fn adds_the_text_of_an_expression(rt: HostRuntime) -> Result<(), Fail> {
+    let mut out = String::new(rt.alloc());
+    push_expression_text(&mut out, &Expr::Here)?;
+    assert_eq!(rt; out.as_str(), "here");
     Ok(())
 }
 
