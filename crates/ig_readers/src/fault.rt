@@ -1,6 +1,6 @@
 //! Why tokens gave no part of a grammar.
 
-ghost use Rattle.std.specs.Prelude.{◌≡◌, [], ◌∷◌, ◌++◌, OnOk};
+ghost use Rattle.std.specs.Prelude.{◌≡◌, [], ◌∷◌, ◌++◌, OnOk, OnErr};
 
 use std::alloc::AllocError;
 
@@ -34,9 +34,11 @@ impl<T: Drop> From<(T, AllocError)> for RuleFault {
     }
 }
 
-/// Adds the value at the end of the list.
+/// Adds the value at the end of the list. Refused for want of memory alone; the list is then as
+/// before.
 pub fn add<T: Drop>(list: &mut Vec<T>, value: T) -> Result<(), AllocError>
     ensures ok { OnOk result (list.new.items ≡ list.old.items ++ value ∷ []) }
+    ensures err { OnErr result (list.new.items ≡ list.old.items) }
 {
     list.push(value)?;
     Ok(())

@@ -27,7 +27,9 @@ pub(crate) enum FilterSign {
     Not,
 }
 
-/// Reads filters, maybe none.
+/// Reads filters, maybe none, and gives them with the number of the token behind. Refused as
+/// unexpected exactly where a sign of a filter has no pattern behind it, at that token; for want of
+/// memory at any.
 pub fn read_filters(
     alloc: Global,
     tokens: &Tokens,

@@ -36,7 +36,8 @@ pub fn stands_at(tokens: &Tokens, at: usize, wanted: Sign) -> bool
     }
 }
 
-/// The number of the token behind the sign, which stands there.
+/// The number of the token behind the sign, which stands there. Refused as unexpected exactly where
+/// another token stands there, or none. Takes no memory.
 pub fn read_sign(tokens: &Tokens, at: usize, wanted: Sign) -> Result<usize, RuleFault>
     ensures ok { IfOk result (Takes (sign_token wanted) tokens.now at) }
     ensures err { IfErr result (MissesAt (want_of wanted) tokens.now at) }
@@ -66,7 +67,8 @@ fn is_sign(token: Token, sign: Sign) -> bool
     }
 }
 
-/// The name that stands there, in front of the token of the next number.
+/// The name that stands there, in front of the token of the next number. Refused as unexpected
+/// exactly where no name stands there. Takes no memory.
 pub fn read_name<'a>(tokens: &Tokens<'a>, at: usize) -> Result<&'a str, RuleFault>
     ensures ok { IfOk result (λ x. Stands tokens.now at (spec.Name (chars x.now))) }
     ensures err { IfErr result (MissesAt name tokens.now at) }

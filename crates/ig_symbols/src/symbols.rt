@@ -43,7 +43,9 @@ pub(crate) enum ListSign {
     Plus,
 }
 
-/// Reads alternatives, with `|` between them.
+/// Reads alternatives, with `|` between them, and gives them with the number of the token behind.
+/// Refused as unexpected exactly where the machine of the rules stops in them, at the token where it
+/// stops; for want of memory at any.
 #[cycle(symbols)]
 pub fn read_alternatives(
     alloc: Global,
