@@ -48,7 +48,7 @@ fn tell_ambiguous(alloc: Global, forest: &Forest) -> Result<Vec<u8>, AllocError>
     show_ambiguous(alloc, forest, nodes.as_slice())
 }
 
-/// Whether the forest has trees of every height.
+/// Whether the forest has a higher tree than each.
 fn tell_cyclic(alloc: Global, forest: &Forest) -> Result<Vec<u8>, AllocError>
     ensures { IfOk result (λ text. TellsCyclic forest.now text.items) }
 {

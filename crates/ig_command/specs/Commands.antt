@@ -21,7 +21,7 @@ pub record Listing : Type 0 where
 pub data Question : Type 0 where
   -- whether there are two trees, and where they differ
   ambiguous : Question
-  -- whether there are trees of every height
+  -- whether there is a higher tree than each
   cyclic : Question
   -- the spans of the declaration of this name, or of the start symbol
   spans : (name : Option (List ℕ)) → Question

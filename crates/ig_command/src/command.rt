@@ -46,7 +46,7 @@ pub struct Listing<'a> {
 pub enum Question<'a> {
     /// Whether there are two trees, and where they differ.
     Ambiguous,
-    /// Whether there are trees of every height.
+    /// Whether there is a higher tree than each.
     Cyclic,
     /// The spans of the declaration of this name, or of the start symbol.
     Spans { name: Option<&'a str> },

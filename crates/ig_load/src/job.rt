@@ -6,7 +6,6 @@ ghost use Rattle.ig_item.specs.Tables.{items_of};
 ghost use Rattle.ig_item.specs.WellKinded.{NoneTwice};
 ghost use Rattle.ig_parse.specs.Parses.{AreReachable, IsParsed};
 ghost use Rattle.ig_load.specs.Grammar.{LoadGrammar};
-ghost use Rattle.ig_load_texts.specs.Input.{most_operands};
 ghost use Rattle.ig_load.specs.Summary.{IsSummaryOf, Loads};
 
 use crate::fault::LoadFault;
@@ -17,7 +16,7 @@ use ig_core_laws::notation_is_buildable;
 use ig_grammar::Checked;
 use ig_heights::Heights;
 use ig_item::Recorded;
-use ig_load_texts::{Summary, load_input};
+use ig_load_texts::{MOST_OPERANDS, Summary, load_input};
 use ig_notation::read_grammars_are_regular;
 use ig_parse::{Parser, ambiguity_is_two_permitted, cyclic_is_without_highest};
 use ig_query::is_ambiguous;
@@ -25,10 +24,10 @@ use std::alloc::{AllocError, Global};
 
 /// What the forest of the load's grammar and the input of this size and number has, where no more
 /// items than the budget are reachable. The size is the number of operands, from 1 to
-/// [`MOST_OPERANDS`](ig_load_texts::MOST_OPERANDS). `Budget` comes exactly where more items are
-/// reachable, if memory doesn't run out before.
+/// [`MOST_OPERANDS`]. `Budget` comes exactly where more items are reachable, if memory doesn't run
+/// out before.
 pub fn load(alloc: Global, size: u32, number: u64, budget: u32) -> Result<Summary, LoadFault>
-    requires { size ≤ most_operands }
+    requires { size ≤ MOST_OPERANDS }
     ensures { Loads size number budget result }
 {
     load_inputs_are_permitted();

@@ -9,7 +9,8 @@ use Rattle.std.proofs.lemmas.Str.{chars-IsAscii, IsUtf8-from_ascii}
 use Rattle.ig_text.specs.Decoding.{IsDecoded, IsFaulty}
 use Rattle.ig_text.specs.declared.text.TextFault.TheVariants.{NotUtf8, TooLong}
 use Rattle.ig_load_texts.specs.Operators.{Operator, power, times, plus, minus, sign, letter, letters, step_text, HasLetter}
-use Rattle.ig_load_texts.specs.Input.{next_state, drawn, operand_at, operator_of, operator_at, steps_from, LoadInput, most_operands}
+use Rattle.ig_load_texts.specs.Input.{next_state, drawn, operand_at, operator_of, operator_at, steps_from, LoadInput}
+use Rattle.ig_load_texts.specs.declared.input.TheConstants.{MOST_OPERANDS}
 use Rattle.ig_load_texts.specs.Laws.{IsChain, InputsAreChains}
 
 pub operand_fits : (state : ℕ) → operand_at state < letters
@@ -101,7 +102,7 @@ module _ (size number : ℕ) (bytes : List ℕ) (is : bytes ≡ LoadInput size n
       fault.not_utf8 (subst IsUtf8 (sym is) (IsUtf8-from_ascii (LoadInput size number) (input_is_ascii size number)))
 
   -- and few
-  pub input_is_short : size ≤ most_operands → IsFaulty bytes TooLong → ⊥
+  pub input_is_short : size ≤ MOST_OPERANDS → IsFaulty bytes TooLong → ⊥
   input_is_short few (inl long) =
       let width = input_width size number in let same = ap length is in omega arith
   input_is_short few (inr long) =

@@ -2,10 +2,6 @@
 use Rattle.std.specs.Prelude.{ℕ, zero, suc, ◌+◌, ◌-◌, ◌*◌, ◌/◌, ◌%◌, ◌^◌, List, [], ◌∷◌}
 use Rattle.ig_load_texts.specs.Operators.{Operator, power, times, plus, minus, Step, letters, chain}
 
--- the most operands, by the characters that a text may have
-abbrev pub most_operands : ℕ
-most_operands = 524288
-
 -- a draw replaces the state by this one
 abbrev pub next_state : ℕ → ℕ
 next_state state = (state * 6364136223846793005 + 1442695040888963407) % 2 ^ 64

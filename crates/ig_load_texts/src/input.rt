@@ -1,7 +1,7 @@
 //! The input of a load.
 ghost use Rattle.std.specs.Prelude.{◌≡◌, ◌≤◌, IfOk};
 ghost use Rattle.ig_load_texts.specs.Operators.{letter, sign};
-ghost use Rattle.ig_load_texts.specs.Input.{LoadInput, drawn, most_operands, next_state};
+ghost use Rattle.ig_load_texts.specs.Input.{LoadInput, drawn, next_state};
 ghost use Rattle.ig_load_texts.specs.Input.{operand_at, operator_at};
 
 use ig_text::{Text, TextFault};
@@ -25,7 +25,7 @@ const OPERATORS: u64 = 4;
 /// operator between each two. All are drawn one by one, from the number on. Refuses only for want
 /// of memory.
 pub fn load_input(alloc: Global, size: u32, number: u64) -> Result<Text, AllocError>
-    requires { size ≤ most_operands }
+    requires { size ≤ MOST_OPERANDS }
     ensures { IfOk result (λ text. text ≡ LoadInput size number) }
 {
     let bytes = bytes_of(alloc, size, number)?;

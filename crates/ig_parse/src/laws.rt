@@ -22,8 +22,9 @@ pub fn cyclic_is_without_highest()
     ensures { CyclicIsWithoutHighest }
 {}
 
-/// In the forest of a grammar and a text, the alternatives of each node rise by tag number, and
-/// those of one number by the environments of their items. This law computes nothing.
+/// In the forest of a grammar that the passes take, and a text, the alternatives of each node rise
+/// by tag number, and those of one number by the environments of their items. This law computes
+/// nothing.
 pub fn alternatives_rise_by_tags()
     ensures { AlternativesRiseByTags }
 {
@@ -31,7 +32,7 @@ pub fn alternatives_rise_by_tags()
 }
 
 /// The spans of a declaration's nodes in the forest of a grammar and a text are exactly those in
-/// permitted trees. This law computes nothing.
+/// permitted trees, where the core grammar is well-kinded. This law computes nothing.
 pub fn spans_are_permitted()
     ensures { SpansArePermitted }
 {
@@ -39,7 +40,8 @@ pub fn spans_are_permitted()
 }
 
 /// The spans of the nodes of a name in the forest of a grammar as it is written and a text are
-/// exactly those of the declaration of that name in permitted trees. This law computes nothing.
+/// exactly those of the declaration of that name in permitted trees, where the core grammar is
+/// well-kinded. This law computes nothing.
 pub fn spans_are_of_declarations()
     ensures { SpansAreOfDeclarations }
 {

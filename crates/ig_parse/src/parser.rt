@@ -50,7 +50,8 @@ impl<'g> Model for Parser<'g> {
 
 impl<'g> Parser<'g> {
     /// The parser of a grammar that the passes take. `TooManyDots` comes only where its core
-    /// grammar has more than `MOST_DOTS` dots, and then no parser comes.
+    /// grammar has more than `MOST_DOTS` dots, and then no parser comes. `Memory` also stands for
+    /// what [`build`](ig_core::build) names beside it.
     pub fn of(alloc: Global, grammar: &'g Checked) -> Result<Parser<'g>, CoreFault>
         requires buildable { IsBuildable grammar.now }
         ensures same { IfOk result (λ parser. parser ≡ grammar.now) }

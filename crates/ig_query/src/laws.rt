@@ -10,8 +10,9 @@ pub fn nodes_are_those_of_trees()
     ensures { NodesAreThoseOfTrees }
 {}
 
-/// The spans that [`spans`](crate::spans) gives are exactly those of nodes of the declaration in
-/// trees of the reduced forest. This law computes nothing.
+/// In the reduced forest of a well-kinded core grammar whose nonterminals are uniform, the spans
+/// that [`spans`](crate::spans) gives are exactly those of nodes of the declaration in its trees.
+/// This law computes nothing.
 pub fn spans_are_those_of_trees()
     ensures { SpansAreThoseOfTrees }
 {

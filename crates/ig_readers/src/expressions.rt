@@ -112,8 +112,8 @@ fn read_term(alloc: Global, tokens: &Tokens, at: usize) -> Result<(Expr, usize),
 }
 
 /// Reads an expression and the `)` behind it, and gives it with the number of the token behind.
-/// Refused as unexpected exactly where the machine of the rules stops in them, at the token where it
-/// stops; for want of memory at any.
+/// Refused as unexpected only where the machine of the rules stops whatever is wanted behind them,
+/// at the token where it stops; for want of memory at any.
 #[cycle(expressions)]
 pub fn read_closed(alloc: Global, tokens: &Tokens, at: usize) -> Result<(Expr, usize), RuleFault>
     ensures ok { IfOk result (λ r. Goes Expression (Closed ReadsExpression) (want.expression ∷
@@ -194,8 +194,8 @@ fn read_literal(alloc: Global, tokens: &Tokens, at: usize) -> Result<Word, RuleF
 }
 
 /// Reads arguments and the `)` behind them, and gives them with the number of the token behind.
-/// Refused as unexpected exactly where the machine of the rules stops in them, at the token where it
-/// stops; for want of memory at any.
+/// Refused as unexpected only where the machine of the rules stops whatever is wanted behind them,
+/// at the token where it stops; for want of memory at any.
 pub fn read_arguments(
     alloc: Global,
     tokens: &Tokens,

@@ -27,9 +27,9 @@ pub(crate) enum FilterSign {
     Not,
 }
 
-/// Reads filters, maybe none, and gives them with the number of the token behind. Refused as
-/// unexpected exactly where a sign of a filter has no pattern behind it, at that token; for want of
-/// memory at any.
+/// Reads filters, maybe none, and gives them with the number of the token behind.
+/// Refused as unexpected only where the machine of the rules stops whatever is wanted behind them,
+/// at the token where it stops; for want of memory at any.
 pub fn read_filters(
     alloc: Global,
     tokens: &Tokens,

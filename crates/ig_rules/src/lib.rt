@@ -34,9 +34,9 @@ pub fn reads_are_written()
     ensures { ReadsAreWritten }
 {}
 
-/// Labels, marks, signs and filters of a grammar that tokens read as stand where they may, and no
-/// literal is empty if none of the tokens is an empty literal. This law, proved of all tokens,
-/// computes nothing.
+/// Where no token is an empty literal, labels, marks, signs and filters of a grammar that the
+/// tokens read as stand where they may, and no literal in it is empty. This law, proved of all
+/// tokens, computes nothing.
 pub fn reads_stand_well()
     ensures { ReadsStandWell }
 {}

@@ -44,8 +44,8 @@ pub(crate) enum ListSign {
 }
 
 /// Reads alternatives, with `|` between them, and gives them with the number of the token behind.
-/// Refused as unexpected exactly where the machine of the rules stops in them, at the token where it
-/// stops; for want of memory at any.
+/// Refused as unexpected only where the machine of the rules stops whatever is wanted behind them,
+/// at the token where it stops; for want of memory at any.
 #[cycle(symbols)]
 pub fn read_alternatives(
     alloc: Global,

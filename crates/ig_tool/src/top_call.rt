@@ -45,7 +45,7 @@ const USAGE: &[u8] =
 ///
 /// `query G I` puts the answer to a question on that forest, which `--what` names: `ambiguous`, the
 /// one that is meant without it, whether two different trees are permitted, with a line for each
-/// node that has two ways; `cyclic`, whether trees of every height are; `spans`, a line for each
+/// node that has two ways; `cyclic`, whether a higher tree than each is; `spans`, a line for each
 /// span of the declaration `--name`, or of the start symbol; `report`, how far the items came in
 /// the input, and what they expected there.
 ///
