@@ -2,7 +2,7 @@
 ghost use Rattle.std.specs.Prelude.{◌≡◌, ◌≤◌};
 ghost use Rattle.ig_outside.specs.Counts.{last_count};
 ghost use Rattle.ig_outside.specs.Put.{AnswersPut, CausesPut};
-ghost use Rattle.ig_files.specs.Writing.{WritesAll, sink_state};
+ghost use Rattle.ig_files.specs.Writing.{sink_state};
 
 #[cfg(test)]
 mod tests;
@@ -10,7 +10,7 @@ mod tests;
 use ig_outside::{Sink, SinkFault};
 use std::io::Write;
 
-/// A sink that writes to a stream, and tells nothing of what the stream got.
+/// A sink that writes to a stream, and tells what is known of the bytes that the stream holds.
 #[derive(Drop)]
 pub struct StreamSink<W> {
     stream: W,
@@ -20,26 +20,23 @@ pub struct StreamSink<W> {
 impl<W: Write> StreamSink<W> {
     /// A sink with the count 0. Takes no memory.
     pub fn new(stream: W) -> StreamSink<W>
-        ensures { ⟦<StreamSink<W> as Sink>⟧.state result ≡ sink_state 0 }
+        ensures { ⟦<StreamSink<W> as Sink>⟧.state result ≡ sink_state (W.contents stream) 0 }
     {
         StreamSink { stream, faults: 0 }
     }
 }
 
 impl<W: Write> Sink for StreamSink<W> {
-    ghost state = { λ s. sink_state s.faults };
+    ghost state = { λ s. sink_state (W.contents s.stream) s.faults };
 
-    /// Puts as every sink does: where it is known what the stream holds, an `Ok` appended the whole
-    /// piece to that. It fails exactly where a write fails, or takes nothing of bytes that are
-    /// left; then a prefix of the piece was written.
+    /// Puts as every sink does. It fails where a write fails, or takes nothing of bytes that are
+    /// left; the contract of writes doesn't say when that may be.
     fn put(&mut self, piece: &[u8]) -> Result<(), SinkFault>
-        ensures answer { AnswersPut (sink_state self.old.faults).got
-            (sink_state self.new.faults).got piece.now result }
+        ensures answer { AnswersPut (W.contents self.old.stream) (W.contents self.new.stream)
+            piece.now result }
         ensures cause { CausesPut self.old.faults self.new.faults result }
         ensures before { self.old.faults ≤ last_count }
         ensures after { self.new.faults ≤ last_count }
-        ensures written { WritesAll (W.contents self.old.stream) (W.contents self.new.stream)
-            piece.now result }
     {
         let faults = self.faults;
         match write_all(&mut self.stream, piece) {
@@ -57,7 +54,7 @@ impl<W: Write> Sink for StreamSink<W> {
 /// Refused with `Failed` where a write fails, or takes nothing of bytes that are left; then a
 /// prefix of the piece was written.
 fn write_all<W: Write>(stream: &mut W, piece: &[u8]) -> Result<(), SinkFault>
-    ensures { WritesAll (W.contents stream.old) (W.contents stream.new) piece.now result }
+    ensures { AnswersPut (W.contents stream.old) (W.contents stream.new) piece.now result }
 {
     let mut at = 0;
     while at < piece.len() {

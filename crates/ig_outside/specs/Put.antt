@@ -1,14 +1,11 @@
 -- What a sink may answer to a piece.
-use Rattle.std.specs.Prelude.{◌≡◌, ℕ, List, ◌++◌, take, Option, Result, Ok, Err, option_map}
+use Rattle.std.specs.Prelude.{◌≡◌, ℕ, List, take, Option, Result, Ok, Err}
+use Rattle.std.specs.Io.KnownBytes.{Appends}
 use Rattle.ig_outside.specs.declared.sink.SinkFault.{SinkFault}
 use Rattle.ig_outside.specs.declared.sink.SinkFault.TheVariants.{Failed}
 use Rattle.ig_outside.specs.Counts.{Rose}
 
--- `piece` came to the end of what was told; a sink that tells nothing goes on so
-abbrev pub Appends : Option (List ℕ) → Option (List ℕ) → List ℕ → Type 0
-Appends old new piece = new ≡ option_map (λ xs. xs ++ piece) old
-
--- an Ok appends the piece, and a failure a prefix of it
+-- an Ok appends the piece to the bytes that the sink tells, and a failure a prefix of it; where it told none, nothing is said
 abbrev pub AnswersPut : Option (List ℕ) → Option (List ℕ) → List ℕ → Result (Unit {0}) SinkFault → Type 0
 AnswersPut old new piece (Ok _) = Appends old new piece
 AnswersPut old new piece (Err Failed) = (k : ℕ) × Appends old new (take k piece)

@@ -1,24 +1,28 @@
 //! The words that the program is run with.
-ghost use Rattle.std.specs.Prelude.{◌≡◌, ◌⊎◌, drop, IfOk, IfErr};
+ghost use Rattle.std.specs.Prelude.{◌≡◌, drop, IfOk, IfErr};
 ghost use Rattle.std.specs.Vec.Iter.{into_iter_items};
 ghost use Rattle.std.specs.IoError.{error_kind};
 ghost use Rattle.ig_program.specs.Ending.{unread_status};
 
 use ig_tool::status::Status;
 use std::alloc::{AllocError, Global};
-use std::env::{self, Args};
+use std::env::Args;
 use std::io::{self, ErrorKind};
-use std::rt::Env;
 
-/// The words that the program is run with, without its own name.
+/// The words that the program is run with, without its own name, by what the system answered to the
+/// question for them.
 ///
-/// Refused with the status to end with: `NoMemory` for want of memory, and `Usage` where the system
-/// doesn't give the words, as where one isn't UTF-8.
-pub fn words<R: Env + AllocGlobal>(rt: &R) -> Result<Vec<String>, Status>
-    ensures { IfErr result (λ s. (s ≡ Status.Usage) ⊎ (s ≡ Status.NoMemory)) }
+/// Refused with the status to end with: `NoMemory` for want of memory, here or in the system, and
+/// `Usage` exactly where the system doesn't give the words for another reason, as where one isn't
+/// UTF-8.
+pub fn words(alloc: Global, found: io::Result<Args>) -> Result<Vec<String>, Status>
+    ensures words { IfOk found (λ args. IfOk result (λ words.
+        words.items ≡ drop 1 (into_iter_items args))) }
+    ensures memory { IfOk found (λ args. IfErr result (λ s. s ≡ Status.NoMemory)) }
+    ensures refused { IfErr found (λ error. result ≡ Err (unread_status (error_kind error))) }
 {
-    match env::args(rt) {
-        Ok(args) => match without_name(rt.alloc(), args) {
+    match found {
+        Ok(args) => match without_name(alloc, args) {
             Ok(words) => Ok(words),
             Err(AllocError) => Err(Status::NoMemory),
         },

@@ -1,7 +1,7 @@
 -- What a call did outside: the states of the shelf and of a sink before it and after it.
 use Rattle.std.specs.Prelude.{◌≡◌, ℕ, zero, suc, ◌⊎◌, List, Option, take}
 use Rattle.ig_outside.specs.Counts.{Rose, risen}
-use Rattle.ig_outside.specs.Put.{Appends}
+use Rattle.std.specs.Io.KnownBytes.{Appends}
 use Rattle.ig_outside.specs.States.{ShelfState, SinkState}
 
 pub record Change (S : Type 0) : Type 0 where

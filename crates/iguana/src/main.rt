@@ -10,20 +10,25 @@
 //! ambiguous or cyclic, the spans of a declaration, or how far the input was read.
 //! `iguana load SIZE NUMBER` parses an input that it makes itself, and prints what that took.
 //!
-//! What the program does with its words is the top call of `ig_tool`, over files and streams, as
-//! `ig_program` runs it.
+//! What the program does with its words is the top call of `ig_tool`, over the files and streams of
+//! the system as `ig_files` has them.
 #![tactic(auto)]
 
-use ig_files::SystemFolder;
-use ig_program::{exit_code, run, words};
+use ig_files::{FileShelf, StreamSink, SystemFolder};
+use ig_program::{exit_code, words};
+use ig_tool::iguana;
+use std::env;
 use std::process::ExitCode;
 
 fn main(rt: HostRuntime) -> ExitCode {
-    let status = match words(&rt) {
+    let status = match words(rt.alloc(), env::args(&rt)) {
         Ok(words) => {
             let folder = SystemFolder { files: &rt };
+            let mut shelf = FileShelf::new(&folder);
+            let mut out = StreamSink::new(rt.stdout());
+            let mut notes = StreamSink::new(rt.stderr());
             let words = words.as_slice();
-            run(rt.alloc(), words, &folder, rt.stdout(), rt.stderr())
+            iguana(rt.alloc(), words, &mut shelf, &mut out, &mut notes)
         }
         Err(status) => status,
     };

@@ -13,9 +13,6 @@ returns-in-Ok-clause-before g c = search rules
 pub returns-in-Ok-clause-after : goal.returns-in-Ok-clause-after
 returns-in-Ok-clause-after g c = search rules
 
-pub returns-in-Ok-clause-written : goal.returns-in-Ok-clause-written
-returns-in-Ok-clause-written g c = search rules
-
 pub returns-in-Err-Failed-clause-answer : goal.returns-in-Err-Failed-clause-answer
 returns-in-Err-Failed-clause-answer g c = search rules
 
@@ -27,6 +24,3 @@ returns-in-Err-Failed-clause-before g c = search rules
 
 pub returns-in-Err-Failed-clause-after : goal.returns-in-Err-Failed-clause-after
 returns-in-Err-Failed-clause-after g c = search rules
-
-pub returns-in-Err-Failed-clause-written : goal.returns-in-Err-Failed-clause-written
-returns-in-Err-Failed-clause-written g c = search rules
