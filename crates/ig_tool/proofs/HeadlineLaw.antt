@@ -1,7 +1,8 @@
 -- The main theorem, from the answer by cases.
 use Rattle.std.proofs.Common.{◌≡◌, ◌≢◌, ℕ, List, [], ◌++◌, ◌⊎◌, inl, inr, refl, sym, ◌∙◌, ap, subst, Option, Some, None, ◌<◌, ◌≤◌, length, arith}
 use Rattle.std.proofs.lemmas.List.{append-nil}
-use Rattle.std.specs.Prelude.{chars, option_map}
+use Rattle.std.specs.Prelude.{chars}
+use Rattle.std.specs.Io.KnownBytes.{Appends}
 use Rattle.std.proofs.lemmas.Option.{same_Some}
 use Rattle.ig_text.specs.Decoding.{IsDecoded, IsFaulty}
 use Rattle.ig_text.specs.Limits.{most_bytes, most_characters}
@@ -80,12 +81,13 @@ not_faulty ys text text_fault.TooLong d (inr f) c =
 not_faulty ys text text_fault.Memory d f c = c refl
 
 -- a sink that got nothing got the empty text
-nothing_added : (told : Option (List ℕ)) → told ≡ option_map (λ xs. xs ++ []) told
-nothing_added None = refl
-nothing_added (Some xs) = ap Some (sym (append-nil xs))
+nothing_added : (told : Option (List ℕ)) → Appends told told []
+nothing_added None = tt
+nothing_added (Some xs) = sym (append-nil xs)
 
 pub got_none : (sink : Change SinkState) → Untouched sink → Got sink []
-got_none sink u = record { told = u.told ∙ nothing_added sink.before.got; calm = u.calm }
+got_none sink u =
+    record { told = subst (λ z. Appends sink.before.got z []) (sym u.told) (nothing_added sink.before.got); calm = u.calm }
 
 -- the grammar alone is asked for
 abbrev AsksGrammar : Request → Type 0
