@@ -3,7 +3,7 @@
 ghost use Rattle.std.specs.Prelude.{◌≡◌, ℕ, List, OnOk};
 ghost use Rattle.ig_outside.specs.Counts.{Rose, risen};
 ghost use Rattle.ig_outside.specs.Told.{bytes};
-ghost use Rattle.ig_outside.specs.Put.{Appends};
+ghost use Rattle.std.specs.Io.KnownBytes.{Appends};
 
 use ig_outside::{FetchFault, MemoryShelf, MemorySink, Shelf, Sink, SinkFault};
 use std::alloc::Global;
