@@ -39,8 +39,8 @@ impl<'a, D: Folder> FileShelf<'a, D> {
 impl<D: Folder> Shelf for FileShelf<'_, D> {
     ghost state = { λ s. shelf_state (D.content s.folder.now) s.faults s.fetches };
 
-    /// Fetches as every shelf does. It is `Failed` where the file can't be opened, as where there is
-    /// none, or a read fails; the contracts of both don't say when that may be.
+    /// Fetches as every shelf does. It is `Failed` where the file can't be opened, as where there
+    /// is none, or a read fails; the contracts of both don't say when that may be.
     fn fetch(&mut self, alloc: Global, name: &str, most: u64) -> Result<Vec<u8>, FetchFault> {
         let faults = self.faults;
         self.fetches = self.fetches.saturating_add(1);
