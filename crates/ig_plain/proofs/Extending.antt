@@ -1,5 +1,5 @@
 -- Lists that grow at their end.
-use Rattle.std.proofs.Common.{◌≡◌, ℕ, ◌<◌, List, [], ◌++◌, length, sym, ◌∙◌, get_or}
+use Rattle.std.proofs.Common.{◌≡◌, ℕ, ◌<◌, List, [], ◌++◌, length, inl, refl, sym, ◌∙◌, get_or}
 use Rattle.std.proofs.lemmas.List.{append-nil}
 use Rattle.std.proofs.lemmas.Option.{slice_get-get_or}
 use Rattle.ig_tables.specs.Extends.{Extends, Enters}
@@ -16,4 +16,4 @@ module _ {X : Type 0} where
 
 -- a value that stands in the list is entered without a change
 pub stands_there : {X : Type 0} (list : List X) (k : ℕ) (d : X) → k < length list → Enters list list (get_or list k d) k
-stands_there list k d there = record { extends = extends_itself list; there = slice_get-get_or list k d there }
+stands_there list k d there = record { is = inl refl; there = slice_get-get_or list k d there }

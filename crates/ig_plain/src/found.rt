@@ -17,9 +17,8 @@ use crate::context::Context;
 use crate::trail::Trail;
 use ig_expr::{Value, Values};
 use ig_item::{FurtherWay, Item, RunFault, Way, Ways};
-use ig_steps::push_value;
-use ig_tables::{InstanceSet, enter_values, number};
-use ig_text::Copied;
+use ig_steps::extended;
+use ig_tables::{InstanceSet, enter_values, number, within_budget};
 use indexmap::IndexSet;
 use std::alloc::{AllocError, Global};
 
@@ -70,10 +69,7 @@ pub(crate) fn keep_within(found: &Found, budget: u32) -> Result<(), RunFault>
     let done = found.done.as_slice().len();
     let later = found.later.as_slice().len();
     let here = found.here.as_slice().len();
-    if done.saturating_add(here).saturating_add(later) > budget as usize {
-        return Err(RunFault::Budget);
-    }
-    Ok(())
+    within_budget(done.saturating_add(here).saturating_add(later), budget)
 }
 
 /// Adds an item at the position, which isn't there, and the way in which it came about.
@@ -350,13 +346,4 @@ fn with_value(
 {
     let values = extended(alloc, &envs.as_slice()[env as usize], value)?;
     enter_values(envs, values)
-}
-
-/// The values with one more.
-fn extended(alloc: Global, values: &Values, value: Value) -> Result<Values, AllocError>
-    ensures { IfOk result (λ longer. longer ≡ values.now ++ value ∷ []) }
-{
-    let mut longer = values.copy(alloc)?;
-    push_value(&mut longer, value)?;
-    Ok(longer)
 }

@@ -14,7 +14,7 @@ ghost use Rattle.ig_steps.specs.declared.steps.Arguments.{Arguments};
 use crate::compiled::{Form, are_own, value};
 use crate::names::Known;
 use ig_expr::{Expr, Value, Values};
-use ig_text::{Pattern, Span, Text, Word, words_end_behind_their_letters};
+use ig_text::{Copied, Pattern, Span, Text, Word, words_end_behind_their_letters};
 use std::alloc::{AllocError, Global};
 
 /// What a step says of the text that it covers.
@@ -174,8 +174,17 @@ fn listed_values(
     Ok(Some(list))
 }
 
+/// The values with one more at the end. Refused for want of memory alone.
+pub fn extended(alloc: Global, values: &Values, value: Value) -> Result<Values, AllocError>
+    ensures { IfOk result (λ longer. longer ≡ values.now ++ value ∷ []) }
+{
+    let mut longer = values.copy(alloc)?;
+    push_value(&mut longer, value)?;
+    Ok(longer)
+}
+
 /// Adds a value at the end. Refused for want of memory alone.
-pub fn push_value(values: &mut Values, value: Value) -> Result<(), AllocError>
+fn push_value(values: &mut Values, value: Value) -> Result<(), AllocError>
     ensures { OnOk result (values.new ≡ values.old ++ value ∷ []) }
 {
     values.push(value).map_err(|refused| refused.1)

@@ -1,5 +1,5 @@
 -- What inserting into a set makes of its keys, where `==` decides whether keys are the same.
-use Rattle.std.proofs.Common.{◌≡◌, ⊎_elim, ℕ, ◌<◌, List, [], ◌∷◌, ◌++◌, Bool, true, false, refl, sym, ◌∙◌, ap, arith, Some, Contains, if◌then◌else◌, slice_get}
+use Rattle.std.proofs.Common.{◌≡◌, ◌⊎◌, inl, inr, ⊎_elim, ℕ, ◌<◌, List, [], ◌∷◌, ◌++◌, Bool, true, false, refl, sym, ◌∙◌, ap, arith, Some, Contains, if◌then◌else◌, slice_get}
 use Rattle.std.specs.List.{IsDistinct, list_any}
 use Rattle.std.specs.Bool.{Decides}
 use Rattle.std.proofs.lemmas.List.{append-nil}
@@ -31,12 +31,17 @@ module _ {X : Type 0} {eq : X → X → Bool} (decides : (x y : X) → Decides (
       after ≡ before ++ x ∷ []
   after_false before after x e t = e ∙ ap (λ b. if b then before else before ++ x ∷ []) t
 
-  pub inserted_extends : (before after : List X) (x : X) → after ≡ insert_key eq before x → Extends before after
-  inserted_extends before after x e = go (list_any (eq x) before) refl
+  pub inserted_is : (before after : List X) (x : X) → after ≡ insert_key eq before x →
+      (after ≡ before) ⊎ (after ≡ before ++ x ∷ [])
+  inserted_is before after x e = go (list_any (eq x) before) refl
     where
-      go : (b : Bool) → list_any (eq x) before ≡ b → Extends before after
-      go true t = record { more = []; is = after_true before after x e t ∙ sym (append-nil before) }
-      go false t = record { more = x ∷ []; is = after_false before after x e t }
+      go : (b : Bool) → list_any (eq x) before ≡ b → (after ≡ before) ⊎ (after ≡ before ++ x ∷ [])
+      go true t = inl (after_true before after x e t)
+      go false t = inr (after_false before after x e t)
+
+  pub inserted_extends : (before after : List X) (x : X) → after ≡ insert_key eq before x → Extends before after
+  inserted_extends before after x e = ⊎_elim (λ h. record { more = []; is = h ∙ sym (append-nil before) })
+      (λ h. record { more = x ∷ []; is = h }) (inserted_is before after x e)
 
   pub inserted_at : (after : List X) (x k : X) (n : ℕ) → slice_get after n ≡ Some k → eq x k ≡ true → slice_get after n ≡ Some x
   inserted_at after x k n e t = e ∙ ap Some (sym ((decides x k).0 t))

@@ -3,8 +3,9 @@
 //!
 //! [`InstanceSet::enter`] and [`enter_values`] give the number of an instance or an environment,
 //! and add it at the end where it isn't there. [`Returned`] finds the number of an item, and is
-//! emptied at each position without touching its buckets. Each call is refused for want of memory
-//! alone, which a table is that 32 bits don't number.
+//! emptied at each position without touching its buckets. [`within_budget`] refuses more items than
+//! a budget. Each other call is refused for want of memory alone, which a table is that 32 bits
+//! don't number, and for [`Returned`] more items than they count over all positions.
 #![tactic(auto)]
 
 mod environments;
@@ -14,5 +15,5 @@ mod returned;
 
 pub use environments::enter_values;
 pub use instance_set::InstanceSet;
-pub use numbers::number;
+pub use numbers::{number, within_budget};
 pub use returned::Returned;

@@ -1,6 +1,8 @@
-//! Numbers in tables.
-ghost use Rattle.std.specs.Prelude.{◌≡◌, IfOk};
+//! How many there may be in tables.
+ghost use Rattle.std.specs.Prelude.{◌≡◌, ◌<◌, ◌≤◌, IfErr, IfOk, OnOk};
+ghost use Rattle.ig_item.specs.declared.run_fault.RunFault.TheVariants.{Budget};
 
+use ig_item::RunFault;
 use std::alloc::AllocError;
 
 /// A number of a table, in 32 bits. Refused as want of memory where these don't hold it.
@@ -11,4 +13,15 @@ pub fn number(k: usize) -> Result<u32, AllocError>
         Ok(n) => Ok(n),
         Err(_) => Err(AllocError),
     }
+}
+
+/// `Budget` exactly where there are more items than the budget.
+pub fn within_budget(items: usize, budget: u32) -> Result<(), RunFault>
+    ensures within { OnOk result (items ≤ budget) }
+    ensures fault { IfErr result (λ fault. (fault ≡ Budget) × (budget < items)) }
+{
+    if items > budget as usize {
+        return Err(RunFault::Budget);
+    }
+    Ok(())
 }

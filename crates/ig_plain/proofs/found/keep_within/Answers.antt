@@ -1,8 +1,9 @@
 use Rattle.std.proofs.Common.{arith}
+use Rattle.std.proofs.lemmas.Result.{on_ok_weaker, IfErr-weaker}
 use Rattle.ig_plain.proofs.found.keep_within.Goals as goal
 
-pub returns-then-saturating_add-budget : goal.returns-then-saturating_add-budget
-returns-then-saturating_add-budget c = record { within = tt; fault = λ e. omega arith }
-
 pub returns : goal.returns
-returns c = record { within = omega arith; fault = tt }
+returns c = record {
+  within = on_ok_weaker c.within_budget.result (λ few. omega (arith, few)) c.within_budget.ensures.within;
+  fault = IfErr-weaker c.within_budget.result _ _ (λ fault many is. let more = many.1 in omega (arith, more)) c.within_budget.ensures.fault;
+}

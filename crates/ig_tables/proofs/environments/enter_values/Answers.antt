@@ -1,7 +1,7 @@
 use Rattle.std.proofs.Common.{ap, ◌∙◌}
 use Rattle.std.specs.Prelude.{slice_get}
 use Rattle.ig_tables.proofs.Equality.{values_eq-decides}
-use Rattle.ig_tables.proofs.Sets.{once_from_distinct, inserted_at, inserted_extends}
+use Rattle.ig_tables.proofs.Sets.{once_from_distinct, inserted_at, inserted_is}
 use Rattle.ig_tables.proofs.environments.enter_values.Goals as goal
 
 pub returns-in_err-k-clause-once : goal.returns-in_err-k-clause-once
@@ -16,6 +16,6 @@ returns-clause-once c = once_from_distinct values_eq-decides _ c.in_ok-k.ensures
 pub returns-clause-enters : goal.returns-clause-enters
 returns-clause-enters c =
     record {
-      extends = inserted_extends values_eq-decides _ _ c.args.values c.in_ok-k.ensures.keys;
+      is = inserted_is values_eq-decides _ _ c.args.values c.in_ok-k.ensures.keys;
       there = ap (slice_get _) c.in_ok-number.ensures ∙ inserted_at values_eq-decides _ c.args.values _ c.in_ok-k.k c.in_ok-k.ensures.stored.1 c.in_ok-k.ensures.stored.2;
     }

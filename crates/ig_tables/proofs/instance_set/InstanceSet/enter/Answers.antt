@@ -1,4 +1,4 @@
-use Rattle.std.proofs.Common.{◌≡◌, sym, subst, slice_get, Some, length, ap, [], ◌∷◌, refl, arith}
+use Rattle.std.proofs.Common.{◌≡◌, inr, sym, subst, slice_get, Some, length, ap, [], ◌∷◌, refl, arith}
 use Rattle.ig_text.proofs.Lists.{right_at}
 use Rattle.ig_tables.proofs.Numbered.{once_more}
 use Rattle.ig_item.specs.WellKinded.{NoneTwice}
@@ -10,7 +10,7 @@ returns-clause-once c = once_more c.args.self.now c.add.new.self c.args.key (sub
 pub returns-clause-enters : goal.returns-clause-enters
 returns-clause-enters c =
     record {
-      extends = record { more = c.args.key ∷ []; is = c.in_ok-add.ensures.ok };
+      is = inr c.in_ok-add.ensures.ok;
       there = subst (λ z. slice_get z c.in_ok-place.place ≡ Some c.args.key) (sym c.in_ok-add.ensures.ok)
           (right_at c.args.self.now (c.args.key ∷ []) c.in_ok-place.place 0 c.args.key
           (let l = ap length c.self.view_is in omega (arith, l, c.in_ok-place.ensures, c.len.ensures)) refl);
