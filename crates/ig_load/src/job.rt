@@ -1,10 +1,11 @@
 //! The whole of a load.
-ghost use Rattle.std.specs.Prelude.{◌≡◌, ◌≤◌, IfOk};
+ghost use Rattle.std.specs.Prelude.{◌≡◌, ◌↔◌, ◌≤◌, length, IfOk, IsTrue};
 ghost use Rattle.ig_core_laws.specs.Lowered.{CoreOf};
 ghost use Rattle.ig_core_laws.specs.Notation.{unchanged};
 ghost use Rattle.ig_item.specs.Tables.{items_of};
 ghost use Rattle.ig_item.specs.WellKinded.{NoneTwice};
 ghost use Rattle.ig_parse.specs.Parses.{AreReachable, IsParsed};
+ghost use Rattle.ig_query.specs.Ambiguity.{IsAmbiguous};
 ghost use Rattle.ig_load.specs.Grammar.{LoadGrammar};
 ghost use Rattle.ig_load.specs.Summary.{IsSummaryOf, Loads};
 
@@ -13,9 +14,10 @@ use crate::grammar::load_grammar;
 use crate::laws::{load_inputs_are_permitted, load_text_reads};
 use ig_core::CoreFault;
 use ig_core_laws::notation_is_buildable;
+use ig_forest::Forest;
 use ig_grammar::Checked;
 use ig_heights::Heights;
-use ig_item::Recorded;
+use ig_item::{Items, Recorded};
 use ig_load_texts::{MOST_OPERANDS, Summary, load_input};
 use ig_notation::read_grammars_are_regular;
 use ig_parse::{Parser, ambiguity_is_two_permitted, cyclic_is_without_highest};
@@ -74,10 +76,20 @@ fn summarize(
     };
     let _root = forest.root();
     let heights = Heights::of(alloc, &forest)?;
-    Ok(Summary {
-        items: recorded.items().len(),
+    Ok(summary_of(recorded.items(), &forest, &heights))
+}
+
+/// What these items and this forest with its heights have.
+fn summary_of(items: &Items, forest: &Forest, heights: &Heights) -> Summary
+    ensures items { result.items ≡ length items.now.items }
+    ensures nodes { result.nodes ≡ length forest.now.nodes }
+    ensures ambiguous { IsTrue result.ambiguous ↔ IsAmbiguous forest.now }
+    ensures cyclic { result.cyclic ≡ heights.now.cyclic }
+{
+    Summary {
+        items: items.len(),
         nodes: forest.nodes(),
-        ambiguous: is_ambiguous(&forest),
+        ambiguous: is_ambiguous(forest),
         cyclic: heights.is_cyclic(),
-    })
+    }
 }
