@@ -20,7 +20,7 @@ use ig_rewrite::declarations_are_found;
 use ig_text::Sequence;
 use std::alloc::{AllocError, Global};
 
-/// A core grammar has fewer nonterminals than this.
+/// A core grammar that is built has fewer nonterminals than this.
 const MOST_DECLARATIONS: usize = 16_777_216;
 
 /// The core grammar of a grammar, by all passes. `TooManyDots` comes only where it has more than

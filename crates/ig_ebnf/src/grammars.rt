@@ -125,10 +125,11 @@ fn lowered(alloc: Global, checked: &Checked) -> Result<Checked, AllocError>
 }
 
 /// The grammar with a call in place of each list, option and group, and with the declarations that
-/// are added for these, exactly as `ig_ebnf_laws` says; `$root` is its last declaration where
-/// none stood for the root. Refused for want of memory alone: that is said of a declaration, too,
-/// for which more are added than 64 bits count. The grammar is sound, as passes leave it: no layout
-/// is declared, no declaration has operators, no mark is left, and of filters only exclusions are.
+/// are added for these, exactly as `ig_ebnf_laws` says; `$root` is its last declaration where none
+/// stood for the root. Refused for want of memory alone: that is said of a declaration, too, for
+/// which more are added than numbers of 64 bits from 1 tell apart. The grammar is sound, as passes
+/// leave it: no layout is declared, no declaration has operators, no mark is left, and of filters
+/// only exclusions are.
 pub fn lower_ebnf(alloc: Global, checked: &Checked) -> Result<Checked, AllocError>
     requires sound { IsSound checked.now }
     requires free { IsFree checked.now.grammar }

@@ -155,7 +155,7 @@ impl Ord for Values {
     }
 }
 
-/// `<` and `cmp` at values, as derived, are the order of `specs/ValueOrder.antt`. This law, proved
+/// `cmp` at values, as derived, is the order of `specs/ValueOrder.antt`. This law, proved
 /// for all values, computes nothing.
 pub fn values_are_ordered()
     ensures { (a b : Value) → ⟦<Value as Ord>⟧.cmp a b ≡ value_cmp a b }

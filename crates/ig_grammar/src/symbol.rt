@@ -12,7 +12,7 @@ use std::marker::Model;
 #[derive(Drop)]
 #[cycle(symbol)]
 pub enum Symbol {
-    /// The text that it matches, of at least one character.
+    /// The text that it matches; a regular grammar has none that is empty.
     Literal(Word),
     /// One character of the class.
     Class(Class),

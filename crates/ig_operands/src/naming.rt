@@ -46,8 +46,8 @@ pub fn is_levelled(levels: &[Level]) -> bool
     }
 }
 
-/// Whether each declaration is levelled, by its name. From the last one on, so that of several
-/// declarations with one name the first stands in the table. Refused for want of memory alone.
+/// Whether each declaration is levelled, by its name: of several declarations with one name the
+/// first decides, since they are entered from the last one on. Refused for want of memory alone.
 pub fn levelled_names<'a>(
     alloc: Global,
     decls: &'a [Decl],

@@ -2,7 +2,7 @@
 ghost use Rattle.std.specs.Prelude.{◌↔◌, IsTrue};
 ghost use Rattle.ig_text.specs.Ranges.{NoneFalls};
 
-use ig_text::{Class, Copied, Ranges, Text, Word, Words};
+use ig_text::{Class, Copied, Text, Word, Words};
 use std::test::Fail;
 
 fn none_falls(pairs: &[(char, char)]) -> bool
@@ -21,14 +21,6 @@ fn joins_ranges(rt: HostRuntime) -> Result<(), Fail> {
         return Err(Fail::new("no ranges"));
     };
     assert_eq!(rt; ranges.as_slice(), [('a', 'd'), ('x', 'é')].as_slice());
-    Ok(())
-}
-
-#[test]
-fn adds_a_range(rt: HostRuntime) -> Result<(), Fail> {
-    let mut ranges = Ranges::new(rt.alloc());
-    ranges.push(('a', 'c')).map_err(|refused| refused.1)?;
-    assert!(rt; ranges.has('b') && !ranges.has('d'));
     Ok(())
 }
 

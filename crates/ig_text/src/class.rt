@@ -38,8 +38,7 @@ impl Class {
         Ok(Class::Ranges { negated, ranges })
     }
 
-    /// Whether the character is in the class: one look-up for an ASCII character of ranges. Takes
-    /// no memory.
+    /// Whether the character is in the class. Takes no memory.
     pub fn has(&self, c: char) -> bool
         ensures { result ≡ is_in_class self.now c }
     {

@@ -2,10 +2,10 @@
 //!
 //! A [`Text`] and a [`Word`] are lists of characters. Positions count characters, from 0.
 //! [`Text::decode`] gives the characters of UTF-8 bytes or names what is wrong with them. A text
-//! tells the line and the column of a position, both from 1, and compares spans. A [`Pattern`] is a
-//! word or a [`Class`] of characters, and `ends_at` says where its match ends. A [`Sequence`] is a
-//! list at whose end `push` adds, and [`Copied`] makes an equal value of one that owns memory.
-//! `specs/Tree.antt` defines derivation trees and their height.
+//! tells the line and the column of a position, which count from 1, and compares spans. A
+//! [`Pattern`] is a word or a [`Class`] of characters, and `ends_at` says where its match ends. A
+//! [`Sequence`] is a list at whose end `push` adds, and [`Copied`] makes an equal value of one that
+//! owns memory. `specs/Tree.antt` defines derivation trees and their height.
 //!
 //! `proofs/` has a shelf of general lemmas, which the proofs of all crates cite: `Lists`,
 //! `Options`, `Booleans`, `Numbers`, `Characters` and `Trees`.

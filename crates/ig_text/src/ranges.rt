@@ -1,4 +1,4 @@
-ghost use Rattle.std.specs.Prelude.{◌≡◌, [], ◌∷◌, ◌++◌, OnOk, OnErr, IfOk, IfErr};
+ghost use Rattle.std.specs.Prelude.{◌≡◌, IfOk};
 ghost use Rattle.ig_text.specs.Ranges.{is_within, is_among, KnowsFirst};
 
 use crate::copied::Copied;
@@ -28,32 +28,6 @@ impl Model for Ranges {
 }
 
 impl Ranges {
-    /// No range. Takes no memory.
-    pub fn new(alloc: Global) -> Ranges
-        ensures { result ≡ [] }
-    {
-        Ranges {
-            pairs: Vec::new(alloc),
-            ascii: Vec::new(alloc),
-        }
-    }
-
-    /// Adds the range at the end; from then on each test looks through the ranges. Refused for
-    /// want of memory, it hands the range back, and the ranges are as before.
-    pub fn push(&mut self, range: (char, char)) -> Result<(), ((char, char), AllocError)>
-        ensures ok { OnOk result (self.new ≡ self.old ++ range ∷ []) }
-        ensures err { OnErr result (self.new ≡ self.old) }
-        ensures value_returned { IfErr result (λ e. e.0 ≡ range) }
-    {
-        match self.pairs.push(range) {
-            Ok(()) => {
-                self.ascii.clear();
-                Ok(())
-            }
-            Err(full) => Err((full.value, AllocError)),
-        }
-    }
-
     /// These ranges, with their table of ASCII characters.
     pub fn from_vec(alloc: Global, pairs: Vec<(char, char)>) -> Result<Ranges, AllocError>
         ensures { IfOk result (λ r. r ≡ pairs.items) }

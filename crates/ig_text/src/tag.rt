@@ -1,4 +1,5 @@
-/// What a node of a tree stands for. Declarations, alternatives and groups are numbered from 1.
+/// What a node of a tree stands for. Declarations and alternatives, those of a group too, are
+/// numbered from 1.
 #[derive(Clone, Copy, PartialEq, Eq, Debug)]
 pub enum Tag {
     /// An alternative of a declaration.

@@ -65,8 +65,8 @@ pub const MOST_BYTES: usize = 4_194_304;
 pub const MOST_CHARACTERS: usize = 1_048_576;
 
 impl Text {
-    /// The characters of UTF-8 bytes. Refuses more than 4,194,304 bytes and more than 1,048,576
-    /// characters as `TooLong`, then bytes that aren't UTF-8 as `NotUtf8`.
+    /// The characters of UTF-8 bytes. Refuses more than 4,194,304 bytes as `TooLong`, then bytes
+    /// that aren't UTF-8 as `NotUtf8`, then more than 1,048,576 characters as `TooLong`.
     pub fn decode(alloc: Global, bytes: &[u8]) -> Result<Text, TextFault>
         ensures text { IfOk result (IsDecoded bytes.now) }
         ensures fault { IfErr result (IsFaulty bytes.now) }

@@ -54,7 +54,7 @@ fn drop_behind(pending: &mut Vec<Goal>, behind: Behind)
     }
 }
 
-/// Takes the goals behind a visit from the stack again.
+/// Takes the goals behind a visit from the stack again, where its option is there.
 pub fn undo(forest: &Measured, pending: &mut Vec<Goal>, visit: Visit)
     ensures { (part rest : List Goal) →
         slice_get (options forest.now visit.goal) visit.choice ≡ Some part →
