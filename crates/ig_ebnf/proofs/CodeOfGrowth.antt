@@ -1,23 +1,18 @@
 -- Declarations that are added one after another.
-use Rattle.std.proofs.Common.{◌≡◌, ◌∙◌, ℕ, suc, ◌+◌, List, [], ◌∷◌, ◌++◌, Result, Ok, Err, map, refl, sym, ap, append_assoc}
+use Rattle.std.proofs.Common.{◌≡◌, ◌∙◌, ℕ, suc, ◌+◌, List, ◌∷◌, ◌++◌, Result, Ok, Err, map, sym, ap, append_assoc}
 use Rattle.std.specs.Prelude.{OnOk}
 use Rattle.std.proofs.lemmas.List.{map-append}
 use Rattle.ig_grammar.specs.Symbol as tree
 use Rattle.ig_grammar.specs.View.{symbol_of}
-use Rattle.ig_grammar.specs.Visible.{Visible, parameters}
+use Rattle.ig_grammar.specs.Visible.{Visible}
 use Rattle.ig_grammar.specs.declared.symbol.Symbol.{Symbol as Stored}
 use Rattle.ig_grammar.specs.declared.symbol.Symbol.TheVariants.{Opt, Star, Plus, SepStar, Group}
 use Rattle.ig_grammar.specs.declared.symbol.Alt.{Alt}
-use Rattle.ig_grammar.specs.declared.declaration.Assoc.TheVariants.{Free}
-use Rattle.ig_grammar.specs.declared.declaration.DeclKind.TheVariants.{Plain}
-use Rattle.ig_grammar.specs.declared.declaration.Level.{Level}
-use Rattle.ig_grammar.specs.declared.declaration.Param.{Param}
-use Rattle.ig_grammar.specs.declared.place.Shape.{Shape}
 use Rattle.ig_grammar.specs.declared.place.Shape.TheVariants as shape
 use Rattle.ig_rewrite.specs.Added.{added_name}
 use Rattle.ig_rewrite.specs.Needs.{needs}
 use Rattle.ig_ebnf_laws.specs.Laws.{IsGathered}
-use Rattle.ig_ebnf_laws.specs.Lists.{Made, made, alts_of, params_of, decls_of, forms_of, params_for, count, added, added_alts, new_alts}
+use Rattle.ig_ebnf_laws.specs.Lists.{Made, made, decls_of, forms_of, params_for, count, added, added_alts, new_alts}
 use Rattle.ig_lists.specs.Made.{Grows, option_made, star_made, plus_made, sep_star_made, sep_plus_made}
 use Rattle.ig_lists.specs.declared.made.Lowered.{Lowered}
 
@@ -25,6 +20,20 @@ use Rattle.ig_lists.specs.declared.made.Lowered.{Lowered}
 pub record Leads (before : Lowered) (ms : List Made) (after : Lowered) (rest : List Made) : Type 0 where
   pub decls : after.decls ++ decls_of rest ≡ before.decls ++ decls_of ms
   pub shapes : after.shapes ++ forms_of rest ≡ before.shapes ++ forms_of ms
+
+-- the first of them are added
+pub leads_on : (before mid after : Lowered) (ms all xs rest : List Made) → Leads before ms mid all → all ≡ xs ++ rest →
+    Grows mid after xs →
+    Leads before ms after rest
+leads_on before mid after ms all xs rest l e g =
+    record {
+      decls = ap (λ z. z ++ decls_of rest) g.decls ∙ append_assoc mid.decls (decls_of xs) (decls_of rest) ∙
+          ap (λ z. mid.decls ++ z) (sym (map-append (λ (m : Made). m.decl) xs rest)) ∙
+          ap (λ z. mid.decls ++ decls_of z) (sym e) ∙ l.decls;
+      shapes = ap (λ z. z ++ forms_of rest) g.shapes ∙ append_assoc mid.shapes (forms_of xs) (forms_of rest) ∙
+          ap (λ z. mid.shapes ++ z) (sym (map-append (λ (m : Made). m.shape) xs rest)) ∙
+          ap (λ z. mid.shapes ++ forms_of z) (sym e) ∙ l.shapes;
+    }
 
 -- the declarations of two lists, one behind the other
 pub grows_then : (before mid after : Lowered) (xs ys ms : List Made) → Grows before mid xs → Grows mid after ys →
