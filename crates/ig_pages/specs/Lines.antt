@@ -1,7 +1,7 @@
 -- The text of a listing: a line for each tree, with its cursor.
 use Rattle.std.specs.Prelude.{ℕ, List, ◌++◌, codes, flat_map}
 use Rattle.ig_item.specs.declared.core_grammar.Nonterminal.{Nonterminal}
-use Rattle.ig_print.specs.Listed.{line_end}
+use Rattle.ig_text.specs.Lines.{line_end}
 use Rattle.ig_print.specs.TreeText.{tree_text, cursor_text}
 use Rattle.ig_walker.specs.Listed.{Listed}
 

@@ -7,7 +7,8 @@ use Rattle.ig_item.specs.Step.{Step, Test, Bind, Term, Call}
 use Rattle.ig_item.specs.declared.core_grammar.Nonterminal.{Nonterminal}
 use Rattle.ig_item.specs.declared.core_grammar.CoreAlt.{CoreAlt}
 use Rattle.ig_show.specs.CanonicalText.{expression_bytes, pattern_bytes}
-use Rattle.ig_print.specs.Listed.{line_end, comma_separated, numbered_texts}
+use Rattle.ig_text.specs.Lines.{line_end}
+use Rattle.ig_print.specs.Listed.{comma_separated, numbered_texts}
 use Rattle.ig_print.specs.TagText.{tag_text}
 
 -- `x: ` where there is a label

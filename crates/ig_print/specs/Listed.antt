@@ -1,10 +1,6 @@
 -- Texts of lists, as UTF-8.
 use Rattle.std.specs.Prelude.{ℕ, suc, List, [], ◌∷◌, ◌++◌, flat_map, codes}
 
--- a line feed ends each line
-abbrev pub line_end : List ℕ
-line_end = codes "\n"
-
 -- the texts of the members, with a comma between two
 abbrev pub comma_separated : {A : Type 0} → (A → List ℕ) → List A → List ℕ
 comma_separated shown [] = []

@@ -5,7 +5,8 @@
 ghost use Rattle.std.specs.Prelude.{◌≡◌, ◌++◌, ◌≤◌, OnOk, encode_utf8_all, codes, length};
 ghost use Rattle.std.specs.Prelude.{IfOk, flat_map};
 ghost use Rattle.std.specs.Fmt.{decimal};
-ghost use Rattle.ig_print.specs.Listed.{line_end, numbered_texts};
+ghost use Rattle.ig_text.specs.Lines.{line_end};
+ghost use Rattle.ig_print.specs.Listed.{numbered_texts};
 ghost use Rattle.ig_print.specs.ValueText.{places_text, span_text, values_text};
 ghost use Rattle.ig_forest.specs.CodeViews.{node_view, item_node_view};
 ghost use Rattle.ig_print.specs.ForestText.{choice_text, entry_text};

@@ -2,7 +2,6 @@
 use Rattle.std.proofs.Common.{◌≡◌, ◌⊎◌, inl, inr, ⊎_elim, ℕ, ◌<◌, List, [], ◌∷◌, ◌++◌, Bool, true, false, refl, sym, ◌∙◌, ap, arith, Some, Contains, if◌then◌else◌, slice_get}
 use Rattle.std.specs.List.{IsDistinct, list_any}
 use Rattle.std.specs.Bool.{Decides}
-use Rattle.std.proofs.lemmas.List.{append-nil}
 use Rattle.std.proofs.lemmas.Bool.{cases_lt}
 use Rattle.std.proofs.lemmas.Option.{slice_get_within, get_or_from_slice_get}
 use Rattle.std.proofs.lemmas.Map.Made.{AllPairs-from_IsDistinct}
@@ -10,7 +9,6 @@ use Rattle.std.proofs.lemmas.Map.Views.{Contains-from_any}
 use Rattle.std.proofs.lemmas.List.Folds.{list_any_at}
 use Rattle.indexmap.specs.IndexSet.{insert_key}
 use Rattle.ig_item.specs.WellKinded.{NoneTwice}
-use Rattle.ig_tables.specs.Extends.{Extends}
 
 module _ {X : Type 0} {eq : X → X → Bool} (decides : (x y : X) → Decides (eq x y) (x ≡ y)) where
   apart : (xs : List X) (i j : ℕ) (x : X) → IsDistinct eq xs → slice_get xs i ≡ Some x → slice_get xs j ≡ Some x → i < j → ⊥
@@ -38,10 +36,6 @@ module _ {X : Type 0} {eq : X → X → Bool} (decides : (x y : X) → Decides (
       go : (b : Bool) → list_any (eq x) before ≡ b → (after ≡ before) ⊎ (after ≡ before ++ x ∷ [])
       go true t = inl (after_true before after x e t)
       go false t = inr (after_false before after x e t)
-
-  pub inserted_extends : (before after : List X) (x : X) → after ≡ insert_key eq before x → Extends before after
-  inserted_extends before after x e = ⊎_elim (λ h. record { more = []; is = h ∙ sym (append-nil before) })
-      (λ h. record { more = x ∷ []; is = h }) (inserted_is before after x e)
 
   pub inserted_at : (after : List X) (x k : X) (n : ℕ) → slice_get after n ≡ Some k → eq x k ≡ true → slice_get after n ≡ Some x
   inserted_at after x k n e t = e ∙ ap Some (sym ((decides x k).0 t))

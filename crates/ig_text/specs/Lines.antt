@@ -1,5 +1,9 @@
 -- Lines and columns count from 1, in the characters before a position.
-use Rattle.std.specs.Prelude.{ℕ, ◌+◌, zero, suc, ◌==◌, if◌then◌else◌, Bool, List, [], ◌∷◌, length, take, count_by, Option, Some, None, nat_le, ℤ, pos, negsuc}
+use Rattle.std.specs.Prelude.{ℕ, ◌+◌, zero, suc, ◌==◌, if◌then◌else◌, Bool, List, [], ◌∷◌, length, take, count_by, Option, Some, None, codes, nat_le, ℤ, pos, negsuc}
+
+-- what ends a line, as UTF-8
+abbrev pub line_end : List ℕ
+line_end = codes "\n"
 
 -- a line feed
 abbrev pub is_line_feed : ℕ → Bool

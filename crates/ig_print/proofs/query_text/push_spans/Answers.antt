@@ -1,6 +1,6 @@
 use Rattle.std.proofs.Common.{◌++◌}
 use Rattle.ig_print.specs.ValueText.{span_text}
-use Rattle.ig_print.specs.Listed.{line_end}
+use Rattle.ig_text.specs.Lines.{line_end}
 use Rattle.ig_print.proofs.Added.{all_each}
 use Rattle.ig_print.proofs.query_text.push_spans.Goals as goal
 
