@@ -4,8 +4,8 @@ use Rattle.ig_grammar.specs.Checked.{CheckedGrammar, rules}
 use Rattle.ig_grammar.specs.declared.grammar.Grammar.{Grammar}
 use Rattle.ig_core_laws.specs.Lowered.{IsBuildable}
 use Rattle.ig_core_laws.specs.Notation.{unchanged}
-use Rattle.ig_tool.specs.Accepted.{IsTextOf}
-use Rattle.ig_tool.specs.Laws.{ReadGrammarsAreBuildable}
+use Rattle.ig_sources.specs.Accepted.{IsTextOf}
+use Rattle.ig_sources.specs.Laws.{ReadGrammarsAreBuildable}
 use Rattle.ig_grammar.specs.declared.declaration.Decl.{Decl}
 use Rattle.ig_grammar.specs.declared.place.Shape.{Shape}
 use Rattle.ig_grammar.specs.declared.place.Shape.TheVariants.{Rule}

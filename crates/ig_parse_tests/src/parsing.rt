@@ -10,8 +10,8 @@ use ig_parse::{ParseFault, Parser, parse};
 use ig_print::{show_core, show_forest};
 use ig_query::is_ambiguous;
 use ig_scope::check;
+use ig_sources::read_grammars_are_buildable;
 use ig_text::Text;
-use ig_tool::read_grammars_are_buildable;
 use std::alloc::Global;
 use std::test::Fail;
 

@@ -1,8 +1,9 @@
 //! The top call over a shelf and sinks in memory, which may fail. What it answers is tried on the
 //! program, by tables of texts.
 
+use ig_endings::Status;
 use ig_outside::{MemoryShelf, MemorySink};
-use ig_tool::{Status, iguana};
+use ig_tool::iguana;
 use std::alloc::Global;
 use std::process::Abort;
 use std::test::Fail;

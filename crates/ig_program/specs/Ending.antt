@@ -1,8 +1,8 @@
 -- How the program may end.
 use Rattle.std.specs.declared.io.ErrorKind.{ErrorKind}
 use Rattle.std.specs.declared.io.ErrorKind.TheVariants.{OutOfMemory}
-use Rattle.ig_tool.specs.declared.status.Status.{Status}
-use Rattle.ig_tool.specs.declared.status.Status.TheVariants.{Usage, NoMemory}
+use Rattle.ig_endings.specs.declared.status.Status.{Status}
+use Rattle.ig_endings.specs.declared.status.Status.TheVariants.{Usage, NoMemory}
 
 -- the status where the system's answer to the question for the words is an error of this kind
 abbrev pub unread_status : ErrorKind → Status

@@ -4,7 +4,7 @@ ghost use Rattle.std.specs.Vec.Iter.{into_iter_items};
 ghost use Rattle.std.specs.IoError.{error_kind};
 ghost use Rattle.ig_program.specs.Ending.{unread_status};
 
-use ig_tool::status::Status;
+use ig_endings::Status;
 use std::alloc::{AllocError, Global};
 use std::env::Args;
 use std::io::{self, ErrorKind};

@@ -1,9 +1,9 @@
 //! How the program ends.
 ghost use Rattle.std.specs.Prelude.{◌≡◌};
 ghost use Rattle.std.specs.Process.{exit_status};
-ghost use Rattle.ig_tool.specs.Outcome.{number_of};
+ghost use Rattle.ig_endings.specs.Numbers.{number_of};
 
-use ig_tool::status::Status;
+use ig_endings::Status;
 use std::process::ExitCode;
 
 /// The exit code with the number of the status.

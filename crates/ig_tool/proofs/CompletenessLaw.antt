@@ -8,12 +8,13 @@ use Rattle.ig_grammar.specs.declared.grammar.Grammar.{Grammar}
 use Rattle.ig_core_laws.specs.Notation.{unchanged}
 use Rattle.ig_forest.specs.Forest.{Forest}
 use Rattle.ig_parse.specs.Parses.{IsParsed, IsOver, IsForestOf}
-use Rattle.ig_tool.specs.declared.status.Status.{Status}
-use Rattle.ig_tool.specs.declared.status.Status.TheVariants as status
-use Rattle.ig_tool.specs.Jobs.{Job}
-use Rattle.ig_tool.specs.Change.{Change, Got, Untouched}
-use Rattle.ig_tool.specs.Listing.{IsBounded, IsNoCursor, Begins, at_first, at_cursor}
-use Rattle.ig_tool.specs.Outcome.{Answers, Finishes, printed, depth_needed, bad_cursor, listed, told_ambiguous, told_cyclic, told_spans, told_report}
+use Rattle.ig_endings.specs.declared.status.Status.{Status}
+use Rattle.ig_endings.specs.declared.status.Status.TheVariants as status
+use Rattle.ig_jobs.specs.Jobs.{Job}
+use Rattle.ig_endings.specs.Change.{Change, Got, Untouched}
+use Rattle.ig_jobs.specs.Listing.{IsBounded, IsNoCursor, Begins, at_first, at_cursor}
+use Rattle.ig_jobs.specs.Finishes.{Finishes, printed, depth_needed, bad_cursor, listed, told_ambiguous, told_cyclic, told_spans, told_report}
+use Rattle.ig_tool.specs.Outcome.{Answers}
 use Rattle.ig_tool.specs.Headline.{Outcome, over_budget, no_parse, parsed, Says, IsLawful, Completeness, GotText}
 use Rattle.ig_tool.proofs.HeadlineLaw.{Laws, headline}
 

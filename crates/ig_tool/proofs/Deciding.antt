@@ -11,22 +11,29 @@ use Rattle.ig_grammar.specs.declared.grammar.Grammar.{Grammar}
 use Rattle.ig_core_laws.specs.Lowered.{CoreOf, IsBuildable}
 use Rattle.ig_core_laws.specs.Notation.{unchanged}
 use Rattle.ig_print.specs.CoreText.{core_text}
-use Rattle.ig_tool.specs.Change.{Change, change, raised, Fetched, Stood, Untouched}
-use Rattle.ig_tool.specs.declared.stop.Stop.{Stop}
-use Rattle.ig_tool.specs.declared.stop.Stop.TheVariants as halt
-use Rattle.ig_tool.specs.declared.status.Status.{Status}
-use Rattle.ig_tool.specs.declared.status.Status.TheVariants as status
+use Rattle.ig_endings.specs.Change.{Change, change, raised, Fetched, Stood, Untouched}
+use Rattle.ig_endings.specs.declared.stop.Stop.{Stop}
+use Rattle.ig_endings.specs.declared.stop.Stop.TheVariants as halt
+use Rattle.ig_endings.specs.declared.status.Status.{Status}
+use Rattle.ig_endings.specs.declared.status.Status.TheVariants as status
 use Rattle.ig_command.specs.Commands.{Request, check, show, core, forest, trees, query, load, grammar_file, files_of, IsCommand}
-use Rattle.ig_tool.specs.Jobs.{Job, print, list, ask, request_for, task_request}
-use Rattle.ig_tool.specs.declared.job.Task.{Task}
-use Rattle.ig_tool.specs.declared.job.Task.TheVariants as task
-use Rattle.ig_tool.specs.Accepted.{IsAccepted}
-use Rattle.ig_tool.specs.Laws.{ReadGrammarsAreBuildable}
-use Rattle.ig_tool.specs.Refusals.{too_many_dots, dots_text}
+use Rattle.ig_jobs.specs.Jobs.{Job, print, list, ask, request_for, task_request}
+use Rattle.ig_jobs.specs.declared.job.Task.{Task}
+use Rattle.ig_jobs.specs.declared.job.Task.TheVariants as task
+use Rattle.ig_sources.specs.Accepted.{IsAccepted}
+use Rattle.ig_sources.specs.Laws.{ReadGrammarsAreBuildable}
+use Rattle.ig_sources.specs.Refusals.{too_many_dots, dots_text}
 use Rattle.ig_tool.specs.Outcome as decided
-use Rattle.ig_tool.specs.Outcome.{never, for_names, MayGive, HasFiles, Decided, usage, load_over_budget, load_summed, grammar_missing, grammar_unread, grammar_refused, checked, shown, core_shown, input_missing, input_unread, input_refused, over_budget, no_parse, parsed, usage_note, Answers, noted, unwritten, unnoted, no_memory}
-use Rattle.ig_tool.specs.Stops as stops
-use Rattle.ig_tool.specs.Stops.{StopsAt, IsNoGrammar, IsNoInput, IsWrittenIn, LoadsGrammar, LoadsInput, StopsWith, IsPrepared, Prepares, IsParse, StopsParse, LoadsText, ParsesText, StopsRun, GivesText, RunsJob, SaysOk, ShowsGrammar, ShowsCore, Decides, WritesText, WritesNote, GivesUp}
+use Rattle.ig_endings.specs.Notes.{usage_note}
+use Rattle.ig_endings.specs.Stops.{StopsWith, WritesText, WritesNote, GivesUp}
+use Rattle.ig_sources.specs.Sources as sources
+use Rattle.ig_sources.specs.Sources.{MayGive, StopsAt, IsNoGrammar, IsNoInput, IsWrittenIn, LoadsGrammar, LoadsInput}
+use Rattle.ig_jobs.specs.Tasks.{SaysOk, ShowsGrammar, ShowsCore}
+use Rattle.ig_jobs.specs.Texts as texts
+use Rattle.ig_jobs.specs.Texts.{IsPrepared, Prepares, IsParse, StopsParse, LoadsText, ParsesText}
+use Rattle.ig_tool.specs.Outcome.{never, for_names, HasFiles, Decided, usage, load_over_budget, load_summed, grammar_missing, grammar_unread, grammar_refused, checked, shown, core_shown, input_missing, input_unread, input_refused, over_budget, no_parse, parsed, Answers, noted, unwritten, unnoted, no_memory}
+use Rattle.ig_tool.specs.Decisions as decisions
+use Rattle.ig_tool.specs.Decisions.{StopsRun, GivesText, RunsJob, Decides}
 
 -- a stop that is passed on
 pub passed : {T : Type 0} (r : Result T Stop) (stop : Stop) → IsErrAnd r (λ s. s ≡ stop) → r ≡ Err stop
@@ -79,11 +86,11 @@ stopped_at_grammar : (words : List (List ℕ)) (shelf : Change ShelfState) (requ
     (note : List ℕ) → IsCommand words request → grammar_file request ≡ Some file →
     StopsAt (shelf.before.holds file) file shelf.before.faults shelf.after.faults IsNoGrammar s note →
     Decided words shelf s [] note 1 × (s ≢ status.Done)
-stopped_at_grammar words shelf request file s note command named (stops.missing z line e n p q) =
+stopped_at_grammar words shelf request file s note command named (sources.missing z line e n p q) =
     (rw (p, q) (grammar_missing request file e command named n), λ d. cc)
-stopped_at_grammar words shelf request file s note command named (stops.unread z line rose p q) =
+stopped_at_grammar words shelf request file s note command named (sources.unread z line rose p q) =
     (rw (p, q) (grammar_unread request file rose command named), λ d. cc)
-stopped_at_grammar words shelf request file s note command named (stops.refused z line xs e gives not) = (
+stopped_at_grammar words shelf request file s note command named (sources.refused z line xs e gives not) = (
   rw (not.status_is, not.note_is) (grammar_refused request file xs not.text e command named gives not.refused),
   λ d. let p = not.status_is in cc,
 )
@@ -155,14 +162,14 @@ module _ (words : List (List ℕ)) (shelf : Change ShelfState) (name : List ℕ)
 -- what comes of a parser and an input
 module _ (c : CheckedGrammar) (budget : ℕ) (job : Job) (shelf : Change ShelfState) (name : List ℕ) where
   pub runs_at_input : (stop : Stop) → LoadsInput shelf name (Err stop) → RunsJob c budget job shelf name (Err stop)
-  runs_at_input (halt.Note s line) li = stops.at_input s line.items li
+  runs_at_input (halt.Note s line) li = decisions.at_input s line.items li
   runs_at_input halt.Memory li = li
 
   pub runs_parse : (text : Text) (r : Result (Vec ℕ Global) Stop) → LoadsInput shelf name (Ok text) →
       ParsesText c text budget job r → RunsJob c budget job shelf name r
   runs_parse text (Ok out) li h =
       record { calm = li.0; input_bytes = li.1.0; input = text; gives_input = li.1.1; decoded = li.1.2; is_parse = h }
-  runs_parse text (Err (halt.Note s line)) li h = stops.at_parse s line.items li.1.0 text li.0 li.1.1 li.1.2 h
+  runs_parse text (Err (halt.Note s line)) li h = decisions.at_parse s line.items li.1.0 text li.0 li.1.1 li.1.2 h
   runs_parse text (Err halt.Memory) li h = inl li.0
 
 -- a job was asked for, and the grammar was accepted
@@ -181,11 +188,11 @@ module _ (words : List (List ℕ)) (shelf : Change ShelfState) (job : Job) (gram
   -- the input stops the command
   stopped_at_input : (s : Status) (note : List ℕ) → StopsAt told input old new IsNoInput s note →
       Decided words shelf s [] note 2 × (s ≢ status.Done)
-  stopped_at_input s note (stops.missing z line e n p q) =
+  stopped_at_input s note (sources.missing z line e n p q) =
       (rw (p, q) (input_missing job grammar input budget xs g e command gives accepted n), λ d. cc)
-  stopped_at_input s note (stops.unread z line rose p q) =
+  stopped_at_input s note (sources.unread z line rose p q) =
       (rw (p, q) (input_unread job grammar input budget xs g rose command gives accepted), λ d. cc)
-  stopped_at_input s note (stops.refused z line ys e gives_input r) = (
+  stopped_at_input s note (sources.refused z line ys e gives_input r) = (
     rw (r.status_is, r.note_is)
         (input_refused job grammar input budget xs ys g r.fault e command gives accepted gives_input r.faulty r.cause),
     λ d. let p = r.status_is in cc,
@@ -207,17 +214,17 @@ module _ (words : List (List ℕ)) (shelf : Change ShelfState) (job : Job) (gram
 
   stopped_at_parse : (s : Status) (note text : List ℕ) → new ≡ old → HasFiles words shelf.before g text budget job →
       StopsParse (unchanged g) text budget job s note → Decided words shelf s [] note 2 × (s ≢ status.Done)
-  stopped_at_parse s note text e files (stops.over_budget z line more p q) =
+  stopped_at_parse s note text e files (texts.over_budget z line more p q) =
       (rw (p, q) (over_budget g text budget job e files more), λ d. cc)
-  stopped_at_parse s note text e files (stops.no_parse z line suffices none p told) =
+  stopped_at_parse s note text e files (texts.no_parse z line suffices none p told) =
       (rw p (no_parse g text budget job note e files suffices none told), λ d. cc)
-  stopped_at_parse s note text e files (stops.at_job z line is not_done) =
+  stopped_at_parse s note text e files (texts.at_job z line is not_done) =
       (parsed g text budget job is.forest s [] note e files is.is is.finishes, not_done)
 
   stopped_run : (s : Status) (note : List ℕ) → StopsRun parser budget job told input old new s note →
       Decided words shelf s [] note 2 × (s ≢ status.Done)
-  stopped_run s note (stops.at_input z line at) = stopped_at_input s note at
-  stopped_run s note (stops.at_parse z line ys text e gives_input decoded at) =
+  stopped_run s note (decisions.at_input z line at) = stopped_at_input s note at
+  stopped_run s note (decisions.at_parse z line ys text e gives_input decoded at) =
       let P : CheckedGrammar → Type 0 = λ z. StopsParse z text budget job s note in
       stopped_at_parse s note text e (has_files ys text gives_input decoded) (subst P prepared.0 at)
 

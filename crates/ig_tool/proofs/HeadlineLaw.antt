@@ -15,19 +15,22 @@ use Rattle.ig_grammar.specs.WellScoped.{IsFirst}
 use Rattle.ig_notation.specs.Outcome.{too_many_bytes, OneReading, ReadOrRefused}
 use Rattle.ig_notation.specs.declared.fault.Large.TheVariants as large
 use Rattle.ig_notation.specs.declared.fault.ReadFault.TheVariants as read
-use Rattle.ig_tool.specs.declared.status.Status.{Status}
-use Rattle.ig_tool.specs.declared.status.Status.TheVariants as status
+use Rattle.ig_endings.specs.declared.status.Status.{Status}
+use Rattle.ig_endings.specs.declared.status.Status.TheVariants as status
 use Rattle.ig_item.specs.Core.{dots}
 use Rattle.ig_item.specs.Limits.{most_dots}
 use Rattle.ig_core_laws.specs.Lowered.{CoreOf}
 use Rattle.ig_core_laws.specs.Notation.{unchanged}
 use Rattle.ig_command.specs.Commands.{Request, request_of, check, show, core, forest, trees, query, load, grammar_file, IsCommand}
-use Rattle.ig_tool.specs.Jobs.{Job, print, list, ask, request_for}
-use Rattle.ig_tool.specs.Accepted.{IsAccepted}
-use Rattle.ig_tool.specs.Refusals.{IsRefused, too_many, not_utf8, not_grammar, too_large, not_scoped, too_many_dots}
-use Rattle.ig_tool.specs.Change.{Change, FetchFailed, PutFailed, Got, Untouched}
+use Rattle.ig_jobs.specs.Jobs.{Job, print, list, ask, request_for}
+use Rattle.ig_sources.specs.Accepted.{IsAccepted}
+use Rattle.ig_sources.specs.Refusals.{IsRefused, too_many, not_utf8, not_grammar, too_large, not_scoped, too_many_dots}
+use Rattle.ig_endings.specs.Change.{Change, FetchFailed, PutFailed, Got, Untouched}
 use Rattle.ig_tool.specs.Outcome as answer
-use Rattle.ig_tool.specs.Outcome.{MayGive, HasFiles, Decided, ok_text, shown_text, shown_core, Finishes, Answers, written, noted, unwritten, unnoted, no_memory}
+use Rattle.ig_sources.specs.Sources.{MayGive}
+use Rattle.ig_jobs.specs.Tasks.{ok_text, shown_text, shown_core}
+use Rattle.ig_jobs.specs.Finishes.{Finishes}
+use Rattle.ig_tool.specs.Outcome.{HasFiles, Decided, Answers, written, noted, unwritten, unnoted, no_memory}
 use Rattle.ig_tool.specs.Headline.{Asks, Outcome, over_budget, no_parse, parsed, Says, Headline, checks, shows, cores, GrammarCommands}
 
 one_value : (r q : Request) (found : Option Request) → found ≡ Some r → found ≡ Some q → r ≡ q

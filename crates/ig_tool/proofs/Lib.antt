@@ -1,12 +1,4 @@
-pub mod Answering
 pub mod Deciding
-pub mod GrammarTexts
 pub mod HeadlineLaw
 pub mod CompletenessLaw
 pub mod LoadLaw
-pub mod Loading
-pub mod Listings
-pub mod Parsing
-pub mod Written
-pub mod OfNotation
-pub mod Noting

@@ -9,17 +9,19 @@ use Rattle.ig_core_laws.specs.Notation.{unchanged}
 use Rattle.ig_forest.specs.Forest.{Forest}
 use Rattle.ig_grammar.specs.Checked.{CheckedGrammar}
 use Rattle.ig_parse.specs.Parses.{IsParsed, IsUnparsed, IsOver, IsForestOf, HasForest}
-use Rattle.ig_tool.specs.declared.status.Status.{Status}
-use Rattle.ig_tool.specs.declared.status.Status.TheVariants as status
+use Rattle.ig_endings.specs.declared.status.Status.{Status}
+use Rattle.ig_endings.specs.declared.status.Status.TheVariants as status
 use Rattle.ig_load.specs.Summary.{IsLoadSummary, IsTooLarge}
 use Rattle.ig_load_texts.specs.Line.{summary_text}
 use Rattle.ig_load_texts.specs.declared.summary.Summary.{Summary}
 use Rattle.ig_command.specs.Commands.{check, show, core, load, IsCommand}
-use Rattle.ig_tool.specs.Jobs.{Job, print, list, ask, request_for}
-use Rattle.ig_tool.specs.Listing.{IsBounded, Begins}
-use Rattle.ig_tool.specs.Accepted.{IsAccepted}
-use Rattle.ig_tool.specs.Change.{Change, FetchFailed, PutFailed, Got, Untouched}
-use Rattle.ig_tool.specs.Outcome.{budget_note, IsNoParseNote, ok_text, shown_text, shown_core, Finishes}
+use Rattle.ig_jobs.specs.Jobs.{Job, print, list, ask, request_for}
+use Rattle.ig_jobs.specs.Listing.{IsBounded, Begins}
+use Rattle.ig_sources.specs.Accepted.{IsAccepted}
+use Rattle.ig_endings.specs.Change.{Change, FetchFailed, PutFailed, Got, Untouched}
+use Rattle.ig_endings.specs.Notes.{budget_note}
+use Rattle.ig_jobs.specs.Tasks.{ok_text, shown_text, shown_core}
+use Rattle.ig_jobs.specs.Finishes.{IsNoParseNote, Finishes}
 
 -- the words ask for the job with two files, and the shelf tells that it holds them: the first is the text of the grammar,
 -- which is accepted, the second is the input

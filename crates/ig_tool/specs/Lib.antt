@@ -1,10 +1,3 @@
-pub mod Accepted
-pub mod Refusals
-pub mod Jobs
-pub mod Listing
-pub mod Change
 pub mod Outcome
-pub mod Stops
-pub mod Pages
+pub mod Decisions
 pub mod Headline
-pub mod Laws

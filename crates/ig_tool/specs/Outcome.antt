@@ -1,108 +1,28 @@
 -- What the top call answers, by cases.
-use Rattle.std.specs.Prelude.{◌≡◌, ◌≢◌, ◌↔◌, ◌≤◌, ℕ, zero, List, [], ◌++◌, length, Bool, IsTrue, Option, Some, None, codes, encode_utf8_all}
-use Rattle.std.specs.Fmt.{decimal}
+use Rattle.std.specs.Prelude.{◌≡◌, ◌≢◌, ◌≤◌, ℕ, zero, List, [], length, Some}
 use Rattle.ig_text.specs.Decoding.{IsDecoded, IsFaulty}
-use Rattle.ig_text.specs.Tree.{Tree}
-use Rattle.ig_text.specs.declared.text.Span.{Span}
 use Rattle.ig_text.specs.declared.text.TextFault.{TextFault}
 use Rattle.ig_text.specs.declared.text.TextFault.TheVariants as text_fault
-use Rattle.ig_outside.specs.Told.{Told, silent, nothing, bytes}
+use Rattle.ig_outside.specs.Told.{nothing}
 use Rattle.ig_outside.specs.States.{ShelfState, SinkState}
-use Rattle.ig_grammar.specs.Checked.{CheckedGrammar}
 use Rattle.ig_grammar.specs.declared.grammar.Grammar.{Grammar}
-use Rattle.ig_core_laws.specs.Lowered.{CoreOf}
 use Rattle.ig_core_laws.specs.Notation.{unchanged}
 use Rattle.ig_forest.specs.Forest.{Forest}
 use Rattle.ig_parse.specs.Parses.{IsUnparsed, IsOver, HasForest}
-use Rattle.ig_parse.specs.Laws.{HasNoHighest, PermitsTwo}
-use Rattle.ig_query.specs.Ambiguity.{AreAmbiguous}
-use Rattle.ig_query.specs.Report.{IsReport}
-use Rattle.ig_print.specs.declared.report.Report.{Report}
-use Rattle.ig_print.specs.ReportText.{IsPlace}
-use Rattle.ig_print.specs.Listed.{line_end}
-use Rattle.ig_print.specs.CoreText.{core_text}
-use Rattle.ig_print.specs.ForestText.{forest_text}
-use Rattle.ig_print.specs.QueryText.{ambiguous_text, cyclic_text, spans_text, IsFurthestLine}
-use Rattle.ig_tool.specs.declared.status.Status.{Status}
-use Rattle.ig_tool.specs.declared.status.Status.TheVariants as status
-use Rattle.ig_tool.specs.Change.{Change, Fetched, IsCalm, FetchFailed, Stood, Got, Failed, Untouched, Noted}
-use Rattle.ig_show.specs.CanonicalText.{text_of}
-use Rattle.ig_tool.specs.Accepted.{IsAccepted}
-use Rattle.ig_tool.specs.Refusals.{IsRefused}
-use Rattle.ig_command.specs.Commands.{Request, Listing, check, show, core, load, grammar_file, files_of, IsCommand}
-use Rattle.ig_command.specs.Commands as asked
 use Rattle.ig_load.specs.Summary.{IsLoadSummary, IsTooLarge}
 use Rattle.ig_load_texts.specs.Line.{summary_text}
 use Rattle.ig_load_texts.specs.declared.summary.Summary.{Summary}
-use Rattle.ig_tool.specs.Jobs.{Job, print, list, ask, request_for}
-use Rattle.ig_tool.specs.Listing.{IsBounded, IsNoCursor, Begins, IsTreeListing}
-use Rattle.ig_answers.specs.Questions.{IsWanted, ArePermittedSpans}
-use Rattle.ig_pages.specs.Lines.{listing_text}
-use Rattle.ig_walker.specs.Listed.{Listed}
-
-abbrev pub number_of : Status → ℕ
-number_of status.Done = 0
-number_of status.NoParse = 1
-number_of status.Usage = 2
-number_of status.Grammar = 3
-number_of status.Input = 4
-number_of status.Budget = 5
-number_of status.ReadFault = 6
-number_of status.WriteFault = 7
-number_of status.NoMemory = 8
-number_of status.BadCursor = 9
-number_of status.DepthNeeded = 10
-
--- the bytes that a fetch may give, by what the shelf tells: what it holds, or any bytes where it
--- doesn't tell
-abbrev pub MayGive : Told → List ℕ → Type 0
-MayGive silent xs = Unit {0}
-MayGive nothing xs = ⊥
-MayGive (bytes held) xs = xs ≡ held
-
--- the notes, each a line
-abbrev pub usage_note : List ℕ
-usage_note = codes "usage: iguana (check|show|core) G | (forest|trees|query) G I | load SIZE NUMBER" ++ line_end
-
-abbrev pub cannot_read_note : List ℕ → List ℕ
-cannot_read_note name = codes "cannot read " ++ (name ++ line_end)
-
-abbrev pub grammar_note : List ℕ → List ℕ
-grammar_note text = codes "grammar: " ++ (text ++ line_end)
-
--- want of memory has a note of its own
-abbrev pub input_note : TextFault → List ℕ
-input_note (text_fault.NotUtf8 at) = codes "input: not UTF-8 at byte " ++ (decimal at ++ line_end)
-input_note text_fault.TooLong = codes "input: too long" ++ line_end
-input_note text_fault.Memory = []
-
-abbrev pub budget_note : ℕ → List ℕ
-budget_note budget = codes "budget: more than " ++ (decimal budget ++ (codes " items" ++ line_end))
-
-abbrev pub no_parse_note : List ℕ → List ℕ
-no_parse_note place = codes "no parse at " ++ (place ++ line_end)
-
-abbrev pub depth_needed_note : List ℕ
-depth_needed_note = codes "depth needed: the forest is cyclic" ++ line_end
-
-abbrev pub no_cursor_note : List ℕ
-no_cursor_note = codes "no such cursor" ++ line_end
-
-abbrev pub cannot_write_note : List ℕ
-cannot_write_note = codes "cannot write" ++ line_end
-
-abbrev pub no_memory_note : List ℕ
-no_memory_note = codes "out of memory" ++ line_end
-
--- what out gets of a grammar
-abbrev pub ok_text : List ℕ
-ok_text = codes "ok" ++ line_end
-
-abbrev pub shown_text : Grammar → List ℕ
-shown_text g = encode_utf8_all (text_of g)
-
-abbrev pub shown_core : Grammar → List ℕ
-shown_core g = core_text (CoreOf (unchanged g))
+use Rattle.ig_command.specs.Commands.{Request, check, show, core, load, grammar_file, files_of, IsCommand}
+use Rattle.ig_endings.specs.Change.{Change, Fetched, IsCalm, FetchFailed, Stood, Got, Failed, Untouched, Noted}
+use Rattle.ig_endings.specs.Notes.{budget_note, cannot_read_note, cannot_write_note, grammar_note, input_note, no_memory_note, usage_note}
+use Rattle.ig_endings.specs.declared.status.Status.{Status}
+use Rattle.ig_endings.specs.declared.status.Status.TheVariants as status
+use Rattle.ig_sources.specs.Accepted.{IsAccepted}
+use Rattle.ig_sources.specs.Refusals.{IsRefused}
+use Rattle.ig_sources.specs.Sources.{MayGive}
+use Rattle.ig_jobs.specs.Jobs.{Job, request_for}
+use Rattle.ig_jobs.specs.Tasks.{ok_text, shown_text, shown_core}
+use Rattle.ig_jobs.specs.Finishes.{IsNoParseNote, Finishes}
 
 -- the words ask for the job with two files, of which the first may give the grammar, which is accepted, and the second the
 -- input
@@ -117,42 +37,6 @@ pub record HasFiles (words : List (List ℕ)) (shelf : ShelfState) (g : Grammar)
   pub input_bytes : List ℕ
   pub gives_input : MayGive (shelf.holds input_file) input_bytes
   pub decoded : IsDecoded input_bytes input
-
--- the note of how far the items came in the input, and of what was expected there
-pub record IsNoParseNote (c : CheckedGrammar) (input note : List ℕ) : Type 0 where
-  pub report : Report
-  pub place : List ℕ
-  pub is : IsReport (CoreOf c) input report
-  pub place_is : IsPlace report place
-  pub note_is : note ≡ no_parse_note place
-
--- what comes of a job, by the forest of the trees that are permitted: the status, out's text and notes' line
-pub data Finishes (c : CheckedGrammar) (input : List ℕ) (f : Forest) : Job → Status → List ℕ → List ℕ → Type 0 where
-  -- the text of the forest
-  printed : Finishes c input f print status.Done (forest_text f) []
-  -- trees of each height are wanted, and there is no highest one
-  depth_needed : (listing : Listing) → listing.depth ≡ None → HasNoHighest c input →
-      Finishes c input f (list listing) status.DepthNeeded [] depth_needed_note
-  -- the cursor is that of no tree that may be listed
-  bad_cursor : (listing : Listing) (word : List ℕ) → IsBounded c input listing.depth → listing.after ≡ Some word →
-      IsNoCursor c input f listing.depth word → Finishes c input f (list listing) status.BadCursor [] no_cursor_note
-  -- the text of the listing
-  listed : (listing : Listing) (last : Option Tree) (trees : List Listed) → IsBounded c input listing.depth →
-      Begins c input f listing.depth listing.after last →
-      IsTreeListing c input f listing.depth last listing.count trees →
-      Finishes c input f (list listing) status.Done (listing_text (CoreOf c) trees) []
-  -- the lines of the ambiguous nodes: there are some exactly where two different trees are permitted
-  told_ambiguous : (nodes : List ℕ) → AreAmbiguous f nodes → (nodes ≢ []) ↔ PermitsTwo c input →
-      Finishes c input f (ask asked.ambiguous) status.Done (ambiguous_text f nodes) []
-  -- whether for each number a higher tree is permitted
-  told_cyclic : (answer : Bool) → IsTrue answer ↔ HasNoHighest c input →
-      Finishes c input f (ask asked.cyclic) status.Done (cyclic_text answer) []
-  -- the spans of the declaration that is named, or of the start symbol
-  told_spans : (given : Option (List ℕ)) (name : List ℕ) (found : List Span) → IsWanted c given name →
-      ArePermittedSpans c.grammar input name found → Finishes c input f (ask (asked.spans given)) status.Done (spans_text found) []
-  -- how far the items came in the input, and what was expected there
-  told_report : (report : Report) (line : List ℕ) → IsReport (CoreOf c) input report → IsFurthestLine report line →
-      Finishes c input f (ask asked.report) status.Done line []
 
 -- the status that is decided before anything is written, the text for out, the line for notes, and
 -- the number of fetches

@@ -6,25 +6,11 @@
 //! to exactly the derivation trees that the grammar permits. `specs/Headline.antt` has that
 //! theorem, `specs/Outcome.antt` all answers.
 //!
-//! What the words ask for, `ig_command` says. Inside, a grammar text is read and its scopes are
-//! checked, or a note says why it is refused (`grammar_text`, by the texts of `ig_refusals`). Each
-//! grammar that is read can be built, which [`read_grammars_are_buildable`] says, so its parser is
-//! made, unless its core grammar has too many dots, and a forest is that parser's (`parse`). It is
-//! printed, or its trees are listed by `ig_pages`, or a question on it is answered by `ig_answers`
-//! (`finish`). A load has its line (`summary`).
+//! What the words ask for, `ig_command` says. Files are fetched and read by `ig_sources`; what
+//! comes of a grammar, or of a grammar and an input, is `ig_jobs`; how a command ends, and what is
+//! then written, `ig_endings`.
 #![tactic(auto)]
 
-mod finish;
-mod grammar_text;
-mod job;
-mod laws;
-mod load;
-mod parse;
-pub mod status;
-mod stop;
-mod summary;
 mod top_call;
 
-pub use laws::{read_grammars_are_buildable, read_grammars_stay_regular};
-pub use status::Status;
 pub use top_call::iguana;

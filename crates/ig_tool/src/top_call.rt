@@ -1,35 +1,24 @@
 //! The top call.
 ghost use Rattle.std.specs.Prelude.{◌≡◌, ℕ, List, map, string_bytes};
 ghost use Rattle.ig_core_laws.specs.Notation.{unchanged};
-ghost use Rattle.ig_tool.specs.Change.{change, Fetched};
-ghost use Rattle.ig_tool.specs.Outcome.{Answers, usage_note};
+ghost use Rattle.ig_command.specs.Commands.{IsCommand};
+ghost use Rattle.ig_endings.specs.Change.{change, Fetched};
+ghost use Rattle.ig_jobs.specs.Jobs.{request_for, stored_job, task_request};
+ghost use Rattle.ig_tool.specs.Outcome.{Answers};
+ghost use Rattle.ig_tool.specs.Decisions.{Decides, RunsJob};
 ghost use Rattle.ig_tool.specs.Headline.{Completeness, GrammarCommands, Headline};
 ghost use Rattle.ig_tool.specs.Headline.{LoadCommands};
-ghost use Rattle.ig_command.specs.Commands.{IsCommand};
-ghost use Rattle.ig_tool.specs.Jobs.{request_for, stored_job, task_request};
-ghost use Rattle.ig_tool.specs.Stops.{Decides, GivesUp, RunsJob, SaysOk, ShowsCore};
-ghost use Rattle.ig_tool.specs.Stops.{ShowsGrammar, StopsWith, WritesNote, WritesText};
-ghost use Rattle.ig_tool.specs.declared.status.Status.TheVariants.{Usage};
 
-use crate::job::{Job, Task};
-use crate::laws::read_grammars_are_buildable;
-use crate::load::{load_grammar, load_input};
-use crate::parse::{parse, parser_of};
-use crate::status::Status;
-use crate::stop::{Stop, stop_with};
-use crate::summary::summary_line;
-use ig_command::{Command, command_of, load_sizes_are_few};
-use ig_grammar::Grammar;
+use ig_command::{command_of, load_sizes_are_few};
+use ig_endings::{Status, Stop, give_up, usage, write_note, write_text};
+use ig_jobs::{
+    Files, Job, Task, Work, parse, parser_of, say_ok, show, shown_core, summary_line, work_of,
+};
 use ig_notation::{one_reading, texts_are_read_or_refused};
 use ig_outside::{Shelf, Sink};
 use ig_parse::Parser;
-use ig_print::show_core;
-use ig_show::show_grammar;
+use ig_sources::{load_grammar, load_input, read_grammars_are_buildable};
 use std::alloc::Global;
-
-/// The line of wrong words.
-const USAGE: &[u8] =
-    b"usage: iguana (check|show|core) G | (forest|trees|query) G I | load SIZE NUMBER";
 
 /// Does all that the program does: reads the words of a command, fetches the files that they name
 /// from the shelf, puts the output on out, or one line on notes, and answers how that ended. An
@@ -100,40 +89,15 @@ fn decide<F: Shelf>(alloc: Global, words: &[String], shelf: &mut F) -> Result<Ve
     let Some(command) = command_of(alloc, words)? else {
         return Err(usage(alloc));
     };
-    match command {
-        Command::Check { grammar } => on_grammar(alloc, shelf, grammar, Task::Check),
-        Command::Show { grammar } => on_grammar(alloc, shelf, grammar, Task::Show),
-        Command::Core { grammar } => on_grammar(alloc, shelf, grammar, Task::Core),
-        Command::Forest {
-            grammar,
-            input,
-            budget,
-        } => on_input(alloc, shelf, grammar, input, budget, Job::Print),
-        Command::Trees {
-            grammar,
-            input,
-            budget,
-            listing,
-        } => on_input(alloc, shelf, grammar, input, budget, Job::List(listing)),
-        Command::Query {
-            grammar,
-            input,
-            budget,
-            question,
-        } => on_input(alloc, shelf, grammar, input, budget, Job::Ask(question)),
-        Command::Load {
+    match work_of(command) {
+        Work::OnGrammar(grammar, task) => on_grammar(alloc, shelf, grammar, task),
+        Work::OnInput(files, budget, job) => on_input(alloc, shelf, files, budget, job),
+        Work::OfLoad {
             size,
             number,
             budget,
         } => summary_line(alloc, size, number, budget),
     }
-}
-
-/// How the program is called.
-fn usage(alloc: Global) -> Stop
-    ensures { StopsWith Usage usage_note result }
-{
-    stop_with(alloc, Status::Usage, USAGE, b"")
 }
 
 /// What comes of a task with the grammar in the file of that name.
@@ -157,48 +121,24 @@ fn on_grammar<F: Shelf>(
     }
 }
 
-/// What comes of a job with the grammar and the input in the files of these names.
+/// What comes of a job with the grammar and the input in these files.
 fn on_input<F: Shelf>(
     alloc: Global,
     shelf: &mut F,
-    grammar: &str,
-    input: &str,
+    files: Files<'_>,
     budget: u32,
     job: Job<'_>,
 ) -> Result<Vec<u8>, Stop>
     ensures answer { (words : List (List ℕ)) →
-        IsCommand words (request_for (stored_job job.entry) grammar.now input.now budget) →
+        IsCommand words (request_for (stored_job job.entry) files.entry.grammar.now
+        files.entry.input.now budget) →
         Decides words (change (F.state shelf.old) (F.state shelf.new)) result }
     ensures same { (n : List ℕ) → (F.state shelf.new).holds n ≡ (F.state shelf.old).holds n }
 {
     read_grammars_are_buildable();
-    let checked = load_grammar(alloc, shelf, grammar)?;
+    let checked = load_grammar(alloc, shelf, files.grammar)?;
     let parser = parser_of(alloc, &checked)?;
-    run(alloc, shelf, &parser, input, budget, job)
-}
-
-/// The text that says that a grammar is accepted.
-fn say_ok(alloc: Global) -> Result<Vec<u8>, Stop>
-    ensures { SaysOk result }
-{
-    let text = Vec::from_slice(alloc, b"ok\n")?;
-    Ok(text)
-}
-
-/// The canonical text of the grammar.
-fn show(alloc: Global, grammar: &Grammar) -> Result<Vec<u8>, Stop>
-    ensures { ShowsGrammar grammar.now result }
-{
-    let text = show_grammar(alloc, grammar)?;
-    Ok(text)
-}
-
-/// The text of the parser's core grammar.
-fn shown_core(alloc: Global, parser: &Parser<'_>) -> Result<Vec<u8>, Stop>
-    ensures { ShowsCore parser.now result }
-{
-    let text = show_core(alloc, parser.core())?;
-    Ok(text)
+    run(alloc, shelf, &parser, files.input, budget, job)
 }
 
 /// What comes of a job with the parser's grammar, which no pass has changed, and the input in the
@@ -219,40 +159,4 @@ fn run<F: Shelf>(
 {
     let input = load_input(alloc, shelf, name)?;
     parse(alloc, parser, &input, budget, job)
-}
-
-/// Puts the text on out, an empty one not at all. Where out fails, notes get a line of their own.
-fn write_text<O: Sink, N: Sink>(text: &[u8], out: &mut O, notes: &mut N) -> Status
-    ensures { WritesText text.now (change (O.state out.old) (O.state out.new))
-        (change (N.state notes.old) (N.state notes.new)) result }
-{
-    if text.is_empty() {
-        return Status::Done;
-    }
-    match out.put(text) {
-        Ok(()) => Status::Done,
-        Err(_) => {
-            let _ = notes.put(b"cannot write\n");
-            Status::WriteFault
-        }
-    }
-}
-
-/// Puts the line on notes.
-fn write_note<N: Sink>(status: Status, line: &[u8], notes: &mut N) -> Status
-    ensures { WritesNote status line.now
-        (change (N.state notes.old) (N.state notes.new)) result }
-{
-    match notes.put(line) {
-        Ok(()) => status,
-        Err(_) => Status::WriteFault,
-    }
-}
-
-/// Notes that memory ran out.
-fn give_up<N: Sink>(notes: &mut N) -> Status
-    ensures { GivesUp (change (N.state notes.old) (N.state notes.new)) result }
-{
-    let _ = notes.put(b"out of memory\n");
-    Status::NoMemory
 }

@@ -1,4 +1,6 @@
+use Rattle.std.proofs.Common.{subst, sym}
 use Rattle.std.specs.Prelude.{map, string_bytes}
+use Rattle.ig_command.specs.Commands.{IsCommand}
 use Rattle.ig_tool.proofs.Deciding.{decides_usage, decides_load, decides_memory}
 use Rattle.ig_tool.proofs.top_call.decide.Goals as goal
 
@@ -9,36 +11,28 @@ returns-in_default-clause-answer g c =
 pub returns-in_err-command-clause-answer : goal.returns-in_err-command-clause-answer
 returns-in_err-command-clause-answer g c = decides_memory _ _ c.from_residual.result c.from_residual.ensures.1
 
-pub returns-in-Check-clause-answer : goal.returns-in-Check-clause-answer
-returns-in-Check-clause-answer g c =
-    let read = rw c.in-Some.is at c.in_ok-command.ensures in c.on_grammar.ensures.answer _ (rw c.in-Check.is at read)
+pub returns-in-OnGrammar-clause-answer : goal.returns-in-OnGrammar-clause-answer
+returns-in-OnGrammar-clause-answer g c =
+    let read = rw c.in-Some.is at c.in_ok-command.ensures in
+    let asked = rw c.in-OnGrammar.is at c.work_of.ensures in
+    c.on_grammar.ensures.answer _ (subst (IsCommand (map string_bytes c.args.words.now)) (sym asked) read)
 
-pub returns-in-Show-clause-answer : goal.returns-in-Show-clause-answer
-returns-in-Show-clause-answer g c =
-    let read = rw c.in-Some.is at c.in_ok-command.ensures in c.on_grammar-in-Show.ensures.answer _ (rw c.in-Show.is at read)
-
-pub returns-in-Core-clause-answer : goal.returns-in-Core-clause-answer
-returns-in-Core-clause-answer g c =
-    let read = rw c.in-Some.is at c.in_ok-command.ensures in c.on_grammar-in-Core.ensures.answer _ (rw c.in-Core.is at read)
-
-pub returns-in-Forest-clause-answer : goal.returns-in-Forest-clause-answer
-returns-in-Forest-clause-answer g c =
-    let read = rw c.in-Some.is at c.in_ok-command.ensures in c.on_input.ensures.answer _ (rw c.in-Forest.is at read)
-
-pub returns-in-Trees-clause-answer : goal.returns-in-Trees-clause-answer
-returns-in-Trees-clause-answer g c =
-    let read = rw c.in-Some.is at c.in_ok-command.ensures in c.on_input-in-Trees.ensures.answer _ (rw c.in-Trees.is at read)
-
-pub returns-in-Query-clause-answer : goal.returns-in-Query-clause-answer
-returns-in-Query-clause-answer g c =
-    let read = rw c.in-Some.is at c.in_ok-command.ensures in c.on_input-in-Query.ensures.answer _ (rw c.in-Query.is at read)
+pub returns-in-OnInput-clause-answer : goal.returns-in-OnInput-clause-answer
+returns-in-OnInput-clause-answer g c =
+    let read = rw c.in-Some.is at c.in_ok-command.ensures in
+    let asked = rw c.in-OnInput.is at c.work_of.ensures in
+    c.on_input.ensures.answer _ (subst (IsCommand (map string_bytes c.args.words.now)) (sym asked) read)
 
 pub summary_line-requires : goal.summary_line-requires
 summary_line-requires g c =
     let read = rw c.in-Some.is at c.in_ok-command.ensures in
-    c.load_sizes_are_few.ensures (map string_bytes c.args.words.now) c.in-Load.size c.in-Load.number c.in-Load.budget (rw c.in-Load.is at read)
+    let asked = rw c.in-OfLoad.is at c.work_of.ensures in
+    c.load_sizes_are_few.ensures (map string_bytes c.args.words.now) c.in-OfLoad.size c.in-OfLoad.number c.in-OfLoad.budget
+    (subst (IsCommand (map string_bytes c.args.words.now)) (sym asked) read)
 
-pub returns-in-Load-clause-answer : goal.returns-in-Load-clause-answer
-returns-in-Load-clause-answer g c =
+pub returns-in-OfLoad-clause-answer : goal.returns-in-OfLoad-clause-answer
+returns-in-OfLoad-clause-answer g c =
     let read = rw c.in-Some.is at c.in_ok-command.ensures in
-    decides_load _ _ c.in-Load.size c.in-Load.number c.in-Load.budget c.summary_line.result (rw c.in-Load.is at read) c.summary_line.ensures
+    let asked = rw c.in-OfLoad.is at c.work_of.ensures in
+    decides_load _ _ c.in-OfLoad.size c.in-OfLoad.number c.in-OfLoad.budget c.summary_line.result
+    (subst (IsCommand (map string_bytes c.args.words.now)) (sym asked) read) c.summary_line.ensures

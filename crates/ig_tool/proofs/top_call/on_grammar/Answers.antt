@@ -1,6 +1,6 @@
 use Rattle.std.proofs.Common.{subst, sym}
-use Rattle.ig_tool.specs.Change.{change}
-use Rattle.ig_tool.specs.Stops.{Decides}
+use Rattle.ig_endings.specs.Change.{change}
+use Rattle.ig_tool.specs.Decisions.{Decides}
 use Rattle.ig_tool.proofs.Deciding.{passed, named_of_task, decides_at_grammar, decides_at_dots, decides_check, decides_show, decides_core, loaded_is_buildable}
 use Rattle.ig_tool.proofs.top_call.on_grammar.Goals as goal
 

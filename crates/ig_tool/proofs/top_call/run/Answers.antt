@@ -1,7 +1,7 @@
 use Rattle.std.proofs.Common.{subst, sym}
-use Rattle.ig_tool.specs.Change.{change}
-use Rattle.ig_tool.specs.Jobs.{stored_job}
-use Rattle.ig_tool.specs.Stops.{RunsJob}
+use Rattle.ig_endings.specs.Change.{change}
+use Rattle.ig_jobs.specs.Jobs.{stored_job}
+use Rattle.ig_tool.specs.Decisions.{RunsJob}
 use Rattle.ig_tool.proofs.Deciding.{passed, runs_at_input, runs_parse}
 use Rattle.ig_tool.proofs.top_call.run.Goals as goal
 

@@ -1,0 +1,4 @@
+pub mod Change
+pub mod Numbers
+pub mod Notes
+pub mod Stops

@@ -1,0 +1,39 @@
+-- The notes of a command, each a line.
+use Rattle.std.specs.Prelude.{ℕ, List, [], ◌++◌, codes}
+use Rattle.std.specs.Fmt.{decimal}
+use Rattle.ig_text.specs.Lines.{line_end}
+use Rattle.ig_text.specs.declared.text.TextFault.{TextFault}
+use Rattle.ig_text.specs.declared.text.TextFault.TheVariants as text_fault
+
+abbrev pub usage_note : List ℕ
+usage_note = codes "usage: iguana (check|show|core) G | (forest|trees|query) G I | load SIZE NUMBER" ++ line_end
+
+abbrev pub cannot_read_note : List ℕ → List ℕ
+cannot_read_note name = codes "cannot read " ++ (name ++ line_end)
+
+abbrev pub grammar_note : List ℕ → List ℕ
+grammar_note text = codes "grammar: " ++ (text ++ line_end)
+
+-- want of memory has a note of its own
+abbrev pub input_note : TextFault → List ℕ
+input_note (text_fault.NotUtf8 at) = codes "input: not UTF-8 at byte " ++ (decimal at ++ line_end)
+input_note text_fault.TooLong = codes "input: too long" ++ line_end
+input_note text_fault.Memory = []
+
+abbrev pub budget_note : ℕ → List ℕ
+budget_note budget = codes "budget: more than " ++ (decimal budget ++ (codes " items" ++ line_end))
+
+abbrev pub no_parse_note : List ℕ → List ℕ
+no_parse_note place = codes "no parse at " ++ (place ++ line_end)
+
+abbrev pub depth_needed_note : List ℕ
+depth_needed_note = codes "depth needed: the forest is cyclic" ++ line_end
+
+abbrev pub no_cursor_note : List ℕ
+no_cursor_note = codes "no such cursor" ++ line_end
+
+abbrev pub cannot_write_note : List ℕ
+cannot_write_note = codes "cannot write" ++ line_end
+
+abbrev pub no_memory_note : List ℕ
+no_memory_note = codes "out of memory" ++ line_end

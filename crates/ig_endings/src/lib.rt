@@ -1,0 +1,19 @@
+//! How a command ends: its status, and what is written.
+//!
+//! A command has a text for out, or it stops with another status and a line for notes ([`Stop`]).
+//! The stops are made here, each with the line that `specs/Notes.antt` says, or for want of memory.
+//! Then the text is put on out, or the line on notes, and the answer is the [`Status`] of that.
+//! `specs/Change.antt` says what was done outside by the states before and after.
+#![tactic(auto)]
+
+mod notes;
+mod status;
+mod stop;
+mod writing;
+
+pub use notes::{
+    cannot_read, depth_needed, no_cursor, no_parse, not_utf8, over_budget, refuse, too_long, usage,
+};
+pub use status::Status;
+pub use stop::Stop;
+pub use writing::{give_up, write_note, write_text};

@@ -1,0 +1,112 @@
+//! The stops of a command, each with the line that it has for notes. For want of memory for the
+//! line each of them is [`Stop::Memory`].
+ghost use Rattle.std.specs.Prelude.{◌≡◌, ◌++◌, OnOk, codes};
+ghost use Rattle.std.specs.Fmt.{decimal};
+ghost use Rattle.ig_endings.specs.Notes.{depth_needed_note, no_cursor_note, no_parse_note};
+ghost use Rattle.ig_endings.specs.Notes.{usage_note};
+ghost use Rattle.ig_endings.specs.Stops.{IsBadAt, IsCannotRead, IsOverBudget, IsTooLong};
+ghost use Rattle.ig_endings.specs.Stops.{RefusesWith, StopsWith};
+ghost use Rattle.ig_endings.specs.declared.status.Status.TheVariants as status;
+
+use crate::status::Status;
+use crate::stop::{Stop, stop_with};
+use itoa::Buffer;
+use std::alloc::{AllocError, Global};
+
+/// The line of wrong words.
+const USAGE: &[u8] =
+    b"usage: iguana (check|show|core) G | (forest|trees|query) G I | load SIZE NUMBER";
+
+/// The words are no command: how the program is called.
+pub fn usage(alloc: Global) -> Stop
+    ensures { StopsWith status.Usage usage_note result }
+{
+    stop_with(alloc, Status::Usage, USAGE, b"")
+}
+
+/// The file of that name can't be read.
+pub fn cannot_read(alloc: Global, name: &str) -> Stop
+    ensures { IsCannotRead name.now result }
+{
+    stop_with(alloc, Status::ReadFault, b"cannot read ", name.as_bytes())
+}
+
+/// The grammar is refused with this text.
+pub fn refuse(alloc: Global, text: &[u8]) -> Stop
+    ensures { RefusesWith text.now result }
+{
+    stop_with(alloc, Status::Grammar, b"grammar: ", text)
+}
+
+/// The input is too long.
+pub fn too_long(alloc: Global) -> Stop
+    ensures { IsTooLong result }
+{
+    stop_with(alloc, Status::Input, b"input: too long", b"")
+}
+
+/// The input isn't UTF-8 after that many bytes.
+pub fn not_utf8(alloc: Global, at: u32) -> Stop
+    ensures { IsBadAt at result }
+{
+    let mut digits = Buffer::new();
+    let at = digits.format(at);
+    stop_with(
+        alloc,
+        Status::Input,
+        b"input: not UTF-8 at byte ",
+        at.as_bytes(),
+    )
+}
+
+/// More items are reachable than the budget allows.
+pub fn over_budget(alloc: Global, budget: u32) -> Stop
+    ensures { IsOverBudget budget result }
+{
+    let mut items = Vec::new(alloc);
+    match push_items(&mut items, budget) {
+        Ok(()) => stop_with(
+            alloc,
+            Status::Budget,
+            b"budget: more than ",
+            items.as_slice(),
+        ),
+        Err(error) => Stop::from(error),
+    }
+}
+
+/// Adds a number of items.
+fn push_items(text: &mut Vec<u8>, number: u32) -> Result<(), AllocError>
+    ensures { OnOk result (text.new.items
+        ≡ text.old.items ++ (decimal number ++ codes " items")) }
+{
+    let mut digits = Buffer::new();
+    text.extend_from_slice(digits.format(number).as_bytes())?;
+    text.extend_from_slice(b" items")
+}
+
+/// No tree is permitted; the place says how far the items came, and what was expected there.
+pub fn no_parse(alloc: Global, place: &[u8]) -> Stop
+    ensures { StopsWith status.NoParse (no_parse_note place.now) result }
+{
+    stop_with(alloc, Status::NoParse, b"no parse at ", place)
+}
+
+/// A depth is wanted.
+pub fn depth_needed(alloc: Global) -> Stop
+    ensures { StopsWith status.DepthNeeded depth_needed_note result }
+{
+    stop_with(
+        alloc,
+        Status::DepthNeeded,
+        b"depth needed: the forest is cyclic",
+        b"",
+    )
+}
+
+/// The word is the cursor of no tree that may be listed.
+pub fn no_cursor(alloc: Global) -> Stop
+    ensures { StopsWith status.BadCursor no_cursor_note result }
+{
+    stop_with(alloc, Status::BadCursor, b"no such cursor", b"")
+}

@@ -1,0 +1,3 @@
+pub mod Answering
+pub mod Listings
+pub mod Parsing

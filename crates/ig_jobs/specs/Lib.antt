@@ -1,0 +1,6 @@
+pub mod Jobs
+pub mod Listing
+pub mod Tasks
+pub mod Finishes
+pub mod Pages
+pub mod Texts

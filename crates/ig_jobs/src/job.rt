@@ -1,0 +1,86 @@
+//! What a command asks for: a task with a grammar, a job by a forest, or a load.
+ghost use Rattle.std.specs.Prelude.{◌≡◌};
+ghost use Rattle.ig_command.specs.Commands.{stored_request};
+ghost use Rattle.ig_jobs.specs.Jobs.{work_request};
+
+use ig_command::{Command, Listing, Question};
+
+/// What is done with a grammar alone.
+#[derive(Clone, Copy)]
+pub enum Task {
+    /// It is checked.
+    Check,
+    /// Its canonical text is printed.
+    Show,
+    /// The text of its core grammar is printed.
+    Core,
+}
+
+/// What is done with the forest of a grammar and an input.
+#[derive(Clone, Copy)]
+pub enum Job<'a> {
+    /// It is printed.
+    Print,
+    /// Its trees are listed.
+    List(Listing<'a>),
+    /// A question is answered.
+    Ask(Question<'a>),
+}
+
+/// The names of the files of a job.
+#[derive(Clone, Copy)]
+pub struct Files<'a> {
+    /// That of the grammar.
+    pub grammar: &'a str,
+    /// That of the input.
+    pub input: &'a str,
+}
+
+/// What a command asks for.
+#[derive(Clone, Copy)]
+pub enum Work<'a> {
+    /// A task with the grammar in the file of that name.
+    OnGrammar(&'a str, Task),
+    /// A job with a grammar and an input, where no more items are reachable than that many.
+    OnInput(Files<'a>, u32, Job<'a>),
+    /// The line of a load of this size and number, where no more items are reachable than the
+    /// budget.
+    OfLoad { size: u32, number: u64, budget: u32 },
+}
+
+/// What the command asks for. Takes no memory.
+pub fn work_of(command: Command<'_>) -> Work<'_>
+    ensures { work_request result ≡ stored_request command.entry }
+{
+    match command {
+        Command::Check { grammar } => Work::OnGrammar(grammar, Task::Check),
+        Command::Show { grammar } => Work::OnGrammar(grammar, Task::Show),
+        Command::Core { grammar } => Work::OnGrammar(grammar, Task::Core),
+        Command::Forest {
+            grammar,
+            input,
+            budget,
+        } => Work::OnInput(Files { grammar, input }, budget, Job::Print),
+        Command::Trees {
+            grammar,
+            input,
+            budget,
+            listing,
+        } => Work::OnInput(Files { grammar, input }, budget, Job::List(listing)),
+        Command::Query {
+            grammar,
+            input,
+            budget,
+            question,
+        } => Work::OnInput(Files { grammar, input }, budget, Job::Ask(question)),
+        Command::Load {
+            size,
+            number,
+            budget,
+        } => Work::OfLoad {
+            size,
+            number,
+            budget,
+        },
+    }
+}

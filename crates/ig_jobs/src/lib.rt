@@ -1,0 +1,22 @@
+//! What comes of a grammar, or of a grammar and an input: a text for out, or where the command
+//! stops.
+//!
+//! [`work_of`] says what a command asks for: a task with a grammar, a job by the forest of a
+//! grammar and an input, or a load. Of a grammar it can be said that it is accepted, its canonical
+//! text shown, or that of its core grammar (`tasks`). [`parser_of`] makes its parser, unless it has
+//! too many dots. [`parse`] runs the parser on an input within the budget; the forest is printed,
+//! or its trees are listed by `ig_pages`, or a question on it is answered by `ig_answers`
+//! (`finish`). What that has to do with permitted trees, `specs/Finishes.antt` says. A load has its
+//! line (`summary`).
+#![tactic(auto)]
+
+mod finish;
+mod job;
+mod parse;
+mod summary;
+mod tasks;
+
+pub use job::{Files, Job, Task, Work, work_of};
+pub use parse::{parse, parser_of};
+pub use summary::summary_line;
+pub use tasks::{say_ok, show, shown_core};

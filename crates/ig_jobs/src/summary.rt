@@ -1,0 +1,27 @@
+//! The command `load`.
+ghost use Rattle.std.specs.Prelude.{◌≤◌};
+ghost use Rattle.ig_command.specs.Commands.{most_size};
+ghost use Rattle.ig_jobs.specs.Texts.{LoadsText};
+
+use ig_endings::{Stop, over_budget};
+use ig_load::{LoadFault, load};
+use ig_load_texts::show_summary;
+use std::alloc::Global;
+
+/// The line of what a load of this size and number says.
+///
+/// Stops with the status `Budget` exactly where more items are reachable than the budget, or for
+/// want of memory.
+pub fn summary_line(alloc: Global, size: u32, number: u64, budget: u32) -> Result<Vec<u8>, Stop>
+    requires { size ≤ most_size }
+    ensures { LoadsText size number budget result }
+{
+    match load(alloc, size, number, budget) {
+        Ok(summary) => {
+            let line = show_summary(alloc, &summary)?;
+            Ok(line)
+        }
+        Err(LoadFault::Budget) => Err(over_budget(alloc, budget)),
+        Err(LoadFault::Memory) => Err(Stop::Memory),
+    }
+}

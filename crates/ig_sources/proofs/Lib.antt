@@ -1,0 +1,4 @@
+pub mod Written
+pub mod GrammarTexts
+pub mod Loading
+pub mod OfNotation

@@ -1,0 +1,4 @@
+pub mod Accepted
+pub mod Refusals
+pub mod Sources
+pub mod Laws

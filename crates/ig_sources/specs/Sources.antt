@@ -1,0 +1,88 @@
+-- What comes of the files that a command names: a grammar, an input, or where it stops.
+use Rattle.std.specs.Prelude.{◌≡◌, ◌≢◌, ℕ, ◌⊎◌, List, Result, Ok, Err}
+use Rattle.ig_text.specs.Decoding.{IsDecoded, IsFaulty}
+use Rattle.ig_text.specs.declared.text.Text.{Text}
+use Rattle.ig_text.specs.declared.text.TextFault.{TextFault}
+use Rattle.ig_text.specs.declared.text.TextFault.TheVariants as text_fault
+use Rattle.ig_outside.specs.Counts.{Rose}
+use Rattle.ig_outside.specs.States.{ShelfState}
+use Rattle.ig_outside.specs.Told.{Told, silent, nothing, bytes}
+use Rattle.ig_grammar.specs.Checked.{CheckedGrammar}
+use Rattle.ig_core_laws.specs.Notation.{unchanged}
+use Rattle.ig_endings.specs.Change.{Change, Stood}
+use Rattle.ig_endings.specs.Notes.{cannot_read_note, grammar_note, input_note}
+use Rattle.ig_endings.specs.declared.status.Status.{Status}
+use Rattle.ig_endings.specs.declared.status.Status.TheVariants as status
+use Rattle.ig_endings.specs.declared.stop.Stop.{Stop}
+use Rattle.ig_endings.specs.declared.stop.Stop.TheVariants as halt
+use Rattle.ig_sources.specs.Accepted.{IsTextOf}
+use Rattle.ig_sources.specs.Refusals.{IsRefused}
+
+-- the bytes that a fetch may give, by what the shelf tells: what it holds, or any bytes where it
+-- doesn't tell
+abbrev pub MayGive : Told → List ℕ → Type 0
+MayGive silent xs = Unit {0}
+MayGive nothing xs = ⊥
+MayGive (bytes held) xs = xs ≡ held
+
+-- the bytes are refused as a grammar, and the note says why
+pub record IsNoGrammar (xs : List ℕ) (s : Status) (note : List ℕ) : Type 0 where
+  pub text : List ℕ
+  pub refused : IsRefused xs text
+  pub status_is : s ≡ status.Grammar
+  pub note_is : note ≡ grammar_note text
+
+-- the bytes are a text of the grammar, as it is written
+pub record IsWrittenIn (xs : List ℕ) (c : CheckedGrammar) : Type 0 where
+  pub text : IsTextOf xs c.grammar
+  pub as_it_is : c ≡ unchanged c.grammar
+
+-- the bytes are a text of the grammar, or refused
+abbrev pub ReadsGrammar : List ℕ → Result CheckedGrammar Stop → Type 0
+ReadsGrammar xs (Ok checked) = IsWrittenIn xs checked
+ReadsGrammar xs (Err (halt.Note s line)) = IsNoGrammar xs s line.items
+ReadsGrammar xs (Err halt.Memory) = Unit {0}
+
+-- why an input is refused
+pub record IsNoInput (xs : List ℕ) (s : Status) (note : List ℕ) : Type 0 where
+  pub fault : TextFault
+  pub faulty : IsFaulty xs fault
+  pub cause : fault ≢ text_fault.Memory
+  pub status_is : s ≡ status.Input
+  pub note_is : note ≡ input_note fault
+
+-- the bytes are the text, or none
+abbrev pub ReadsInput : List ℕ → Result Text Stop → Type 0
+ReadsInput xs (Ok text) = IsDecoded xs text
+ReadsInput xs (Err (halt.Note s line)) = IsNoInput xs s line.items
+ReadsInput xs (Err halt.Memory) = Unit {0}
+
+-- why a file that was to be fetched gave nothing, by what the shelf tells of it and its counts of
+-- faults; `Refused` says which bytes are refused with a status and a line
+pub data StopsAt (told : Told) (name : List ℕ) (old new : ℕ) (Refused : List ℕ → Status → List ℕ → Type 0) : Status → List ℕ → Type 0 where
+  missing : (s : Status) (note : List ℕ) → new ≡ old → told ≡ nothing → s ≡ status.ReadFault →
+      note ≡ cannot_read_note name → StopsAt told name old new Refused s note
+  unread : (s : Status) (note : List ℕ) → Rose old new → s ≡ status.ReadFault → note ≡ cannot_read_note name →
+      StopsAt told name old new Refused s note
+  refused : (s : Status) (note xs : List ℕ) → new ≡ old → MayGive told xs → Refused xs s note →
+      StopsAt told name old new Refused s note
+
+-- a file that is to be a grammar
+abbrev pub GivesGrammar : Told → List ℕ → ℕ → ℕ → Result CheckedGrammar Stop → Type 0
+GivesGrammar told name old new (Ok checked) =
+    (new ≡ old) × ((xs : List ℕ) × MayGive told xs × IsWrittenIn xs checked)
+GivesGrammar told name old new (Err (halt.Note s line)) = StopsAt told name old new IsNoGrammar s line.items
+GivesGrammar told name old new (Err halt.Memory) = Stood old new
+
+-- a file that is to be an input
+abbrev pub GivesInput : Told → List ℕ → ℕ → ℕ → Result Text Stop → Type 0
+GivesInput told name old new (Ok text) = (new ≡ old) × ((xs : List ℕ) × MayGive told xs × IsDecoded xs text)
+GivesInput told name old new (Err (halt.Note s line)) = StopsAt told name old new IsNoInput s line.items
+GivesInput told name old new (Err halt.Memory) = Stood old new
+
+-- what is loaded from the shelf under the name
+abbrev pub LoadsGrammar : Change ShelfState → List ℕ → Result CheckedGrammar Stop → Type 0
+LoadsGrammar shelf name = GivesGrammar (shelf.before.holds name) name shelf.before.faults shelf.after.faults
+
+abbrev pub LoadsInput : Change ShelfState → List ℕ → Result Text Stop → Type 0
+LoadsInput shelf name = GivesInput (shelf.before.holds name) name shelf.before.faults shelf.after.faults
