@@ -18,8 +18,9 @@ use ig_columns::{Guide, Pair, guide_of, is_paired, is_root};
 use ig_grammar::{
     Alts, Checked, Decl, DeclKind, Decls, Grammar, Level, Levels, Params, Shape, Shapes,
 };
-use ig_rewrite::{copy_of_shapes, copy_of_start, push_declaration, push_integer, push_level, root};
+use ig_rooting::{copy_of_shapes, root};
 use ig_text::{Copied, Word};
+use ig_traversal::{copy_of_start, push_declaration, push_integer, push_level};
 use std::alloc::{AllocError, Global};
 
 /// The grammar without `offside`, `ignore` and `align`, exactly as `ig_blocks_laws` says;

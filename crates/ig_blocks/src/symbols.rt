@@ -13,8 +13,8 @@ use ig_forms::{
     behind_tests, both, called, entered_again, entered_by, item_of, optional, repeated, starred,
 };
 use ig_grammar::{Alt, Alts, Inner, Symbol, Symbols};
-use ig_rewrite::{filtered, labelled, push_alternative, push_symbol};
 use ig_text::Copied;
+use ig_traversal::{filtered, labelled, push_alternative, push_symbol};
 use std::alloc::{AllocError, Global};
 
 /// A symbol under a pair, without its tests; a list under `align` is aligned. What is made of a

@@ -13,8 +13,8 @@ use crate::guide::{Guide, kind_of};
 use crate::pairs::{Pair, cleared_by, column_here, column_of, opened_by, start_operand};
 use ig_expr::{Expr, Op, Operand};
 use ig_grammar::{DeclKind, Symbol, Symbols};
-use ig_rewrite::push_symbol;
 use ig_text::{Copied, Word};
+use ig_traversal::push_symbol;
 use std::alloc::{AllocError, Global};
 
 /// The tests before a symbol, behind that of an aligned list. Refused for want of memory alone.

@@ -18,7 +18,7 @@ use Rattle.ig_item.specs.Core.{IsAlternative, numbered as from_one}
 use Rattle.ig_item.specs.declared.core_grammar.CoreAlt.{CoreAlt}
 use Rattle.ig_item.specs.declared.core_grammar.Nonterminal.{Nonterminal}
 use Rattle.ig_rewrite.specs.Added.{root_name}
-use Rattle.ig_rewrite.specs.Rewriting.{rewritten_declaration}
+use Rattle.ig_traversal.specs.Rewriting.{rewritten_declaration}
 use Rattle.ig_rewrite.specs.Rooted.{has_root, is_root, root_declaration, rooted, with_root}
 use Rattle.ig_levels_laws.specs.Levels.{LevelsOf, lowered_grammar as without_levels, lowered_declaration as without_levels_in, names_levelled}
 use Rattle.ig_blocks_laws.specs.Blocks.{BlocksOf, lowered_of as without_blocks, declaration_by, root_by, lowered_declarations, setting_of}

@@ -14,8 +14,9 @@ use crate::growing::add_alternatives;
 use ig_ebnf_laws::lowering_keeps;
 use ig_grammar::{Checked, Decl, Decls, Grammar, Level, Levels, Variables};
 use ig_lists::{Lowered, new_alternatives};
-use ig_rewrite::{copy_of_shapes, copy_of_start, has_root, push_declaration, push_level, root};
+use ig_rooting::{copy_of_shapes, has_root, root};
 use ig_text::Copied;
+use ig_traversal::{copy_of_start, push_declaration, push_level};
 use ig_variables::{count_alternatives, sum};
 use std::alloc::{AllocError, Global};
 

@@ -13,8 +13,9 @@ ghost use Rattle.ig_lexical_laws.specs.Filters.{guarded, attached, attached_of, 
 use ig_expr::Expr;
 use ig_grammar::{Checked, Decl, Filter, Filters, Inner, Symbol, Symbols};
 use ig_lexical_laws::filters_keep;
-use ig_rewrite::{OwnRule, copy_of_shapes, has_root, push_symbol, rewrite_grammar, root};
+use ig_rooting::{copy_of_shapes, has_root, root};
 use ig_text::{Copied, Word};
+use ig_traversal::{OwnRule, push_symbol, rewrite_grammar};
 use std::alloc::{AllocError, Global};
 
 /// The grammar with its follow and precede filters as guards, exactly as `ig_lexical_laws` says;

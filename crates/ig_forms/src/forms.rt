@@ -15,8 +15,8 @@ use ig_columns::{
 };
 use ig_expr::Exprs;
 use ig_grammar::{Inner, Lets, Symbol};
-use ig_rewrite::push_expression;
 use ig_text::{Copied, Word};
+use ig_traversal::push_expression;
 use std::alloc::{AllocError, Global};
 
 /// A call, with the pair where its declaration gets it. Refused for want of memory alone.

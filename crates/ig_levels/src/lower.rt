@@ -24,11 +24,11 @@ use ig_operands::{
     Bounds, asks_left, asks_right, bounds_at, is_levelled, is_test, left_word, levelled_names,
     right_word, role_at, with_bounds,
 };
-use ig_rewrite::{
-    copy_of_shapes, copy_of_start, push_alternative, push_declaration, push_integer, push_level,
-    push_symbol, root,
-};
+use ig_rooting::{copy_of_shapes, root};
 use ig_text::{Copied, Word};
+use ig_traversal::{
+    copy_of_start, push_alternative, push_declaration, push_integer, push_level, push_symbol,
+};
 use std::alloc::{AllocError, Global};
 use std::collections::BTreeMap;
 

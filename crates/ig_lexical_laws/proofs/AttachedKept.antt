@@ -16,7 +16,7 @@ use Rattle.ig_grammar.specs.declared.filter.Filter.{Filter}
 use Rattle.ig_grammar.specs.declared.filter.Filter.TheVariants.{NotFollowed, NotPreceded, Not}
 use Rattle.ig_rewrite.specs.Needs.{needs, symbols_need, IsEntered, AlternativesAreEntered}
 use Rattle.ig_rewrite.specs.Remaining.{IsExclusion}
-use Rattle.ig_rewrite.specs.Rewriting.{within, rewritten, rewritten_symbols, rewritten_choices}
+use Rattle.ig_traversal.specs.Rewriting.{within, rewritten, rewritten_symbols, rewritten_choices}
 use Rattle.ig_rewrite.specs.Forms.{label_of_filtered, separated_of_label}
 use Rattle.ig_rewrite.specs.Sound.{ExcludesOnly}
 use Rattle.ig_lexical_laws.specs.Filters.{befores, afters, exclusions, with_filters, guarded, attached}

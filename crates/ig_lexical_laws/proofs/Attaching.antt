@@ -10,7 +10,7 @@ use Rattle.ig_text.proofs.Trees.{join-none}
 use Rattle.ig_expr.specs.Expression.{Expression, FreeBefore, FreeAfter}
 use Rattle.ig_expr.specs.declared.value.Value.TheVariants as value
 use Rattle.ig_expr.specs.Laws.{TestsLookFor}
-use Rattle.ig_rewrite.specs.Gathered.{listed_gathered}
+use Rattle.ig_traversal.specs.Gathered.{listed_gathered}
 use Rattle.ig_grammar.specs.Symbol.{Symbol, Label, Guard, Filtered, Seq}
 use Rattle.ig_grammar.specs.Symbol.{gathered}
 use Rattle.ig_meaning.specs.Environment.{Environment, HasValue, names, values}

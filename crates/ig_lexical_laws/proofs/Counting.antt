@@ -6,8 +6,8 @@ use Rattle.ig_grammar.specs.Symbol.{Symbol, Literal, OneOf, Call, Label, Guard, 
 use Rattle.ig_grammar.specs.Symbol.{Symbols, no_symbols, next_symbol, Alternatives, no_alternatives, next_alternative, gathered}
 use Rattle.ig_grammar.specs.declared.declaration.Decl.{Decl}
 use Rattle.ig_rewrite.specs.Binders.{one_if, binders, binders_of_symbols, binders_of_choices}
-use Rattle.ig_rewrite.specs.Rewriting.{within, rewritten, rewritten_symbols, rewritten_choices}
-use Rattle.ig_rewrite.specs.Gathered.{symbols_gathered}
+use Rattle.ig_traversal.specs.Rewriting.{within, rewritten, rewritten_symbols, rewritten_choices}
+use Rattle.ig_traversal.specs.Gathered.{symbols_gathered}
 use Rattle.ig_lexical_laws.specs.Layout.{is_token, then_layout, laid_inside, laid}
 
 module _ (own : Symbol → Symbol) (keeps : (x : Symbol) → binders (own x) ≡ binders x) where

@@ -12,8 +12,8 @@ use Rattle.ig_grammar.specs.declared.declaration.DeclKind.{DeclKind}
 use Rattle.ig_grammar.specs.declared.declaration.Level.{Level}
 use Rattle.ig_grammar.specs.declared.declaration.Decl.{Decl}
 use Rattle.ig_grammar.specs.declared.grammar.Grammar.{Grammar}
-use Rattle.ig_rewrite.specs.Rewriting.{within, rewritten_symbols, rewritten_choices, rewritten_level}
-use Rattle.ig_rewrite.specs.Gathered.{choices_gathered}
+use Rattle.ig_traversal.specs.Rewriting.{within, rewritten_symbols, rewritten_choices, rewritten_level}
+use Rattle.ig_traversal.specs.Gathered.{choices_gathered}
 use Rattle.ig_lexical_laws.proofs.RewrittenScoped.{turned, turned_grammar}
 use Rattle.ig_lexical_laws.proofs.Traversal.{Throughout, ThroughoutSymbols, ThroughoutChoices}
 

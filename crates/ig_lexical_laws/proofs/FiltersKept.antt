@@ -12,7 +12,7 @@ use Rattle.ig_grammar.specs.declared.declaration.DeclKind.{DeclKind}
 use Rattle.ig_grammar.specs.declared.declaration.DeclKind.TheVariants.{Syntax}
 use Rattle.ig_grammar.specs.declared.declaration.Decl.{Decl}
 use Rattle.ig_rewrite.specs.Needs.{AlternativesAreEntered}
-use Rattle.ig_rewrite.specs.Rewriting.{rewritten}
+use Rattle.ig_traversal.specs.Rewriting.{rewritten}
 use Rattle.ig_rewrite.specs.Rooted.{rooted}
 use Rattle.ig_rewrite.specs.Sound.{ExcludesOnly, RootHasCallsAlone}
 use Rattle.ig_lexical_laws.specs.Filters.{attached, attached_of}

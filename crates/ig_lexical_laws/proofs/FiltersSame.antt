@@ -16,7 +16,7 @@ use Rattle.ig_grammar.specs.declared.place.Shape.{Shape}
 use Rattle.ig_grammar.specs.declared.place.Shape.TheVariants as shape
 use Rattle.ig_grammar.specs.Symbol.{gathered}
 use Rattle.ig_rewrite.specs.SameTrees.{PermitSame, SameTreesIsAnEquivalence}
-use Rattle.ig_rewrite.specs.Rewriting.{within, rewritten_grammar}
+use Rattle.ig_traversal.specs.Rewriting.{within, rewritten_grammar}
 use Rattle.ig_rewrite.specs.Passing.{ResultsAreReady}
 use Rattle.ig_rewrite.specs.Found.{DeclarationsAreFound}
 use Rattle.ig_rewrite.specs.KeptByRoot.{RootAt, RootKeeps}

@@ -9,7 +9,7 @@ use Rattle.ig_grammar.specs.WellScoped.{IsWellScoped}
 use Rattle.ig_grammar.specs.declared.filter.Filter.{Filter}
 use Rattle.ig_grammar.specs.declared.grammar.Grammar.{Grammar}
 use Rattle.ig_rewrite.specs.Found.{DeclarationsAreFound}
-use Rattle.ig_rewrite.specs.Rewriting.{rewritten_grammar}
+use Rattle.ig_traversal.specs.Rewriting.{rewritten_grammar}
 use Rattle.ig_lexical_laws.specs.Filters.{befores, afters, exclusions, with_filters, guarded, attached}
 use Rattle.ig_lexical_laws.proofs.AttachingPlaced.{attached_placed}
 use Rattle.ig_rewrite.specs.Asked.{Asks}

@@ -8,7 +8,7 @@ use Rattle.ig_grammar.specs.Regular.{AlternativesHaveNoMark, OfEachLevel}
 use Rattle.ig_grammar.specs.Checked.{FitShapes, IsCall, IsOfCalls}
 use Rattle.ig_grammar.specs.declared.grammar.Grammar.{Grammar}
 use Rattle.ig_grammar.specs.declared.place.Shape.{Shape}
-use Rattle.ig_rewrite.specs.Rewriting.{rewritten, rewritten_grammar}
+use Rattle.ig_traversal.specs.Rewriting.{rewritten, rewritten_grammar}
 use Rattle.ig_lexical_laws.specs.Filters.{attached}
 use Rattle.ig_lexical_laws.proofs.AttachingPlaced.{attached_placed}
 use Rattle.ig_lexical_laws.proofs.FiltersScoped.{same_kinds}

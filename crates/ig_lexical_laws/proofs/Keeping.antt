@@ -7,12 +7,12 @@ use Rattle.ig_grammar.specs.Symbol.{Symbol, Call, Label, Filtered, Seq, Entry}
 use Rattle.ig_grammar.specs.Symbol.{Symbols, no_symbols, next_symbol, gathered}
 use Rattle.ig_grammar.specs.Visible.{Visible, binds, replaced}
 use Rattle.ig_grammar.specs.declared.declaration.Decl.{Decl}
-use Rattle.ig_rewrite.specs.Rewriting.{within, rewritten, rewritten_symbols}
+use Rattle.ig_traversal.specs.Rewriting.{within, rewritten, rewritten_symbols}
 use Rattle.ig_lexical_laws.proofs.Alike.{IsLeaf}
 use Rattle.ig_lexical_laws.proofs.Traversal.{ThroughoutSymbols, symbols_alike}
 use Rattle.ig_rewrite.specs.Throughout.{Placed, PlacedSymbols}
 use Rattle.ig_lexical_laws.proofs.Placing.{SameHead, label_head, filtered_head, entry_head, Stays, each_stays, alike_stays}
-use Rattle.ig_rewrite.specs.Gathered.{symbols_gathered}
+use Rattle.ig_traversal.specs.Gathered.{symbols_gathered}
 use Rattle.ig_lexical_laws.specs.Layout.{is_token, then_layout, laid_inside, laid}
 use Rattle.ig_grammar.specs.Regular.{IsNoMark}
 use Rattle.ig_lexical_laws.proofs.Unmarked.{admits}

@@ -15,7 +15,7 @@ use Rattle.ig_grammar.specs.declared.declaration.DeclKind.{DeclKind}
 use Rattle.ig_grammar.specs.declared.declaration.DeclKind.TheVariants.{Syntax, Lexical, Layout, Plain}
 use Rattle.ig_grammar.specs.declared.declaration.Decl.{Decl}
 use Rattle.ig_rewrite.specs.Needs.{needs, bindings_use, is_bound, AreWanted, IsEntered, AlternativesAreEntered}
-use Rattle.ig_rewrite.specs.Rewriting.{within, rewritten, rewritten_choices}
+use Rattle.ig_traversal.specs.Rewriting.{within, rewritten, rewritten_choices}
 use Rattle.ig_lexical_laws.specs.Layout.{is_token, then_layout, laid_inside, laid, laid_in}
 use Rattle.ig_lexical_laws.proofs.Traversal.{Throughout}
 use Rattle.ig_lexical_laws.proofs.Everywhere.{choices_kept}

@@ -14,7 +14,7 @@ use Rattle.ig_grammar.specs.declared.declaration.DeclKind.TheVariants.{Syntax, L
 use Rattle.ig_grammar.specs.declared.declaration.Decl.{Decl}
 use Rattle.ig_grammar.specs.declared.grammar.Grammar.{Grammar}
 use Rattle.ig_grammar.specs.declared.place.Shape.{Shape}
-use Rattle.ig_rewrite.specs.Rewriting.{rewritten}
+use Rattle.ig_traversal.specs.Rewriting.{rewritten}
 use Rattle.ig_lexical_laws.proofs.Meeting.{layout_there}
 use Rattle.ig_lexical_laws.specs.Layout.{declares_lexical, then_layout, laid, laid_in, laid_grammar}
 use Rattle.ig_rewrite.specs.Sound.{RootHasCallsAlone}

@@ -12,7 +12,7 @@ use Rattle.ig_grammar.specs.declared.declaration.Decl.{Decl}
 use Rattle.ig_grammar.specs.declared.filter.Filter.{Filter}
 use Rattle.ig_grammar.specs.declared.filter.Filter.TheVariants.{NotFollowed, NotPreceded, Not}
 use Rattle.ig_rewrite.specs.Counts.{CountsGrow}
-use Rattle.ig_rewrite.specs.Rewriting.{rewritten_declaration}
+use Rattle.ig_traversal.specs.Rewriting.{rewritten_declaration}
 use Rattle.ig_rewrite.specs.Rooted.{rooted}
 use Rattle.ig_lexical_laws.specs.Filters.{FiltersOf, befores, afters, exclusions, with_filters, guarded, attached}
 use Rattle.ig_lexical_laws.specs.Laws.{LayoutMultiplies, FiltersMultiply}

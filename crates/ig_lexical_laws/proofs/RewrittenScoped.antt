@@ -19,7 +19,7 @@ use Rattle.ig_grammar.specs.declared.declaration.Level.{Level}
 use Rattle.ig_grammar.specs.declared.declaration.Decl.{Decl}
 use Rattle.ig_grammar.specs.declared.grammar.Grammar.{Grammar}
 use Rattle.ig_rewrite.specs.Found.{DeclarationsAreFound}
-use Rattle.ig_rewrite.specs.Rewriting.{rewritten, rewritten_alternative, rewritten_level}
+use Rattle.ig_traversal.specs.Rewriting.{rewritten, rewritten_alternative, rewritten_level}
 use Rattle.ig_rewrite.specs.Asked.{Asks}
 use Rattle.ig_rewrite.specs.EachLevel.{alternatives_by_level, alternative_at}
 use Rattle.ig_rewrite.specs.Passing.{GetAll, IsRemade, IsGivenFrom, Gives, ResultsAreReady}

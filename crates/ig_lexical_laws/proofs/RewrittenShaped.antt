@@ -17,7 +17,7 @@ use Rattle.ig_grammar.specs.declared.declaration.Decl.{Decl}
 use Rattle.ig_grammar.specs.declared.grammar.Grammar.{Grammar}
 use Rattle.ig_grammar.specs.declared.place.Shape.{Shape}
 use Rattle.ig_grammar.specs.declared.place.Shape.TheVariants as shape
-use Rattle.ig_rewrite.specs.Rewriting.{rewritten, rewritten_symbols, rewritten_alternative, rewritten_level}
+use Rattle.ig_traversal.specs.Rewriting.{rewritten, rewritten_symbols, rewritten_alternative, rewritten_level}
 use Rattle.ig_text.proofs.Lists.{contains_from_at, at_from_contains, from_map}
 use Rattle.ig_rewrite.specs.EachLevel.{alternative_at}
 use Rattle.ig_rewrite.specs.Throughout.{placed_symbols, of_placed_symbols}

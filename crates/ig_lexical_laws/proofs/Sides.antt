@@ -5,14 +5,14 @@ use Rattle.ig_grammar.specs.declared.declaration.DeclKind.{DeclKind}
 use Rattle.ig_grammar.specs.declared.declaration.DeclKind.TheVariants.{Syntax, Plain}
 use Rattle.ig_grammar.specs.declared.grammar.Grammar.{Grammar}
 use Rattle.ig_grammar.specs.declared.place.Shape.{Shape}
-use Rattle.ig_rewrite.specs.Rewriting.{within, rewritten, rewritten_symbols}
+use Rattle.ig_traversal.specs.Rewriting.{within, rewritten, rewritten_symbols}
 use Rattle.ig_lexical_laws.proofs.Simulation as sim
 use Rattle.ig_lexical_laws.proofs.Alike.{IsLeaf, EachSymbol, no_pair, next_pair, alike_follows}
 use Rattle.ig_lexical_laws.proofs.Traversal.{ThroughoutSymbols, symbols_alike, turned}
 use Rattle.ig_lexical_laws.proofs.Instances.{Low, LowInstances}
 use Rattle.ig_lexical_laws.proofs.Leaves.{SameEnv, AnyStarts, fits_any}
 use Rattle.ig_lexical_laws.proofs.LayoutChain.{BecomesPlain}
-use Rattle.ig_rewrite.specs.Gathered.{listed_gathered, symbols_gathered}
+use Rattle.ig_traversal.specs.Gathered.{listed_gathered, symbols_gathered}
 use Rattle.ig_lexical_laws.specs.Layout.{laid}
 use Rattle.ig_lexical_laws.proofs.Tight.{AnyName, IsTight, leaf_there}
 use Rattle.ig_lexical_laws.proofs.Kept.{SameLeaf, leaf_kept}

@@ -7,7 +7,7 @@ use Rattle.ig_grammar.specs.Symbol.{Symbols, no_symbols, next_symbol, Alternativ
 use Rattle.ig_grammar.specs.Regular.{IsPlaced, MayHaveLabel, MayHaveMark, MayHaveFilters, MayHaveSign, MayBeSeparated, MayHaveEntry}
 use Rattle.ig_grammar.specs.Subterms.{bound_names, names_bound_by}
 use Rattle.ig_rewrite.specs.Needs.{needs, symbols_need, alternatives_need, is_pair, bindings_use, is_bound, AreWanted, IsEntered}
-use Rattle.ig_rewrite.specs.Rewriting.{within, rewritten, rewritten_symbols, rewritten_choices}
+use Rattle.ig_traversal.specs.Rewriting.{within, rewritten, rewritten_symbols, rewritten_choices}
 use Rattle.ig_lexical_laws.proofs.Traversal.{Throughout}
 
 -- the head of a symbol stays

@@ -9,7 +9,7 @@ use Rattle.ig_grammar.specs.Symbol.{Symbols, no_symbols, next_symbol, Alternativ
 use Rattle.ig_grammar.specs.declared.declaration.Decl.{Decl}
 use Rattle.ig_meaning.specs.Annotated as a
 use Rattle.ig_meaning.specs.Annotated.{HasParts}
-use Rattle.ig_rewrite.specs.Rewriting.{within, rewritten, rewritten_symbols, rewritten_choices}
+use Rattle.ig_traversal.specs.Rewriting.{within, rewritten, rewritten_symbols, rewritten_choices}
 use Rattle.ig_lexical_laws.proofs.Traversal.{Throughout, ThroughoutSymbols, ThroughoutChoices}
 use Rattle.ig_lexical_laws.specs.Layout.{is_token, laid_inside}
 

@@ -11,7 +11,7 @@ use Rattle.ig_meaning.specs.Annotated as a
 use Rattle.ig_meaning.specs.Annotated.{Bind, Binds}
 use Rattle.ig_meaning.specs.Derivation.{span_value}
 use Rattle.ig_meaning.specs.Environment.{Environment}
-use Rattle.ig_rewrite.specs.Gathered.{listed_gathered}
+use Rattle.ig_traversal.specs.Gathered.{listed_gathered}
 use Rattle.ig_lexical_laws.proofs.ValuedForms.{IsWhole, parts_whole}
 use Rattle.ig_lexical_laws.specs.Filters.{befores, afters, exclusions, with_filters, guarded, attached}
 

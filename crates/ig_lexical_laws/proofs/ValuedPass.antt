@@ -21,7 +21,7 @@ use Rattle.ig_meaning.specs.Annotated as a
 use Rattle.ig_meaning.specs.Annotated.{Bind, Within, Annotates}
 use Rattle.ig_meaning.specs.Permitted.{IsRootAlternative, written, declared}
 use Rattle.ig_rewrite.specs.Found.{DeclarationsAreFound}
-use Rattle.ig_rewrite.specs.Rewriting.{rewritten}
+use Rattle.ig_traversal.specs.Rewriting.{rewritten}
 use Rattle.ig_rewrite.specs.SameValues.{KeepsValues}
 use Rattle.ig_lexical_laws.proofs.Pass.{rewritten_by_level, levels_rewritten, layout_rewritten}
 use Rattle.ig_lexical_laws.proofs.Permitting.{HasRoot}

@@ -16,7 +16,7 @@ use Rattle.ig_grammar.specs.declared.place.Shape.{Shape}
 use Rattle.ig_meaning.specs.Annotated as a
 use Rattle.ig_meaning.specs.Annotated.{Bind, Binds, BindApart, Within, Behind}
 use Rattle.ig_meaning.specs.Environment.{Environment, AreBound, no_values}
-use Rattle.ig_rewrite.specs.Rewriting.{within, rewritten, rewritten_symbols}
+use Rattle.ig_traversal.specs.Rewriting.{within, rewritten, rewritten_symbols}
 use Rattle.ig_lexical_laws.proofs.Sorting.{lexical_kind}
 use Rattle.ig_lexical_laws.proofs.Traversal.{Throughout}
 use Rattle.ig_lexical_laws.proofs.ValuedForms.{IsWhole, parts_whole, parts_rewritten, listed_rewritten, token_within, token_stays}

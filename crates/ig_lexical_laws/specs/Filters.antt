@@ -5,7 +5,7 @@ use Rattle.ig_grammar.specs.Symbol.{Symbol, Label, Guard, Filtered, Seq, gathere
 use Rattle.ig_grammar.specs.Checked.{CheckedGrammar}
 use Rattle.ig_grammar.specs.declared.declaration.DeclKind.TheVariants.{Syntax}
 use Rattle.ig_grammar.specs.declared.filter.Filter.{Filter}
-use Rattle.ig_rewrite.specs.Rewriting.{rewritten_grammar}
+use Rattle.ig_traversal.specs.Rewriting.{rewritten_grammar}
 use Rattle.ig_rewrite.specs.Rooted.{rooted}
 use Rattle.ig_grammar.specs.declared.filter.Filter.TheVariants.{NotFollowed, NotPreceded, Not}
 

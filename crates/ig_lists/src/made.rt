@@ -16,8 +16,8 @@ use ig_grammar::{
     Alt, Alts, Assoc, Decl, DeclKind, Decls, Inner, Lets, Level, Levels, Params, Shape, Shapes,
     Symbol, Symbols, Variables,
 };
-use ig_rewrite::{push_alternative, push_declaration, push_level, push_shape, push_symbol};
 use ig_text::{Copied, Word};
+use ig_traversal::{push_alternative, push_declaration, push_level, push_shape, push_symbol};
 use ig_variables::{added_name, call, count, params_for, successor, sum};
 use std::alloc::{AllocError, Global};
 

@@ -5,8 +5,8 @@ ghost use Rattle.ig_grammar.specs.Symbol.{gathered};
 ghost use Rattle.ig_ebnf_laws.specs.Lists.{new_symbol, new, new_symbols, new_alts};
 
 use ig_grammar::{Alt, Alts, Inner, Symbol, Symbols, Variables};
-use ig_rewrite::{filtered, labelled, push_alternative, push_symbol};
 use ig_text::{Copied, Word};
+use ig_traversal::{filtered, labelled, push_alternative, push_symbol};
 use ig_variables::{bind, count, count_symbols, entering, entering_list, sum};
 use std::alloc::{AllocError, Global};
 

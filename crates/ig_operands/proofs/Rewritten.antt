@@ -6,7 +6,7 @@ use Rattle.ig_grammar.specs.Symbol.{Symbols, no_symbols, next_symbol, Alternativ
 use Rattle.ig_grammar.specs.View.{symbol_of}
 use Rattle.ig_grammar.specs.declared.symbol.Symbol as program
 use Rattle.ig_grammar.specs.declared.symbol.Symbol.TheVariants as form
-use Rattle.ig_rewrite.specs.Rewriting.{rewritten, rewritten_symbols, rewritten_choices}
+use Rattle.ig_traversal.specs.Rewriting.{rewritten, rewritten_symbols, rewritten_choices}
 use Rattle.ig_levels_laws.specs.Levels.{Pair, no_pair, with_pair, in_symbols, in_alternatives}
 use Rattle.ig_operands.specs.Roles.{unasked}
 

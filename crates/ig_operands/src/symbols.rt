@@ -12,8 +12,8 @@ ghost use Rattle.ig_operands.specs.Tables.{levelled_by};
 use crate::naming::{left_word, names_levelled, right_word};
 use ig_expr::{Expr, Exprs};
 use ig_grammar::{Decl, Inner, Symbol};
-use ig_rewrite::{OwnRule, labelled, push_expression, rewrite_symbol};
 use ig_text::{Copied, Word};
+use ig_traversal::{OwnRule, labelled, push_expression, rewrite_symbol};
 use std::alloc::{AllocError, Global};
 use std::collections::BTreeMap;
 

@@ -15,5 +15,3 @@ pub mod Asking
 pub mod NamesOnce
 pub mod Passing
 pub mod Multiplying
-pub mod RootCode
-pub mod Gathering

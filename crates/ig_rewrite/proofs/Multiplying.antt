@@ -18,9 +18,9 @@ use Rattle.ig_grammar.specs.declared.declaration.Decl.{Decl}
 use Rattle.ig_grammar.specs.declared.grammar.Grammar.{Grammar}
 use Rattle.ig_meaning.specs.Permitted.{behind_layout}
 use Rattle.ig_rewrite.specs.Counts.{alternatives_of_levels, parts_of_levels, LevelsGrow, RootIsCounted, DeclarationsAreCounted, CountsGrow}
-use Rattle.ig_rewrite.specs.Rewriting.{within, rewritten_symbols, rewritten_choices, rewritten_level}
+use Rattle.ig_traversal.specs.Rewriting.{within, rewritten_symbols, rewritten_choices, rewritten_level}
 use Rattle.ig_rewrite.specs.Rooted.{calls_of_start, root_declaration, has_root, with_root}
-use Rattle.ig_rewrite.specs.Gathered.{choices_gathered}
+use Rattle.ig_traversal.specs.Gathered.{choices_gathered}
 
 -- where each term is multiplied by k at most, the sum is
 sum_multiplied : {A : Type 0} (k : ℕ) (f : A → ℕ) (step : A → A) → ((x : A) → f (step x) ≤ k * f x) → (xs : List A) → sum_by f (map step xs) ≤ k * sum_by f xs

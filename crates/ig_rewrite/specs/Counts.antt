@@ -8,7 +8,7 @@ use Rattle.ig_grammar.specs.declared.declaration.DeclKind.TheVariants.{Syntax}
 use Rattle.ig_grammar.specs.declared.declaration.Level.{Level}
 use Rattle.ig_grammar.specs.declared.declaration.Decl.{Decl}
 use Rattle.ig_grammar.specs.declared.grammar.Grammar.{Grammar}
-use Rattle.ig_rewrite.specs.Rewriting.{rewritten_level}
+use Rattle.ig_traversal.specs.Rewriting.{rewritten_level}
 use Rattle.ig_rewrite.specs.Rooted.{rooted}
 
 -- a grammar and what a pass makes of it: a bound on all counts is multiplied by k, and two are added before for the root

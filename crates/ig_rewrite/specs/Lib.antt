@@ -2,7 +2,6 @@ pub mod SameTrees
 pub mod SameValues
 pub mod Added
 pub mod Rooted
-pub mod Rewriting
 pub mod Unbound
 pub mod Needs
 pub mod Sound
@@ -15,6 +14,5 @@ pub mod Asked
 pub mod Passing
 pub mod EachLevel
 pub mod Counts
-pub mod Gathered
 pub mod Grown
 pub mod Forms

@@ -12,8 +12,8 @@ ghost use Rattle.ig_ebnf_laws.specs.Lists.{argument, arguments, entering};
 use crate::variables::params_for;
 use ig_expr::{Expr, Exprs};
 use ig_grammar::{Lets, Param, Symbol, Variables};
-use ig_rewrite::push_expression;
 use ig_text::{Copied, Word};
+use ig_traversal::push_expression;
 use std::alloc::{AllocError, Global};
 
 /// The name of the k-th declaration that is added for the declaration of this name. Refused for

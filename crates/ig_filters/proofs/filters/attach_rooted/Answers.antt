@@ -1,7 +1,7 @@
 use Rattle.std.proofs.Common.{◌∙◌, ap, sym, subst}
 use Rattle.ig_grammar.specs.Checked.{FitShapes}
 use Rattle.ig_grammar.specs.WellScoped.{IsWellScoped}
-use Rattle.ig_rewrite.specs.Rewriting.{rewritten_grammar}
+use Rattle.ig_traversal.specs.Rewriting.{rewritten_grammar}
 use Rattle.ig_lexical_laws.specs.Filters.{attached}
 use Rattle.ig_filters.proofs.filters.attach_rooted.Goals as goal
 
