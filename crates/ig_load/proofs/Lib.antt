@@ -1,11 +1,1 @@
-pub mod Chains
-pub mod Places
-pub mod Derived
-pub mod Spines
-pub mod Permitting
-pub mod Scoped
-pub mod Reading
-pub mod Refusals
-pub mod Said
-pub mod Dots
 pub mod Summaries

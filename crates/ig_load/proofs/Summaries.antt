@@ -12,7 +12,7 @@ use Rattle.ig_parse.specs.Laws.{AmbiguityIsTwoPermitted, CyclicIsWithoutHighest}
 use Rattle.ig_parse.specs.Parses.{AreReachable, IsForestOf}
 use Rattle.ig_core_laws.specs.Notation.{unchanged}
 use Rattle.ig_parse.specs.Parses.{IsOver, IsParsed}
-use Rattle.ig_load.specs.Grammar.{LoadGrammar}
+use Rattle.ig_load_grammar.specs.Grammar.{LoadGrammar}
 use Rattle.ig_load_texts.specs.Input.{LoadInput}
 use Rattle.ig_load.specs.Summary.{IsSummaryOf, Loads}
 use Rattle.ig_load_texts.specs.declared.summary.Summary.{Summary}

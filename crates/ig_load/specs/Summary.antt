@@ -10,7 +10,7 @@ use Rattle.ig_core_laws.specs.Notation.{unchanged}
 use Rattle.ig_forest.specs.Forest.{Forest}
 use Rattle.ig_parse.specs.Laws.{HasNoHighest, PermitsTwo}
 use Rattle.ig_parse.specs.Parses.{IsForestOf, IsOver}
-use Rattle.ig_load.specs.Grammar.{LoadGrammar}
+use Rattle.ig_load_grammar.specs.Grammar.{LoadGrammar}
 use Rattle.ig_load_texts.specs.Input.{LoadInput}
 use Rattle.ig_load.specs.declared.fault.LoadFault.{LoadFault}
 use Rattle.ig_load.specs.declared.fault.LoadFault.TheVariants.{Budget, Memory}

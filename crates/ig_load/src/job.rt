@@ -1,25 +1,18 @@
 //! The whole of a load.
 ghost use Rattle.std.specs.Prelude.{◌≡◌, ◌↔◌, ◌≤◌, length, IfOk, IsTrue};
 ghost use Rattle.ig_core_laws.specs.Lowered.{CoreOf};
-ghost use Rattle.ig_core_laws.specs.Notation.{unchanged};
 ghost use Rattle.ig_item.specs.Tables.{items_of};
 ghost use Rattle.ig_item.specs.WellKinded.{NoneTwice};
 ghost use Rattle.ig_parse.specs.Parses.{AreReachable, IsParsed};
 ghost use Rattle.ig_query.specs.Ambiguity.{IsAmbiguous};
-ghost use Rattle.ig_load.specs.Grammar.{LoadGrammar};
 ghost use Rattle.ig_load.specs.Summary.{IsSummaryOf, Loads};
 
 use crate::fault::LoadFault;
-use crate::grammar::load_grammar;
-use crate::laws::{load_inputs_are_permitted, load_text_reads};
-use ig_core::CoreFault;
-use ig_core_laws::notation_is_buildable;
 use ig_forest::Forest;
-use ig_grammar::Checked;
 use ig_heights::Heights;
 use ig_item::{Items, Recorded};
+use ig_load_grammar::{load_grammar, load_inputs_are_permitted, load_parser};
 use ig_load_texts::{MOST_OPERANDS, Summary, load_input};
-use ig_notation::read_grammars_are_regular;
 use ig_parse::{Parser, ambiguity_is_two_permitted, cyclic_is_without_highest};
 use ig_query::is_ambiguous;
 use std::alloc::{AllocError, Global};
@@ -35,25 +28,10 @@ pub fn load(alloc: Global, size: u32, number: u64, budget: u32) -> Result<Summar
     load_inputs_are_permitted();
     let grammar = load_grammar(alloc)?;
     let input = load_input(alloc, size, number)?;
-    let parser = parser_of(alloc, &grammar)?;
+    let parser = load_parser(alloc, &grammar)?;
     let recorded = parser.saturate(alloc, &input, budget)?;
     let summary = summarize(alloc, &parser, &recorded)?;
     Ok(summary)
-}
-
-/// The parser of the load's grammar.
-fn parser_of(alloc: Global, grammar: &Checked) -> Result<Parser<'_>, AllocError>
-    requires { grammar.now ≡ unchanged LoadGrammar }
-    ensures { IfOk result (λ parser. parser ≡ unchanged LoadGrammar) }
-{
-    load_text_reads();
-    read_grammars_are_regular();
-    notation_is_buildable();
-    match Parser::of(alloc, grammar) {
-        Ok(parser) => Ok(parser),
-        Err(CoreFault::Memory) => Err(AllocError),
-        Err(CoreFault::TooManyDots) => unreachable!(),
-    }
 }
 
 /// What the forest of the parser's grammar and the input has, of which this was recorded. A tree

@@ -3,17 +3,13 @@
 //!
 //! [`load`] parses the input and says how many items are reachable, how many nodes the reduced
 //! forest has, and whether it is ambiguous or cyclic. Grammar and input are made, so nothing is
-//! read. `specs/Grammar.antt` has the grammar; `ig_load_texts` makes the input of a size and a
-//! number, and the line of what a load says. The grammar permits a tree for each such input, as a
-//! law says, so the only faults are a budget that doesn't suffice and want of memory.
+//! read: `ig_load_grammar` has the grammar, `ig_load_texts` the input of a size and a number, and
+//! the line of what a load says. The grammar permits a tree for each such input, as a law says, so
+//! the only faults are a budget that doesn't suffice and want of memory.
 #![tactic(auto)]
 
 mod fault;
-mod grammar;
 mod job;
-mod laws;
 
 pub use fault::LoadFault;
-pub use grammar::load_grammar;
 pub use job::load;
-pub use laws::{chains_are_permitted, load_inputs_are_permitted, load_text_reads};

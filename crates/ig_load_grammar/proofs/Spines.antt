@@ -9,9 +9,9 @@ use Rattle.ig_grammar.specs.declared.declaration.Decl.{Decl}
 use Rattle.ig_meaning.specs.Operands.{HasLeftOperand, HasRightOperand, left_bound, right_bound}
 use Rattle.ig_meaning.specs.Clean.{Applies, EndsInOperand, BeginsWithOperand, OnRightSpine, OnLeftSpine, IsClean, Clean, right_top, right_below, left_top, left_below}
 use Rattle.ig_load_texts.specs.Operators.{Operator, power, times, plus, minus}
-use Rattle.ig_load.specs.Grammar.{LoadGrammar, expressions, operand as operand_alternative, levels}
-use Rattle.ig_load.proofs.Chains.{Term, operand, operation, level_of, AtLeast, IsOrdered}
-use Rattle.ig_load.proofs.Derived.{before, levelled, levelled_operand, operand_stands, operation_stands, past, tree}
+use Rattle.ig_load_grammar.specs.Grammar.{LoadGrammar, expressions, operand as operand_alternative, levels}
+use Rattle.ig_load_grammar.proofs.Chains.{Term, operand, operation, level_of, AtLeast, IsOrdered}
+use Rattle.ig_load_grammar.proofs.Derived.{before, levelled, levelled_operand, operand_stands, operation_stands, past, tree}
 
 only : (k : ℕ) (decl : Decl) → slice_get (expressions ∷ []) k ≡ Some decl → expressions ≡ decl
 only zero decl e = same_Some expressions decl e

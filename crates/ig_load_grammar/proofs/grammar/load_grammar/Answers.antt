@@ -1,8 +1,8 @@
 use Rattle.std.proofs.Common.{sym, subst}
 use Rattle.ig_grammar.specs.Regular.{IsRegular}
-use Rattle.ig_load.proofs.Refusals.{not_broken, checked_is}
-use Rattle.ig_load.proofs.Said.{regular}
-use Rattle.ig_load.proofs.grammar.load_grammar.Goals as goal
+use Rattle.ig_load_grammar.proofs.Refusals.{not_broken, checked_is}
+use Rattle.ig_load_grammar.proofs.Said.{regular}
+use Rattle.ig_load_grammar.proofs.grammar.load_grammar.Goals as goal
 
 pub check-requires : goal.check-requires
 check-requires c =

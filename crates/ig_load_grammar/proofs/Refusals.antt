@@ -11,8 +11,8 @@ use Rattle.ig_scope.specs.Told.{TellsFault}
 use Rattle.ig_scope.specs.declared.fault.ScopeFault.TheVariants.{Broken}
 use Rattle.ig_scope.specs.declared.fault.ScopeCause.{ScopeCause}
 use Rattle.ig_grammar.specs.declared.place.Place.{Place}
-use Rattle.ig_load.specs.Grammar.{LoadGrammar, load_text}
-use Rattle.ig_load.specs.Laws.{LoadTextReads}
+use Rattle.ig_load_grammar.specs.Grammar.{LoadGrammar, load_text}
+use Rattle.ig_load_grammar.specs.Laws.{LoadTextReads}
 
 -- the reader has no fault but want of memory
 pub no_read_fault : ReadOrRefused → LoadTextReads → (fault : ReadFault) → IsReadFault load_text fault → fault ≡ Memory

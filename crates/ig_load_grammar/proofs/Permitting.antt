@@ -14,12 +14,12 @@ use Rattle.ig_meaning.specs.Derivation.{Covers, empty, symbol, call}
 use Rattle.ig_meaning.specs.Environment.{no_values}
 use Rattle.ig_meaning.specs.Permitted.{Permitted, IsRootAlternative, written}
 use Rattle.ig_load_texts.specs.Operators.{chain}
-use Rattle.ig_load.specs.Grammar.{LoadGrammar, expression}
-use Rattle.ig_load.specs.Laws.{ChainsArePermitted}
-use Rattle.ig_load.proofs.Chains.{Term, text, IsOrdered, HasLetters, term_of}
-use Rattle.ig_load.proofs.Places.{stands_whole}
-use Rattle.ig_load.proofs.Derived.{past, past_is, tree, IsDerived, derived}
-use Rattle.ig_load.proofs.Spines.{clean}
+use Rattle.ig_load_grammar.specs.Grammar.{LoadGrammar, expression}
+use Rattle.ig_load_grammar.specs.Laws.{ChainsArePermitted}
+use Rattle.ig_load_grammar.proofs.Chains.{Term, text, IsOrdered, HasLetters, term_of}
+use Rattle.ig_load_grammar.proofs.Places.{stands_whole}
+use Rattle.ig_load_grammar.proofs.Derived.{past, past_is, tree, IsDerived, derived}
+use Rattle.ig_load_grammar.proofs.Spines.{clean}
 
 no_rule : (tag : Tag) (decl : Decl) (a : Levelled) → tag ≡ Root → Applies LoadGrammar tag decl a → ⊥
 no_rule tag decl a e h = let tagged = h.tagged in cc

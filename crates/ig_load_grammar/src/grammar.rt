@@ -1,13 +1,16 @@
-//! The grammar of a load.
+//! The grammar of a load, and its parser.
 ghost use Rattle.std.specs.Prelude.{◌≡◌, IfOk};
 ghost use Rattle.ig_core_laws.specs.Notation.{unchanged};
-ghost use Rattle.ig_load.specs.Grammar.{LoadGrammar};
+ghost use Rattle.ig_load_grammar.specs.Grammar.{LoadGrammar};
 
 use crate::laws::load_text_reads;
+use ig_core::CoreFault;
+use ig_core_laws::notation_is_buildable;
 use ig_grammar::{Checked, Grammar};
 use ig_notation::{
     ReadFault, one_reading, read, read_grammars_are_regular, texts_are_read_or_refused,
 };
+use ig_parse::Parser;
 use ig_scope::{ScopeFault, check};
 use std::alloc::{AllocError, Global};
 
@@ -43,5 +46,20 @@ fn read_text(alloc: Global) -> Result<Grammar, AllocError>
         Err(ReadFault::Syntax { .. }) => unreachable!(),
         Err(ReadFault::TooLarge { .. }) => unreachable!(),
         Err(ReadFault::Memory) => Err(AllocError),
+    }
+}
+
+/// The parser of the load's grammar. Refuses only for want of memory.
+pub fn load_parser(alloc: Global, grammar: &Checked) -> Result<Parser<'_>, AllocError>
+    requires { grammar.now ≡ unchanged LoadGrammar }
+    ensures { IfOk result (λ parser. parser ≡ unchanged LoadGrammar) }
+{
+    load_text_reads();
+    read_grammars_are_regular();
+    notation_is_buildable();
+    match Parser::of(alloc, grammar) {
+        Ok(parser) => Ok(parser),
+        Err(CoreFault::Memory) => Err(AllocError),
+        Err(CoreFault::TooManyDots) => unreachable!(),
     }
 }

@@ -12,9 +12,9 @@ use Rattle.ig_grammar.specs.declared.place.Shape.TheVariants as shape
 use Rattle.ig_meaning.specs.Environment.{no_values, no_parameters}
 use Rattle.ig_meaning.specs.Derivation.{Derives, Instance, empty, symbol, literal, one_of, call, alternative, no_layout}
 use Rattle.ig_load_texts.specs.Operators.{Operator, power, times, plus, minus, sign, letter}
-use Rattle.ig_load.specs.Grammar.{LoadGrammar, expression, expressions, operand as operand_alternative, operation as operation_alternative, levels}
-use Rattle.ig_load.proofs.Chains.{Term, operand, operation, text, level_of, HasLetters}
-use Rattle.ig_load.proofs.Places.{Stands, stands_first, stands_second, spells_one, is_letter}
+use Rattle.ig_load_grammar.specs.Grammar.{LoadGrammar, expression, expressions, operand as operand_alternative, operation as operation_alternative, levels}
+use Rattle.ig_load_grammar.proofs.Chains.{Term, operand, operation, text, level_of, HasLetters}
+use Rattle.ig_load_grammar.proofs.Places.{Stands, stands_first, stands_second, spells_one, is_letter}
 
 -- how many alternatives stand before that of the operator
 abbrev pub before : Operator → ℕ

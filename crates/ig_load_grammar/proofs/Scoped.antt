@@ -15,7 +15,7 @@ use Rattle.ig_grammar.specs.WellScoped.{AlternativeHas, DeclarationHas, GrammarH
 use Rattle.ig_grammar.specs.declared.symbol.Alt.{Alt}
 use Rattle.ig_grammar.specs.declared.declaration.Decl.{Decl}
 use Rattle.ig_grammar.specs.declared.declaration.DeclKind.TheVariants.{Syntax}
-use Rattle.ig_load.specs.Grammar.{LoadGrammar, expressions, levels, operand, operation}
+use Rattle.ig_load_grammar.specs.Grammar.{LoadGrammar, expressions, levels, operand, operation}
 
 -- a literal, a class, or a call of the nonterminal
 abbrev pub IsPlain : Symbol → Type 0

@@ -18,9 +18,9 @@ use Rattle.ig_core_laws.specs.Lowered.{IsBuildable}
 use Rattle.ig_core_laws.specs.Laws.{NotationIsBuildable}
 use Rattle.ig_core_laws.specs.Notation.{IsSaid, IsOfNotation, unchanged}
 use Rattle.ig_notation.specs.Outcome.{ReadGrammarsAreRegular}
-use Rattle.ig_load.specs.Grammar.{LoadGrammar, expressions, levels}
-use Rattle.ig_load.specs.Laws.{LoadTextReads}
-use Rattle.ig_load.proofs.Scoped.{IsPlain}
+use Rattle.ig_load_grammar.specs.Grammar.{LoadGrammar, expressions, levels}
+use Rattle.ig_load_grammar.specs.Laws.{LoadTextReads}
+use Rattle.ig_load_grammar.proofs.Scoped.{IsPlain}
 
 said : (x : Symbol) → IsPlain x → IsSaid x
 said (Literal word) plain = All-nil IsName

@@ -1,6 +1,6 @@
-use Rattle.ig_load.specs.Grammar.{LoadGrammar, load_text}
-use Rattle.ig_load.proofs.Refusals.{no_read_fault}
-use Rattle.ig_load.proofs.grammar.read_text.Goals as goal
+use Rattle.ig_load_grammar.specs.Grammar.{LoadGrammar, load_text}
+use Rattle.ig_load_grammar.proofs.Refusals.{no_read_fault}
+use Rattle.ig_load_grammar.proofs.grammar.read_text.Goals as goal
 
 pub returns-in-Ok : goal.returns-in-Ok
 unfolding load_text

@@ -1,8 +1,8 @@
 use Rattle.std.proofs.Common.{◌∙◌, sym, subst, arith}
 use Rattle.ig_core_laws.specs.Lowered.{IsBuildable}
-use Rattle.ig_load.proofs.Dots.{few_dots}
-use Rattle.ig_load.proofs.Said.{buildable}
-use Rattle.ig_load.proofs.job.parser_of.Goals as goal
+use Rattle.ig_load_grammar.proofs.Dots.{few_dots}
+use Rattle.ig_load_grammar.proofs.Said.{buildable}
+use Rattle.ig_load_grammar.proofs.grammar.load_parser.Goals as goal
 
 pub of-requires : goal.of-requires
 of-requires c =

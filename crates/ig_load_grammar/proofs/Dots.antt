@@ -4,7 +4,7 @@ use Rattle.ig_item.specs.Core.{dots}
 use Rattle.ig_item.specs.Limits.{most_dots}
 use Rattle.ig_core_laws.specs.Lowered.{CoreOf, Lowered, BeforeLists}
 use Rattle.ig_core_laws.specs.Notation.{unchanged}
-use Rattle.ig_load.specs.Grammar.{LoadGrammar}
+use Rattle.ig_load_grammar.specs.Grammar.{LoadGrammar}
 
 pub few_dots : dots (CoreOf (unchanged LoadGrammar)) ≤ most_dots
 unfolding CoreOf Lowered BeforeLists LoadGrammar

@@ -6,7 +6,7 @@ use Rattle.ig_core_laws.specs.Notation.{unchanged}
 use Rattle.ig_parse.specs.Parses.{IsParsed}
 use Rattle.ig_load_texts.specs.Operators.{Step, letters, chain, HasLetter}
 use Rattle.ig_load_texts.specs.Input.{LoadInput}
-use Rattle.ig_load.specs.Grammar.{LoadGrammar, load_text}
+use Rattle.ig_load_grammar.specs.Grammar.{LoadGrammar, load_text}
 
 -- the text reads as the grammar, which is well scoped
 pub record LoadTextReads : Type 0 where

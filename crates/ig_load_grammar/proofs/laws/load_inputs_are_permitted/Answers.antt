@@ -1,8 +1,8 @@
 use Rattle.std.proofs.Common.{sym, subst}
 use Rattle.ig_core_laws.specs.Notation.{unchanged}
-use Rattle.ig_load.specs.Grammar.{LoadGrammar}
+use Rattle.ig_load_grammar.specs.Grammar.{LoadGrammar}
 use Rattle.ig_parse.specs.Parses.{IsParsed}
-use Rattle.ig_load.proofs.laws.load_inputs_are_permitted.Goals as goal
+use Rattle.ig_load_grammar.proofs.laws.load_inputs_are_permitted.Goals as goal
 
 pub returns : goal.returns
 returns c = λ size number.

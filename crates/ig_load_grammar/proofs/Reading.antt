@@ -25,9 +25,9 @@ use Rattle.ig_syntax.specs.Notation.{most_bytes}
 use Rattle.ig_tokens.specs.Laws.{EndedTokensAreLongest, ends}
 use Rattle.ig_limits.specs.Limits.{NumberFits, NumbersFit, IsShallow, opened, open_behind}
 use Rattle.ig_notation.specs.Outcome.{IsRead, unplaced}
-use Rattle.ig_load.specs.Grammar.{LoadGrammar, load_text, levels, operand, operation, expression}
-use Rattle.ig_load.specs.Laws.{LoadTextReads}
-use Rattle.ig_load.proofs.Scoped.{well_scoped}
+use Rattle.ig_load_grammar.specs.Grammar.{LoadGrammar, load_text, levels, operand, operation, expression}
+use Rattle.ig_load_grammar.specs.Laws.{LoadTextReads}
+use Rattle.ig_load_grammar.proofs.Scoped.{well_scoped}
 
 -- the text from a byte on has these tokens
 pub record HasTokensAt (at : ℕ) (text : List ℕ) (ts : List Token) : Type 0 where

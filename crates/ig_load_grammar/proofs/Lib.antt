@@ -1,0 +1,10 @@
+pub mod Chains
+pub mod Places
+pub mod Derived
+pub mod Spines
+pub mod Permitting
+pub mod Scoped
+pub mod Reading
+pub mod Refusals
+pub mod Said
+pub mod Dots
