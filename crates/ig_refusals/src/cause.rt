@@ -2,11 +2,11 @@
 
 ghost use Rattle.std.specs.Prelude.{◌≡◌, ◌++◌, OnOk};
 ghost use Rattle.std.specs.Fmt.{decimal};
-ghost use Rattle.ig_scope.specs.Causes.{condition_of};
+ghost use Rattle.ig_conditions.specs.Causes.{condition_of};
 ghost use Rattle.ig_refusals.specs.Texts.{condition_text, place_text};
 
+use ig_conditions::{Many, ScopeCause};
 use ig_grammar::Place;
-use ig_scope::{Many, ScopeCause};
 use itoa::Buffer;
 use std::alloc::AllocError;
 

@@ -1,14 +1,8 @@
 pub mod Firsts
 pub mod Walks
 pub mod Sequences
-pub mod Unknown
 pub mod Loops
-pub mod SymbolCauses
-pub mod Members
 pub mod Rooms
-pub mod HeadCauses
-pub mod Repeats
-pub mod StartCauses
 pub mod Levels
 pub mod Checks
 pub mod Bounds

@@ -7,10 +7,10 @@ use Rattle.std.proofs.lemmas.List.Elements.{All-append, All-cons, All-nil}
 use Rattle.ig_grammar.specs.Visible.{Visible, Occurrence, at, inside, binds}
 use Rattle.ig_grammar.specs.Condition.{SymbolMeets}
 use Rattle.ig_grammar.specs.WellScoped.{IsLeast}
-use Rattle.ig_scope.specs.Causes.{condition_of}
+use Rattle.ig_conditions.specs.Causes.{condition_of}
 use Rattle.ig_scope.specs.Told.{here, SymbolFree, SymbolCaught, Walked, fault_at, from}
 use Rattle.ig_scope.specs.declared.places.Surroundings.{Surroundings}
-use Rattle.ig_scope.specs.declared.fault.ScopeCause.{ScopeCause}
+use Rattle.ig_conditions.specs.declared.cause.ScopeCause.{ScopeCause}
 use Rattle.ig_scope.specs.declared.fault.ScopeFault.{ScopeFault}
 use Rattle.ig_scope.specs.declared.fault.ScopeFault.TheVariants.{Broken, Memory}
 use Rattle.ig_scope.proofs.Firsts.{first_left, first_right}

@@ -1,40 +1,20 @@
 -- What each part of the check tells: that no condition holds in what it looked at, or the first fault there.
-use Rattle.std.specs.Prelude.{◌≡◌, ◌≢◌, ℕ, zero, suc, ◌+◌, ◌<◌, ◌⊎◌, List, ◌∷◌, ◌++◌, All, Contains, length, Result, Ok, Err, Option, Some, None, slice_get}
-use Rattle.ig_expr.specs.Expression.{Expression}
+use Rattle.std.specs.Prelude.{◌≡◌, ℕ, zero, suc, ◌+◌, ◌<◌, ◌⊎◌, List, ◌∷◌, ◌++◌, All, length, Result, Ok, Err, Some, slice_get}
 use Rattle.ig_grammar.specs.Symbol.{Symbol}
 use Rattle.ig_grammar.specs.Numbering.{alternatives}
-use Rattle.ig_grammar.specs.Visible.{Visible, Occurrence, at, inside, kind_at}
-use Rattle.ig_grammar.specs.Condition.{Condition, SymbolMeets, NamesUnknown, IsInLexical}
+use Rattle.ig_grammar.specs.Visible.{Visible, Occurrence, at, inside}
+use Rattle.ig_grammar.specs.Condition.{Condition, SymbolMeets}
 use Rattle.ig_grammar.specs.WellScoped.{IsLeast, IsFirst, IsWellScoped, AlternativeHas, DeclarationHas}
 use Rattle.ig_grammar.specs.declared.symbol.Alt.{Alt}
 use Rattle.ig_grammar.specs.declared.declaration.DeclKind.{DeclKind}
-use Rattle.ig_grammar.specs.declared.declaration.Param.{Param}
 use Rattle.ig_grammar.specs.declared.declaration.Decl.{Decl}
 use Rattle.ig_grammar.specs.declared.grammar.Grammar.{Grammar}
-use Rattle.ig_scope.specs.Causes.{condition_of, NoneHolds, Tells}
+use Rattle.ig_conditions.specs.Causes.{condition_of, NoneHolds}
 use Rattle.ig_scope.specs.declared.numbered.Numbered.{Numbered}
 use Rattle.ig_scope.specs.declared.places.Surroundings.{Surroundings}
-use Rattle.ig_scope.specs.declared.fault.ScopeCause.{ScopeCause}
-use Rattle.ig_scope.specs.declared.fault.ScopeCause.TheVariants.{MarkInLexical}
+use Rattle.ig_conditions.specs.declared.cause.ScopeCause.{ScopeCause}
 use Rattle.ig_scope.specs.declared.fault.ScopeFault.{ScopeFault}
 use Rattle.ig_scope.specs.declared.fault.ScopeFault.TheVariants.{Broken, Memory}
-
--- some expression names a variable that isn't visible
-abbrev pub HasUnknown : Visible → List Expression → Type 0
-HasUnknown v es = (e : Expression) × Contains es e × NamesUnknown v e
-
--- some expression has no kind
-abbrev pub HasUnkinded : Visible → List Expression → Type 0
-HasUnkinded v es = (e : Expression) × Contains es e × (kind_at v e ≡ None)
-
--- some argument hasn't the kind of its parameter
-pub record IsMismatched (v : Visible) (es : List Expression) (ps : List Param) : Type 0 where
-  pub place : ℕ
-  pub argument : Expression
-  pub parameter : Param
-  pub argument_is : slice_get es place ≡ Some argument
-  pub parameter_is : slice_get ps place ≡ Some parameter
-  pub differ : kind_at v argument ≢ Some parameter.kind
 
 -- the first that isn't free has so many before it
 pub data FirstIn {X : Type 0} (IsFree IsCaught : X → Type 0) : List X → ℕ → Type 0 where
@@ -68,15 +48,6 @@ module _ (decls : List Decl) (within : DeclKind) where
       (k : ℕ) × (place ≡ record { decl = decl; alt = alt; symbol = before + k + 1 }) ×
       FirstIn SymbolFree (SymbolCaught (condition_of cause)) os k
   StoppedAt decl alt before os Memory = Unit {0}
-
--- of a symbol itself, in an alternative of a declaration, where these variables are visible
-abbrev pub TellsSymbol : Surroundings → Visible → Symbol → Option ScopeCause → Type 0
-TellsSymbol around v x = Tells (SymbolMeets around.declarations.now around.kind v x)
-
--- of a mark in a declaration of this kind, which stands where it may
-abbrev pub TellsMark : DeclKind → Option ScopeCause → Type 0
-TellsMark kind None = IsInLexical kind → ⊥
-TellsMark kind (Some cause) = (cause ≡ MarkInLexical) × IsInLexical kind
 
 -- the fault at the symbol that has so many before it
 abbrev pub fault_at : Surroundings → ScopeCause → ℕ → ScopeFault

@@ -9,10 +9,11 @@ ghost use Rattle.ig_scope.specs.Room.{HasTooMany};
 ghost use Rattle.ig_scope.specs.Told.{TellsAlternative, TellsLevel, TellsAlternatives};
 
 use crate::binders::leave_sequence;
-use crate::fault::{Many, ScopeCause, ScopeFault};
+use crate::fault::ScopeFault;
 use crate::numbered::Numbered;
 use crate::places::Surroundings;
 use crate::walk::walk_sequence;
+use ig_conditions::{Many, ScopeCause};
 use ig_grammar::{Alt, Place, Variables};
 use std::alloc::Global;
 

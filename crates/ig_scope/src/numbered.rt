@@ -4,7 +4,7 @@ ghost use Rattle.std.specs.Prelude.{◌≡◌};
 ghost use Rattle.ig_scope.specs.Places.{HaveNumberedAlternatives, HaveNumberedSymbols};
 ghost use Rattle.ig_scope.specs.Room.{HasFewParameters, room_of};
 
-use crate::names::count_named;
+use ig_conditions::count_named;
 use ig_declarations::Declarations;
 use ig_grammar::{Decl, is_name};
 

@@ -2,7 +2,8 @@ ghost use Rattle.std.specs.Prelude.{◌≡◌, ◌+◌, ◌<◌};
 ghost use Rattle.ig_grammar.specs.Regular.{counts_bound};
 ghost use Rattle.ig_scope.specs.Told.{fault_at};
 
-use crate::fault::{ScopeCause, ScopeFault};
+use crate::fault::ScopeFault;
+use ig_conditions::ScopeCause;
 use ig_declarations::Declarations;
 use ig_grammar::{DeclKind, Place};
 

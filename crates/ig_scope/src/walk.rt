@@ -13,7 +13,7 @@ ghost use Rattle.ig_scope.specs.Told.{Walked, from};
 
 use crate::fault::ScopeFault;
 use crate::places::Surroundings;
-use crate::symbols::symbol_cause;
+use ig_conditions::symbol_cause;
 use ig_expr::Kind;
 use ig_grammar::{Alts, Inner, Symbol, Symbols, Variables};
 use std::alloc::Global;
@@ -31,7 +31,7 @@ pub(crate) fn walk_symbol(
     ensures { Walked around.now before (from variables.old (symbol_of symbol.now))
         (binds variables.old (symbol_of symbol.now)) variables.old variables.new result }
 {
-    if let Some(cause) = symbol_cause(around, variables, symbol) {
+    if let Some(cause) = symbol_cause(around.declarations, around.kind, variables, symbol) {
         return Err(around.fault(cause, before));
     }
     let inside = before + 1;

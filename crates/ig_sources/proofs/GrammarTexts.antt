@@ -9,8 +9,8 @@ use Rattle.ig_grammar.specs.declared.place.Place.{Place}
 use Rattle.ig_notation.specs.Outcome.{IsRead, IsReadFault}
 use Rattle.ig_notation.specs.declared.fault.Large.{Large}
 use Rattle.ig_notation.specs.declared.fault.ReadFault.TheVariants as read
-use Rattle.ig_scope.specs.Causes.{condition_of}
-use Rattle.ig_scope.specs.declared.fault.ScopeCause.{ScopeCause}
+use Rattle.ig_conditions.specs.Causes.{condition_of}
+use Rattle.ig_conditions.specs.declared.cause.ScopeCause.{ScopeCause}
 use Rattle.ig_endings.specs.declared.stop.Stop.{Stop}
 use Rattle.ig_endings.specs.declared.stop.Stop.TheVariants as halt
 use Rattle.ig_refusals.specs.Texts.{condition_text, place_text}

@@ -3,17 +3,18 @@
 ghost use Rattle.std.specs.Prelude.{◌≤◌, ◌++◌, length};
 ghost use Rattle.std.specs.Fmt.{decimal};
 ghost use Rattle.ig_syntax.specs.Notation.{most_bytes};
-ghost use Rattle.ig_scope.specs.Causes.{condition_of};
+ghost use Rattle.ig_conditions.specs.Causes.{condition_of};
 ghost use Rattle.ig_refusals.specs.Texts.{condition_text, place_text};
 ghost use Rattle.ig_endings.specs.Stops.{RefusesWith};
 ghost use Rattle.ig_sources.specs.Refusals.{large_text};
 ghost use Rattle.ig_sources.specs.Sources.{ReadsGrammar};
 
+use ig_conditions::ScopeCause;
 use ig_endings::{Stop, refuse};
 use ig_grammar::{Checked, Place};
 use ig_notation::{Large, ReadFault, read, read_grammars_are_regular};
 use ig_refusals::{push_cause, push_numbered};
-use ig_scope::{ScopeCause, ScopeFault, check};
+use ig_scope::{ScopeFault, check};
 use std::alloc::Global;
 use std::str;
 

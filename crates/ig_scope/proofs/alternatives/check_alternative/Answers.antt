@@ -1,7 +1,6 @@
-use Rattle.std.proofs.Common.{refl, ap}
+use Rattle.std.proofs.Common.{refl, ap, sym, ◌∙◌, true≢false}
 use Rattle.ig_grammar.specs.Symbol.{gathered}
 use Rattle.ig_grammar.specs.Visible.{inside_sequence}
-use Rattle.ig_scope.proofs.Members.{refuted}
 use Rattle.ig_scope.proofs.Levels.{alternative_passed, alternative_stopped, alternative_free}
 use Rattle.ig_scope.proofs.alternatives.check_alternative.Goals as goal
 
@@ -13,11 +12,11 @@ pub returns-in_err-walk_sequence-clause-told : goal.returns-in_err-walk_sequence
 returns-in_err-walk_sequence-clause-told c =
     alternative_stopped c.args.numbered.now.declarations.now c.args.numbered.now.decl.now c.args.numbered.now.number c.args.alt c.args.alternative.now
     (inside_sequence c.args.variables.now (gathered c.args.alternative.now.symbols)) c.in_err-walk_sequence.field-0.0 c.from_residual.result c.from_residual.ensures.1
-    (refuted c.is_passed.result c.is_passed.ensures c.if-is_passed.false)
+    (λ m. true≢false (sym (c.is_passed.ensures.1 m) ∙ c.if-is_passed.false))
     (ap (λ v. inside_sequence v (gathered c.args.alternative.now.symbols)) c.requires.visible) c.in_err-walk_sequence.ensures
 
 pub returns-clause-told : goal.returns-clause-told
 returns-clause-told c =
     alternative_free c.args.numbered.now.declarations.now c.args.numbered.now.decl.now c.args.alternative.now
-    (inside_sequence c.args.variables.now (gathered c.args.alternative.now.symbols)) (refuted c.is_passed.result c.is_passed.ensures c.if-is_passed.false)
+    (inside_sequence c.args.variables.now (gathered c.args.alternative.now.symbols)) (λ m. true≢false (sym (c.is_passed.ensures.1 m) ∙ c.if-is_passed.false))
     (ap (λ v. inside_sequence v (gathered c.args.alternative.now.symbols)) c.requires.visible) c.in_ok-walk_sequence.ensures.1

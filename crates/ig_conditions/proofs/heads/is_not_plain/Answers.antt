@@ -1,0 +1,17 @@
+use Rattle.std.proofs.Common.{ap, subst, ◌≡◌, length}
+use Rattle.std.proofs.Common.{arith}
+use Rattle.std.specs.Prelude.{IsTrue, ◌↔◌}
+use Rattle.ig_text.proofs.Emptiness.{is_nothing}
+use Rattle.ig_conditions.specs.Heads.{HaveAssociativity}
+use Rattle.ig_conditions.proofs.HeadCauses.{not_plain_second, not_plain_last}
+use Rattle.ig_conditions.proofs.heads.is_not_plain.Goals as goal
+
+pub returns-then-head : goal.returns-then-head
+returns-then-head c = not_plain_second c.args.head.now c.if-head.true
+
+pub returns : goal.returns
+returns c =
+    not_plain_last c.args.head.now c.have_associativity.result
+    (subst (λ z. IsTrue c.have_associativity.result ↔ HaveAssociativity z) c.as_slice-levels.ensures c.have_associativity.ensures) c.if-head.false
+    (is_nothing c.as_slice.result.now c.args.head.now.decl.now.params c.is_empty.result c.is_empty.ensures c.if-not-is_empty.false c.as_slice.ensures)
+    (λ l. let n : length c.as_slice-levels.result.now ≡ length c.args.head.now.decl.now.levels = ap length c.as_slice-levels.ensures in let f : ⊥ = omega arith in f)

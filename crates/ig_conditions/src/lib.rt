@@ -1,0 +1,20 @@
+//! Which condition a start line, a head of a declaration or a symbol meets first.
+//!
+//! [`start_cause`], [`head_cause`] and [`symbol_cause`] tell of the conditions that hold there the
+//! one of the least number, as a [`ScopeCause`], or that none holds. `specs/Condition.antt` of
+//! `ig_grammar` defines where each condition holds. A declaration is looked up by its name, and of
+//! two with one name the first is meant.
+#![tactic(auto)]
+
+mod cause;
+mod expressions;
+mod heads;
+mod names;
+mod starts;
+mod symbols;
+
+pub use cause::{Many, ScopeCause};
+pub use heads::{Head, head_cause};
+pub use names::count_named;
+pub use starts::start_cause;
+pub use symbols::symbol_cause;
