@@ -6,7 +6,7 @@ use Rattle.ig_grammar.specs.Checked.{CheckedGrammar}
 use Rattle.ig_grammar.specs.declared.grammar.Grammar.{Grammar}
 use Rattle.ig_core_laws.specs.Lowered.{CoreOf}
 use Rattle.ig_core_laws.specs.Notation.{unchanged}
-use Rattle.ig_print.specs.CoreText.{core_text}
+use Rattle.ig_core_text.specs.CoreText.{core_text}
 use Rattle.ig_show.specs.CanonicalText.{text_of}
 use Rattle.ig_endings.specs.declared.stop.Stop.{Stop}
 use Rattle.ig_endings.specs.declared.stop.Stop.TheVariants as halt

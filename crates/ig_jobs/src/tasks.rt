@@ -1,10 +1,10 @@
 //! What comes of a task with a grammar.
 ghost use Rattle.ig_jobs.specs.Tasks.{SaysOk, ShowsCore, ShowsGrammar};
 
+use ig_core_text::show_core;
 use ig_endings::Stop;
 use ig_grammar::Grammar;
 use ig_parse::Parser;
-use ig_print::show_core;
 use ig_show::show_grammar;
 use std::alloc::Global;
 

@@ -1,4 +1,3 @@
-pub mod Pieces
 pub mod Listing
 pub mod Nested
 pub mod CursorTexts

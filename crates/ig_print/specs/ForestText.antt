@@ -10,9 +10,9 @@ use Rattle.ig_forest.specs.declared.entry.Entry.TheVariants.{Begin, Pass, Take}
 use Rattle.ig_forest.specs.declared.entry.Child.{Child}
 use Rattle.ig_forest.specs.declared.entry.Child.TheVariants as child
 use Rattle.ig_text.specs.Lines.{line_end}
-use Rattle.ig_print.specs.Listed.{numbered_texts}
-use Rattle.ig_print.specs.TagText.{tag_text}
-use Rattle.ig_print.specs.ValueText.{places_text, span_text, values_text, environment_text}
+use Rattle.ig_pieces.specs.Listed.{numbered_texts}
+use Rattle.ig_pieces.specs.TagText.{tag_text}
+use Rattle.ig_pieces.specs.ValueText.{places_text, span_text, values_text, environment_text}
 
 -- `alt TAG ITEM`
 abbrev pub choice_text : List ℕ → Choice → List ℕ

@@ -1,7 +1,3 @@
-pub mod Listed
-pub mod ValueText
-pub mod TagText
-pub mod CoreText
 pub mod ForestText
 pub mod TreeText
 pub mod Nesting

@@ -6,7 +6,7 @@ use Rattle.ig_text.specs.declared.text.Span.{Span}
 use Rattle.ig_item.specs.declared.core_grammar.Nonterminal.{Nonterminal}
 use Rattle.ig_forest.specs.declared.tree.Part.{Part}
 use Rattle.ig_print.specs.TreeText.{head_text}
-use Rattle.ig_print.specs.ValueText.{places_text}
+use Rattle.ig_pieces.specs.ValueText.{places_text}
 
 -- the text of a part without its children
 abbrev pub tagged_text : List Nonterminal → Option Tag → Span → List ℕ

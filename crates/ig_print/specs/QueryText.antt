@@ -5,7 +5,7 @@ use Rattle.ig_forest.specs.Forest as forest
 use Rattle.ig_forest.specs.Forest.{Forest}
 use Rattle.ig_text.specs.Lines.{line_end}
 use Rattle.ig_print.specs.ReportText.{IsPlace}
-use Rattle.ig_print.specs.ValueText.{span_text, values_text}
+use Rattle.ig_pieces.specs.ValueText.{span_text, values_text}
 use Rattle.ig_print.specs.declared.report.Report.{Report}
 
 -- `NAME VALUES i..j`

@@ -5,8 +5,8 @@ use Rattle.ig_text.specs.Tree.{Tree, Trees, Leaf, Node, none, more}
 use Rattle.ig_text.specs.declared.tag.Tag.{Tag}
 use Rattle.ig_text.specs.declared.tag.Tag.TheVariants.{Rule}
 use Rattle.ig_item.specs.declared.core_grammar.Nonterminal.{Nonterminal}
-use Rattle.ig_print.specs.TagText.{tag_text}
-use Rattle.ig_print.specs.ValueText.{places_text}
+use Rattle.ig_pieces.specs.TagText.{tag_text}
+use Rattle.ig_pieces.specs.ValueText.{places_text}
 
 abbrev pub name_in : Option Nonterminal → List ℕ
 name_in None = []

@@ -8,8 +8,8 @@ ghost use Rattle.ig_item.specs.Limits.{numbers_end};
 ghost use Rattle.ig_print.specs.TreeText.{cursor_text};
 ghost use Rattle.ig_print.specs.declared.cursor_text.CursorFault.TheVariants.{NotACursor};
 
-use crate::values::push_number;
 use ig_forest::Cursor;
+use ig_pieces::push_number;
 use ig_text::Sequence;
 use std::alloc::{AllocError, Global};
 

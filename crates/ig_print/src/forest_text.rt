@@ -6,16 +6,15 @@ ghost use Rattle.std.specs.Prelude.{◌≡◌, ◌++◌, ◌≤◌, OnOk, encode
 ghost use Rattle.std.specs.Prelude.{IfOk, flat_map};
 ghost use Rattle.std.specs.Fmt.{decimal};
 ghost use Rattle.ig_text.specs.Lines.{line_end};
-ghost use Rattle.ig_print.specs.Listed.{numbered_texts};
-ghost use Rattle.ig_print.specs.ValueText.{places_text, span_text, values_text};
+ghost use Rattle.ig_pieces.specs.Listed.{numbered_texts};
+ghost use Rattle.ig_pieces.specs.ValueText.{places_text, span_text, values_text};
 ghost use Rattle.ig_forest.specs.CodeViews.{node_view, item_node_view};
 ghost use Rattle.ig_print.specs.ForestText.{choice_text, entry_text};
 ghost use Rattle.ig_print.specs.ForestText.{node_line, node_text, place_text, item_line};
 ghost use Rattle.ig_print.specs.ForestText.{item_text, heading, forest_text};
 
-use crate::piece::Piece;
-use crate::value_lists::{push_environment, push_name, push_values};
 use ig_forest::{Child, Choice, Entry, Forest, ItemNode, Node};
+use ig_pieces::{Piece, push_environment, push_name, push_values};
 use ig_text::{Span, Tag, Word};
 use std::alloc::{AllocError, Global};
 

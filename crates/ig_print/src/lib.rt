@@ -1,20 +1,20 @@
-//! The texts of what is computed: of core grammars, forests, trees and cursors, of reports and of
-//! the answers of queries; and reading a cursor.
+//! The texts of what is computed: of forests, trees and cursors, of reports and of the answers of
+//! queries; and reading a cursor.
+//!
+//! [`show_forest`] (`specs/ForestText.antt`), [`show_tree`] and [`show_cursor`] (`TreeText.antt`),
+//! [`show_report`] (`ReportText.antt`) and the texts of queries (`QueryText.antt`) write stated
+//! functions of what they get, of the pieces of `ig_pieces`, and are refused for want of memory
+//! alone. [`read_cursor`] reads the text of a cursor and refuses every other one; that two cursors
+//! have different texts, [`cursor_texts_differ`] says.
 #![tactic(auto)]
 
-mod core_text;
 mod cursor_text;
 mod forest_text;
 mod laws;
-mod piece;
 mod query_text;
 mod report;
-mod tags;
 mod tree_text;
-mod value_lists;
-mod values;
 
-pub use core_text::show_core;
 pub use cursor_text::{CursorFault, push_cursor, read_cursor, show_cursor};
 pub use forest_text::show_forest;
 pub use laws::cursor_texts_differ;

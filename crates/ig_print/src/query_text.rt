@@ -6,8 +6,8 @@ ghost use Rattle.ig_print.specs.QueryText.{IsFurthestLine, ambiguous_text, cycli
 ghost use Rattle.ig_print.specs.QueryText.{line_if_there, node_lines, spans_text};
 
 use crate::report::{Report, push_place};
-use crate::value_lists::{push_name, push_places, push_values};
 use ig_forest::{Forest, Node};
+use ig_pieces::{push_name, push_places, push_values};
 use ig_text::Span;
 use std::alloc::{AllocError, Global};
 

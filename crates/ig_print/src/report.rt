@@ -5,7 +5,7 @@ ghost use Rattle.ig_show.specs.CanonicalText.{pattern_bytes};
 ghost use Rattle.ig_print.specs.ReportText.{AddsPlace, AreTextsOf, IsPlace, end_texts};
 ghost use Rattle.ig_print.specs.ReportText.{list_text, place_text};
 
-use crate::values::push_number;
+use ig_pieces::push_number;
 use ig_show::push_pattern_text;
 use ig_text::{Pattern, Patterns};
 use std::alloc::{AllocError, Global};

@@ -7,14 +7,14 @@ ghost use Rattle.ig_text.specs.Tree.{Tree};
 ghost use Rattle.ig_text.specs.declared.tag.Tag.TheVariants.{Rule};
 ghost use Rattle.ig_forest.specs.Flat.{flat};
 ghost use Rattle.ig_forest.specs.Tags.{TagsAreNamed};
-ghost use Rattle.ig_print.specs.TagText.{tag_text};
+ghost use Rattle.ig_pieces.specs.TagText.{tag_text};
+ghost use Rattle.ig_pieces.specs.ValueText.{places_text};
 ghost use Rattle.ig_print.specs.TreeText.{head_text, name_for, tree_text};
 ghost use Rattle.ig_print.specs.Nesting.{closing, opened, left_open, part_text};
 
-use crate::tags::{push_nameless, push_tag};
-use crate::values::push_places;
 use ig_forest::{Part, Tree};
 use ig_item::Core;
+use ig_pieces::{push_nameless, push_number, push_tag};
 use ig_text::{Span, Tag};
 use std::alloc::{AllocError, Global};
 
@@ -31,6 +31,16 @@ fn push_core_tag(out: &mut String, core: &Core, tag: Tag) -> Result<(), AllocErr
         unreachable!()
     };
     push_tag(out, name, tag)
+}
+
+/// Adds two positions, as those where a span begins and ends.
+#[inline(always)]
+fn push_places(out: &mut String, begin: u32, end: u32) -> Result<(), AllocError>
+    ensures { OnOk result (string_bytes out.new ≡ string_bytes out.old ++ places_text begin end) }
+{
+    push_number(out, begin)?;
+    out.push_str("..")?;
+    push_number(out, end)
 }
 
 /// Adds a bracket, the tag and the span of a node.

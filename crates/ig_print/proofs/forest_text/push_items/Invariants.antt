@@ -1,5 +1,5 @@
 use Rattle.std.proofs.Common.{◌≡◌, ◌++◌, drop}
-use Rattle.ig_print.specs.Listed.{numbered_texts}
+use Rattle.ig_pieces.specs.Listed.{numbered_texts}
 use Rattle.ig_print.specs.ForestText.{item_text}
 use Rattle.ig_print.proofs.forest_text.push_items.Given as goal
 
