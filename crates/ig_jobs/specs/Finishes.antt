@@ -11,7 +11,7 @@ use Rattle.ig_query.specs.Report.{IsReport}
 use Rattle.ig_parse.specs.Laws.{HasNoHighest, PermitsTwo}
 use Rattle.ig_print.specs.declared.report.Report.{Report}
 use Rattle.ig_print.specs.ReportText.{IsPlace}
-use Rattle.ig_print.specs.ForestText.{forest_text}
+use Rattle.ig_forest_text.specs.ForestText.{forest_text}
 use Rattle.ig_print.specs.QueryText.{ambiguous_text, cyclic_text, spans_text, IsFurthestLine}
 use Rattle.ig_command.specs.Commands as asked
 use Rattle.ig_command.specs.Commands.{Listing}

@@ -9,7 +9,7 @@ use Rattle.ig_core_laws.specs.Lowered.{CoreOf}
 use Rattle.ig_core_laws.specs.Notation.{unchanged}
 use Rattle.ig_forest.specs.Forest.{Forest}
 use Rattle.ig_parse.specs.Parses.{IsUnparsed, IsOver, HasForest}
-use Rattle.ig_print.specs.ForestText.{forest_text}
+use Rattle.ig_forest_text.specs.ForestText.{forest_text}
 use Rattle.ig_print.specs.declared.report.Report.{Report}
 use Rattle.ig_print.specs.ReportText.{IsPlace}
 use Rattle.ig_load.specs.Summary.{Loads}

@@ -12,10 +12,10 @@ use ig_answers::answer_text;
 use ig_command::{Listing, Question};
 use ig_endings::{Stop, depth_needed, no_cursor};
 use ig_forest::Forest;
+use ig_forest_text::show_forest;
 use ig_item::{Core, Items};
 use ig_pages::{ListFault, list};
 use ig_parse::Parser;
-use ig_print::show_forest;
 use ig_text::Text;
 use std::alloc::Global;
 

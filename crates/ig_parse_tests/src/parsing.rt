@@ -5,10 +5,10 @@ ghost use Rattle.ig_core_laws.specs.Lowered.{IsBuildable};
 
 use ig_core_text::show_core;
 use ig_forest::Forest;
+use ig_forest_text::show_forest;
 use ig_grammar::Checked;
 use ig_notation::{read, read_grammars_are_regular};
 use ig_parse::{ParseFault, Parser, parse};
-use ig_print::show_forest;
 use ig_query::is_ambiguous;
 use ig_scope::check;
 use ig_sources::read_grammars_are_buildable;

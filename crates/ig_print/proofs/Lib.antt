@@ -1,4 +1,3 @@
-pub mod Listing
 pub mod Nested
 pub mod CursorTexts
 pub mod SortedTexts

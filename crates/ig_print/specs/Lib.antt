@@ -1,4 +1,3 @@
-pub mod ForestText
 pub mod TreeText
 pub mod Nesting
 pub mod ReportText

@@ -1,7 +1,7 @@
 use Rattle.std.proofs.Common.{◌≡◌, ◌++◌, drop}
 use Rattle.std.specs.Prelude.{flat_map}
-use Rattle.ig_print.specs.ForestText.{choice_text}
-use Rattle.ig_print.proofs.forest_text.push_choices.Given as goal
+use Rattle.ig_forest_text.specs.ForestText.{choice_text}
+use Rattle.ig_forest_text.proofs.forest_text.push_choices.Given as goal
 
 abbrev pub invariant-loop-choice : goal.invariant-loop-choice
 invariant-loop-choice l =

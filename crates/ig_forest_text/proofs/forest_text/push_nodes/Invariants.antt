@@ -1,7 +1,7 @@
 use Rattle.std.proofs.Common.{◌≡◌, ◌++◌, drop}
 use Rattle.ig_pieces.specs.Listed.{numbered_texts}
-use Rattle.ig_print.specs.ForestText.{node_text}
-use Rattle.ig_print.proofs.forest_text.push_nodes.Given as goal
+use Rattle.ig_forest_text.specs.ForestText.{node_text}
+use Rattle.ig_forest_text.proofs.forest_text.push_nodes.Given as goal
 
 abbrev pub invariant-loop-number : goal.invariant-loop-number
 invariant-loop-number l =

@@ -1,7 +1,7 @@
 use Rattle.std.proofs.Common.{◌≡◌, ◌++◌, drop}
 use Rattle.std.specs.Prelude.{flat_map}
-use Rattle.ig_print.specs.ForestText.{entry_text}
-use Rattle.ig_print.proofs.forest_text.push_entries.Given as goal
+use Rattle.ig_forest_text.specs.ForestText.{entry_text}
+use Rattle.ig_forest_text.proofs.forest_text.push_entries.Given as goal
 
 abbrev pub invariant-loop-entry : goal.invariant-loop-entry
 invariant-loop-entry l =

@@ -9,9 +9,9 @@ ghost use Rattle.ig_text.specs.Lines.{line_end};
 ghost use Rattle.ig_pieces.specs.Listed.{numbered_texts};
 ghost use Rattle.ig_pieces.specs.ValueText.{places_text, span_text, values_text};
 ghost use Rattle.ig_forest.specs.CodeViews.{node_view, item_node_view};
-ghost use Rattle.ig_print.specs.ForestText.{choice_text, entry_text};
-ghost use Rattle.ig_print.specs.ForestText.{node_line, node_text, place_text, item_line};
-ghost use Rattle.ig_print.specs.ForestText.{item_text, heading, forest_text};
+ghost use Rattle.ig_forest_text.specs.ForestText.{choice_text, entry_text};
+ghost use Rattle.ig_forest_text.specs.ForestText.{node_line, node_text, place_text, item_line};
+ghost use Rattle.ig_forest_text.specs.ForestText.{item_text, heading, forest_text};
 
 use ig_forest::{Child, Choice, Entry, Forest, ItemNode, Node};
 use ig_pieces::{Piece, push_environment, push_name, push_values};
