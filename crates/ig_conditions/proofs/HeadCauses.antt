@@ -12,7 +12,7 @@ use Rattle.ig_grammar.specs.WellScoped.{IsLeast}
 use Rattle.ig_grammar.specs.declared.declaration.DeclKind.{DeclKind}
 use Rattle.ig_grammar.specs.declared.declaration.DeclKind.TheVariants.{Syntax, Lexical, Layout, Plain}
 use Rattle.ig_grammar.specs.declared.declaration.Decl.{Decl}
-use Rattle.ig_conditions.specs.Causes.{Tells, condition_of}
+use Rattle.ig_conditions.specs.Causes.{NoneHolds, Tells, condition_of}
 use Rattle.ig_conditions.specs.Heads.{HasRepeated, HaveAssociativity, LimitMeets, IsLimit, is_layout, have_layout}
 use Rattle.ig_conditions.specs.declared.cause.ScopeCause.{ScopeCause}
 use Rattle.ig_conditions.specs.declared.heads.Head.{Head}
@@ -92,6 +92,16 @@ module _ (head : Head) where
       first other (layout_not_plain p q) l = absurd l
       first other (too_many_nonterminals p q) l = absurd (e (head.count ∙ q))
       first other (too_many_parameters p q) l = omega arith
+
+  pub limit_none : head.named ≢ most_nonterminals → (most_parameters < named_parameters decl → ⊥) → NoneHolds (LimitMeets decls head.before decl)
+  limit_none e few c m = go c m.1 m.0
+    where
+      go : (c : Condition) → HeadMeets decls head.before decl c → IsLimit c → ⊥
+      go c (duplicate_name p) l = l
+      go c (duplicate_parameter k p q r) l = l
+      go c (layout_not_plain p q) l = l
+      go c (too_many_nonterminals p q) l = e (head.count ∙ q)
+      go c (too_many_parameters p q) l = few q
 
   abbrev pub Meets : Condition → Type 0
   Meets = HeadMeets decls head.before decl

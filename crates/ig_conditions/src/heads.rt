@@ -1,6 +1,7 @@
 //! What holds at the head of a declaration.
 
-ghost use Rattle.std.specs.Prelude.{◌≡◌, ◌↔◌, [], IsTrue, IfOk, Contains, Some, take, slice_get};
+ghost use Rattle.std.specs.Prelude.{◌≡◌, ◌<◌, ◌↔◌, [], IsTrue, IfOk, Contains, Some, length};
+ghost use Rattle.std.specs.Prelude.{take, slice_get};
 ghost use Rattle.ig_grammar.specs.Names.{names};
 ghost use Rattle.ig_grammar.specs.Condition.{HeadMeets, IsNotPlain};
 ghost use Rattle.ig_conditions.specs.Causes.{Tells};
@@ -96,10 +97,17 @@ fn is_not_plain(head: &Head) -> bool
         return true;
     }
     let levels = head.decl.levels.as_slice();
-    if levels.len() > MOST_LEVELS {
+    if are_many(levels) {
         return true;
     }
     have_associativity(levels)
+}
+
+/// Whether there are more levels than a layout declaration may have.
+fn are_many(levels: &[Level]) -> bool
+    ensures { IsTrue result ↔ (1 < length levels.now) }
+{
+    levels.len() > MOST_LEVELS
 }
 
 /// Whether some level has an associativity.

@@ -21,17 +21,22 @@ use std::alloc::Global;
 pub(crate) fn check_alternatives(alloc: Global, numbered: &Numbered) -> Result<(), ScopeFault>
     ensures { TellsAlternatives numbered.now result }
 {
-    let decl = numbered.decl;
-    let mut variables = Variables::of(alloc, decl.params.as_slice())?;
+    let mut variables = Variables::of(alloc, numbered.decl.params.as_slice())?;
+    check_levels(alloc, numbered, &mut variables)
+}
+
+/// The levels of the declaration, one after the other.
+fn check_levels(
+    alloc: Global,
+    numbered: &Numbered,
+    variables: &mut Variables,
+) -> Result<(), ScopeFault>
+    requires { variables.old ≡ parameters numbered.now.decl.now.params }
+    ensures { TellsAlternatives numbered.now result }
+{
     let mut before = 0;
-    for level in decl.levels.as_slice() {
-        before = check_level(
-            alloc,
-            numbered,
-            &mut variables,
-            before,
-            level.alts.as_slice(),
-        )?;
+    for level in numbered.decl.levels.as_slice() {
+        before = check_level(alloc, numbered, variables, before, level.alts.as_slice())?;
     }
     Ok(())
 }

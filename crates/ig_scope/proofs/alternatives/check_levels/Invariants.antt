@@ -2,7 +2,7 @@ use Rattle.std.proofs.Common.{◌≡◌, take, Ok}
 use Rattle.ig_grammar.specs.Numbering.{alternatives}
 use Rattle.ig_grammar.specs.Visible.{parameters}
 use Rattle.ig_scope.specs.Told.{TellsLevel}
-use Rattle.ig_scope.proofs.alternatives.check_alternatives.Given as goal
+use Rattle.ig_scope.proofs.alternatives.check_levels.Given as goal
 
 abbrev pub invariant-loop-level : goal.invariant-loop-level
 invariant-loop-level l = record {
