@@ -5,8 +5,8 @@ ghost use Rattle.std.specs.Prelude.{take, slice_get};
 ghost use Rattle.ig_grammar.specs.Names.{names};
 ghost use Rattle.ig_grammar.specs.Condition.{HeadMeets, IsNotPlain};
 ghost use Rattle.ig_conditions.specs.Causes.{Tells};
-ghost use Rattle.ig_conditions.specs.Heads.{HasRepeated, HaveAssociativity, LimitMeets, count_names};
-ghost use Rattle.ig_conditions.specs.Heads.{have_layout};
+ghost use Rattle.ig_conditions.specs.Heads.{HasRepeated, HaveAssociativity, LimitMeets};
+ghost use Rattle.ig_conditions.specs.Heads.{count_names, have_layout};
 
 use crate::cause::{Many, ScopeCause};
 use crate::names::count_named;
