@@ -1,6 +1,6 @@
 -- The pieces of a cursor's text between its points are its numbers.
-use Rattle.std.proofs.Common.{◌≡◌, ◌∙◌, ap, ap₂, sym, refl, ℕ, ◌+◌, ◌<◌, ◌≤◌, ◌%◌, List, [], ◌∷◌, ◌++◌, Bool, true, false, eqb, get_or, length, take, map, All, Some, append_assoc, arith}
-use Rattle.std.specs.Prelude.{codes, flat_map}
+use Rattle.std.proofs.Common.{◌≡◌, ◌∙◌, ap, ap₂, sym, refl, ℕ, ◌+◌, ◌<◌, ◌≤◌, ◌%◌, List, [], ◌∷◌, ◌++◌, Bool, true, false, eqb, get_or, length, take, map, All, Some, arith}
+use Rattle.std.specs.Prelude.{codes}
 use Rattle.std.specs.List.{list_all, slice_split}
 use Rattle.std.specs.Cmp.Lexicographic.{pointwise, bytes_decides}
 use Rattle.std.specs.Fmt.{decimal}
@@ -140,11 +140,3 @@ same_bytes r xs ys told holds = (bytes_decides xs ys).0 (sym told ∙ holds)
 
 pub other_bytes : (r : Bool) (xs ys : List ℕ) → r ≡ pointwise eqb xs ys → r ≡ false → xs ≡ ys → ⊥
 other_bytes r xs ys told differs same = let h = told ∙ (bytes_decides xs ys).1 same in cc
-
--- the first number is written, then each other one behind a point
-pub cursor_whole : {cursor others : List ℕ} {first : ℕ} (a : List ℕ) {b c : List ℕ} (i : ℕ) → cursor ≡ first ∷ others → b ≡ a ++ decimal first →
-    length others ≤ i → c ≡ b ++ flat_map (λ m. codes "." ++ decimal m) (take i others) → c ≡ a ++ cursor_text cursor
-cursor_whole {cursor} {others} {first} a {b} {c} i parts written all rest =
-    rest ∙ ap (λ z. b ++ flat_map (λ m. codes "." ++ decimal m) z) (take_all i others all) ∙
-    ap (λ z. z ++ flat_map (λ m. codes "." ++ decimal m) others) written ∙
-    append_assoc a (decimal first) (flat_map (λ m. codes "." ++ decimal m) others) ∙ ap (λ z. a ++ cursor_text z) (sym parts)
