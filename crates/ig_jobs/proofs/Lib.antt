@@ -1,3 +1,3 @@
 pub mod Answering
 pub mod Listings
-pub mod Parsing
+pub mod Parsed

@@ -12,11 +12,11 @@
 
 mod finish;
 mod job;
-mod parse;
+mod parsing;
 mod summary;
 mod tasks;
 
 pub use job::{Files, Job, Task, Work, work_of};
-pub use parse::{parse, parser_of};
+pub use parsing::{parse, parser_of};
 pub use summary::summary_line;
 pub use tasks::{say_ok, show, shown_core};

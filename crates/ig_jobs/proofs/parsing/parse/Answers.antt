@@ -3,8 +3,8 @@ use Rattle.ig_core_laws.specs.Lowered.{CoreOf}
 use Rattle.ig_item.specs.WellKinded.{IsWellKinded}
 use Rattle.ig_parse.specs.Parses.{AreReachable, IsParsed, IsForestOf, IsUnparsed, HasItems}
 use Rattle.ig_jobs.specs.Jobs.{stored_job}
-use Rattle.ig_jobs.proofs.Parsing.{finishes_job, printable, parses_forest, parses_over_budget, parses_none}
-use Rattle.ig_jobs.proofs.parse.parse.Goals as goal
+use Rattle.ig_jobs.proofs.Parsed.{finishes_job, printable, parses_forest, parses_over_budget, parses_none}
+use Rattle.ig_jobs.proofs.parsing.parse.Goals as goal
 
 pub returns-in-Err-Budget : goal.returns-in-Err-Budget
 returns-in-Err-Budget c =
