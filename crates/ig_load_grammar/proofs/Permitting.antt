@@ -13,7 +13,6 @@ use Rattle.ig_meaning.specs.Clean.{Applies, IsClean}
 use Rattle.ig_meaning.specs.Derivation.{Covers, empty, symbol, call}
 use Rattle.ig_meaning.specs.Environment.{no_values}
 use Rattle.ig_meaning.specs.Permitted.{Permitted, IsRootAlternative, written}
-use Rattle.ig_load_texts.specs.Operators.{chain}
 use Rattle.ig_load_grammar.specs.Grammar.{LoadGrammar, expression}
 use Rattle.ig_load_grammar.specs.Laws.{ChainsArePermitted}
 use Rattle.ig_load_grammar.proofs.Chains.{Term, text, IsOrdered, HasLetters, term_of}

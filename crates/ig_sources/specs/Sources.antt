@@ -1,5 +1,5 @@
 -- What comes of the files that a command names: a grammar, an input, or where it stops.
-use Rattle.std.specs.Prelude.{◌≡◌, ◌≢◌, ℕ, ◌⊎◌, List, Result, Ok, Err}
+use Rattle.std.specs.Prelude.{◌≡◌, ◌≢◌, ℕ, List, Result, Ok, Err}
 use Rattle.ig_text.specs.Decoding.{IsDecoded, IsFaulty}
 use Rattle.ig_text.specs.declared.text.Text.{Text}
 use Rattle.ig_text.specs.declared.text.TextFault.{TextFault}

@@ -1,5 +1,5 @@
 -- The main theorem, from the answer by cases.
-use Rattle.std.proofs.Common.{◌≡◌, ◌≢◌, ℕ, List, [], ◌++◌, ◌⊎◌, inl, inr, refl, sym, ◌∙◌, ap, subst, Option, Some, None, ◌<◌, ◌≤◌, length, arith}
+use Rattle.std.proofs.Common.{◌≡◌, ◌≢◌, ℕ, List, [], ◌⊎◌, inl, inr, refl, sym, ◌∙◌, ap, subst, Option, Some, None, ◌<◌, ◌≤◌, length, arith}
 use Rattle.std.proofs.lemmas.List.{append-nil}
 use Rattle.std.specs.Prelude.{chars}
 use Rattle.std.specs.Io.KnownBytes.{Appends}
@@ -29,7 +29,6 @@ use Rattle.ig_endings.specs.Change.{Change, FetchFailed, PutFailed, Got, Untouch
 use Rattle.ig_tool.specs.Outcome as answer
 use Rattle.ig_sources.specs.Sources.{MayGive}
 use Rattle.ig_jobs.specs.Tasks.{ok_text, shown_text, shown_core}
-use Rattle.ig_jobs.specs.Finishes.{Finishes}
 use Rattle.ig_tool.specs.Outcome.{HasFiles, Decided, Answers, written, noted, unwritten, unnoted, no_memory}
 use Rattle.ig_tool.specs.Headline.{Asks, Outcome, over_budget, no_parse, parsed, Says, Headline, checks, shows, cores, GrammarCommands}
 
