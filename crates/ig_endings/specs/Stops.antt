@@ -1,5 +1,5 @@
 -- Where a command stops before it has a text for out, and what is written at its end.
-use Rattle.std.specs.Prelude.{◌≡◌, ◌≢◌, ℕ, ◌⊎◌, List, [], ◌++◌, Vec}
+use Rattle.std.specs.Prelude.{◌≡◌, ◌≢◌, ℕ, ◌⊎◌, List, [], ◌++◌, Result, Ok, Err, Vec}
 use Rattle.std.specs.declared.alloc.Global.{Global}
 use Rattle.ig_text.specs.Lines.{line_end}
 use Rattle.ig_text.specs.declared.text.TextFault.TheVariants as text_fault
@@ -51,3 +51,9 @@ WritesNote s line notes answer =
 
 abbrev pub GivesUp : Change SinkState → Status → Type 0
 GivesUp notes answer = (answer ≡ status.NoMemory) × Noted notes no_memory_note
+
+-- the end of a command that has this text for out, or that stopped here
+abbrev pub Ends : Result (Vec ℕ Global) Stop → Change SinkState → Change SinkState → Status → Type 0
+Ends (Ok text) out notes answer = WritesText text.items out notes answer
+Ends (Err (halt.Note s line)) out notes answer = Untouched out × WritesNote s line.items notes answer
+Ends (Err halt.Memory) out notes answer = Untouched out × GivesUp notes answer

@@ -2,7 +2,7 @@
 //!
 //! A command has a text for out, or it stops with another status and a line for notes ([`Stop`]).
 //! The stops are made here, each with the line that `specs/Notes.antt` says, or for want of memory.
-//! Then the text is put on out, or the line on notes, and the answer is the [`Status`] of that.
+//! Then [`end`] puts the text on out, or the line on notes, and answers with the [`Status`].
 //! `specs/Change.antt` says what was done outside by the states before and after.
 #![tactic(auto)]
 
@@ -16,4 +16,4 @@ pub use notes::{
 };
 pub use status::Status;
 pub use stop::Stop;
-pub use writing::{give_up, write_note, write_text};
+pub use writing::end;

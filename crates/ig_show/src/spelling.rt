@@ -1,6 +1,6 @@
 //! How tokens that hold something are spelled: numbers, literals and classes.
 
-ghost use Rattle.std.specs.Prelude.{◌∷◌, [], OnOk, chars, string_bytes, flat_map};
+ghost use Rattle.std.specs.Prelude.{◌∷◌, ◌++◌, [], OnOk, chars, codes, string_bytes, flat_map};
 ghost use Rattle.ig_syntax.specs.Token.{Name, Head, Literal, OneOf};
 ghost use Rattle.ig_show.specs.Pieces.{token};
 ghost use Rattle.ig_show.specs.Spelling.{literal_character, class_character, range_spelling};
@@ -116,6 +116,14 @@ fn push_range(out: &mut String, first: char, last: char) -> Result<(), AllocErro
         return push_class_character(out, first);
     }
     push_class_character(out, first)?;
+    push_last(out, last)
+}
+
+/// Adds `-` and the last character of a range.
+fn push_last(out: &mut String, last: char) -> Result<(), AllocError>
+    ensures { OnOk result (Appends (string_bytes out.old) (string_bytes out.new)
+        (codes "-" ++ class_character last)) }
+{
     push_text(out, "-")?;
     push_class_character(out, last)
 }

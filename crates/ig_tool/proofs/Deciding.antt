@@ -25,7 +25,7 @@ use Rattle.ig_sources.specs.Laws.{ReadGrammarsAreBuildable}
 use Rattle.ig_sources.specs.Refusals.{too_many_dots, dots_text}
 use Rattle.ig_tool.specs.Outcome as decided
 use Rattle.ig_endings.specs.Notes.{usage_note}
-use Rattle.ig_endings.specs.Stops.{StopsWith, WritesText, WritesNote, GivesUp}
+use Rattle.ig_endings.specs.Stops.{Ends, StopsWith, WritesText, WritesNote}
 use Rattle.ig_sources.specs.Sources as sources
 use Rattle.ig_sources.specs.Sources.{MayGive, StopsAt, IsNoGrammar, IsNoInput, IsWrittenIn, LoadsGrammar, LoadsInput}
 use Rattle.ig_jobs.specs.Tasks.{SaysOk, ShowsGrammar, ShowsCore}
@@ -284,7 +284,7 @@ decides_job words first loaded last job file input budget c parser r command cou
     )
 
 -- what was decided is answered
-pub answers_text : (words : List (List ℕ)) (shelf : Change ShelfState) (out notes : Change SinkState)
+answers_text : (words : List (List ℕ)) (shelf : Change ShelfState) (out notes : Change SinkState)
     (text : Vec ℕ Global) (answer : Status) → Decides words shelf (Ok text) →
     WritesText text.items out notes answer → Answers words shelf out notes answer
 answers_text words shelf out notes text answer d (inl w) =
@@ -292,7 +292,7 @@ answers_text words shelf out notes text answer d (inl w) =
 answers_text words shelf out notes text answer d (inr w) =
     rw w.0 (unwritten text.items d.0 d.1 w.1 d.2 w.2 w.3)
 
-pub answers_note : (words : List (List ℕ)) (shelf : Change ShelfState) (out notes : Change SinkState)
+answers_note : (words : List (List ℕ)) (shelf : Change ShelfState) (out notes : Change SinkState)
     (s : Status) (line : Vec ℕ Global) (answer : Status) → Untouched out →
     Decides words shelf (Err (halt.Note s line)) → WritesNote s line.items notes answer →
     Answers words shelf out notes answer
@@ -301,8 +301,11 @@ answers_note words shelf out notes s line answer u d (inl w) =
 answers_note words shelf out notes s line answer u d (inr w) =
     rw w.0 (unnoted s line.items d.0 d.1 d.3 d.2 u w.1)
 
-pub answers_memory : (words : List (List ℕ)) (shelf : Change ShelfState) (out notes : Change SinkState)
-    (answer : Status) → Untouched out → Decides words shelf (Err halt.Memory) →
-    GivesUp notes answer → Answers words shelf out notes answer
-answers_memory words shelf out notes answer u d w =
-    rw w.0 (no_memory d.0 d.1 d.2 d.3 u w.1)
+pub answers_end : (words : List (List ℕ)) (shelf : Change ShelfState) (out notes : Change SinkState)
+    (r : Result (Vec ℕ Global) Stop) (answer : Status) → Decides words shelf r → Ends r out notes answer →
+    Answers words shelf out notes answer
+answers_end words shelf out notes (Ok text) answer d w = answers_text words shelf out notes text answer d w
+answers_end words shelf out notes (Err (halt.Note s line)) answer d w =
+    answers_note words shelf out notes s line answer w.0 d w.1
+answers_end words shelf out notes (Err halt.Memory) answer d w =
+    rw w.1.0 (no_memory d.0 d.1 d.2 d.3 w.0 w.1.1)

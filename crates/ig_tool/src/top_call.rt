@@ -10,7 +10,7 @@ ghost use Rattle.ig_tool.specs.Headline.{Completeness, GrammarCommands, Headline
 ghost use Rattle.ig_tool.specs.Headline.{LoadCommands};
 
 use ig_command::{command_of, load_sizes_are_few};
-use ig_endings::{Status, Stop, give_up, usage, write_note, write_text};
+use ig_endings::{Status, Stop, end, usage};
 use ig_jobs::{
     Files, Job, Task, Work, parse, parser_of, say_ok, show, shown_core, summary_line, work_of,
 };
@@ -72,11 +72,8 @@ pub fn iguana<F: Shelf, O: Sink, N: Sink>(
 {
     one_reading();
     texts_are_read_or_refused();
-    match decide(alloc, words, shelf) {
-        Ok(text) => write_text(&text, out, notes),
-        Err(Stop::Note(status, line)) => write_note(status, &line, notes),
-        Err(Stop::Memory) => give_up(notes),
-    }
+    let decided = decide(alloc, words, shelf);
+    end(decided, out, notes)
 }
 
 /// The text for out, or why there is none. Writes nothing.
