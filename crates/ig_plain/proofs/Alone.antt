@@ -22,7 +22,7 @@ use Rattle.ig_item.specs.declared.items.Item as stored
 use Rattle.ig_item.specs.declared.run_fault.RunFault.{RunFault}
 use Rattle.ig_item.specs.declared.run_fault.RunFault.TheVariants.{Budget, Memory}
 use Rattle.ig_plain.specs.declared.found.Found.{Found}
-use Rattle.ig_plain.specs.declared.waiting.Waiting.{Waiting}
+use Rattle.ig_calls.specs.declared.waiting.Waiting.{Waiting}
 use Rattle.ig_steps.specs.declared.compiled.Form.{Form}
 use Rattle.ig_steps.specs.Compiled.{form_of, expressions_of}
 use Rattle.ig_plain.specs.Found as found

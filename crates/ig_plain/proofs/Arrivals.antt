@@ -15,7 +15,7 @@ use Rattle.ig_item.specs.declared.items.Instance.{Instance}
 use Rattle.ig_item.specs.declared.items.InstanceKey.{InstanceKey}
 use Rattle.ig_item.specs.declared.items.Item as stored
 use Rattle.ig_plain.specs.declared.found.Found.{Found}
-use Rattle.ig_plain.specs.declared.waiting.Waiting.{Waiting}
+use Rattle.ig_calls.specs.declared.waiting.Waiting.{Waiting}
 use Rattle.ig_plain.specs.Tables.{IsNamed, item_by}
 use Rattle.ig_plain.specs.Found.{means, instances_in, found_in, later_in, taken_in, Named, AreNamed, IsStored}
 use Rattle.ig_plain.specs.Run.{IsWaiting, IsTaking, IsRun}

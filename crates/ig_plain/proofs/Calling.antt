@@ -19,13 +19,13 @@ use Rattle.ig_item.specs.declared.items.InstanceKey.{InstanceKey}
 use Rattle.ig_item.specs.declared.items.Item as stored
 use Rattle.ig_item.specs.declared.run_fault.RunFault.{RunFault}
 use Rattle.ig_plain.specs.declared.found.Found.{Found}
-use Rattle.ig_plain.specs.declared.waiting.Waiting.{Waiting}
-use Rattle.ig_plain.specs.declared.waiting.Called.{Called}
+use Rattle.ig_calls.specs.declared.waiting.Waiting.{Waiting}
+use Rattle.ig_calls.specs.declared.waiting.Called.{Called}
 use Rattle.ig_tables.specs.Extends.{Extends}
 use Rattle.ig_plain.specs.Found.{means, instances_in, taken_in, Named, AreNamed, Adds}
 use Rattle.ig_plain.specs.Rules as rules
 use Rattle.ig_plain.specs.Rules.{After, IsFirstOf, IsCaller}
-use Rattle.ig_plain.specs.Waiting.{called_at, not_called, lengthened, with_caller}
+use Rattle.ig_calls.specs.Waiting.{called_at, not_called, lengthened, with_caller}
 use Rattle.ig_plain.specs.Run.{IsRun, IsWaiting, IsTaken, IsEntered, EntersInstance, Refuses}
 use Rattle.ig_plain.proofs.Extending.{extends_same, extends_itself}
 use Rattle.ig_plain.proofs.Growth.{extends_at, instance_kept, values_more, grows_not}

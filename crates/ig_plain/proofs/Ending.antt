@@ -12,7 +12,7 @@ use Rattle.ig_item.specs.Recorded.{recording}
 use Rattle.ig_item.specs.declared.core_grammar.Nonterminal.{Nonterminal}
 use Rattle.ig_plain.specs.declared.found.Found.{Found}
 use Rattle.ig_plain.specs.declared.trail.Trail.{Trail}
-use Rattle.ig_plain.specs.declared.waiting.Waiting.{Waiting}
+use Rattle.ig_calls.specs.declared.waiting.Waiting.{Waiting}
 use Rattle.ig_plain.specs.Found.{means, found_in, later_in, taken_in}
 use Rattle.ig_plain.specs.Run.{IsRun}
 use Rattle.ig_plain.specs.Trail as trail

@@ -17,7 +17,7 @@ use Rattle.ig_item.specs.declared.items.Instance.{Instance}
 use Rattle.ig_item.specs.declared.items.InstanceKey.{InstanceKey}
 use Rattle.ig_item.specs.declared.items.Item as stored
 use Rattle.ig_plain.specs.declared.found.Found.{Found}
-use Rattle.ig_plain.specs.declared.waiting.Waiting.{Waiting}
+use Rattle.ig_calls.specs.declared.waiting.Waiting.{Waiting}
 use Rattle.ig_plain.specs.Tables.{IsNamed, no_key}
 use Rattle.ig_plain.specs.Found.{means, found_in, later_in, taken_in, Named}
 use Rattle.ig_plain.specs.Run.{IsRun}

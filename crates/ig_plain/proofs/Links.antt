@@ -1,32 +1,15 @@
 -- A chain of callers gets one more at its end, and the other chains stay.
-use Rattle.std.proofs.Common.{◌≡◌, ◌⊎◌, ⊎_elim, inl, inr, ℕ, zero, suc, ◌-◌, ◌<◌, ◌≤◌, List, [], ◌∷◌, ◌++◌, Some, length, set, Contains, refl, sym, ap, ◌∙◌, subst, arith, slice_get}
-use Rattle.std.specs.Prelude.{Bool, get_or}
-use Rattle.std.proofs.lemmas.Option.{same_Some, slice_get_within, slice_get_read}
+use Rattle.std.proofs.Common.{◌≡◌, ◌⊎◌, ⊎_elim, inl, inr, ℕ, zero, suc, ◌<◌, ◌≤◌, List, [], ◌∷◌, ◌++◌, Some, length, Contains, refl, sym, ap, ◌∙◌, subst, arith, slice_get}
+use Rattle.std.specs.Prelude.{Bool}
+use Rattle.std.proofs.lemmas.Option.{same_Some, slice_get_within}
 use Rattle.std.proofs.lemmas.List.Elements.{Contains-append_cases, Contains-append_left, Contains-append_right}
 use Rattle.ig_text.proofs.Lists.{left_at, right_at, it_is_in, contains_one}
 use Rattle.ig_item.specs.declared.items.Item as stored
-use Rattle.ig_plain.specs.declared.waiting.Caller.{Caller}
-use Rattle.ig_plain.specs.Waiting.{linked_at, linked, lengthened, first_or}
+use Rattle.ig_calls.specs.declared.waiting.Caller.{Caller}
+use Rattle.ig_calls.specs.Waiting.{linked_at, linked, lengthened, first_or}
 use Rattle.ig_plain.specs.Run as run
 use Rattle.ig_plain.specs.Run.{Chains, ChainEnds}
 use Rattle.ig_plain.proofs.Returns.{Heads, heads, empties}
-
--- linking is writing the cell with another next one
-linked_set : (cells : List Caller) (k next : ℕ) (cell : Caller) → slice_get cells k ≡ Some cell →
-    set cells k (record cell { next = next }) ≡ linked_at cells k next
-linked_set [] k next cell at = cc
-linked_set (c ∷ cells) zero next cell at = ap (λ (z : Caller). record z { next = next } ∷ cells) (sym (same_Some c cell at))
-linked_set (c ∷ cells) (suc k) next cell at = ap (λ (z : List Caller). c ∷ z) (linked_set cells k next cell at)
-
--- where a place + 1 is written to, the cell there is linked
-pub linked_is : (cells : List Caller) (last next : ℕ) (cell : Caller) → 0 < last → last ≤ length cells → cell ≡ get_or cells (last - 1) cell →
-    set cells (last - 1) (record cell { next = next }) ≡ linked cells last next
-linked_is cells zero next cell some within read = absurd (omega (arith, some))
-linked_is cells (suc k) next cell some within read =
-    let e : suc k - 1 ≡ k = omega arith in
-    ap (λ (n : ℕ). set cells n (record cell { next = next })) e ∙
-    linked_set cells k next cell
-    (slice_get_read cells (length cells) k cell refl (omega (arith, within)) (subst (λ (n : ℕ). cell ≡ get_or cells n cell) e read))
 
 -- the cell that is linked names the new one, and the others are as before
 pub linked_here : (cells : List Caller) (k next : ℕ) (cell : Caller) → slice_get cells k ≡ Some cell →

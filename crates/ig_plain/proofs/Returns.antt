@@ -22,7 +22,7 @@ use Rattle.ig_item.specs.declared.ways.Way.{Way}
 use Rattle.ig_item.specs.declared.ways.Way.TheVariants.{Node}
 use Rattle.ig_plain.specs.declared.found.Found.{Found}
 use Rattle.ig_plain.specs.declared.trail.Trail.{Trail}
-use Rattle.ig_plain.specs.declared.waiting.Caller.{Caller}
+use Rattle.ig_calls.specs.declared.waiting.Caller.{Caller}
 use Rattle.ig_plain.specs.Found.{means, Named, AreNamed, Adds}
 use Rattle.ig_plain.specs.Rules.{StandsAtBareCall, StandsAtCall, IsReturn, step_at}
 use Rattle.ig_plain.specs.Run as run

@@ -1,7 +1,6 @@
 pub mod Tables
 pub mod Rules
 pub mod Found
-pub mod Waiting
 pub mod Run
 pub mod Trail
 pub mod Arrival

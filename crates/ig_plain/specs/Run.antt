@@ -12,9 +12,9 @@ use Rattle.ig_item.specs.declared.items.Item as stored
 use Rattle.ig_item.specs.declared.run_fault.RunFault.{RunFault}
 use Rattle.ig_item.specs.declared.run_fault.RunFault.TheVariants as fault
 use Rattle.ig_plain.specs.declared.found.Found.{Found}
-use Rattle.ig_plain.specs.declared.waiting.Waiting.{Waiting}
-use Rattle.ig_plain.specs.declared.waiting.Called.{Called}
-use Rattle.ig_plain.specs.declared.waiting.Caller.{Caller}
+use Rattle.ig_calls.specs.declared.waiting.Waiting.{Waiting}
+use Rattle.ig_calls.specs.declared.waiting.Called.{Called}
+use Rattle.ig_calls.specs.declared.waiting.Caller.{Caller}
 use Rattle.ig_plain.specs.Found.{means, Named, instances_in, found_in, later_in, taken_in, count, IsStored}
 use Rattle.ig_plain.specs.Rules.{IsCaller, IsFirstOf, IsPastTerminal, StandsAtCall, IsReturn}
 

@@ -21,9 +21,9 @@ use Rattle.ig_plain.specs.Rules.{IsBehind, StandsAtBareCall}
 use Rattle.ig_plain.specs.Found.{means, found_in, later_in, taken_in, instances_in}
 use Rattle.ig_plain.specs.declared.found.Found.{Found}
 use Rattle.ig_plain.specs.declared.trail.Trail.{Trail}
-use Rattle.ig_plain.specs.declared.waiting.Waiting.{Waiting}
-use Rattle.ig_plain.specs.declared.waiting.Called.{Called}
-use Rattle.ig_plain.specs.declared.waiting.Caller.{Caller}
+use Rattle.ig_calls.specs.declared.waiting.Waiting.{Waiting}
+use Rattle.ig_calls.specs.declared.waiting.Called.{Called}
+use Rattle.ig_calls.specs.declared.waiting.Caller.{Caller}
 use Rattle.ig_plain.specs.Run.{IsReturnToOne, IsRun}
 
 -- x and n stand at one place of the two lists

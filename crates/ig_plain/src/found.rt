@@ -15,8 +15,9 @@ ghost use Rattle.ig_plain.specs.Trail.{Records, RecordsLater, Unfound};
 
 use crate::context::Context;
 use crate::trail::Trail;
+use ig_calls::{Taken, add_further_way};
 use ig_expr::{Value, Values};
-use ig_item::{FurtherWay, Item, RunFault, Way, Ways};
+use ig_item::{Item, RunFault, Way};
 use ig_steps::extended;
 use ig_tables::{InstanceSet, enter_values, number, within_budget};
 use indexmap::IndexSet;
@@ -52,13 +53,6 @@ impl Found {
             keys: InstanceSet::new(alloc),
         }
     }
-}
-
-/// An item that is taken, with its number.
-#[derive(Clone, Copy)]
-pub(crate) struct Taken {
-    pub(crate) item: Item,
-    pub(crate) number: u32,
 }
 
 /// `Budget` exactly where there are more items than the budget.
@@ -140,17 +134,6 @@ fn add_returned(
     };
     add_further_way(&mut trail.ways, item, prev, done)?;
     Ok(())
-}
-
-/// Adds that the item of that number came about from the one of number `prev` by a call, too.
-#[inline(always)]
-fn add_further_way(ways: &mut Ways, item: u32, prev: u32, done: u32) -> Result<(), AllocError>
-    ensures { OnOk result (ways.new ≡ record ways.old {
-      further = ways.old.further ++
-          record { item = item; prev = prev; done = done } ∷ [];
-    }) }
-{
-    ways.push_further(FurtherWay { item, prev, done })
 }
 
 /// Adds an item behind a call, which isn't there, and that it came about from the item of number

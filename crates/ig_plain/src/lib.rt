@@ -8,13 +8,11 @@
 
 mod context;
 mod found;
-mod interning;
 mod laws;
 mod moves;
 mod run;
 mod saturation;
 mod trail;
-mod waiting;
 
 pub use laws::{budgets_suffice, doubled_budgets, plain_budgets_suffice};
 pub use saturation::{saturate, saturate_with_ways};

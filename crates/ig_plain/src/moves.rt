@@ -10,8 +10,9 @@ ghost use Rattle.ig_plain.specs.Trail.{By, ComeByNodes, IsBehindBind, IsBehindTe
 ghost use Rattle.ig_plain.specs.Trail.{Records, RecordsTerminal, Unfound};
 
 use crate::context::Context;
-use crate::found::{Found, Taken, go_behind_call, go_later, go_on};
+use crate::found::{Found, go_behind_call, go_later, go_on};
 use crate::trail::Trail;
+use ig_calls::Taken;
 use ig_expr::{Expr, Value, Values};
 use ig_item::{RunFault, Way};
 use ig_steps::{Known, Qualifiers, is_true, matches_none, only, span_bound, value};

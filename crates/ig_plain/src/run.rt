@@ -22,15 +22,17 @@ ghost use Rattle.ig_plain.specs.Trail.{AreKnown, By, ComeByNodes, EntersOn, HasT
 ghost use Rattle.ig_plain.specs.Trail.{IsNext, IsReturnBy, Records, TakesOn, Unfound};
 
 use crate::context::Context;
-use crate::found::{Found, Taken, add_new, go_behind_bare_call, number_of};
-use crate::interning::enter_arguments;
+use crate::found::{Found, add_new, go_behind_bare_call, number_of};
 use crate::moves::{go_behind, take_bind, take_terminal, take_test, values_at};
 use crate::trail::Trail;
-use crate::waiting::{Caller, Waiting, add_called, add_caller, add_end, end_at, first_caller};
+use ig_calls::{
+    Caller, Taken, Waiting, add_called, add_caller, add_end, add_further_end, end_at,
+    enter_arguments, first_caller,
+};
 use ig_expr::Expr;
 use ig_item::{
-    Core, FurtherEnd, InstanceKey, Item, RunFault, Step, Way, Ways, environments_fit,
-    items_are_in_text, reachable_is_closed,
+    Core, InstanceKey, Item, RunFault, Step, Way, environments_fit, items_are_in_text,
+    reachable_is_closed,
 };
 use ig_steps::{Known, Qualifiers, argument_values, known_at};
 use std::alloc::AllocError;
@@ -177,16 +179,6 @@ fn item_at(found: &Found, number: usize) -> Item
     ensures { slice_get found.now.here.items number ≡ Some result }
 {
     found.here[number]
-}
-
-/// Adds that the item of that number is complete, too, behind the first one that is.
-fn add_further_end(ways: &mut Ways, first: u32, item: u32) -> Result<(), AllocError>
-    ensures { OnOk result (ways.new ≡ record ways.old {
-      ends = ways.old.ends ++
-          record { first = first; item = item } ∷ [];
-    }) }
-{
-    ways.push_end(FurtherEnd { first, item })
 }
 
 /// Takes a complete item: each caller of its instance returns, unless another item that is complete

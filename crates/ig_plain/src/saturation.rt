@@ -16,7 +16,7 @@ use crate::context::Context;
 use crate::found::Found;
 use crate::run::{Run, add_firsts, keep_well_kinded, take};
 use crate::trail::Trail;
-use crate::waiting::{Waiting, add_called};
+use ig_calls::{Waiting, add_called};
 use ig_expr::Values;
 use ig_item::{
     Core, EnvironmentTable, InstanceKey, Item, Items, Recorded, RunFault, Way, Ways,

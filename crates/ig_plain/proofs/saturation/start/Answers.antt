@@ -2,7 +2,7 @@ use Rattle.std.proofs.Common.{[], ◌∷◌, ◌++◌, refl, ap, ◌∙◌, Some
 use Rattle.std.proofs.lemmas.Result.{on_ok_weaker}
 use Rattle.ig_item.specs.Tables.{instance_by}
 use Rattle.ig_plain.specs.declared.found.Found.{Found}
-use Rattle.ig_plain.specs.Waiting.{not_called}
+use Rattle.ig_calls.specs.Waiting.{not_called}
 use Rattle.ig_plain.proofs.Starts.{starts, alone, named_1}
 use Rattle.ig_plain.proofs.Starting.{nothing_found, none_unfound, starts_on}
 use Rattle.ig_plain.proofs.saturation.start.Goals as goal

@@ -13,7 +13,7 @@ use std::alloc::AllocError;
 
 /// The number of the environment that has the arguments' values, where the caller's is `env`. It is
 /// added if it isn't there.
-pub(crate) fn enter_arguments(
+pub fn enter_arguments(
     envs: &mut IndexSet<Values>,
     arguments: Arguments,
     env: u32,

@@ -1,48 +1,54 @@
 //! Which items wait for an instance, and where it ended last.
 ghost use Rattle.std.specs.Prelude.{◌≡◌, ◌<◌, ◌≤◌, [], ◌∷◌, ◌++◌, IfNone, IfSome, None, OnOk, Some};
 ghost use Rattle.std.specs.Prelude.{length, set, suc};
-ghost use Rattle.ig_plain.specs.Waiting as waits;
-ghost use Rattle.ig_plain.specs.Waiting.{called_at, lengthened, linked, not_called, with_caller};
-ghost use Rattle.ig_plain.specs.Waiting.{with_end};
+ghost use Rattle.ig_calls.specs.Waiting as waits;
+ghost use Rattle.ig_calls.specs.Waiting.{called_at, lengthened, linked, not_called, with_caller};
+ghost use Rattle.ig_calls.specs.Waiting.{with_end};
 
-use crate::found::Taken;
 use ig_item::Item;
 use std::alloc::{AllocError, Global};
 
+/// An item that is taken, with its number.
+#[derive(Clone, Copy)]
+pub struct Taken {
+    pub item: Item,
+    pub number: u32,
+}
+
 /// What is known of an instance that was called.
 #[derive(Clone, Copy)]
-pub(crate) struct Called {
+pub struct Called {
     /// The place + 1 of its first caller, and 0 where there is none.
-    pub(crate) first: u32,
+    pub first: u32,
     /// The place + 1 of its last caller, and 0 where there is none.
-    pub(crate) last: u32,
+    pub last: u32,
     /// The position at which it ended last.
-    pub(crate) last_end: Option<u32>,
+    pub last_end: Option<u32>,
     /// The number of the first item that was complete there.
-    pub(crate) last_done: u32,
+    pub last_done: u32,
 }
 
 /// An item that waits for an instance.
 #[derive(Clone, Copy)]
-pub(crate) struct Caller {
-    pub(crate) item: Item,
-    pub(crate) number: u32,
+pub struct Caller {
+    pub item: Item,
+    pub number: u32,
     /// Whether its call has neither a label nor an excluded pattern.
-    pub(crate) is_bare: bool,
+    pub is_bare: bool,
     /// The place + 1 of the caller of the same instance behind this one, and 0 where there is none.
-    pub(crate) next: u32,
+    pub next: u32,
 }
 
 /// The instances by number, with their callers in chains.
 #[derive(Drop)]
-pub(crate) struct Waiting {
-    pub(crate) called: Vec<Called>,
-    pub(crate) callers: Vec<Caller>,
+pub struct Waiting {
+    pub called: Vec<Called>,
+    pub callers: Vec<Caller>,
 }
 
 impl Waiting {
     /// No instances. Takes no memory.
-    pub(crate) fn new(alloc: Global) -> Waiting
+    pub fn new(alloc: Global) -> Waiting
         ensures called { result.called.items ≡ [] }
         ensures callers { result.callers.items ≡ [] }
     {
@@ -54,7 +60,7 @@ impl Waiting {
 }
 
 /// Adds an instance, which has no callers and no end yet.
-pub(crate) fn add_called(waiting: &mut Waiting) -> Result<(), AllocError>
+pub fn add_called(waiting: &mut Waiting) -> Result<(), AllocError>
     ensures called { OnOk result (waiting.new.called.items ≡ waiting.old.called.items ++
         not_called ∷ []) }
     ensures callers { waiting.new.callers.items ≡ waiting.old.callers.items }
@@ -87,7 +93,7 @@ fn link(callers: &mut Vec<Caller>, last: u32, next: u32)
 }
 
 /// Makes the item the last caller of the instance.
-pub(crate) fn add_caller(
+pub fn add_caller(
     waiting: &mut Waiting,
     callee: u32,
     taken: Taken,
@@ -122,7 +128,7 @@ pub(crate) fn add_caller(
 
 /// The number of the first item that was complete where the instance ended last; `None` exactly
 /// where that wasn't at the position.
-pub(crate) fn end_at(waiting: &Waiting, callee: u32, position: u32) -> Option<u32>
+pub fn end_at(waiting: &Waiting, callee: u32, position: u32) -> Option<u32>
     requires there { callee < length waiting.now.called.items }
     ensures some { IfSome result (λ done.
         ((called_at waiting.now callee).last_end ≡ Some position) ×
@@ -137,7 +143,7 @@ pub(crate) fn end_at(waiting: &Waiting, callee: u32, position: u32) -> Option<u3
 }
 
 /// Makes the position the last end of the instance, at which the item of that number is complete.
-pub(crate) fn add_end(waiting: &mut Waiting, callee: u32, position: u32, done: u32)
+pub fn add_end(waiting: &mut Waiting, callee: u32, position: u32, done: u32)
     requires there { callee < length waiting.old.called.items }
     ensures called { waiting.new.called.items ≡ set waiting.old.called.items callee
         (with_end (called_at waiting.old callee) position done) }
@@ -153,7 +159,7 @@ pub(crate) fn add_end(waiting: &mut Waiting, callee: u32, position: u32, done: u
 }
 
 /// The place + 1 of the first caller of the instance, and 0 where there is none.
-pub(crate) fn first_caller(waiting: &Waiting, callee: u32) -> u32
+pub fn first_caller(waiting: &Waiting, callee: u32) -> u32
     requires there { callee < length waiting.now.called.items }
     ensures { result ≡ (called_at waiting.now callee).first }
 {

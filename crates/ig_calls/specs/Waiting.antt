@@ -1,9 +1,9 @@
 -- What is known of the instances that were called.
 use Rattle.std.specs.Prelude.{Bool, ℕ, zero, suc, List, [], ◌∷◌, ◌++◌, length, None, Some, slice_index_or}
 use Rattle.ig_item.specs.declared.items.Item.{Item}
-use Rattle.ig_plain.specs.declared.waiting.Waiting.{Waiting}
-use Rattle.ig_plain.specs.declared.waiting.Called.{Called}
-use Rattle.ig_plain.specs.declared.waiting.Caller.{Caller}
+use Rattle.ig_calls.specs.declared.waiting.Waiting.{Waiting}
+use Rattle.ig_calls.specs.declared.waiting.Called.{Called}
+use Rattle.ig_calls.specs.declared.waiting.Caller.{Caller}
 
 abbrev pub not_called : Called
 not_called = record { first = 0; last = 0; last_end = None; last_done = 0 }

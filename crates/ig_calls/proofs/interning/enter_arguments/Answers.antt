@@ -1,8 +1,8 @@
 use Rattle.std.proofs.Common.{[], subst, sym, slice_index_or}
 use Rattle.ig_steps.specs.Compiled.{values_in}
 use Rattle.ig_tables.specs.Extends.{Enters}
-use Rattle.ig_plain.proofs.Extending.{stands_there}
-use Rattle.ig_plain.proofs.interning.enter_arguments.Goals as goal
+use Rattle.ig_calls.proofs.Standing.{stands_there}
+use Rattle.ig_calls.proofs.interning.enter_arguments.Goals as goal
 
 pub returns-in-Own-clause-enters : goal.returns-in-Own-clause-enters
 returns-in-Own-clause-enters c =
