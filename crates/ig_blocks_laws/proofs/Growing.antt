@@ -6,7 +6,7 @@ use Rattle.ig_grammar.specs.Alternative.{gathered_alternatives}
 use Rattle.ig_grammar.specs.Binding.{Binding}
 use Rattle.ig_grammar.specs.Checked.{CheckedGrammar}
 use Rattle.ig_grammar.specs.Laws.{CountsByForm}
-use Rattle.ig_grammar.specs.Regular.{HasFewerThan, alternatives_among, alternatives_inside, alternatives_inside_symbols, parts, parts_of_symbols, parts_of_alternatives}
+use Rattle.ig_grammar.specs.Counts.{HasFewerThan, alternatives_among, alternatives_inside, alternatives_inside_symbols, parts, parts_of_symbols, parts_of_alternatives}
 use Rattle.ig_grammar.specs.Symbol.{Symbol, Literal, OneOf, Call, Label, Guard, Let, Opt, Star, Plus, SepStar, SepPlus, Group, Offside, Ignore, Align, Filtered, Seq, Entry}
 use Rattle.ig_grammar.specs.Symbol.{Symbols, no_symbols, next_symbol, gathered, Alternatives, no_alternatives, next_alternative}
 use Rattle.ig_grammar.specs.declared.declaration.DeclKind.{DeclKind}

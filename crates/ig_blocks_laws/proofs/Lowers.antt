@@ -4,7 +4,8 @@ use Rattle.ig_expr.specs.Expression.{Expression}
 use Rattle.ig_grammar.specs.Symbol.{Symbol, Literal, OneOf, Call, Label, Guard, Let, Opt, Star, Plus, SepStar, SepPlus, Group, Offside, Ignore, Align, Filtered, Seq, Entry}
 use Rattle.ig_grammar.specs.Symbol.{Symbols, no_symbols, next_symbol, listed, Alternatives, no_alternatives, next_alternative}
 use Rattle.ig_grammar.specs.Laws.{RegularityByForm, OfInner}
-use Rattle.ig_grammar.specs.Regular.{IsPlaced, FitsRound, StandsWell, SymbolsStandWell, AlternativesStandWell, MayHaveMark, MayHaveFilters, MayHaveEntry}
+use Rattle.ig_grammar.specs.Regular.{IsPlaced, FitsRound, AlternativesStandWell, MayHaveMark, MayHaveFilters, MayHaveEntry}
+use Rattle.ig_grammar.specs.Standing.{StandsWell, SymbolsStandWell}
 use Rattle.ig_grammar.specs.declared.declaration.DeclKind.{DeclKind}
 use Rattle.ig_grammar.specs.declared.declaration.DeclKind.TheVariants.{Syntax, Lexical, Layout, Plain}
 use Rattle.ig_blocks_laws.specs.Setting.{Setting, Pair, lacking, carried, opened, cleared, opened_by, cleared_by, inner, pair_bindings, column_bindings, guards, entered}

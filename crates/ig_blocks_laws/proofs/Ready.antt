@@ -3,7 +3,7 @@ use Rattle.std.specs.Prelude.{◌≡◌, ℕ, List, length, Some, slice_get}
 use Rattle.ig_grammar.specs.Symbol.{gathered}
 use Rattle.ig_grammar.specs.Numbering.{Levelled, IsAlternative}
 use Rattle.ig_grammar.specs.Names.{names, AreDistinct}
-use Rattle.ig_grammar.specs.Regular.{SymbolsStandWell}
+use Rattle.ig_grammar.specs.Standing.{SymbolsStandWell}
 use Rattle.ig_grammar.specs.declared.declaration.DeclKind.TheVariants.{Layout}
 use Rattle.ig_grammar.specs.declared.declaration.Decl.{Decl}
 use Rattle.ig_grammar.specs.declared.grammar.Grammar.{Grammar}

@@ -12,7 +12,7 @@ use Rattle.ig_meaning.specs.Permitted.{IsRootAlternative, written, declared}
 use Rattle.ig_grammar.specs.Laws.{RegularityByForm}
 use Rattle.ig_meaning.specs.Laws.{SpansAreInOrder}
 use Rattle.ig_meaning.specs.Inversion.{DerivationsInvert}
-use Rattle.ig_grammar.specs.Regular.{SymbolsStandWell}
+use Rattle.ig_grammar.specs.Standing.{SymbolsStandWell}
 use Rattle.ig_grammar.specs.declared.declaration.DeclKind.{DeclKind}
 use Rattle.ig_grammar.specs.declared.declaration.DeclKind.TheVariants.{Syntax, Lexical, Layout, Plain}
 use Rattle.ig_grammar.specs.declared.declaration.Decl.{Decl}

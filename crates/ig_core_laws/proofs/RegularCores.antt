@@ -11,7 +11,8 @@ use Rattle.ig_expr.specs.Expression.{Expression, patterns_in}
 use Rattle.ig_grammar.specs.Symbol.{Symbol, Literal, OneOf, Call, Label, Guard, Let, Filtered, gathered, next_symbol}
 use Rattle.ig_grammar.specs.Numbering.{alternatives, IsAlternative}
 use Rattle.ig_grammar.specs.Laws.{RegularityByForm}
-use Rattle.ig_grammar.specs.Regular.{pattern_of, IsPlaced, StandsWell, SymbolsStandWell, AlternativesStandWell, OfEachLevel}
+use Rattle.ig_grammar.specs.Regular.{pattern_of, IsPlaced, AlternativesStandWell, OfEachLevel}
+use Rattle.ig_grammar.specs.Standing.{StandsWell, SymbolsStandWell}
 use Rattle.ig_grammar.specs.declared.filter.Filter.{Filter}
 use Rattle.ig_grammar.specs.declared.filter.Filter.TheVariants.{Not}
 use Rattle.ig_grammar.specs.declared.declaration.Decl.{Decl}

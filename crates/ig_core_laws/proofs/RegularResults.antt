@@ -4,7 +4,9 @@ use Rattle.std.specs.Prelude.{All}
 use Rattle.std.proofs.lemmas.List.Elements.{All-head, All-tail}
 use Rattle.ig_grammar.specs.Checked.{CheckedGrammar}
 use Rattle.ig_grammar.specs.Laws.{RegularityByForm}
-use Rattle.ig_grammar.specs.Regular.{AlternativesStandWell, OfEachLevel, IsNoMark, HasNoMark, SymbolsHaveNoMark, HasFewerThan, IsRegular, counts_bound}
+use Rattle.ig_grammar.specs.Regular.{AlternativesStandWell, OfEachLevel, IsNoMark, IsRegular}
+use Rattle.ig_grammar.specs.Standing.{HasNoMark, SymbolsHaveNoMark}
+use Rattle.ig_grammar.specs.Counts.{HasFewerThan, counts_bound}
 use Rattle.ig_grammar.specs.Symbol.{Symbol, Literal, OneOf, Call, Label, Guard, Let, Filtered, gathered}
 use Rattle.ig_grammar.specs.declared.grammar.Grammar.{Grammar}
 use Rattle.ig_rewrite.specs.EachLevel.{of_each_level}

@@ -8,7 +8,8 @@ use Rattle.ig_grammar.specs.Alternative.{gathered_alternatives}
 use Rattle.ig_grammar.specs.Checked.{CheckedGrammar}
 use Rattle.ig_grammar.specs.Laws.{RegularityByForm}
 use Rattle.ig_grammar.specs.Numbering.{Levelled, by_level}
-use Rattle.ig_grammar.specs.Regular.{IsNoMark, HasNoMark, SymbolsHaveNoMark, AlternativesHaveNoMark}
+use Rattle.ig_grammar.specs.Regular.{IsNoMark, AlternativesHaveNoMark}
+use Rattle.ig_grammar.specs.Standing.{HasNoMark, SymbolsHaveNoMark}
 use Rattle.ig_grammar.specs.Symbol.{Symbol, Literal, OneOf, Call, Label, Guard, Let, Opt, Star, Plus, SepStar, SepPlus, Group, Offside, Ignore, Align, Filtered, Seq, Entry, gathered}
 use Rattle.ig_grammar.specs.Symbol.{Symbols, no_symbols, next_symbol, Alternatives, no_alternatives, next_alternative}
 use Rattle.ig_grammar.specs.declared.declaration.DeclKind.TheVariants.{Plain, Syntax}

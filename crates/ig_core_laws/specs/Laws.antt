@@ -5,7 +5,8 @@ use Rattle.ig_expr.specs.ValuedTree as valued
 use Rattle.ig_text.specs.declared.tag.Tag.TheVariants.{Rule}
 use Rattle.ig_grammar.specs.Checked.{CheckedGrammar}
 use Rattle.ig_grammar.specs.Numbering.{IsDeclaration}
-use Rattle.ig_grammar.specs.Regular.{AlternativesStandWell, HasFewerThan, IsRegular, OfEachLevel}
+use Rattle.ig_grammar.specs.Regular.{AlternativesStandWell, IsRegular, OfEachLevel}
+use Rattle.ig_grammar.specs.Counts.{HasFewerThan}
 use Rattle.ig_grammar.specs.declared.declaration.Decl.{Decl}
 use Rattle.ig_grammar.specs.declared.grammar.Grammar.{Grammar}
 use Rattle.ig_grammar.specs.declared.place.Shape.{Shape}

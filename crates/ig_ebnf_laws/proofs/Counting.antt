@@ -4,8 +4,8 @@ use Rattle.std.specs.Prelude.{sum_by}
 use Rattle.std.proofs.lemmas.List.Sums.{sum_by-cons, get_or-le-sum_by}
 use Rattle.ig_grammar.specs.Alternative.{gathered_alternatives}
 use Rattle.ig_grammar.specs.Laws.{CountsByForm}
-use Rattle.ig_grammar.specs.Regular.{alternatives_among, alternatives_inside, alternatives_inside_symbols}
-use Rattle.ig_grammar.specs.Regular.{parts, parts_of_symbols, parts_of_alternatives}
+use Rattle.ig_grammar.specs.Counts.{alternatives_among, alternatives_inside, alternatives_inside_symbols}
+use Rattle.ig_grammar.specs.Counts.{parts, parts_of_symbols, parts_of_alternatives}
 use Rattle.ig_grammar.specs.Symbol.{Symbol, Literal, OneOf, Call, Label, Guard, Let, Opt, Star, Plus, SepStar}
 use Rattle.ig_grammar.specs.Symbol.{SepPlus, Group, Offside, Ignore, Align}
 use Rattle.ig_grammar.specs.Symbol.{Filtered, Seq, Entry, Symbols, no_symbols, next_symbol, Alternatives}

@@ -8,8 +8,8 @@ use Rattle.ig_text.proofs.Lists.{contains_first, contains_later}
 use Rattle.ig_grammar.specs.Alternative.{gathered_alternatives}
 use Rattle.ig_grammar.specs.Checked.{IsOneFreeLevel}
 use Rattle.ig_grammar.specs.Laws.{CountsByForm}
-use Rattle.ig_grammar.specs.Regular.{HasFewerThan, alternatives_among}
-use Rattle.ig_grammar.specs.Regular.{parts_of_alternatives}
+use Rattle.ig_grammar.specs.Counts.{HasFewerThan, alternatives_among}
+use Rattle.ig_grammar.specs.Counts.{parts_of_alternatives}
 use Rattle.ig_grammar.specs.Subterms.{subterms_of_alternatives}
 use Rattle.ig_grammar.specs.Visible.{Visible, parameters}
 use Rattle.ig_grammar.specs.declared.symbol.Alt.{Alt}

@@ -4,8 +4,9 @@ use Rattle.std.specs.Prelude.{All}
 use Rattle.std.proofs.lemmas.List.{map-append}
 use Rattle.std.proofs.lemmas.List.Elements.{All-head, All-tail}
 use Rattle.ig_grammar.specs.Laws.{CountsByForm}
-use Rattle.ig_grammar.specs.Regular.{FitsRound, IsNoMark, alternatives_among, alternatives_inside}
-use Rattle.ig_grammar.specs.Regular.{alternatives_inside_symbols, parts, parts_of_symbols, parts_of_alternatives}
+use Rattle.ig_grammar.specs.Regular.{FitsRound, IsNoMark}
+use Rattle.ig_grammar.specs.Counts.{alternatives_among, alternatives_inside}
+use Rattle.ig_grammar.specs.Counts.{alternatives_inside_symbols, parts, parts_of_symbols, parts_of_alternatives}
 use Rattle.ig_grammar.specs.Subterms.{subterms, subterms_of_symbols, subterms_of_alternatives}
 use Rattle.ig_grammar.specs.Symbol.{Symbol, Literal, OneOf, Call, Label, Guard, Let, Opt, Star, Plus, SepStar}
 use Rattle.ig_grammar.specs.Symbol.{SepPlus, Group, Offside, Ignore, Align}

@@ -16,7 +16,8 @@ use Rattle.ig_grammar.specs.Binding.{Binding}
 use Rattle.ig_grammar.specs.Checked.{CheckedGrammar}
 use Rattle.ig_grammar.specs.Numbering.{layout_among}
 use Rattle.ig_grammar.specs.Regular.{AlternativesStandWell, IsPlaced, MayHaveFilters, MayHaveLabel}
-use Rattle.ig_grammar.specs.Regular.{OfEachLevel, StandsWell, SymbolsStandWell}
+use Rattle.ig_grammar.specs.Regular.{OfEachLevel}
+use Rattle.ig_grammar.specs.Standing.{StandsWell, SymbolsStandWell}
 use Rattle.ig_grammar.specs.Subterms.{subterms, subterms_of_symbols, subterms_of_alternatives}
 use Rattle.ig_grammar.specs.Symbol.{Symbol, Literal, OneOf, Call, Label, Guard, Let, Opt, Star, Plus, SepStar}
 use Rattle.ig_grammar.specs.Symbol.{SepPlus, Group, Offside, Ignore, Align}

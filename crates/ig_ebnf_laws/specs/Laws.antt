@@ -3,7 +3,8 @@ use Rattle.std.specs.Prelude.{◌≡◌, ℕ, ◌*◌, ◌<◌, List, Contains, 
 use Rattle.ig_grammar.specs.Numbering.{layout_among}
 use Rattle.ig_grammar.specs.Alternative.{gathered_alternatives}
 use Rattle.ig_grammar.specs.Checked.{CheckedGrammar, FitShapes}
-use Rattle.ig_grammar.specs.Regular.{AlternativesStandWell, HasFewerThan, OfEachLevel}
+use Rattle.ig_grammar.specs.Regular.{AlternativesStandWell, OfEachLevel}
+use Rattle.ig_grammar.specs.Counts.{HasFewerThan}
 use Rattle.ig_grammar.specs.WellScoped.{IsWellScoped}
 use Rattle.ig_grammar.specs.Visible.{Visible}
 use Rattle.ig_grammar.specs.declared.declaration.Decl.{Decl}

@@ -6,7 +6,7 @@ use Rattle.std.proofs.lemmas.List.Sums.{sum_by-cons, sum_by-append}
 use Rattle.ig_grammar.specs.Symbol.{Symbol, Literal, OneOf, Call, Label, Guard, Let, Opt, Star, Plus, SepStar, SepPlus, Group, Offside, Ignore, Align, Filtered, Seq, Entry}
 use Rattle.ig_grammar.specs.Symbol.{Symbols, no_symbols, next_symbol, Alternatives, no_alternatives, next_alternative}
 use Rattle.ig_grammar.specs.Subterms.{subterms, subterms_of_symbols, subterms_of_alternatives}
-use Rattle.ig_grammar.specs.Regular.{own_parts, own_alternatives, alternatives_among}
+use Rattle.ig_grammar.specs.Counts.{own_parts, own_alternatives, alternatives_among}
 use Rattle.ig_grammar.specs.Laws.{OfInner, OfSymbols, OfAlternatives, inner_sum, symbols_sum, alternatives_sum, CountsByForm}
 
 module _ (P : Symbol → Type 0) where

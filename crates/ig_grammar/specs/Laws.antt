@@ -3,10 +3,12 @@ use Rattle.std.specs.Prelude.{◌≡◌, ℕ, ◌+◌, All, sum_by}
 use Rattle.ig_grammar.specs.Symbol.{Symbol, Label, Opt, Star, Plus, SepStar, SepPlus, Group, Offside, Ignore, Align, Filtered, Seq, Entry}
 use Rattle.ig_grammar.specs.Symbol.{Symbols, no_symbols, next_symbol, Alternatives, no_alternatives, next_alternative}
 use Rattle.ig_grammar.specs.Subterms.{subterms, subterms_of_symbols, subterms_of_alternatives}
-use Rattle.ig_grammar.specs.Regular.{IsPlaced, StandsWell, SymbolsStandWell, AlternativesStandWell}
-use Rattle.ig_grammar.specs.Regular.{IsNoMark, HasNoMark, SymbolsHaveNoMark, AlternativesHaveNoMark}
-use Rattle.ig_grammar.specs.Regular.{own_parts, parts, parts_of_symbols, parts_of_alternatives}
-use Rattle.ig_grammar.specs.Regular.{own_alternatives, alternatives_inside, alternatives_inside_symbols, alternatives_among}
+use Rattle.ig_grammar.specs.Regular.{IsPlaced, AlternativesStandWell}
+use Rattle.ig_grammar.specs.Standing.{StandsWell, SymbolsStandWell}
+use Rattle.ig_grammar.specs.Regular.{IsNoMark, AlternativesHaveNoMark}
+use Rattle.ig_grammar.specs.Standing.{HasNoMark, SymbolsHaveNoMark}
+use Rattle.ig_grammar.specs.Counts.{own_parts, parts, parts_of_symbols, parts_of_alternatives}
+use Rattle.ig_grammar.specs.Counts.{own_alternatives, alternatives_inside, alternatives_inside_symbols, alternatives_among}
 
 -- a fact of each symbol in those directly inside a symbol
 abbrev pub OfInner : (Symbol → Type 0) → Symbol → Type 0

@@ -10,7 +10,9 @@ pub mod Condition
 pub mod WellScoped
 pub mod Checked
 pub mod Subterms
+pub mod Counts
 pub mod Regular
+pub mod Standing
 pub mod Laws
 pub mod CodingBindings
 pub mod CodingSymbols

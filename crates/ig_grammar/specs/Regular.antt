@@ -1,15 +1,16 @@
 -- Which grammars are regular: what a grammar that was read, and each one that a pass makes of it, keeps to.
-use Rattle.std.specs.Prelude.{◌≡◌, ℕ, ◌+◌, ◌<◌, List, [], ◌∷◌, map, All, Contains, length, sum_by}
+use Rattle.std.specs.Prelude.{◌≡◌, List, [], ◌∷◌, map, All, Contains}
 use Rattle.std.specs.List.{flat_map}
 use Rattle.ig_text.specs.declared.pattern.Pattern.{Pattern}
 use Rattle.ig_text.specs.declared.pattern.Pattern.TheVariants.{Literal as Spelled}
 use Rattle.ig_text.specs.Pattern.{HasNoEmptyLiteral}
 use Rattle.ig_expr.specs.Expression.{patterns_in}
 use Rattle.ig_grammar.specs.Symbol.{Symbol, Literal, Label, Guard, Let, Opt, Star, Plus, SepStar, SepPlus, Group, Offside, Ignore, Align, Filtered, Seq, Entry}
-use Rattle.ig_grammar.specs.Symbol.{Symbols, Alternatives, no_alternatives, next_alternative}
-use Rattle.ig_grammar.specs.Subterms.{subterms, subterms_of_symbols, subterms_of_alternatives, bound_names}
+use Rattle.ig_grammar.specs.Symbol.{Alternatives}
+use Rattle.ig_grammar.specs.Subterms.{subterms_of_alternatives, bound_names}
 use Rattle.ig_grammar.specs.Alternative.{gathered_alternatives}
 use Rattle.ig_grammar.specs.Condition.{expressions}
+use Rattle.ig_grammar.specs.Counts.{HasFewerThan, counts_bound}
 use Rattle.ig_grammar.specs.declared.filter.Filter.{Filter}
 use Rattle.ig_grammar.specs.declared.filter.Filter.TheVariants.{NotFollowed, NotPreceded, Not}
 use Rattle.ig_grammar.specs.declared.declaration.DeclKind.TheVariants.{Plain}
@@ -98,81 +99,17 @@ IsNoMark (Ignore x) = ⊥
 IsNoMark (Align x) = ⊥
 IsNoMark x = Unit {0}
 
-abbrev pub number_of_alternatives : Alternatives → ℕ
-number_of_alternatives no_alternatives = 0
-number_of_alternatives (next_alternative xs others) = number_of_alternatives others + 1
-
--- how many alternatives a symbol itself has
-abbrev pub own_alternatives : Symbol → ℕ
-own_alternatives (Group choices) = number_of_alternatives choices
-own_alternatives x = 0
-
--- a symbol counts with its filters
-abbrev pub own_parts : Symbol → ℕ
-own_parts (Filtered x filters) = length filters + 1
-own_parts x = 1
-
 -- a fact of the alternatives of each level
 abbrev pub OfEachLevel : (Alternatives → Type 0) → Grammar → Type 0
 OfEachLevel P g =
     (decl : Decl) (level : Level) → Contains g.decls decl → Contains decl.levels level →
     P (gathered_alternatives level.alts)
 
--- the sum of a count over the alternatives of each level
-abbrev pub sum_over_levels : (Alternatives → ℕ) → Grammar → ℕ
-sum_over_levels count g =
-    sum_by (λ decl. sum_by (λ level. count (gathered_alternatives level.alts)) decl.levels) g.decls
-
-abbrev pub StandsWell : Symbol → Type 0
-StandsWell x = All IsPlaced (subterms x)
-
-abbrev pub SymbolsStandWell : Symbols → Type 0
-SymbolsStandWell xs = All IsPlaced (subterms_of_symbols xs)
-
 abbrev pub AlternativesStandWell : Alternatives → Type 0
 AlternativesStandWell choices = All IsPlaced (subterms_of_alternatives choices)
 
-abbrev pub HasNoMark : Symbol → Type 0
-HasNoMark x = All IsNoMark (subterms x)
-
-abbrev pub SymbolsHaveNoMark : Symbols → Type 0
-SymbolsHaveNoMark xs = All IsNoMark (subterms_of_symbols xs)
-
 abbrev pub AlternativesHaveNoMark : Alternatives → Type 0
 AlternativesHaveNoMark choices = All IsNoMark (subterms_of_alternatives choices)
-
--- how many alternatives of groups are in it
-abbrev pub alternatives_inside : Symbol → ℕ
-alternatives_inside x = sum_by own_alternatives (subterms x)
-
-abbrev pub alternatives_inside_symbols : Symbols → ℕ
-alternatives_inside_symbols xs = sum_by own_alternatives (subterms_of_symbols xs)
-
--- these alternatives, and those in them
-abbrev pub alternatives_among : Alternatives → ℕ
-alternatives_among choices =
-    number_of_alternatives choices + sum_by own_alternatives (subterms_of_alternatives choices)
-
--- how many symbols and filters it has, itself counted
-abbrev pub parts : Symbol → ℕ
-parts x = sum_by own_parts (subterms x)
-
-abbrev pub parts_of_symbols : Symbols → ℕ
-parts_of_symbols xs = sum_by own_parts (subterms_of_symbols xs)
-
-abbrev pub parts_of_alternatives : Alternatives → ℕ
-parts_of_alternatives choices = sum_by own_parts (subterms_of_alternatives choices)
-
--- fewer than so many declarations, levels, alternatives, and symbols with filters, each over the whole grammar
-pub record HasFewerThan (most : ℕ) (g : Grammar) : Type 0 where
-  pub declarations : length g.decls < most
-  pub levels : sum_by (λ decl. length decl.levels) g.decls < most
-  pub alternatives : sum_over_levels alternatives_among g < most
-  pub symbols : sum_over_levels parts_of_alternatives g < most
-
--- the bound on each count
-abbrev pub counts_bound : ℕ
-counts_bound = 4294967296
 
 pub record IsRegular (g : Grammar) : Type 0 where
   pub well : OfEachLevel AlternativesStandWell g

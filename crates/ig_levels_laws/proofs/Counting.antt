@@ -8,8 +8,8 @@ use Rattle.ig_expr.specs.Expression.{Expression}
 use Rattle.ig_grammar.specs.Alternative.{gathered_alternatives}
 use Rattle.ig_grammar.specs.Laws.{CountsByForm, inner_sum, symbols_sum, alternatives_sum}
 use Rattle.ig_grammar.specs.Numbering.{Levelled, by_level}
-use Rattle.ig_grammar.specs.Regular.{own_parts, parts_of_symbols, parts_of_alternatives}
-use Rattle.ig_grammar.specs.Regular.{own_alternatives, number_of_alternatives, alternatives_inside_symbols, alternatives_among}
+use Rattle.ig_grammar.specs.Counts.{own_parts, parts_of_symbols, parts_of_alternatives}
+use Rattle.ig_grammar.specs.Counts.{own_alternatives, number_of_alternatives, alternatives_inside_symbols, alternatives_among}
 use Rattle.ig_grammar.specs.Subterms.{subterms, subterms_of_symbols, subterms_of_alternatives}
 use Rattle.ig_grammar.specs.Symbol.{Symbol, Literal, OneOf, Call, Label, Guard, Let, Opt, Star, Plus, SepStar, SepPlus, Group, Offside, Ignore, Align, Filtered, Seq, Entry}
 use Rattle.ig_grammar.specs.Symbol.{Symbols, no_symbols, next_symbol, Alternatives, no_alternatives, next_alternative, gathered}

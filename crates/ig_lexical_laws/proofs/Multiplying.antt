@@ -5,7 +5,7 @@ use Rattle.ig_expr.specs.Expression.{Expression}
 use Rattle.ig_grammar.specs.Symbol.{Symbol, Call, Label, Guard, Filtered, Seq, Entry, Symbols, no_symbols, next_symbol, gathered}
 use Rattle.ig_grammar.specs.Laws.{CountsByForm, inner_sum}
 use Rattle.ig_grammar.specs.Numbering.{layout_among}
-use Rattle.ig_grammar.specs.Regular.{own_parts, own_alternatives, parts, parts_of_symbols, alternatives_inside, alternatives_inside_symbols}
+use Rattle.ig_grammar.specs.Counts.{own_parts, own_alternatives, parts, parts_of_symbols, alternatives_inside, alternatives_inside_symbols}
 use Rattle.ig_grammar.specs.declared.declaration.DeclKind.{DeclKind}
 use Rattle.ig_grammar.specs.declared.declaration.DeclKind.TheVariants.{Syntax, Lexical, Layout, Plain}
 use Rattle.ig_grammar.specs.declared.declaration.Decl.{Decl}

@@ -4,7 +4,8 @@ use Rattle.std.specs.Prelude.{Contains}
 use Rattle.ig_grammar.specs.Symbol.{Symbol, Literal, OneOf, Call, Label, Guard, Let, Opt, Star, Plus, SepStar, SepPlus, Group, Offside, Ignore, Align, Filtered, Seq, Entry}
 use Rattle.ig_grammar.specs.Symbol.{Symbols, no_symbols, next_symbol, Alternatives, no_alternatives, next_alternative, gathered}
 use Rattle.ig_grammar.specs.Laws.{RegularityByForm}
-use Rattle.ig_grammar.specs.Regular.{IsNoMark, HasNoMark, SymbolsHaveNoMark, AlternativesHaveNoMark, OfEachLevel}
+use Rattle.ig_grammar.specs.Regular.{IsNoMark, AlternativesHaveNoMark, OfEachLevel}
+use Rattle.ig_grammar.specs.Standing.{HasNoMark, SymbolsHaveNoMark}
 use Rattle.ig_grammar.specs.Numbering.{Levelled, IsAlternative, alternatives}
 use Rattle.ig_grammar.specs.declared.declaration.Decl.{Decl}
 use Rattle.ig_grammar.specs.declared.grammar.Grammar.{Grammar}

@@ -5,7 +5,8 @@ use Rattle.ig_text.specs.declared.tag.Tag.TheVariants as tag
 use Rattle.ig_expr.specs.declared.value.Value.{Value}
 use Rattle.ig_grammar.specs.Symbol.{Symbol, Label, Offside, Ignore, Align, Filtered, Entry}
 use Rattle.ig_meaning.specs.Environment.{Environment}
-use Rattle.ig_grammar.specs.Regular.{IsPlaced, MayHaveLabel, MayHaveMark, MayHaveFilters, MayHaveEntry, StandsWell}
+use Rattle.ig_grammar.specs.Regular.{IsPlaced, MayHaveLabel, MayHaveMark, MayHaveFilters, MayHaveEntry}
+use Rattle.ig_grammar.specs.Standing.{StandsWell}
 use Rattle.ig_grammar.specs.Subterms.{subterms}
 use Rattle.std.proofs.lemmas.List.Elements.{All-head, All-tail}
 use Rattle.ig_meaning.specs.Derivation.{Derives, Lists, Items, Instance, span_value}

@@ -7,7 +7,7 @@ use Rattle.ig_text.specs.Tree.{Tree, Trees, Leaf, Node, more}
 use Rattle.ig_expr.specs.declared.value.Value.{Value}
 use Rattle.ig_grammar.specs.Symbol.{Symbol, Label}
 use Rattle.ig_grammar.specs.Subterms.{bound_names}
-use Rattle.ig_grammar.specs.Regular.{StandsWell}
+use Rattle.ig_grammar.specs.Standing.{StandsWell}
 use Rattle.ig_meaning.specs.Environment.{Environment, names}
 use Rattle.ig_meaning.specs.Derivation.{Covers, Derives, Lists, Items, Instance, Trails, span_value}
 use Rattle.ig_meaning.specs.Permitted.{Permitted}
@@ -25,7 +25,7 @@ pub record IsInOrder (n i e j : ℕ) : Type 0 where
   pub ends : e ≤ j
   pub within : i ≤ n → j ≤ n
 
--- what derivations cover is in order and within the text; the own end of a symbol lies between its begin and its end
+-- what derivations cover is in order, and what begins in the text ends in it; the own end of a symbol lies between its begin and its end
 pub record SpansInOrder (g : Grammar) (shapes : List Shape) (text : List ℕ) : Type 0 where
   pub covers : {c : DeclKind} {xs : List Symbol} {env after : Environment} {i j : ℕ} {ts : Trees} {starts : List ℕ} →
       Covers g shapes text c xs env i j ts after starts → IsInOrder (length text) i j j
@@ -84,7 +84,7 @@ abbrev pub end_of : Tree → ℕ
 end_of (Leaf i j) = j
 end_of (Node tag i j children) = j
 
--- what a label binds last is the span of the first of its trees; behind that one stands the layout of a token
+-- what a label binds last is the span of the first of its trees, which ends at the own end of its symbol
 pub record BindsFirstTree (name : List ℕ) (i e : ℕ) (ts : Trees) (after : Environment) : Type 0 where
   pub first : Tree
   pub others : Trees

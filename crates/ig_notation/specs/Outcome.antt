@@ -5,7 +5,8 @@ use Rattle.ig_syntax.specs.Rules.{FollowsRules}
 use Rattle.ig_syntax.specs.Lexing.{Lexes, Breaks}
 use Rattle.ig_syntax.specs.Notation.{most_bytes}
 use Rattle.ig_syntax.specs.Stops.{Stops}
-use Rattle.ig_grammar.specs.Regular.{IsRegular, HasFewerThan, OfEachLevel}
+use Rattle.ig_grammar.specs.Regular.{IsRegular, OfEachLevel}
+use Rattle.ig_grammar.specs.Counts.{HasFewerThan}
 use Rattle.ig_grammar.specs.Subterms.{subterms_of_alternatives}
 use Rattle.ig_grammar.specs.Symbol.{Symbol, Seq, Entry}
 use Rattle.ig_grammar.specs.declared.declaration.Decl.{Decl}

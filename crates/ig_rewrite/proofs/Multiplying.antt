@@ -9,8 +9,8 @@ use Rattle.ig_grammar.specs.Symbol.{Symbols, no_symbols, next_symbol, Alternativ
 use Rattle.ig_grammar.specs.Alternative.{gathered_alternatives}
 use Rattle.ig_grammar.specs.Laws.{CountsByForm, inner_sum}
 use Rattle.ig_grammar.specs.Numbering.{layout_among}
-use Rattle.ig_grammar.specs.Regular.{HasFewerThan, own_parts, own_alternatives, parts, parts_of_symbols, parts_of_alternatives}
-use Rattle.ig_grammar.specs.Regular.{alternatives_inside, alternatives_inside_symbols, alternatives_among}
+use Rattle.ig_grammar.specs.Counts.{HasFewerThan, own_parts, own_alternatives, parts, parts_of_symbols, parts_of_alternatives}
+use Rattle.ig_grammar.specs.Counts.{alternatives_inside, alternatives_inside_symbols, alternatives_among}
 use Rattle.ig_grammar.specs.declared.declaration.Assoc.TheVariants.{Free}
 use Rattle.ig_grammar.specs.declared.declaration.DeclKind.TheVariants.{Syntax}
 use Rattle.ig_grammar.specs.declared.declaration.Level.{Level}

@@ -15,7 +15,8 @@ use Rattle.ig_grammar.specs.Condition.{Condition, SymbolMeets, symbols_of}
 use Rattle.ig_grammar.specs.Condition as meets
 use Rattle.ig_grammar.specs.WellScoped.{IsWellScoped}
 use Rattle.ig_grammar.specs.Checked.{CheckedGrammar, FitShapes, FitsShape, IsRoot, IsOfCalls}
-use Rattle.ig_grammar.specs.Regular.{IsRegular, HasFewerThan, counts_bound, OfEachLevel, IsPlaced, IsNoMark, AlternativesHaveNoMark}
+use Rattle.ig_grammar.specs.Regular.{IsRegular, OfEachLevel, IsPlaced, IsNoMark, AlternativesHaveNoMark}
+use Rattle.ig_grammar.specs.Counts.{HasFewerThan, counts_bound}
 use Rattle.ig_grammar.specs.Subterms.{subterms_of_alternatives}
 use Rattle.ig_grammar.specs.declared.symbol.Alt.{Alt}
 use Rattle.ig_grammar.specs.declared.declaration.Assoc.TheVariants.{Free}

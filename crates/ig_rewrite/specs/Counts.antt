@@ -2,7 +2,7 @@
 use Rattle.std.specs.Prelude.{◌≡◌, ℕ, suc, ◌+◌, ◌*◌, ◌≤◌, List, length, map, sum_by}
 use Rattle.ig_grammar.specs.Alternative.{gathered_alternatives}
 use Rattle.ig_grammar.specs.Checked.{CheckedGrammar}
-use Rattle.ig_grammar.specs.Regular.{HasFewerThan, alternatives_among, alternatives_inside, parts, parts_of_alternatives}
+use Rattle.ig_grammar.specs.Counts.{HasFewerThan, alternatives_among, alternatives_inside, parts, parts_of_alternatives}
 use Rattle.ig_grammar.specs.Symbol.{Symbol}
 use Rattle.ig_grammar.specs.declared.declaration.DeclKind.TheVariants.{Syntax}
 use Rattle.ig_grammar.specs.declared.declaration.Level.{Level}

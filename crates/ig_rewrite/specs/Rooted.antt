@@ -3,7 +3,8 @@ use Rattle.std.specs.Prelude.{◌≡◌, ℕ, Bool, true, false, List, [], ◌�
 use Rattle.ig_grammar.specs.Symbol.{Symbol, Call}
 use Rattle.ig_grammar.specs.Numbering.{layout_among}
 use Rattle.ig_grammar.specs.Checked.{CheckedGrammar, FitShapes}
-use Rattle.ig_grammar.specs.Regular.{AlternativesHaveNoMark, HasFewerThan, IsRegular, OfEachLevel, counts_bound}
+use Rattle.ig_grammar.specs.Regular.{AlternativesHaveNoMark, IsRegular, OfEachLevel}
+use Rattle.ig_grammar.specs.Counts.{HasFewerThan, counts_bound}
 use Rattle.ig_grammar.specs.WellScoped.{IsWellScoped}
 use Rattle.ig_meaning.specs.Permitted.{behind_layout}
 use Rattle.ig_grammar.specs.declared.declaration.Assoc.TheVariants.{Free}

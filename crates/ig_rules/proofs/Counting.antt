@@ -8,7 +8,7 @@ use Rattle.ig_grammar.specs.Symbol as tree
 use Rattle.ig_grammar.specs.Symbol.{Symbol, Symbols, no_symbols, next_symbol, Alternatives, no_alternatives, next_alternative}
 use Rattle.ig_grammar.specs.Laws.{CountsByForm}
 use Rattle.ig_grammar.specs.Alternative.{gathered_alternatives}
-use Rattle.ig_grammar.specs.Regular.{alternatives_inside, alternatives_inside_symbols, alternatives_among, parts, parts_of_symbols, parts_of_alternatives, HasFewerThan}
+use Rattle.ig_grammar.specs.Counts.{alternatives_inside, alternatives_inside_symbols, alternatives_among, parts, parts_of_symbols, parts_of_alternatives, HasFewerThan}
 use Rattle.ig_grammar.specs.declared.filter.Filter.{Filter}
 use Rattle.ig_grammar.specs.declared.declaration.Level.{Level}
 use Rattle.ig_grammar.specs.declared.declaration.Decl.{Decl}

@@ -4,7 +4,8 @@ use Rattle.std.specs.Prelude.{All}
 use Rattle.ig_syntax.specs.Token.{Token}
 use Rattle.ig_syntax.specs.Rules.{FollowsRules}
 use Rattle.ig_grammar.specs.Laws.{CountsByForm}
-use Rattle.ig_grammar.specs.Regular.{HasFewerThan, counts_bound, IsRegular}
+use Rattle.ig_grammar.specs.Regular.{IsRegular}
+use Rattle.ig_grammar.specs.Counts.{HasFewerThan, counts_bound}
 use Rattle.ig_grammar.specs.declared.grammar.Grammar.{Grammar}
 use Rattle.ig_rules.specs.Written.{HasText}
 use Rattle.ig_rules.proofs.Forms.{grammar_written}

@@ -9,7 +9,8 @@ use Rattle.ig_grammar.specs.Symbol.{Symbol, Literal, OneOf, Call, Label, Guard, 
 use Rattle.ig_grammar.specs.Symbol.{Symbols, no_symbols, next_symbol, Alternatives, no_alternatives, next_alternative, gathered}
 use Rattle.ig_grammar.specs.Alternative.{gathered_alternatives}
 use Rattle.ig_grammar.specs.Subterms.{subterms, subterms_of_symbols, subterms_of_alternatives}
-use Rattle.ig_grammar.specs.Regular.{IsRegular, own_parts, parts_of_symbols, parts_of_alternatives, alternatives_among, number_of_alternatives}
+use Rattle.ig_grammar.specs.Regular.{IsRegular}
+use Rattle.ig_grammar.specs.Counts.{own_parts, parts_of_symbols, parts_of_alternatives, alternatives_among, number_of_alternatives}
 use Rattle.ig_grammar.specs.Visible.{Visible, inside_sequence, inside_choices, binds, replaced, parameters}
 use Rattle.ig_grammar.specs.declared.symbol.Alt.{Alt}
 use Rattle.ig_grammar.specs.declared.declaration.Level.{Level}

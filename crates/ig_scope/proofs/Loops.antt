@@ -7,7 +7,7 @@ use Rattle.ig_grammar.specs.Symbol.{gathered}
 use Rattle.ig_grammar.specs.Alternative.{gathered_alternatives}
 use Rattle.ig_grammar.specs.Visible.{Visible, inside_sequence, inside_choices, binds, all_bind}
 use Rattle.ig_grammar.specs.declared.symbol.Alt.{Alt}
-use Rattle.ig_grammar.specs.Regular.{counts_bound}
+use Rattle.ig_grammar.specs.Counts.{counts_bound}
 use Rattle.ig_scope.specs.Places.{HaveNumbers}
 use Rattle.ig_scope.specs.Told.{Walked, from}
 use Rattle.ig_scope.specs.declared.places.Surroundings.{Surroundings}

@@ -1,7 +1,7 @@
 -- The numbers of places have 32 bits.
 use Rattle.std.specs.Prelude.{ℕ, ◌+◌, ◌<◌, List, Contains, length}
 use Rattle.ig_grammar.specs.Numbering.{alternatives}
-use Rattle.ig_grammar.specs.Regular.{counts_bound}
+use Rattle.ig_grammar.specs.Counts.{counts_bound}
 use Rattle.ig_grammar.specs.Visible.{Occurrence}
 use Rattle.ig_grammar.specs.Condition.{symbols_of}
 use Rattle.ig_grammar.specs.declared.symbol.Alt.{Alt}

@@ -1,5 +1,6 @@
 ghost use Rattle.std.specs.Prelude.{◌≡◌, ◌+◌, ◌<◌, IfOk, IfErr};
-ghost use Rattle.ig_grammar.specs.Regular.{IsRegular, counts_bound};
+ghost use Rattle.ig_grammar.specs.Regular.{IsRegular};
+ghost use Rattle.ig_grammar.specs.Counts.{counts_bound};
 ghost use Rattle.ig_grammar.specs.WellScoped.{IsWellScoped};
 ghost use Rattle.ig_grammar.specs.Checked.{rules};
 ghost use Rattle.ig_conditions.specs.Heads.{is_layout};

@@ -1,5 +1,5 @@
 ghost use Rattle.std.specs.Prelude.{◌≡◌, ◌+◌, ◌<◌};
-ghost use Rattle.ig_grammar.specs.Regular.{counts_bound};
+ghost use Rattle.ig_grammar.specs.Counts.{counts_bound};
 ghost use Rattle.ig_scope.specs.Told.{fault_at};
 
 use crate::fault::ScopeFault;

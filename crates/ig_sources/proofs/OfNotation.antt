@@ -2,7 +2,7 @@
 use Rattle.std.proofs.Common.{ℕ, ◌<◌, List, [], ◌∷◌, All, arith, suc}
 use Rattle.std.proofs.lemmas.List.Elements.{All-nil, All-cons, All-head, All-tail}
 use Rattle.ig_grammar.specs.Alternative.{gathered_alternatives}
-use Rattle.ig_grammar.specs.Regular.{HasFewerThan}
+use Rattle.ig_grammar.specs.Counts.{HasFewerThan}
 use Rattle.ig_grammar.specs.Subterms.{subterms_of_alternatives}
 use Rattle.ig_grammar.specs.Symbol.{Symbol, Call, Seq, Entry}
 use Rattle.ig_grammar.specs.declared.grammar.Grammar.{Grammar}

@@ -2,7 +2,7 @@ use Rattle.std.proofs.Common.{◌≡◌, ◌<◌, ◌+◌, length, take, refl, s
 use Rattle.std.specs.Prelude.{Contains}
 use Rattle.std.proofs.lemmas.List.Elements.{All-nil}
 use Rattle.ig_grammar.specs.Numbering.{alternatives}
-use Rattle.ig_grammar.specs.Regular.{counts_bound}
+use Rattle.ig_grammar.specs.Counts.{counts_bound}
 use Rattle.ig_scope.specs.Told.{TellsLevel, AlternativeFree}
 use Rattle.ig_scope.proofs.Levels.{split_levels, more_levels, level_fits, level_within, levels_step, levels_stopped}
 use Rattle.ig_scope.proofs.alternatives.check_levels.Goals as goal
