@@ -17,7 +17,7 @@ use Rattle.ig_item.specs.Gives as rules
 use Rattle.ig_item.specs.Gives.{NodeKey, Taken, Completes, nothing, leaf, tree}
 use Rattle.ig_live.specs.Live.{Gives}
 use Rattle.ig_forest.specs.CodeTables.{item_by, list_at}
-use Rattle.ig_live.specs.Lists.{list_cmp}
+use Rattle.ig_expr.specs.ValueOrder.{values_cmp}
 use Rattle.ig_forest.specs.CodeDone.{StandsLast}
 use Rattle.ig_live.specs.declared.rows.ItemRow.{ItemRow}
 use Rattle.ig_forest.proofs.Uniqueness.{same_key}
@@ -163,8 +163,8 @@ module _ (core : List Nonterminal) (text : List ℕ) where
       ap tree (same_key key b.key (sym b.nonterminal) v (calls.here ∙ sym b.here) e) ∙ sym b.takes
 
 -- lists at two places of a table in which each stands once
-pub same_list_place : (lists : List (List Value)) (p q : ℕ) → IsStrictlySortedBy list_cmp lists → p < length lists → q < length lists →
+pub same_list_place : (lists : List (List Value)) (p q : ℕ) → IsStrictlySortedBy values_cmp lists → p < length lists → q < length lists →
     list_at lists p ≡ list_at lists q → p ≡ q
 same_list_place lists p q sorted lt mt same =
-    one_place list_cmp list_total lists p q (list_at lists p) sorted (slice_get-get_or lists p [] lt)
+    one_place values_cmp list_total lists p q (list_at lists p) sorted (slice_get-get_or lists p [] lt)
     (slice_get-get_or lists q [] mt ∙ ap Some (sym same))

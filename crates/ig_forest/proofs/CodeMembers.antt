@@ -16,7 +16,7 @@ use Rattle.ig_live.specs.Live.{IsLive}
 use Rattle.ig_forest.specs.Orders.{item_cmp, node_cmp}
 use Rattle.ig_forest.specs.Reduced.{AreItems, AreNodes}
 use Rattle.ig_forest.specs.CodeTables.{RowFits, AreRows, item_by, key_by, list_at, node_of, node_row_cmp}
-use Rattle.ig_live.specs.Lists.{list_cmp}
+use Rattle.ig_expr.specs.ValueOrder.{values_cmp}
 use Rattle.ig_live.specs.Rows.{row_cmp}
 use Rattle.ig_forest.specs.CodeDone.{AreNodesOf}
 use Rattle.ig_live.specs.declared.rows.ItemRow.{ItemRow}
@@ -24,29 +24,29 @@ use Rattle.ig_forest.specs.declared.node_rows.NodeRow.{NodeRow}
 use Rattle.ig_forest.proofs.CodeOrders.{list_total}
 use Rattle.ig_forest.proofs.CodeSorted.{strict_map}
 use Rattle.ig_forest.proofs.CodeGives.{complete_from_last, last_from_complete}
-use Rattle.ig_forest.proofs.CodeKeeping.{less_number}
+use Rattle.ig_text.proofs.Sorted.{less_number}
 
 -- places have the order of their lists
-pub rank : (lists : List (List Value)) (a b : ℕ) → IsStrictlySortedBy list_cmp lists → a < length lists → b < length lists →
-    nat_cmp a b ≡ list_cmp (list_at lists a) (list_at lists b)
+pub rank : (lists : List (List Value)) (a b : ℕ) → IsStrictlySortedBy values_cmp lists → a < length lists → b < length lists →
+    nat_cmp a b ≡ values_cmp (list_at lists a) (list_at lists b)
 rank lists a b sorted la lb =
     let at_a = slice_get-get_or lists a [] la in
     let at_b = slice_get-get_or lists b [] lb in
     elim (cases_order a b) [
-      | inr (inl lt) ↦ less_number a b lt ∙ sym (rises list_cmp lists a b (list_at lists a) (list_at lists b) sorted at_a at_b lt)
+      | inr (inl lt) ↦ less_number a b lt ∙ sym (rises values_cmp lists a b (list_at lists a) (list_at lists b) sorted at_a at_b lt)
       | inl e ↦
           let n : nat_cmp a b ≡ Equal = ap (nat_cmp a) (sym e) ∙ tied_itself nat_cmp_total a in
-          let m : list_cmp (list_at lists a) (list_at lists b) ≡ Equal =
-          ap (λ z. list_cmp (list_at lists a) (list_at lists z)) (sym e) ∙ tied_itself list_total (list_at lists a) in
+          let m : values_cmp (list_at lists a) (list_at lists b) ≡ Equal =
+          ap (λ z. values_cmp (list_at lists a) (list_at lists z)) (sym e) ∙ tied_itself list_total (list_at lists a) in
           n ∙ sym m
       | inr (inr gt) ↦
           let n : nat_cmp a b ≡ Greater = nat_cmp_total.antisymm a b ∙ ap ordering_reverse (less_number b a gt) in
-          let r = rises list_cmp lists b a (list_at lists b) (list_at lists a) sorted at_b at_a gt in
-          let m : list_cmp (list_at lists a) (list_at lists b) ≡ Greater = list_total.antisymm (list_at lists a) (list_at lists b) ∙ ap ordering_reverse r in
+          let r = rises values_cmp lists b a (list_at lists b) (list_at lists a) sorted at_b at_a gt in
+          let m : values_cmp (list_at lists a) (list_at lists b) ≡ Greater = list_total.antisymm (list_at lists a) (list_at lists b) ∙ ap ordering_reverse r in
           n ∙ sym m
     ]
 
-module _ (lists : List (List Value)) (sorted : IsStrictlySortedBy list_cmp lists) where
+module _ (lists : List (List Value)) (sorted : IsStrictlySortedBy values_cmp lists) where
   row_as_item : (x y : ItemRow) → RowFits lists x → RowFits lists y → row_cmp x y ≡ item_cmp (item_by lists x) (item_by lists y)
   row_as_item x y fx fy =
       let v = rank lists x.values y.values sorted fx.values fy.values in

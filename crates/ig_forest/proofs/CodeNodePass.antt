@@ -35,7 +35,7 @@ use Rattle.ig_live.specs.declared.mark.Mark.TheVariants.{Complete}
 use Rattle.ig_live.specs.declared.rows.ItemRow.{ItemRow}
 use Rattle.ig_forest.specs.declared.node_rows.NodeRow.{NodeRow}
 use Rattle.ig_forest.proofs.CodeGives.{same_alternative}
-use Rattle.ig_forest.proofs.CodeKeeping.{less_number, strict_none, strict_push}
+use Rattle.ig_text.proofs.Sorted.{less_number, strict_none, strict_push}
 use Rattle.ig_forest.proofs.CodeLiveNumbers.{marked_within, number_total}
 use Rattle.ig_forest.proofs.CodeOrders.{node_row_exact, node_row_total}
 

@@ -20,7 +20,7 @@ use Rattle.ig_forest.specs.declared.entry.Choice.{Choice}
 use Rattle.ig_live.specs.declared.rows.ItemRow.{ItemRow}
 use Rattle.ig_forest.specs.declared.node_rows.NodeRow.{NodeRow}
 use Rattle.ig_forest.proofs.TotalOrders.{choice_total}
-use Rattle.ig_forest.proofs.CodeKeeping.{strict_none}
+use Rattle.ig_text.proofs.Sorted.{strict_none}
 
 -- what isn't below and doesn't tie is above
 above : (o : Ordering) → is_lt o ≡ false → (o ≡ Equal → ⊥) → ordering_reverse o ≡ Less

@@ -13,7 +13,7 @@ use Rattle.ig_item.specs.declared.core_grammar.Nonterminal.{Nonterminal}
 use Rattle.ig_forest.specs.Orders.{choice_cmp}
 use Rattle.ig_forest.specs.Reduced.{AreNodes, IsChoice, IsNamed, IsNode}
 use Rattle.ig_forest.specs.CodeTables.{RowFits, item_by, key_by, node_of}
-use Rattle.ig_live.specs.Lists.{list_cmp}
+use Rattle.ig_expr.specs.ValueOrder.{values_cmp}
 use Rattle.ig_forest.specs.CodeForest.{name_at, node_by}
 use Rattle.ig_forest.specs.CodeDone.{IsChoiceRow, IsTagged}
 use Rattle.ig_forest.specs.CodeNodeRows.{rows_in, StoredNode}
@@ -38,7 +38,7 @@ name_within core names n nonterminal is at =
     slice_get_within names n nonterminal.name
     (ap (λ (z : List (List ℕ)). slice_get z n) is ∙ mapped_at (λ (z : Nonterminal). z.name) core n nonterminal at)
 
-module _ (core : List Nonterminal) (lists : List (List Value)) (sorted : IsStrictlySortedBy list_cmp lists) (rows : List ItemRow)
+module _ (core : List Nonterminal) (lists : List (List Value)) (sorted : IsStrictlySortedBy values_cmp lists) (rows : List ItemRow)
     (fit : (row : ItemRow) → Contains rows row → RowFits lists row) (table : List StoredNode) (numbers : List ℕ)
     (are : AreNodesWith choice_cmp core rows table numbers) where
   abbrev TheItems : List Item

@@ -16,7 +16,6 @@ pub mod CodeOrders
 pub mod CodeLiveNumbers
 pub mod CodeParts
 pub mod CodeGives
-pub mod CodeKeeping
 pub mod CodeMembers
 pub mod CodeReading
 pub mod TreeTags

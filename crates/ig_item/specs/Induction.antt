@@ -1,7 +1,7 @@
 -- Induction over reachable items, and what more known items change. A clause ranges over no properties of items, so these
 -- facts stand here with their proofs, and not as laws of src/laws.rt; nothing of this file has to be believed.
-use Rattle.std.proofs.Common.{◌≡◌, ℕ, zero, suc, ◌<◌, List, [], ◌∷◌, Some, take, Contains, slice_get, ap, ◌∙◌, arith}
-use Rattle.std.proofs.lemmas.Option.{slice_get-get_or}
+use Rattle.std.proofs.Common.{◌≡◌, ℕ, zero, suc, ◌<◌, List, [], ◌∷◌, Some, take, Contains, slice_get, arith}
+use Rattle.ig_text.proofs.Lists.{at_from_contains, within_take}
 use Rattle.ig_item.specs.Items as items
 use Rattle.ig_item.specs.Items.{Item, Follows, IsDerivation, Reachable}
 use Rattle.ig_item.specs.Gives as given
@@ -26,17 +26,6 @@ module _ (core : List Nonterminal) (text : List ℕ) where
   follows_more more (items.return it done label excluded x k l calls complete free e) =
       items.return it done label excluded x (more it k) (more done l) calls complete free e
 
-  in_taken : {X : Type 0} (xs : List X) (n m : ℕ) (x : X) → slice_get (take n xs) m ≡ Some x →
-      (m < n) × (slice_get xs m ≡ Some x)
-  in_taken [] zero m x e = cc
-  in_taken [] (suc n) m x e = cc
-  in_taken (y ∷ xs) zero m x e = cc
-  in_taken (y ∷ xs) (suc n) zero x e = (omega arith, e)
-  in_taken (y ∷ xs) (suc n) (suc m) x e = let h = in_taken xs n m x e in (omega (arith, h.0), h.1)
-
-  at_place : {X : Type 0} (xs : List X) (x : X) → Contains xs x → (k : ℕ) × (slice_get xs k ≡ Some x)
-  at_place xs x c = (c.0, slice_get-get_or xs c.0 x c.1 ∙ ap Some c.2)
-
   kept_below : (P : Item → Type 0) → ((x : Item) → Follows core text P x → P x) → (xs : List Item) →
       IsDerivation core text xs → (n k : ℕ) → k < n → (x : Item) → slice_get xs k ≡ Some x → P x
   kept_below P rule xs d zero k lt x e = absurd (omega arith)
@@ -44,8 +33,8 @@ module _ (core : List Nonterminal) (text : List ℕ) where
       rule x
       (follows_more
       (λ y c.
-      let at = at_place (take k xs) y c in
-      let h = in_taken xs k at.0 y at.1 in
+      let at = at_from_contains (take k xs) y c in
+      let h = within_take xs k at.0 y at.1 in
       kept_below P rule xs d n at.0 (omega (arith, h.0)) y h.1)
       (d k x e))
 
@@ -53,7 +42,7 @@ module _ (core : List Nonterminal) (text : List ℕ) where
   pub kept : (P : Item → Type 0) → ((x : Item) → Follows core text P x → P x) → (x : Item) →
       Reachable core text x → P x
   kept P rule x r =
-      let at = at_place r.items x r.among in
+      let at = at_from_contains r.items x r.among in
       kept_below P rule r.items r.derivation (suc at.0) at.0 (omega arith) x at.1
 
   -- the rules give no less from more, with the previous item and what is taken

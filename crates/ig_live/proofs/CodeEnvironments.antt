@@ -13,7 +13,8 @@ use Rattle.ig_text.proofs.Lists.{contains_from_at, mapped_at}
 use Rattle.ig_expr.specs.declared.value.Value.{Value}
 use Rattle.ig_expr.specs.contracts.value.ValuePartialEq.TheImpl as value_eq
 use Rattle.ig_expr.specs.contracts.value.ValueOrd.TheImpl.Laws as value_laws
-use Rattle.ig_live.specs.Lists.{AreLists, ArePlaces, list_cmp}
+use Rattle.ig_live.specs.Lists.{AreLists, ArePlaces}
+use Rattle.ig_expr.specs.ValueOrder.{values_cmp}
 use Rattle.ig_live.specs.Once.{IsOnce}
 use Rattle.ig_live.proofs.CodeSorted.{not_found, once_by}
 use Rattle.ig_live.proofs.CodeOrders.{value_derived, values_as, list_total, list_exact}
@@ -26,10 +27,10 @@ pub found_place : (lists : List (Bor (List Value))) (list : Bor (List Value)) (k
     slice_get (map now_of lists) k ≡ Some list.now
 found_place lists list k lt equal =
     let same : slice_cmp value_derived (get_or lists k list).now list.now ≡ Equal = equal list in
-    let tied : list_cmp (get_or lists k list).now list.now ≡ Equal = subst (λ r. slice_cmp r (get_or lists k list).now list.now ≡ Equal) values_as same in
+    let tied : values_cmp (get_or lists k list).now list.now ≡ Equal = subst (λ r. slice_cmp r (get_or lists k list).now list.now ≡ Equal) values_as same in
     mapped_at now_of lists k (get_or lists k list) (slice_get-get_or lists k list lt) ∙ ap Some (list_exact _ _ tied)
 
-pub no_place : (lists : List (Bor (List Value))) (list : Bor (List Value)) (i : ℕ) → IsStrictlySortedBy list_cmp (map now_of lists) →
+pub no_place : (lists : List (Bor (List Value))) (list : Bor (List Value)) (i : ℕ) → IsStrictlySortedBy values_cmp (map now_of lists) →
     (IsNonDecreasingBy (λ y. ordering_index (slice_cmp value_derived y.now list.now)) lists →
     IsPartitionPoint (λ y. slice_cmp value_derived y.now list.now ≡ Less) (λ y. slice_cmp value_derived y.now list.now ≡ Greater) lists i) →
     Contains (map now_of lists) list.now → ⊥
@@ -58,11 +59,11 @@ pub are_lists : (environments : List (List Value)) (xs ys zs : List (Bor (List V
 are_lists environments xs ys zs is moved sorted filtered =
     let E : Bor (List Value) → Bor (List Value) → Bool = λ x y. pointwise (value_eq.eq-value).it x.now y.now in
     let kept : zs ≡ dedup E ys = dedup_is E ys zs filtered in
-    let F : Bor (List Value) → Bor (List Value) → Bool = eq_by_cmp (λ x y. list_cmp x.now y.now) in
+    let F : Bor (List Value) → Bor (List Value) → Bool = eq_by_cmp (λ x y. values_cmp x.now y.now) in
     let derived : E ≡ eq_by_cmp (λ x y. slice_cmp value_derived x.now y.now) =
     (λ i x y. lists_ties value_derived value_laws.matches_eq-law x.now y.now i) in
     let same : E ≡ F = derived ∙ ap (λ (r : Value → Value → Ordering). eq_by_cmp (λ (x y : Bor (List Value)). slice_cmp r x.now y.now)) values_as in
-    let once : IsOnce list_cmp (map now_of xs) (map now_of zs) =
+    let once : IsOnce values_cmp (map now_of xs) (map now_of zs) =
     once_by now_of list_total list_exact xs ys zs moved
     (subst (λ (r : Value → Value → Ordering). IsSorted (λ (x y : Bor (List Value)). slice_cmp r x.now y.now) ys) values_as sorted)
     (kept ∙ ap (λ (e : Bor (List Value) → Bor (List Value) → Bool). dedup e ys) same) in

@@ -1,18 +1,13 @@
 -- The lists of values of a run, each once and in order.
 use Rattle.std.specs.Prelude.{◌≡◌, ◌↔◌, ℕ, List, map, Contains, Some, slice_get}
 use Rattle.std.specs.List.Sorted.{IsStrictlySortedBy}
-use Rattle.std.specs.Cmp.Lexicographic.{slice_cmp}
-use Rattle.std.specs.declared.cmp.Ordering.{Ordering}
 use Rattle.ig_expr.specs.declared.value.Value.{Value}
-use Rattle.ig_expr.specs.ValueOrder.{value_cmp}
-
-abbrev pub list_cmp : List Value → List Value → Ordering
-list_cmp = slice_cmp value_cmp
+use Rattle.ig_expr.specs.ValueOrder.{values_cmp}
 
 -- the lists are those of the environments, each once, in order
 pub record AreLists (environments lists : List (List Value)) : Type 0 where
   pub members : (list : List Value) → Contains lists list ↔ Contains environments list
-  pub order : IsStrictlySortedBy list_cmp lists
+  pub order : IsStrictlySortedBy values_cmp lists
 
 -- where each environment stands among the lists
 abbrev pub ArePlaces : List (List Value) → List (List Value) → List ℕ → Type 0

@@ -2,7 +2,8 @@
 ghost use Rattle.std.specs.Prelude.{◌≡◌, ◌<◌, IfOk, MatchOption, map, slice_get, Contains, length};
 ghost use Rattle.std.specs.List.Sorted.{IsStrictlySortedBy};
 ghost use Rattle.ig_item.specs.Limits.{numbers_end};
-ghost use Rattle.ig_live.specs.Lists.{AreLists, ArePlaces, list_cmp};
+ghost use Rattle.ig_live.specs.Lists.{AreLists, ArePlaces};
+ghost use Rattle.ig_expr.specs.ValueOrder.{values_cmp};
 
 use ig_expr::Value;
 use ig_item::Items;
@@ -39,7 +40,7 @@ fn all_lists<'a>(alloc: Global, items: &'a Items) -> Result<Vec<&'a [Value]>, Al
 
 /// The place of a list among them; `None` exactly where it isn't there.
 fn place_of(lists: &[&[Value]], list: &[Value]) -> Option<u32>
-    requires order { IsStrictlySortedBy list_cmp (map (λ l. l.now) lists.now) }
+    requires order { IsStrictlySortedBy values_cmp (map (λ l. l.now) lists.now) }
     requires few { length lists.now < numbers_end }
     ensures { MatchOption result (Contains (map (λ l. l.now) lists.now) list.now → ⊥)
         (λ k. slice_get (map (λ l. l.now) lists.now) k ≡ Some list.now) }

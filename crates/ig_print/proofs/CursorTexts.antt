@@ -13,6 +13,7 @@ use Rattle.std.proofs.lemmas.Option.{same_Some}
 use Rattle.std.proofs.lemmas.List.Elements.{All-nil, All-cons, All-head, All-tail}
 use Rattle.std.proofs.lemmas.List.Splits.{slice_split_none, slice_split_at}
 use Rattle.ig_text.specs.Words.{is_digit}
+use Rattle.ig_text.proofs.Characters.{digit_test}
 use Rattle.ig_text.proofs.Equal.{same_first, same_rest}
 use Rattle.ig_forest.specs.Cursors.{IsShortCursor}
 use Rattle.ig_print.specs.Laws.{CursorTextsDiffer}
@@ -32,9 +33,6 @@ no_points [] h = All-nil (λ c. is_point c ≡ false)
 no_points (c ∷ cs) h =
     let parts = and_parts (is_digit c) (list_all is_digit cs) h in
     All-cons (λ c. is_point c ≡ false) c cs (no_point c parts.0) (no_points cs parts.1)
-
-digit_test : (n : ℕ) → n < 10 → is_digit (48 + n) ≡ true
-digit_test n h = grind (arith, nat_tests)
 
 one_digit : (n : ℕ) → n < 10 → list_all is_digit ((48 + n) ∷ []) ≡ true
 one_digit n h = rw (digit_test n h) refl

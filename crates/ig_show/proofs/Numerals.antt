@@ -5,6 +5,7 @@ use Rattle.std.specs.Fmt.{decimal}
 use Rattle.std.proofs.lemmas.Fmt.{decimal_digit, decimal_step}
 use Rattle.std.proofs.lemmas.Bool.Decides.{nat_tests}
 use Rattle.ig_text.specs.Words.{is_digit}
+use Rattle.ig_text.proofs.Characters.{digit_test}
 use Rattle.ig_expr.specs.Reading.{spelled}
 use Rattle.std.proofs.lemmas.Bool.{and_parts}
 use Rattle.ig_syntax.specs.Spelling.{IsNumeral, nought, digits}
@@ -19,9 +20,6 @@ pub record Spells (n : ℕ) (ds : List ℕ) : Type 0 where
 spelled_more : (ds : List ℕ) (n c : ℕ) → spelled n (ds ++ c ∷ []) ≡ 10 * spelled n ds + (c - 48)
 spelled_more [] n c = refl
 spelled_more (d ∷ ds) n c = spelled_more ds (10 * n + (d - 48)) c
-
-digit_test : (n : ℕ) → n < 10 → is_digit (48 + n) ≡ true
-digit_test n h = grind (arith, nat_tests)
 
 all_more : (ds : List ℕ) (c : ℕ) → list_all is_digit ds ≡ true → is_digit c ≡ true → list_all is_digit (ds ++ c ∷ []) ≡ true
 all_more [] c h k = rw k refl

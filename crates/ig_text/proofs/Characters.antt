@@ -1,12 +1,16 @@
 -- Texts of ASCII characters, and texts compared by their bytes and by their characters.
-use Rattle.std.proofs.Common.{◌≡◌, ◌∙◌, ℕ, zero, suc, List, [], ◌∷◌, Bool, true, ◌&&◌, nat_lt, refl, sym, ap, arith, lit<, false}
+use Rattle.std.proofs.Common.{◌≡◌, ◌∙◌, ℕ, zero, suc, ◌+◌, ◌<◌, List, [], ◌∷◌, Bool, true, ◌&&◌, nat_lt, refl, sym, ap, arith, lit<, false}
 use Rattle.std.specs.Prelude.{chars, IsUtf8, encode_utf8_all, ◌≢◌}
 use Rattle.std.specs.Str.{IsAscii}
 use Rattle.std.specs.Cmp.Lexicographic.{bytes_decides}
 use Rattle.std.proofs.lemmas.Bool.{and_parts}
 use Rattle.std.proofs.lemmas.Bool.Decides.{nat_tests, same_from_decides}
 use Rattle.std.proofs.lemmas.Str.{encodes-chars, IsUtf8-from_ascii, chars-IsAscii}
-use Rattle.ig_text.specs.Words.{is_word}
+use Rattle.ig_text.specs.Words.{is_word, is_digit}
+
+-- the character of a number below ten is a digit
+pub digit_test : (n : ℕ) → n < 10 → is_digit (48 + n) ≡ true
+digit_test n h = grind (arith, nat_tests)
 
 -- only ASCII characters
 abbrev pub ascii : List ℕ → Bool

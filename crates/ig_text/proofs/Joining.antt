@@ -60,6 +60,7 @@ joined_is pairs r rest e a =
     let b : Ascends 0 (r ∷ rest) = subst (λ (z : List (ℕ × ℕ)). Ascends 0 z) e a in
     rw e (record { normal = normal 0 r rest b.0 b.1 b.2; members = λ c. members r rest c b.1 b.2 })
 
+-- behind the last pair what was joined is the normal form
 pub at_end : (pairs rest done result : List (ℕ × ℕ)) (first last : ℕ × ℕ) (i : ℕ) → pairs ≡ first ∷ rest →
     Ascends 0 pairs → done ++ joined last (drop i rest) ≡ joined first rest → length rest ≤ i →
     result ≡ done ++ last ∷ [] → IsNormalFormOf pairs result

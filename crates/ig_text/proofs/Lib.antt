@@ -19,6 +19,7 @@ pub mod Emptiness
 pub mod WordPlaces
 pub mod Pairwise
 pub mod Orders
+pub mod Sorted
 pub mod Fallbacks
 pub mod Equal
 pub mod Filtered

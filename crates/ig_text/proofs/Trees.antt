@@ -23,6 +23,7 @@ joined_height (more t ts) us =
 pub more_parts : (s r : Tree) (ts us : Trees) → more s ts ≡ more r us → (s ≡ r) × (ts ≡ us)
 more_parts s r ts us e = (cc, cc)
 
+-- trees with one behind are not none
 never_none : (ts : Trees) (t : Tree) → join ts (one t) ≡ none → ⊥
 never_none none t e = cc
 never_none (more s ts) t e = cc
@@ -32,6 +33,7 @@ pub record Parted (ts us : Trees) (t u : Tree) : Type 0 where
   pub before : ts ≡ us
   pub last : t ≡ u
 
+-- of equal lists of trees with a last one each
 pub parted : (ts us : Trees) (t u : Tree) → join ts (one t) ≡ join us (one u) → Parted ts us t u
 parted none none t u e = record { before = refl; last = (more_parts t u none none e).0 }
 parted none (more r us) t u e = absurd (never_none us u (sym (more_parts t r none (join us (one u)) e).1))

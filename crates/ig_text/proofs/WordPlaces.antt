@@ -41,6 +41,7 @@ module _ {X : Type 0} (word_of : X → List ℕ) (xs : List X) where
 abbrev pub word_place : List (List ℕ) → List ℕ → Option ℕ
 word_place words word = position (λ w. is_word w word) words
 
+-- in a list with one more at its head
 pub word_place-cons : (w : List ℕ) (words : List (List ℕ)) (word : List ℕ) →
     word_place (w ∷ words) word ≡ place_behind (is_word w word) (word_place words word)
 word_place-cons w words word = position-cons (λ z. is_word z word) w words

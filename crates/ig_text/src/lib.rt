@@ -7,8 +7,8 @@
 //! [`Sequence`] is a list at whose end `push` adds, and [`Copied`] makes an equal value of one that
 //! owns memory. `specs/Tree.antt` defines derivation trees and their height.
 //!
-//! `proofs/` has a shelf of general lemmas, which the proofs of all crates cite: `Lists`,
-//! `Options`, `Booleans`, `Numbers`, `Characters` and `Trees`.
+//! `proofs/` has a shelf of general lemmas on lists, options, numbers, characters, orders and trees,
+//! which the proofs of all crates cite. The first line of each file says what it is about.
 #![tactic(auto)]
 
 mod class;
@@ -27,5 +27,5 @@ pub use pattern::{Pattern, Patterns};
 pub use ranges::Ranges;
 pub use sequence::Sequence;
 pub use tag::Tag;
-pub use text::{Span, Text, TextFault};
+pub use text::{MOST_BYTES, Span, Text, TextFault};
 pub use word::{Word, Words, words_end_behind_their_letters};
