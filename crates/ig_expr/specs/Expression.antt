@@ -1,5 +1,5 @@
 -- Expressions as syntax trees. The last four forms stand in no grammar text.
-use Rattle.std.specs.Prelude.{ℕ, ◌+◌, ℤ, List, [], ◌∷◌, ◌++◌, Bool}
+use Rattle.std.specs.Prelude.{ℕ, ℤ, List, [], ◌∷◌, ◌++◌, Bool}
 use Rattle.ig_text.specs.declared.pattern.Pattern.{Pattern}
 use Rattle.ig_text.specs.declared.pattern.Pattern.TheVariants.{Literal}
 use Rattle.ig_expr.specs.declared.operator.Op.{Op}
@@ -21,23 +21,6 @@ pub data Expression : Type 0 where
   Inside : Expression → Expression → Expression
   FreeBefore : Pattern → Expression
   FreeAfter : Pattern → Expression
-
--- the number of its nodes
-abbrev pub nodes : Expression → ℕ
-nodes (Integer n) = 1
-nodes (Truth b) = 1
-nodes Here = 1
-nodes (Variable x) = 1
-nodes (Not a) = nodes a + 1
-nodes (Negative a) = nodes a + 1
-nodes (Binary op a b) = nodes a + nodes b + 1
-nodes (Of f a) = nodes a + 1
-nodes (Same a b) = nodes a + nodes b + 1
-nodes (Spells a word) = nodes a + 1
-nodes (Outer a b) = nodes a + nodes b + 1
-nodes (Inside a b) = nodes a + nodes b + 1
-nodes (FreeBefore pattern) = 1
-nodes (FreeAfter pattern) = 1
 
 -- the patterns in it: the words that spans are compared with, and what may not stand before or behind
 abbrev pub patterns_in : Expression → List Pattern

@@ -2,7 +2,7 @@
 -- An operand has fewer nodes than the expression that it is a part of, so that a recursion over expressions ends.
 use Rattle.std.specs.Prelude.{◌≤◌, max}
 use Rattle.std.proofs.Common.{arith}
-use Rattle.ig_expr.specs.Expression.{nodes}
+use Rattle.ig_expr.specs.Nodes.{nodes}
 use Rattle.ig_expr.specs.View.{expression_of}
 use Rattle.ig_expr.specs.declared.expression.Expr.{Expr}
 use Rattle.ig_expr.specs.declared.expression.Expr.TheVariants.{Int, Bool, Here, Var, Not, Neg, Binary, Of, Same, Spells, Outer, Inside, FreeBefore, FreeAfter}

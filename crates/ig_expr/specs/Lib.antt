@@ -1,4 +1,5 @@
 pub mod Expression
+pub mod Nodes
 pub mod Stored
 pub mod View
 pub mod Falling

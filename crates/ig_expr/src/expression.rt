@@ -50,7 +50,8 @@ pub struct Operand {
 }
 
 impl Model for Operand {
-    ghost use Rattle.ig_expr.specs.Expression.{Expression, nodes};
+    ghost use Rattle.ig_expr.specs.Expression.{Expression};
+    ghost use Rattle.ig_expr.specs.Nodes.{nodes};
 
     ghost Value = { Expression };
 

@@ -106,8 +106,6 @@ fn read_piece<F: Read>(
     let Ok(count) = reader.read(room) else {
         return Err(FetchFault::Failed);
     };
-    match content.extend_from_slice(&room[..count]) {
-        Ok(()) => Ok(count),
-        Err(_) => Err(FetchFault::Memory),
-    }
+    content.extend_from_slice(&room[..count])?;
+    Ok(count)
 }

@@ -23,12 +23,16 @@ pub record FitsRule (parts : ℕ) (rule : Rule) : Type 0 where
   pub left : rule.left < parts
   pub right : rule.right < parts
 
+-- more than there are nodes and items, each of which has a number of 32 bits
+abbrev pub ground_end : ℕ
+ground_end = 8589934592
+
 -- nodes come first, and among the other parts is one that needs nothing
 pub record FitsTable (table : Table) : Type 0 where
   pub nodes : table.nodes ≤ table.ground
   pub ground : table.ground < table.parts
   pub few : table.nodes < numbers_end
-  pub small : table.ground < 8589934592
+  pub small : table.ground < ground_end
   pub rules : (rule : Rule) → Contains table.rules.items rule → FitsRule table.parts rule
 
 -- some rule gives the part this height

@@ -1,6 +1,5 @@
 //! The rules of a forest: one for each entry and each alternative.
-ghost use Rattle.std.specs.Prelude.{◌≡◌, ◌<◌, IfOk, OnOk, length};
-ghost use Rattle.ig_item.specs.Limits.{numbers_end};
+ghost use Rattle.std.specs.Prelude.{◌≡◌, IfOk, OnOk, length};
 ghost use Rattle.ig_heights.specs.Table.{Adds, IsLeastTable, IsRuleBy, IsRuleOf};
 ghost use Rattle.ig_heights.specs.Table.{choice_rule, choices_at, entries_at, entry_rule};
 ghost use Rattle.ig_heights.specs.Table.{ground_of};
@@ -14,13 +13,13 @@ pub(crate) fn least_rules(alloc: Global, forest: &Forest) -> Result<Table, Alloc
     ensures { IfOk result (IsLeastTable forest.now) }
 {
     let _ = forest.root();
-    let nodes = forest.nodes() as usize;
-    let ground = nodes + forest.items() as usize;
+    let nodes = forest.nodes();
+    let ground = nodes as usize + forest.items() as usize;
     let mut rules = Vec::new(alloc);
     add_nodes(&mut rules, forest, ground)?;
     add_items(&mut rules, forest, nodes, ground)?;
     Ok(Table {
-        nodes,
+        nodes: nodes as usize,
         ground,
         parts: ground + 1,
         rules,
@@ -35,7 +34,7 @@ fn add_nodes(rules: &mut Vec<Rule>, forest: &Forest, ground: usize) -> Result<()
 {
     let nodes = forest.nodes();
     for v in 0..nodes {
-        add_node(rules, forest, v, nodes as usize, ground)?;
+        add_node(rules, forest, v, nodes, ground)?;
     }
     Ok(())
 }
@@ -45,10 +44,9 @@ fn add_node(
     rules: &mut Vec<Rule>,
     forest: &Forest,
     v: u32,
-    nodes: usize,
+    nodes: u32,
     ground: usize,
 ) -> Result<(), AllocError>
-    requires nodes { nodes < numbers_end }
     ensures { OnOk result (Adds rules.old.items rules.new.items
         (IsRuleBy (choice_rule nodes ground v) (choices_at forest.now v))) }
 {
@@ -63,10 +61,9 @@ fn add_choices(
     rules: &mut Vec<Rule>,
     choices: &[Choice],
     v: u32,
-    nodes: usize,
+    nodes: u32,
     ground: usize,
 ) -> Result<(), AllocError>
-    requires nodes { nodes < numbers_end }
     ensures { OnOk result (Adds rules.old.items rules.new.items
         (IsRuleBy (choice_rule nodes ground v) choices.now)) }
 {
@@ -80,11 +77,10 @@ fn add_choices(
 fn add_items(
     rules: &mut Vec<Rule>,
     forest: &Forest,
-    nodes: usize,
+    nodes: u32,
     ground: usize,
 ) -> Result<(), AllocError>
     requires nodes { nodes ≡ length forest.now.nodes }
-    requires few { nodes < numbers_end }
     requires ground { ground ≡ ground_of forest.now }
     ensures { OnOk result (Adds rules.old.items rules.new.items
         (IsRuleOf forest.now 0 (length forest.now.items))) }
@@ -100,10 +96,9 @@ fn add_item(
     rules: &mut Vec<Rule>,
     forest: &Forest,
     k: u32,
-    nodes: usize,
+    nodes: u32,
     ground: usize,
 ) -> Result<(), AllocError>
-    requires nodes { nodes < numbers_end }
     ensures { OnOk result (Adds rules.old.items rules.new.items
         (IsRuleBy (entry_rule nodes ground k) (entries_at forest.now k))) }
 {
@@ -118,10 +113,9 @@ fn add_entries(
     rules: &mut Vec<Rule>,
     entries: &[Entry],
     k: u32,
-    nodes: usize,
+    nodes: u32,
     ground: usize,
 ) -> Result<(), AllocError>
-    requires nodes { nodes < numbers_end }
     ensures { OnOk result (Adds rules.old.items rules.new.items
         (IsRuleBy (entry_rule nodes ground k) entries.now)) }
 {
@@ -132,22 +126,21 @@ fn add_entries(
 }
 
 /// The rule of an alternative.
-fn choice_rule(nodes: usize, ground: usize, v: u32, choice: Choice) -> Rule
-    requires nodes { nodes < numbers_end }
+fn choice_rule(nodes: u32, ground: usize, v: u32, choice: Choice) -> Rule
     ensures { result ≡ choice_rule nodes ground v choice }
 {
     Rule {
         target: v as usize,
-        left: nodes + choice.item as usize,
+        left: nodes as usize + choice.item as usize,
         right: ground,
     }
 }
 
 /// The rule of an entry.
-fn entry_rule(nodes: usize, ground: usize, k: u32, entry: Entry) -> Rule
-    requires nodes { nodes < numbers_end }
+fn entry_rule(nodes: u32, ground: usize, k: u32, entry: Entry) -> Rule
     ensures { result ≡ entry_rule nodes ground k entry }
 {
+    let nodes = nodes as usize;
     let target = nodes + k as usize;
     match entry {
         Entry::Begin => Rule {

@@ -1,6 +1,6 @@
 //! Rules by which a part is made once the sources of all its rules are.
 ghost use Rattle.std.specs.Prelude.{◌≡◌, ◌<◌, [], suc, IfOk, OnOk, length};
-ghost use Rattle.ig_heights.specs.Rules.{FitsTable};
+ghost use Rattle.ig_heights.specs.Rules.{FitsTable, ground_end};
 ghost use Rattle.ig_heights.specs.Table.{AreLasts, AreLinks, IsWholeTable, Linked, Links};
 
 use crate::rule::{Rule, Table};
@@ -47,7 +47,7 @@ fn add_rule(
     ground: usize,
     rule: Rule,
 ) -> Result<(), AllocError>
-    requires ground { ground < 8589934592 }
+    requires ground { ground < ground_end }
     requires last { length last.old.items ≡ ground }
     ensures { OnOk result (Linked ground rule links.old.items last.old.items
         links.new.items last.new.items) }
@@ -68,7 +68,7 @@ fn add_link(
     end: usize,
     part: usize,
 ) -> Result<usize, AllocError>
-    requires ground { ground < 8589934592 }
+    requires ground { ground < ground_end }
     ensures { IfOk result (λ new. Links ground end part links.old.items links.new.items new) }
 {
     let target = ground + 1 + links.len();

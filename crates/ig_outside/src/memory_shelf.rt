@@ -115,8 +115,6 @@ fn copy_of(alloc: Global, found: Option<&Vec<u8>>, most: u64) -> Result<Vec<u8>,
     if content.len() as u64 > most {
         return Err(FetchFault::Long);
     }
-    match Vec::from_slice(alloc, content.as_slice()) {
-        Ok(copy) => Ok(copy),
-        Err(AllocError) => Err(FetchFault::Memory),
-    }
+    let copy = Vec::from_slice(alloc, content.as_slice())?;
+    Ok(copy)
 }

@@ -3,8 +3,9 @@ ghost use Rattle.std.specs.Prelude.{◌≡◌, ℕ, ◌≤◌, List};
 ghost use Rattle.ig_outside.specs.Counts.{last_count, risen};
 ghost use Rattle.ig_outside.specs.States.{ShelfState};
 ghost use Rattle.ig_outside.specs.Fetch.{AnswersFetch, CausesFetch};
+ghost use Rattle.ig_outside.specs.declared.shelf.FetchFault.TheVariants.{Memory};
 
-use std::alloc::Global;
+use std::alloc::{AllocError, Global};
 
 /// Why a fetch gave no bytes.
 #[derive(Debug, Clone, Copy, PartialEq, Eq, Drop)]
@@ -17,6 +18,14 @@ pub enum FetchFault {
     Memory,
     /// The shelf holds nothing under the name.
     Missing,
+}
+
+impl From<AllocError> for FetchFault {
+    ghost from_gives = { λ _ fault. fault ≡ Memory };
+
+    fn from(_error: AllocError) -> FetchFault {
+        FetchFault::Memory
+    }
 }
 
 /// What named bytes are fetched from.

@@ -1,3 +1,4 @@
 pub mod Listed
+pub mod Room
 pub mod ValueText
 pub mod TagText

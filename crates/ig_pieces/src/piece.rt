@@ -1,6 +1,7 @@
 //! Pieces of lines, which are written from their last byte to their first and then pushed at once.
 ghost use Rattle.std.specs.Prelude.{◌≡◌, ◌++◌, ◌+◌, ◌≤◌, [], drop, length, OnOk};
 ghost use Rattle.std.specs.Fmt.{decimal};
+ghost use Rattle.ig_pieces.specs.Room.{piece_room};
 ghost use Rattle.ig_pieces.specs.ValueText.{places_text};
 
 use itoa::write_digits;
@@ -19,12 +20,13 @@ pub struct Piece {
 
 impl Model for Piece {
     ghost use Rattle.std.specs.Prelude.{List, ℕ, drop, ◌≤◌};
+    ghost use Rattle.ig_pieces.specs.Room.{piece_room};
 
     ghost Value = { List ℕ };
 
     ghost view = { λ p. drop p.start p.bytes };
 
-    ghost invariant = { λ p. p.start ≤ 96 };
+    ghost invariant = { λ p. p.start ≤ piece_room };
 }
 
 impl Piece {
@@ -40,7 +42,7 @@ impl Piece {
 
     /// Puts the text before the others, which have room for it. Takes no memory.
     pub fn put_text(&mut self, text: &[u8])
-        requires room { length text.now + length self.old ≤ 96 }
+        requires room { length text.now + length self.old ≤ piece_room }
         ensures { self.new ≡ text.now ++ self.old }
     {
         self.start = write_text(text, &mut self.bytes, self.start);
@@ -48,7 +50,7 @@ impl Piece {
 
     /// Puts the number before the others, in decimal: at most 10 bytes. Takes no memory.
     pub fn put_number(&mut self, number: u32)
-        requires room { 10 + length self.old ≤ 96 }
+        requires room { 10 + length self.old ≤ piece_room }
         ensures text { self.new ≡ decimal number ++ self.old }
         ensures short { length self.new ≤ 10 + length self.old }
     {
@@ -59,7 +61,7 @@ impl Piece {
     /// `..` between them, at most 22 bytes. Takes no memory.
     #[inline(always)]
     pub fn put_places(&mut self, begin: u32, end: u32)
-        requires room { 22 + length self.old ≤ 96 }
+        requires room { 22 + length self.old ≤ piece_room }
         ensures text { self.new ≡ places_text begin end ++ self.old }
         ensures short { length self.new ≤ 22 + length self.old }
     {

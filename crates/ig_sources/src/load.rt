@@ -8,11 +8,8 @@ use ig_endings::{Stop, cannot_read, not_utf8, too_long};
 use ig_grammar::Checked;
 use ig_notation::{Large, MOST_BYTES};
 use ig_outside::{FetchFault, Shelf};
-use ig_text::{Text, TextFault};
+use ig_text::{MOST_BYTES as MOST_INPUT_BYTES, Text, TextFault};
 use std::alloc::Global;
-
-/// The most bytes that an input may have.
-const MOST_INPUT_BYTES: u64 = 4_194_304;
 
 /// The well-scoped grammar in the file of that name, which is fetched once.
 ///
@@ -44,7 +41,7 @@ pub fn load_input<F: Shelf>(alloc: Global, shelf: &mut F, name: &str) -> Result<
     ensures counted { Fetched (change (F.state shelf.old) (F.state shelf.new)) 1 }
     ensures same { (n : List ℕ) → (F.state shelf.new).holds n ≡ (F.state shelf.old).holds n }
 {
-    match shelf.fetch(alloc, name, MOST_INPUT_BYTES) {
+    match shelf.fetch(alloc, name, MOST_INPUT_BYTES as u64) {
         Ok(bytes) => read_input(alloc, bytes.as_slice()),
         Err(FetchFault::Long) => Err(too_long(alloc)),
         Err(FetchFault::Failed) => Err(cannot_read(alloc, name)),

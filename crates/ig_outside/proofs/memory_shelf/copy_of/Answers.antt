@@ -13,14 +13,14 @@ returns-then-len-most-clause-answer c = search rules
 pub returns-then-len-most-clause-no_failure : goal.returns-then-len-most-clause-no_failure
 returns-then-len-most-clause-no_failure c = search rules
 
-pub returns-in-Ok-clause-answer : goal.returns-in-Ok-clause-answer
-returns-in-Ok-clause-answer c = search rules
+pub returns-clause-answer : goal.returns-clause-answer
+returns-clause-answer c = search rules
 
-pub returns-in-Ok-clause-no_failure : goal.returns-in-Ok-clause-no_failure
-returns-in-Ok-clause-no_failure c = search rules
+pub returns-clause-no_failure : goal.returns-clause-no_failure
+returns-clause-no_failure c = search rules
 
-pub returns-in-Err-clause-answer : goal.returns-in-Err-clause-answer
-returns-in-Err-clause-answer c = search rules
+pub returns-in_err-copy-clause-answer : goal.returns-in_err-copy-clause-answer
+returns-in_err-copy-clause-answer c = search rules
 
-pub returns-in-Err-clause-no_failure : goal.returns-in-Err-clause-no_failure
-returns-in-Err-clause-no_failure c = search rules
+pub returns-in_err-copy-clause-no_failure : goal.returns-in_err-copy-clause-no_failure
+returns-in_err-copy-clause-no_failure c = search rules
