@@ -305,4 +305,5 @@ module _ (decided : MatchesAreDecided) where
   shapes_give_tags =
       record {
         tags = formed (codes "abccd,df") _ refl;
+        other_tags = formed (codes "cdd,de") _ refl;
       }

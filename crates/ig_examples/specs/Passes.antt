@@ -93,3 +93,4 @@ form_shapes = shape.Rule ∷ shape.Opt ∷ shape.Star ∷ shape.Plus ∷ shape.S
 -- the trees of a declaration that stands for a form have the tags of that form
 pub record ShapesGiveTags : Type 0 where
   pub tags : PermitsExactly forms form_shapes (codes "abccd,df") 8 (root 8 (node 1 1 0 8 (Node Present 0 1 (trees (Leaf 0 1 ∷ [])) ∷ Node Snoc 1 2 (trees (Node Nil 1 1 none ∷ Leaf 1 2 ∷ [])) ∷ Node More 2 4 (trees (Node One 2 3 (trees (Leaf 2 3 ∷ [])) ∷ Leaf 3 4 ∷ [])) ∷ Node More 4 7 (trees (Node One 4 5 (trees (Leaf 4 5 ∷ [])) ∷ Leaf 5 6 ∷ Leaf 6 7 ∷ [])) ∷ Node Absent 7 7 none ∷ group 2 7 8 (Leaf 7 8 ∷ []) ∷ []) ∷ []) ∷ [])
+  pub other_tags : PermitsExactly forms form_shapes (codes "cdd,de") 8 (root 6 (node 1 1 0 6 (Node Absent 0 0 none ∷ Node Nil 0 0 none ∷ Node One 0 1 (trees (Leaf 0 1 ∷ [])) ∷ Node One 1 2 (trees (Leaf 1 2 ∷ [])) ∷ Node Present 2 5 (trees (Node More 2 5 (trees (Node One 2 3 (trees (Leaf 2 3 ∷ [])) ∷ Leaf 3 4 ∷ Leaf 4 5 ∷ [])) ∷ [])) ∷ group 1 5 6 (Leaf 5 6 ∷ []) ∷ []) ∷ []) ∷ [])

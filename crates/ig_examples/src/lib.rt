@@ -37,7 +37,7 @@ pub fn empty_pairs_are_permitted()
 }
 
 /// With `start S; syntax S = B S "x" | "y"; syntax B = ;` the text `yxx` has one tree, and `xy` has
-/// none.
+/// none up to height 6.
 pub fn hidden_left_recursion_is_permitted()
     ensures { HiddenLeftRecursionIsPermitted }
 {
@@ -45,7 +45,7 @@ pub fn hidden_left_recursion_is_permitted()
 }
 
 /// With `start E; syntax E = [0-9] > left E "*" E > left E "+" E | E "-" E;` the one tree of
-/// `1-2-3` groups to the left, the one tree of `1+2*3` is a sum, and `1-` has none.
+/// `1-2-3` groups to the left, the one tree of `1+2*3` is a sum, and `1-` has none up to height 6.
 pub fn levels_bind()
     ensures { LevelsBind }
 {
@@ -62,7 +62,7 @@ pub fn spines_are_whole()
 }
 
 /// With `start E; syntax E = [a-c] > nonassoc E "<" E;` the text `a<b` has one tree, and `a<b<c`
-/// has none.
+/// has none up to height 6.
 pub fn comparisons_stand_alone()
     ensures { ComparisonsStandAlone }
 {
@@ -70,7 +70,7 @@ pub fn comparisons_stand_alone()
 }
 
 /// With `start El; syntax El = "<" n: Name ">" El* "</" m: Name ">" when (same(n, m));` and names
-/// of letters the text `<a></a>` has one tree, and `<a></b>` has none.
+/// of letters the text `<a></a>` has one tree, and `<a></b>` has none up to height 8.
 pub fn names_are_compared()
     ensures { NamesAreCompared }
 {
@@ -79,7 +79,7 @@ pub fn names_are_compared()
 
 /// With `start S; syntax S = "{" n: Num "}" Body(number(n));`, numbers of digits and
 /// `syntax Body(k: int) = when (k == 0) | when (k > 0) [a-z] Body(k - 1);` the text `{3}abc` has
-/// one tree, and `{2}abc` has none.
+/// one tree, and `{2}abc` has none up to height 8.
 pub fn letters_are_counted()
     ensures { LettersAreCounted }
 {
@@ -87,8 +87,8 @@ pub fn letters_are_counted()
 }
 
 /// With `start P; syntax P = align (offside Decl)*; syntax Decl = Id "=" Id+;`, identifiers and
-/// layout a declaration may go on in a further line that stands to its right, and not at its
-/// column.
+/// layout a declaration may go on in a further line that stands to its right, and not, up to
+/// height 13, at its column.
 pub fn declarations_are_blocks()
     ensures { DeclarationsAreBlocks }
 {
@@ -96,7 +96,8 @@ pub fn declarations_are_blocks()
 }
 
 /// With `start S; syntax S = offside B; syntax B = offside Id offside N; syntax N = | "!";`,
-/// identifiers and layout an empty block may stand in column 1, and a token inside it may not.
+/// identifiers and layout an empty block may stand in column 1, and a token inside it, up to height
+/// 10, may not.
 pub fn nested_blocks_are_asked()
     ensures { NestedBlocksAreAsked }
 {
@@ -104,7 +105,8 @@ pub fn nested_blocks_are_asked()
 }
 
 /// With `start S; syntax S = offside ("a" offside (ignore "b" offside (ignore "c" "d")));` and
-/// layout the `d` stands to the right of the `a`, the `b` and the `c`.
+/// layout the `d` stands to the right of the `a`, the `b` and the `c`: up to height 13 there is no
+/// tree where it doesn't.
 pub fn greater_columns_count()
     ensures { GreaterColumnsCount }
 {
@@ -112,7 +114,7 @@ pub fn greater_columns_count()
 }
 
 /// With `start S; syntax S = offside ("a" offside "b" "c");` and layout the `b` and the `c` stand
-/// to the right of the `a`.
+/// to the right of the `a`: up to height 9 there is no tree where one doesn't.
 pub fn tokens_under_blocks_are_seen()
     ensures { TokensUnderBlocksAreSeen }
 {
@@ -120,7 +122,7 @@ pub fn tokens_under_blocks_are_seen()
 }
 
 /// With `start S; syntax S = Id; lexical Id = [a-z]+ !>> [a-z] \ "if";` the text `iff` has one
-/// tree, and `if` has none.
+/// tree, and `if` has none up to height 8.
 pub fn keywords_are_excluded()
     ensures { KeywordsAreExcluded }
 {
@@ -179,7 +181,7 @@ pub fn groups_keep_their_bindings()
     matches_are_decided();
 }
 
-/// With `start S; syntax S = when ((1 div 0) == 1);` the empty text has none.
+/// With `start S; syntax S = when ((1 div 0) == 1);` the empty text has no tree up to height 8.
 pub fn guards_want_a_value()
     ensures { GuardsWantAValue }
 {
@@ -225,7 +227,7 @@ pub fn labels_bind_own_ends()
 }
 
 /// With `start S; syntax S = "a" !>> "b" "b";` and layout the text `a b` has one tree, and with
-/// `("a")` in place of `"a"` it has none.
+/// `("a")` in place of `"a"` it has none up to height 12.
 pub fn filters_are_asked_at_own_ends()
     ensures { FiltersAreAskedAtOwnEnds }
 {
@@ -233,14 +235,14 @@ pub fn filters_are_asked_at_own_ends()
 }
 
 /// With `start S; syntax S = A "b" !<< "a"; syntax A = "a" | "c";` the text `cb` has one tree, and
-/// `ab` has none.
+/// `ab` has none up to height 12.
 pub fn filters_look_back()
     ensures { FiltersLookBack }
 {
     matches_are_decided();
 }
 
-/// With `start S; syntax S = [^a];` the text `b` has one tree, and `a` has none.
+/// With `start S; syntax S = [^a];` the text `b` has one tree, and `a` has none up to height 12.
 pub fn negated_classes_exclude()
     ensures { NegatedClassesExclude }
 {
@@ -248,7 +250,7 @@ pub fn negated_classes_exclude()
 }
 
 /// With `start P; syntax P = align {A ","}*; lexical A = [a-z];` and layout the texts `a\n ,\nb`
-/// and the empty one have one tree each, and `a,\n b` has none.
+/// and the empty one have one tree each, and `a,\n b` has none up to height 12.
 pub fn separators_are_free()
     ensures { SeparatorsAreFree }
 {
@@ -264,21 +266,24 @@ pub fn aligned_lists_have_filters()
 }
 
 /// With `start S; syntax S = offside X;` and layout, where X is `("x" "y"?)`, `("x" align A+)`,
-/// `{"a" ","}+` or `(ignore "a" "b")`, a further line stands to the right of the first token.
+/// `{"a" ","}+` or `(ignore "a" "b")`, a further line stands to the right of the first token: up to
+/// height 12 there is no tree where it doesn't.
 pub fn blocks_see_all_tokens()
     ensures { BlocksSeeAllTokens }
 {
     matches_are_decided();
 }
 
-/// What a sequence binds is seen behind it, and a label round one binds all of it.
+/// What a sequence binds is seen behind it, and a label round one, which no pass writes, binds all
+/// of it.
 pub fn sequences_stand_in_place()
     ensures { SequencesStandInPlace }
 {
     matches_are_decided();
 }
 
-/// The bindings of an entry are evaluated before any of them counts, and count inside it alone.
+/// The bindings of an entry are evaluated before any of them counts, and count inside it alone: up
+/// to height 8 the empty text has no tree.
 pub fn entries_bind_inside()
     ensures { EntriesBindInside }
 {
@@ -286,14 +291,15 @@ pub fn entries_bind_inside()
 }
 
 /// A declaration that stands for the root has layout between its tokens exactly where it is a
-/// syntax declaration.
+/// syntax declaration: of a plain one ` a ` has no tree up to height 8.
 pub fn roots_are_read_by_their_kind()
     ensures { RootsAreReadByTheirKind }
 {
     matches_are_decided();
 }
 
-/// A declaration that stands for an option, a list or a group gives the tags of that form.
+/// A declaration that stands for an option, a list or a group gives the tags of that form: in two
+/// texts each tag of each form.
 pub fn shapes_give_tags()
     ensures { ShapesGiveTags }
 {
