@@ -46,7 +46,7 @@ module _ (g : Grammar) (shapes : List Shape) (text : List ℕ) where
           vs ≡ join ts us → starts ≡ ks ++ ls → Covers c (x ∷ others) env i j vs after starts
 
     -- one symbol covers the text from i to j, and e is its own end: the layout behind a token doesn't belong to the token,
-    -- but to a list, an option, a group or a syntax call that the token ends
+    -- but to a list, an option, a group, a sequence, a symbol with an entry or a syntax call that the token ends
     pub data Derives : DeclKind → Symbol → Environment → ℕ → ℕ → ℕ → Trees → Environment → List ℕ → Type 0 where
       -- a literal is a token that covers its own spelling, with a leaf
       literal : (c : DeclKind) (word : List ℕ) (env : Environment) (i e j : ℕ) (us ts : Trees) (starts : List ℕ) →

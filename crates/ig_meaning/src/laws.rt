@@ -14,8 +14,8 @@ pub fn derivations_invert()
     ensures { DerivationsInvert }
 {}
 
-/// What a symbol covers ends where it begins or behind, its own end lies between, and all of it is
-/// within the text. This law, proved of every derivation, computes nothing.
+/// What a symbol covers ends where it begins or behind, its own end lies between, and what begins
+/// in the text ends in it. This law, proved of every derivation, computes nothing.
 pub fn spans_are_in_order()
     ensures { SpansAreInOrder }
 {}
@@ -26,8 +26,8 @@ pub fn environments_grow()
     ensures { EnvironmentsGrow }
 {}
 
-/// A label binds the span of the first of its symbol's trees. This law, proved of every derivation,
-/// computes nothing.
+/// A label round a symbol that may have one binds the span of the symbol's first tree, which ends
+/// at the symbol's own end. This law, proved of every such derivation, computes nothing.
 pub fn labels_bind_own_spans()
     ensures { LabelsBindOwnSpans }
 {}

@@ -23,7 +23,7 @@ pub fn right_word(alloc: Global) -> Result<Word, AllocError>
     Word::new(alloc, ".r")
 }
 
-/// Whether the associativity is none.
+/// Whether it is neither `left` nor `right` nor `nonassoc`.
 fn is_free(assoc: Assoc) -> bool
     ensures { result ≡ is_free assoc }
 {

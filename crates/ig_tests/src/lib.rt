@@ -1,4 +1,4 @@
-//! The tests of the libraries by themselves: public calls that take memory, each once with ample
+//! The tests of the libraries by themselves: calls that take memory, once each, with ample
 //! memory.
 //!
 //! `letters` makes a core grammar by hand, whose items, forest and report are known. Each function
