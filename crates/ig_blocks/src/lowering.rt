@@ -47,8 +47,7 @@ pub fn lower_blocks(alloc: Global, checked: &Checked) -> Result<Checked, AllocEr
 /// The grammar, in which a declaration may stand for the root, without marks, and its shapes.
 fn lower_rooted(alloc: Global, checked: &Checked) -> Result<(Grammar, Shapes), AllocError>
     ensures { IfOk result (λ r.
-        (r.0 ≡ lowered_grammar checked.now.grammar checked.now.shapes) ×
-        (r.1 ≡ checked.now.shapes)) }
+        r ≡ (lowered_grammar checked.now.grammar checked.now.shapes, checked.now.shapes)) }
 {
     let shapes = copy_of_shapes(alloc, checked)?;
     Ok((lower_grammar(alloc, checked)?, shapes))

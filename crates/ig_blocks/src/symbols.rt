@@ -135,9 +135,12 @@ fn with_separator(
     pair: &Pair,
     first: Inner,
 ) -> Result<(Inner, Inner), AllocError>
-    ensures { IfOk result (λ r. (r.0 ≡ first) ×
-        (r.1 ≡ item_by (setting_by guide.now) false (pair_of pair.now) separator.now
-        (body_of (setting_by guide.now) false (inner (pair_of pair.now)) separator.now))) }
+    ensures { IfOk result (λ r. r ≡ (
+      first,
+      item_by (setting_by guide.now) false
+          (pair_of pair.now) separator.now
+          (body_of (setting_by guide.now) false (inner (pair_of pair.now)) separator.now),
+    )) }
 {
     match inside(separator, alloc, guide, pair) {
         Ok(between) => both(alloc, guide, pair, first, separator.as_symbol(), between),

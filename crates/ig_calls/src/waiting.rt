@@ -130,9 +130,8 @@ pub fn add_caller(
 /// where that wasn't at the position.
 pub fn end_at(waiting: &Waiting, callee: u32, position: u32) -> Option<u32>
     requires there { callee < length waiting.now.called.items }
-    ensures some { IfSome result (λ done.
-        ((called_at waiting.now callee).last_end ≡ Some position) ×
-        (done ≡ (called_at waiting.now callee).last_done)) }
+    ensures some { IfSome result (λ _. (called_at waiting.now callee).last_end ≡ Some position) }
+    ensures done { IfSome result (λ done. done ≡ (called_at waiting.now callee).last_done) }
     ensures none { IfNone result ((called_at waiting.now callee).last_end ≡ Some position → ⊥) }
 {
     let called = waiting.called[callee as usize];

@@ -121,7 +121,8 @@ fn part_at(parts: &[Part], k: u32) -> Option<Part>
 
 /// A place in the vector of all entries.
 fn place(k: usize) -> Result<u32, AllocError>
-    ensures { IfOk result (λ p. (p ≡ k) × (k < numbers_end)) }
+    ensures place { IfOk result (λ p. p ≡ k) }
+    ensures fits { OnOk result (k < numbers_end) }
 {
     match u32::try_from(k) {
         Ok(p) => Ok(p),

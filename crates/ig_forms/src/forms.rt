@@ -132,9 +132,11 @@ pub fn both(
     separator: &Symbol,
     made: Symbol,
 ) -> Result<(Inner, Inner), AllocError>
-    ensures { IfOk result (λ r. (r.0 ≡ first) ×
-        (r.1 ≡ item_by (setting_by guide.now) false (pair_of pair.now) (symbol_of separator.now)
-        (symbol_of made))) }
+    ensures { IfOk result (λ r. r ≡ (
+      first,
+      item_by (setting_by guide.now) false
+          (pair_of pair.now) (symbol_of separator.now) (symbol_of made),
+    )) }
 {
     match separator_of(alloc, guide, pair, separator, made) {
         Ok(second) => Ok((first, second)),

@@ -1,6 +1,7 @@
 //! Laws of the load's grammar and its inputs. The functions do nothing: their contracts are the
 //! laws.
-ghost use Rattle.ig_load_grammar.specs.Laws.{ChainsArePermitted, LoadInputsArePermitted, LoadTextReads};
+ghost use Rattle.ig_load_grammar.specs.Laws.{ChainsArePermitted, LoadInputsArePermitted};
+ghost use Rattle.ig_load_grammar.specs.Laws.{LoadTextReads};
 
 use ig_load_texts::inputs_are_chains;
 use ig_tokens::ended_tokens_are_longest;

@@ -1,5 +1,5 @@
 //! How many there may be in tables.
-ghost use Rattle.std.specs.Prelude.{◌≡◌, ◌<◌, ◌≤◌, IfErr, IfOk, OnOk};
+ghost use Rattle.std.specs.Prelude.{◌≡◌, ◌<◌, ◌≤◌, IfErr, IfOk, OnErr, OnOk};
 ghost use Rattle.ig_item.specs.declared.run_fault.RunFault.TheVariants.{Budget};
 
 use ig_item::RunFault;
@@ -18,7 +18,8 @@ pub fn number(k: usize) -> Result<u32, AllocError>
 /// `Budget` exactly where there are more items than the budget.
 pub fn within_budget(items: usize, budget: u32) -> Result<(), RunFault>
     ensures within { OnOk result (items ≤ budget) }
-    ensures fault { IfErr result (λ fault. (fault ≡ Budget) × (budget < items)) }
+    ensures over { OnErr result (budget < items) }
+    ensures fault { IfErr result (λ fault. fault ≡ Budget) }
 {
     if items > budget as usize {
         return Err(RunFault::Budget);

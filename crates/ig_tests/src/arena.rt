@@ -60,7 +60,8 @@ fn add(chains: &mut Chains<Number, u32>, head: Id<Number>, value: u32) -> Result
 
 /// Adds two heads with their lists, and gives the heads.
 fn fill(chains: &mut Chains<Number, u32>) -> Result<(Id<Number>, Id<Number>), AllocError>
-    ensures { IfOk result (λ heads. (heads.0 < length chains.new) × (heads.1 < length chains.new)) }
+    ensures first { IfOk result (λ heads. heads.0 < length chains.new) }
+    ensures second { IfOk result (λ heads. heads.1 < length chains.new) }
 {
     let odd = head(chains)?;
     let even = head(chains)?;

@@ -7,8 +7,8 @@
 //! [`Sequence`] is a list at whose end `push` adds, and [`Copied`] makes an equal value of one that
 //! owns memory. `specs/Tree.antt` defines derivation trees and their height.
 //!
-//! `proofs/` has a shelf of general lemmas on lists, options, numbers, characters, orders and trees,
-//! which the proofs of all crates cite. The first line of each file says what it is about.
+//! `proofs/` has a shelf of general lemmas on lists, options, numbers, characters, orders and
+//! trees, which the proofs of all crates cite. The first line of each file says what it is about.
 #![tactic(auto)]
 
 mod class;

@@ -1,5 +1,6 @@
 ghost use Rattle.std.specs.Prelude.{◌≡◌, ◌+◌, ◌<◌, ◌≤◌, ◌↔◌, ℕ, chars, drop, length, slice_get};
-ghost use Rattle.std.specs.Prelude.{slice_range, IfOk, IfErr, IsTrue, MatchOption};
+ghost use Rattle.std.specs.Prelude.{IfErr, IfNone, IfOk, IfSome, IsTrue, option_map};
+ghost use Rattle.std.specs.Prelude.{slice_range};
 ghost use Rattle.ig_text.specs.Limits.{most_bytes, most_characters};
 ghost use Rattle.ig_text.specs.Decoding.{IsDecoded, IsFaulty};
 ghost use Rattle.ig_text.specs.Lines.{line_at, column_at, column_of};
@@ -174,8 +175,10 @@ impl Text {
 
     /// The characters of a span; `None` exactly where it doesn't lie in the text.
     fn letters(&self, span: Span) -> Option<&[char]>
-        ensures { MatchOption result (IsInside self.now span → ⊥)
-            (λ r. IsInside self.now span × (r.now ≡ slice_range self.now span.begin span.end)) }
+        ensures none { IfNone result (IsInside self.now span → ⊥) }
+        ensures inside { IfSome result (λ _. IsInside self.now span) }
+        ensures letters { IfSome result (λ r.
+            r.now ≡ slice_range self.now span.begin span.end) }
     {
         self.characters.get(span.begin as usize..span.end as usize)
     }
@@ -183,8 +186,7 @@ impl Text {
     /// The character at a position, and the position behind it; `None` exactly where the position
     /// isn't below the length.
     pub(crate) fn step(&self, position: u32) -> Option<(char, u32)>
-        ensures { MatchOption result (slice_get self.now position ≡ None)
-            (λ r. (slice_get self.now position ≡ Some r.0) × (r.1 ≡ position + 1)) }
+        ensures { result ≡ option_map (λ c. (c, position + 1)) (slice_get self.now position) }
     {
         let character = self.characters.get(position as usize)?;
         Some((*character, position + 1))
@@ -192,9 +194,10 @@ impl Text {
 
     /// The characters from a position on; `None` exactly where the position is past the end.
     pub(crate) fn from(&self, position: u32) -> Option<&[char]>
-        ensures { MatchOption result (length self.now < position)
-            (λ r. (position ≤ length self.now) × (r.now ≡ drop position self.now)
-            × (length self.now ≤ most_characters)) }
+        ensures none { IfNone result (length self.now < position) }
+        ensures within { IfSome result (λ _. position ≤ length self.now) }
+        ensures rest { IfSome result (λ r. r.now ≡ drop position self.now) }
+        ensures few { length self.now ≤ most_characters }
     {
         self.characters.get(position as usize..)
     }

@@ -1,7 +1,7 @@
 //! Literals.
 
-ghost use Rattle.std.specs.Prelude.{◌≡◌, ◌++◌, chars, is_some, IfOk, option_map, string_bytes};
-ghost use Rattle.std.specs.Prelude.{false};
+ghost use Rattle.std.specs.Prelude.{◌≡◌, ◌++◌, IfOk, OnOk, chars, false, is_some};
+ghost use Rattle.std.specs.Prelude.{option_map, string_bytes};
 ghost use Rattle.ig_tokens.specs.Scanner.{literal_token, literal_of, text_of};
 ghost use Rattle.ig_tokens.specs.View.{literal_text};
 ghost use Rattle.ig_tokens.specs.Steps.{Gives, is_backslash, stood_for};
@@ -87,8 +87,9 @@ fn unescaped(alloc: Global, inside: &str) -> Result<Option<String>, AllocError>
 
 /// Adds the character for which a letter stands, where it does; whether an escape begins.
 fn add_letter(text: &mut String, letter: Letter) -> Result<bool, AllocError>
-    ensures { IfOk result (λ r. (r ≡ is_backslash letter) × (chars (string_bytes text.new) ≡ chars
-        (string_bytes text.old) ++ stood_for letter)) }
+    ensures escapes { IfOk result (λ r. r ≡ is_backslash letter) }
+    ensures added { OnOk result (chars (string_bytes text.new) ≡
+        chars (string_bytes text.old) ++ stood_for letter) }
 {
     match letter {
         Letter::Backslash => Ok(true),

@@ -1,8 +1,8 @@
 //! One traversal of symbols, for all passes, and lists that grow.
 //!
-//! [`rewrite_grammar`] rewrites each symbol of a grammar by a pass's own rule ([`OwnRule`]), exactly
-//! as `specs/Rewriting.antt` says; [`rewrite_levels`] and [`rewrite_symbol`] do so of a part. A call
-//! is refused for want of memory alone.
+//! [`rewrite_grammar`] rewrites each symbol of a grammar by a pass's own rule ([`OwnRule`]),
+//! exactly as `specs/Rewriting.antt` says; [`rewrite_levels`] and [`rewrite_symbol`] do so of a
+//! part. A call is refused for want of memory alone.
 #![tactic(auto)]
 
 mod growing;

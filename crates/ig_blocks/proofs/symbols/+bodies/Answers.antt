@@ -58,14 +58,14 @@ body-returns-in_ok-first-in-SepStar t c =
     formed (setting_by c.args.guide.now) c.args.aligned (pair_of c.args.pair.now) c.entered_by.result c.args.symbol.now _ _ c.in-SepStar.is c.entered_by.ensures
     (separated (setting_by c.args.guide.now) c.args.aligned (pair_of c.args.pair.now) tree.SepStar c.in-SepStar.inner (symbol_of c.as_symbol-in-SepStar.result.now) c.in-SepStar.separator c.in_ok-head-in-SepStar.head
     c.in_ok-first-in-SepStar.first c.in_ok-first-in-SepStar.second (symbol_of c.in_ok-item-in-SepStar.item)
-    c.in_ok-head-in-SepStar.ensures c.in_ok-first-in-SepStar.ensures.0 c.in_ok-first-in-SepStar.ensures.1 c.as_symbol-in-SepStar.ensures c.in_ok-item-in-SepStar.ensures)
+    c.in_ok-head-in-SepStar.ensures (ap (λ z. z.0) c.in_ok-first-in-SepStar.ensures) (ap (λ z. z.1) c.in_ok-first-in-SepStar.ensures) c.as_symbol-in-SepStar.ensures c.in_ok-item-in-SepStar.ensures)
 
 pub body-returns-in_ok-first-in-SepPlus : goal.body-returns-in_ok-first-in-SepPlus
 body-returns-in_ok-first-in-SepPlus t c =
     formed (setting_by c.args.guide.now) c.args.aligned (pair_of c.args.pair.now) c.entered_by-in-SepPlus.result c.args.symbol.now _ _ c.in-SepPlus.is c.entered_by-in-SepPlus.ensures
     (separated (setting_by c.args.guide.now) c.args.aligned (pair_of c.args.pair.now) tree.SepPlus c.in-SepPlus.inner (symbol_of c.as_symbol-in-SepPlus.result.now) c.in-SepPlus.separator c.in_ok-head-in-SepPlus.head
     c.in_ok-first-in-SepPlus.first c.in_ok-first-in-SepPlus.second (symbol_of c.in_ok-item-in-SepPlus.item)
-    c.in_ok-head-in-SepPlus.ensures c.in_ok-first-in-SepPlus.ensures.0 c.in_ok-first-in-SepPlus.ensures.1 c.as_symbol-in-SepPlus.ensures c.in_ok-item-in-SepPlus.ensures)
+    c.in_ok-head-in-SepPlus.ensures (ap (λ z. z.0) c.in_ok-first-in-SepPlus.ensures) (ap (λ z. z.1) c.in_ok-first-in-SepPlus.ensures) c.as_symbol-in-SepPlus.ensures c.in_ok-item-in-SepPlus.ensures)
 
 pub body-returns-in_ok-lowered-in-Group : goal.body-returns-in_ok-lowered-in-Group
 body-returns-in_ok-lowered-in-Group t c =
@@ -135,4 +135,4 @@ choices_inside-returns t c =
 
 pub with_separator-returns-in-Ok : goal.with_separator-returns-in-Ok
 with_separator-returns-in-Ok t c =
-    subst (λ z. IfOk c.both.result (λ r. (r.0 ≡ c.args.first) × (r.1 ≡ z))) (ap₂ (item_by (setting_by c.args.guide.now) false (pair_of c.args.pair.now)) c.as_symbol.ensures c.in-Ok.ensures) c.both.ensures
+    subst (λ z. IfOk c.both.result (λ r. r ≡ (c.args.first, z))) (ap₂ (item_by (setting_by c.args.guide.now) false (pair_of c.args.pair.now)) c.as_symbol.ensures c.in-Ok.ensures) c.both.ensures

@@ -2,6 +2,7 @@ use Rattle.std.proofs.Common.{◌≡◌, ◌≢◌, ◌∙◌, ◌⊎◌, ⊎_el
 use Rattle.std.proofs.lemmas.Result.{IfOk-weaker}
 use Rattle.std.specs.Prelude.{string_bytes}
 use Rattle.ig_text.proofs.Booleans.{first_true}
+use Rattle.std.proofs.ResultArms.{if_ok_both}
 use Rattle.clap.specs.Kinds.{Kinds, IsAmong}
 use Rattle.clap.specs.Words.{app_of, fault_of, is_simple, is_simple_and_free, matches_of}
 use Rattle.clap.specs.declared.error.kind.ErrorKind.{ErrorKind}
@@ -22,7 +23,7 @@ returns-in-Err c =
     (answers_none c.args.row (map string_bytes c.args.words.now) c.requires
     (subst (λ a. fault_of a (map string_bytes c.args.words.now) ≢ []) c.in_ok-command.ensures
     (refuses _ _ (c.in-Err.ensures.kinds free) (λ e. h.1 (c.kind.ensures ∙ e))))))
-    c.refused.ensures
+    (if_ok_both c.refused.result _ _ c.refused.ensures.none c.refused.ensures.memory)
 
 pub returns-in-Ok : goal.returns-in-Ok
 returns-in-Ok c =

@@ -214,7 +214,7 @@ returns-clause-takes c =
     c.in_ok-env.ensures.enters.there)
     refl refl refl refl (c.in_ok-arguments.ensures.some c.in-Some.arguments c.in-Some.is)
     c.call_instance.new.run.found c.call_instance.new.run.waiting c.in_ok-callee.callee refl c.in_ok-callee.ensures.enters
-    c.add_caller.new.waiting c.args.taken.number c.is_bare.result c.in_ok-add_caller.ensures.callers c.in_ok-add_caller.ensures.called c.in-Some-end_at.ensures.some.0
+    c.add_caller.new.waiting c.args.taken.number c.is_bare.result c.in_ok-add_caller.ensures.callers c.in_ok-add_caller.ensures.called c.in-Some-end_at.ensures.some
     c.go_behind.new.found c.go_behind.result c.go_behind.ensures.adds
 
 pub returns-clause-trail : goal.returns-clause-trail
@@ -235,5 +235,5 @@ returns-clause-trail c =
     c.call_instance.new.run.found c.call_instance.new.run.waiting c.in_ok-callee.callee c.in_ok-callee.ensures.enters
     c.call_instance.new.run.trail c.in_ok-callee.ensures.trail
     c.add_caller.new.waiting c.is_bare.result c.is_bare.ensures.0 c.in_ok-add_caller.ensures.callers c.in_ok-add_caller.ensures.called c.in-Some-end_at.done
-    c.in-Some-end_at.ensures.some.0 c.in-Some-end_at.ensures.some.1 c.go_behind.new.found c.go_behind.new.trail c.go_behind.result
+    c.in-Some-end_at.ensures.some c.in-Some-end_at.ensures.done c.go_behind.new.found c.go_behind.new.trail c.go_behind.result
     c.go_behind.ensures.adds c.go_behind.ensures.ways

@@ -24,7 +24,7 @@ pub returns-in-Some-clause-takes : goal.returns-in-Some-clause-takes
 returns-in-Some-clause-takes c =
     λ k e. nothing_new c.args.context.now.core.now c.args.context.now.text.now c.reachable_is_closed.ensures c.args.context.now.budget c.args.taken.item.position k c.args.run.now.found c.args.run.now.waiting c.args.taken.item
     refl (run_at c.args.context.now.core.now c.args.context.now.text.now c.args.context.now.budget c.args.taken.item c.args.run.now.found c.args.run.now.waiting c.requires.taking k e) e c.requires.complete
-    c.in-Some.ensures.some.0
+    c.in-Some.ensures.some
 
 pub returns-in-Some-clause-trail : goal.returns-in-Some-clause-trail
 returns-in-Some-clause-trail c =
@@ -33,7 +33,7 @@ returns-in-Some-clause-trail c =
     c.requires.taking.run.taking.stored c.requires.next k e in
     again_on c.args.context.now.core.now c.args.context.now.text.now c.reachable_is_closed.ensures c.args.context.now.budget c.args.taken.item.position k c.args.run.now.found c.args.run.now.waiting c.args.run.now.trail
     c.args.taken.item c.args.taken.number refl (run_at c.args.context.now.core.now c.args.context.now.text.now c.args.context.now.budget c.args.taken.item c.args.run.now.found c.args.run.now.waiting c.requires.taking k e) e
-    h.1 h.0 c.requires.complete c.in-Some.first _ c.in-Some.ensures.some.0 c.in-Some.ensures.some.1 c.in_ok-add_further_end.ensures refl refl
+    h.1 h.0 c.requires.complete c.in-Some.first _ c.in-Some.ensures.some c.in-Some.ensures.done c.in_ok-add_further_end.ensures refl refl
 
 pub add_end-requires : goal.add_end-requires
 add_end-requires c =

@@ -9,12 +9,12 @@ returns-then-starts_with c =
     let P : List ℕ → Type 0 = λ z. Spells c.args.text.now z c.args.position (c.args.position + length c.as_slice-word.result.now) in
     subst P word
     (spells_by_start c.args.text.now c.as_slice-word.result.now c.in_ok-rest.rest.now c.args.position c.starts_with.result
-    c.in_ok-rest.ensures.1 c.in_ok-rest.ensures.0 c.starts_with.ensures.value c.if-starts_with.true)
+    c.in_ok-rest.ensures.rest c.in_ok-rest.ensures.within c.starts_with.ensures.value c.if-starts_with.true)
 
 pub returns-else-starts_with : goal.returns-else-starts_with
 returns-else-starts_with c j s =
     let word : c.args.self.now ≡ c.as_slice-word.result.now = sym (c.as_slice-word.ensures.value ∙ c.self.view_is) in
     let P : List ℕ → Type 0 = λ z. Spells c.args.text.now z c.args.position j in
     let yes = start_by_spells c.args.text.now c.as_slice-word.result.now c.in_ok-rest.rest.now c.args.position j
-    c.starts_with.result c.in_ok-rest.ensures.1 c.starts_with.ensures.value (subst P word s) in
+    c.starts_with.result c.in_ok-rest.ensures.rest c.starts_with.ensures.value (subst P word s) in
     let no = c.if-starts_with.false in cc
