@@ -5,7 +5,7 @@ ghost use Rattle.ig_calls.specs.Waiting as waits;
 ghost use Rattle.ig_calls.specs.Waiting.{called_at, lengthened, linked, not_called, with_caller};
 ghost use Rattle.ig_calls.specs.Waiting.{with_end};
 
-use ig_item::Item;
+use ig_item::{Item, number};
 use std::alloc::{AllocError, Global};
 
 /// An item that is taken, with its number.
@@ -107,9 +107,7 @@ pub fn add_caller(
         (with_caller (called_at waiting.old callee) (suc (length waiting.old.callers.items)))) }
 {
     let called = waiting.called[callee as usize];
-    let Ok(place) = u32::try_from(waiting.callers.as_slice().len().saturating_add(1)) else {
-        return Err(AllocError);
-    };
+    let place = number(waiting.callers.as_slice().len().saturating_add(1))?;
     waiting.callers.push(Caller {
         item: taken.item,
         number: taken.number,

@@ -1,10 +1,11 @@
 //! Item nodes as they are kept: the entries of all of them side by side in one vector.
-ghost use Rattle.std.specs.Prelude.{◌≡◌, ◌<◌, [], ◌∷◌, ◌++◌, IfOk, OnOk, length, option_map};
+ghost use Rattle.std.specs.Prelude.{◌≡◌, [], ◌∷◌, ◌++◌, IfOk, OnOk, length, option_map};
 ghost use Rattle.std.specs.Prelude.{slice_get};
 ghost use Rattle.ig_item.specs.Limits.{numbers_end};
 ghost use Rattle.ig_forest.specs.CodeParts.{IsPartOf, entries_in, stored_view};
 
 use crate::entry::Entry;
+use ig_item::number;
 use ig_live::ItemRow;
 use std::alloc::{AllocError, Global};
 use std::marker::Model;
@@ -83,8 +84,8 @@ impl ItemTable {
         ensures { OnOk result
             (self.new ≡ self.old ++ record { row = row; entries = entries.now } ∷ []) }
     {
-        let begin = place(self.entries.as_slice().len())?;
-        let end = place(self.entries.as_slice().len().saturating_add(entries.len()))?;
+        let begin = number(self.entries.as_slice().len())?;
+        let end = number(self.entries.as_slice().len().saturating_add(entries.len()))?;
         self.entries.extend_from_slice(entries)?;
         self.parts.push(Part { row, begin, end })?;
         Ok(())
@@ -96,8 +97,8 @@ impl ItemTable {
         ensures { OnOk result
             (self.new ≡ self.old ++ record { row = row; entries = entry ∷ [] } ∷ []) }
     {
-        let begin = place(self.entries.as_slice().len())?;
-        let end = place(self.entries.as_slice().len().saturating_add(1))?;
+        let begin = number(self.entries.as_slice().len())?;
+        let end = number(self.entries.as_slice().len().saturating_add(1))?;
         self.entries.push(entry)?;
         self.parts.push(Part { row, begin, end })?;
         Ok(())
@@ -117,15 +118,4 @@ fn part_at(parts: &[Part], k: u32) -> Option<Part>
     ensures { result ≡ slice_get parts.now k }
 {
     parts.get(k as usize).copied()
-}
-
-/// A place in the vector of all entries.
-fn place(k: usize) -> Result<u32, AllocError>
-    ensures place { IfOk result (λ p. p ≡ k) }
-    ensures fits { OnOk result (k < numbers_end) }
-{
-    match u32::try_from(k) {
-        Ok(p) => Ok(p),
-        Err(_) => Err(AllocError),
-    }
 }

@@ -8,6 +8,7 @@ ghost use Rattle.ig_text.specs.Pairwise.{Each};
 
 use crate::choice_order::put_in_order;
 use crate::entry::Choice;
+use ig_item::number;
 use std::alloc::{AllocError, Global};
 use std::marker::Model;
 
@@ -104,7 +105,7 @@ impl NodeRows {
         ensures { OnOk result
             (self.new ≡ self.old ++ record { row = row; alternatives = [] } ∷ []) }
     {
-        let begin = begin_behind(self.choices.as_slice())?;
+        let begin = number(self.choices.as_slice().len())?;
         self.begun.push(Begun { row, begin })?;
         Ok(())
     }
@@ -136,16 +137,6 @@ fn put_all_in_order(begun: &[Begun], choices: &mut [Choice])
         let begin = begun[k].begin as usize;
         let end = begin_of(begun, k + 1, choices.len());
         put_in_order(&mut choices[begin..end]);
-    }
-}
-
-/// Where the alternatives of one more node begin.
-fn begin_behind(choices: &[Choice]) -> Result<u32, AllocError>
-    ensures { IfOk result (λ begin. begin ≡ length choices.now) }
-{
-    match u32::try_from(choices.len()) {
-        Ok(begin) => Ok(begin),
-        Err(_) => Err(AllocError),
     }
 }
 

@@ -1,9 +1,9 @@
 //! EnvironmentTable: lists of values, side by side in one vector.
-ghost use Rattle.std.specs.Prelude.{◌≡◌, ◌<◌, [], ◌∷◌, ◌++◌, IfOk, OnOk, OnErr, length, slice_get};
+ghost use Rattle.std.specs.Prelude.{◌≡◌, [], ◌∷◌, ◌++◌, IfOk, OnOk, OnErr, length, slice_get};
 ghost use Rattle.std.specs.Option.{option_copied};
 ghost use Rattle.ig_item.specs.Parts.{IsPartOf, values_in};
-ghost use Rattle.ig_item.specs.Limits.{numbers_end};
 
+use crate::numbers::number;
 use ig_expr::Value;
 use std::alloc::{AllocError, Global};
 use std::marker::Model;
@@ -68,8 +68,8 @@ impl EnvironmentTable {
         ensures ok { OnOk result (self.new ≡ self.old ++ values.now ∷ []) }
         ensures err { OnErr result (self.new ≡ self.old) }
     {
-        let begin = place(self.values.as_slice().len())?;
-        let end = place(self.values.as_slice().len().saturating_add(values.len()))?;
+        let begin = number(self.values.as_slice().len())?;
+        let end = number(self.values.as_slice().len().saturating_add(values.len()))?;
         self.values.extend_from_slice(values)?;
         self.parts.push(Part { begin, end })?;
         Ok(())
@@ -89,15 +89,4 @@ fn part_at(parts: &[Part], k: u32) -> Option<Part>
     ensures { result ≡ slice_get parts.now k }
 {
     parts.get(k as usize).copied()
-}
-
-/// A place in the vector of all values.
-fn place(k: usize) -> Result<u32, AllocError>
-    ensures place { IfOk result (λ p. p ≡ k) }
-    ensures fits { OnOk result (k < numbers_end) }
-{
-    match u32::try_from(k) {
-        Ok(p) => Ok(p),
-        Err(_) => Err(AllocError),
-    }
 }

@@ -5,7 +5,8 @@
 //! Contracts see it as the list of its nonterminals, and a step as that of `specs/Step.antt`, with
 //! expressions as syntax trees. [`Items`] are what a run finds: three tables, of instances, of
 //! environments and of items that name them by number. [`Ways`] say how each of them came about,
-//! and a [`Recorded`] keeps the items and the ways of a core grammar and a text.
+//! and a [`Recorded`] keeps the items and the ways of a core grammar and a text. [`number`] gives
+//! the number of a table's member, or refuses it.
 //!
 //! `specs/Items.antt` defines which items of a core grammar and a text are reachable,
 //! `specs/Gives.antt` which item gives which by a rule, `specs/Ways.antt` how items came about,
@@ -22,6 +23,7 @@ mod dot;
 mod environment_table;
 mod items;
 mod laws;
+mod numbers;
 mod recorded;
 mod run_fault;
 mod step;
@@ -41,6 +43,7 @@ pub use laws::{
     reachable_is_least, stands_before_one, steps_fit, steps_leave_environments,
     steps_leave_in_turn,
 };
+pub use numbers::number;
 pub use recorded::Recorded;
 pub use run_fault::RunFault;
 pub use step::{Step, Steps};

@@ -2,6 +2,7 @@ pub mod Tables
 pub mod Rules
 pub mod Found
 pub mod Run
+pub mod Contexts
 pub mod Trail
 pub mod Arrival
 pub mod Laws

@@ -17,9 +17,9 @@ use crate::context::Context;
 use crate::trail::Trail;
 use ig_calls::{Taken, add_further_way};
 use ig_expr::{Value, Values};
-use ig_item::{Item, RunFault, Way};
+use ig_item::{Item, RunFault, Way, number};
 use ig_steps::extended;
-use ig_tables::{InstanceSet, enter_values, number, within_budget};
+use ig_tables::{InstanceSet, enter_values, within_budget};
 use indexmap::IndexSet;
 use std::alloc::{AllocError, Global};
 

@@ -1,6 +1,6 @@
 //! An item is taken: all that follows from it and those before it is added.
 ghost use Rattle.std.specs.Prelude.{◌≡◌, ◌↔◌, ◌<◌, ◌+◌, ◌++◌, ◌∷◌, [], IsTrue};
-ghost use Rattle.std.specs.Prelude.{MatchResult, None, OnOk, Some, length, map, option_map};
+ghost use Rattle.std.specs.Prelude.{None, OnOk, Some, length, map, option_map};
 ghost use Rattle.std.specs.Prelude.{slice_get};
 ghost use Rattle.ig_item.specs.Items.{IsComplete};
 ghost use Rattle.ig_item.specs.WellKinded.{NoneTwice};
@@ -16,10 +16,11 @@ ghost use Rattle.ig_plain.specs.Rules.{IsFirstOf, IsReturn, Stands, StandsAtBare
 ghost use Rattle.ig_plain.specs.Rules.{StandsAtCall, step_at};
 ghost use Rattle.ig_steps.specs.Compiled.{form_of};
 ghost use Rattle.ig_steps.specs.Names.{all_dots};
-ghost use Rattle.ig_plain.specs.Run.{EntersInstance, IsChainOf, IsReturnToOne, IsRun, Refuses};
-ghost use Rattle.ig_plain.specs.Run.{Taking, Takes};
-ghost use Rattle.ig_plain.specs.Trail.{AreKnown, By, ComeByNodes, EntersOn, HasTrail, IsIndexed};
-ghost use Rattle.ig_plain.specs.Trail.{IsNext, IsReturnBy, Records, TakesOn, Unfound};
+ghost use Rattle.ig_plain.specs.Contexts.{EntersIn, EntersOnIn, HasTrailIn, IsNextIn, IsRunIn};
+ghost use Rattle.ig_plain.specs.Contexts.{RunsIn, TakesIn, TakesOnIn, TakingIn};
+ghost use Rattle.ig_plain.specs.Run.{IsChainOf, IsReturnToOne};
+ghost use Rattle.ig_plain.specs.Trail.{AreKnown, By, ComeByNodes, IsIndexed, IsReturnBy};
+ghost use Rattle.ig_plain.specs.Trail.{Records, Unfound};
 
 use crate::context::Context;
 use crate::found::{Found, add_new, go_behind_bare_call, number_of};
@@ -184,15 +185,11 @@ fn item_at(found: &Found, number: usize) -> Item
 /// Takes a complete item: each caller of its instance returns, unless another item that is complete
 /// here came before.
 fn take_complete(context: &Context<'_>, run: &mut Run, taken: Taken) -> Result<(), RunFault>
-    requires taking { Taking context.now.core.now context.now.text.now context.now.budget
-        taken.item run.old.found run.old.waiting }
-    requires next { IsNext context.now.core.now context.now.text.now taken.item taken.number
-        run.old.found run.old.waiting run.old.trail }
+    requires taking { TakingIn context.now taken run.old }
+    requires next { IsNextIn context.now taken run.old }
     requires complete { IsComplete context.now.core.now (means run.old.found taken.item) }
-    ensures takes { Takes context.now.core.now context.now.text.now context.now.budget taken.item
-        run.old.found run.new.found run.new.waiting result }
-    ensures trail { TakesOn context.now.core.now context.now.text.now taken.item run.old.found
-        run.new.found run.new.waiting run.new.trail result }
+    ensures takes { TakesIn context.now taken run.old run.new result }
+    ensures trail { TakesOnIn context.now taken run.old run.new result }
 {
     reachable_is_closed();
     let instance = taken.item.instance;
@@ -228,19 +225,15 @@ fn take_call(
     qualifiers: &Qualifiers<'_>,
     taken: Taken,
 ) -> Result<(), RunFault>
-    requires taking { Taking context.now.core.now context.now.text.now context.now.budget
-        taken.item run.old.found run.old.waiting }
-    requires next { IsNext context.now.core.now context.now.text.now taken.item taken.number
-        run.old.found run.old.waiting run.old.trail }
+    requires taking { TakingIn context.now taken run.old }
+    requires next { IsNextIn context.now taken run.old }
     requires before { StandsBefore context.now.core.now (means run.old.found taken.item)
         known.now.names.now (Call nonterminal (map expression_of args.now)
         qualifiers.now.label.now qualifiers.now.not.now) }
     requires compiled { known.now.forms.now ≡
         map (form_of known.now.names.now) (map expression_of args.now) }
-    ensures takes { Takes context.now.core.now context.now.text.now context.now.budget taken.item
-        run.old.found run.new.found run.new.waiting result }
-    ensures trail { TakesOn context.now.core.now context.now.text.now taken.item run.old.found
-        run.new.found run.new.waiting run.new.trail result }
+    ensures takes { TakesIn context.now taken run.old run.new result }
+    ensures trail { TakesOnIn context.now taken run.old run.new result }
 {
     reachable_is_closed();
     items_are_in_text();
@@ -272,10 +265,8 @@ fn call_instance(context: &Context<'_>, run: &mut Run, key: InstanceKey) -> Resu
     requires env { key.env < length run.old.found.envs.keys }
     requires once { NoneTwice run.old.found.keys }
     requires envs_once { NoneTwice run.old.found.envs.keys }
-    ensures enters { EntersInstance context.now.core.now context.now.budget key run.old.found
-        run.new.found run.old.waiting run.new.waiting result }
-    ensures trail { EntersOn context.now.core.now context.now.budget key run.old.found
-        run.new.found run.old.waiting run.new.waiting run.old.trail run.new.trail result }
+    ensures enters { EntersIn context.now key run.old run.new result }
+    ensures trail { EntersOnIn context.now key run.old run.new result }
 {
     let (callee, is_new) = run.found.keys.enter(key)?;
     if is_new {
@@ -293,18 +284,14 @@ fn take_step(
     step: &Step,
     taken: Taken,
 ) -> Result<(), RunFault>
-    requires taking { Taking context.now.core.now context.now.text.now context.now.budget
-        taken.item run.old.found run.old.waiting }
-    requires next { IsNext context.now.core.now context.now.text.now taken.item taken.number
-        run.old.found run.old.waiting run.old.trail }
+    requires taking { TakingIn context.now taken run.old }
+    requires next { IsNextIn context.now taken run.old }
     requires dots { context.now.dots.now ≡ all_dots context.now.core.now }
     requires nonterminal { nonterminal ≡ (means run.old.found taken.item).instance.nonterminal }
     requires stands { Stands context.now.core.now (means run.old.found taken.item)
         (step_of step.now) }
-    ensures takes { Takes context.now.core.now context.now.text.now context.now.budget taken.item
-        run.old.found run.new.found run.new.waiting result }
-    ensures trail { TakesOn context.now.core.now context.now.text.now taken.item run.old.found
-        run.new.found run.new.waiting run.new.trail result }
+    ensures takes { TakesIn context.now taken run.old run.new result }
+    ensures trail { TakesOnIn context.now taken run.old run.new result }
 {
     reachable_is_closed();
     let found = &mut run.found;
@@ -358,17 +345,12 @@ pub(crate) fn take(
     place: usize,
     position: u32,
 ) -> Result<(), RunFault>
-    requires run { IsRun context.now.core.now context.now.text.now context.now.budget position
-        place run.old.found run.old.waiting }
-    requires trail { HasTrail context.now.core.now context.now.text.now position place
-        run.old.found run.old.waiting run.old.trail }
+    requires run { IsRunIn context.now position place run.old }
+    requires trail { HasTrailIn context.now position place run.old }
     requires there { place < length run.old.found.here.items }
     requires dots { context.now.dots.now ≡ all_dots context.now.core.now }
-    ensures run { MatchResult result (λ _. IsRun context.now.core.now context.now.text.now
-        context.now.budget position (place + 1) run.new.found run.new.waiting)
-        (Refuses context.now.core.now context.now.text.now context.now.budget) }
-    ensures trail { OnOk result (HasTrail context.now.core.now context.now.text.now position
-        (place + 1) run.new.found run.new.waiting run.new.trail) }
+    ensures run { RunsIn context.now position (place + 1) run.new result }
+    ensures trail { OnOk result (HasTrailIn context.now position (place + 1) run.new) }
 {
     environments_fit();
     keep_well_kinded(context.core);

@@ -7,6 +7,7 @@ ghost use Rattle.ig_item.specs.Tables.{HaveValues, items_of, tables_by};
 ghost use Rattle.ig_plain.specs.Found.{AllNamed};
 ghost use Rattle.ig_item.specs.WellKinded.{NoneTwice};
 ghost use Rattle.ig_item.specs.Limits.{numbers_end};
+ghost use Rattle.ig_plain.specs.Contexts.{HasTrailIn, IsRunIn, RunsIn};
 ghost use Rattle.ig_plain.specs.Run.{IsRun, Refuses};
 ghost use Rattle.ig_steps.specs.Names.{all_dots};
 ghost use Rattle.ig_plain.specs.Arrival.{ArrivesWith, IsNothing, IsParted};
@@ -20,7 +21,7 @@ use ig_calls::{Waiting, add_called};
 use ig_expr::Values;
 use ig_item::{
     Core, EnvironmentTable, InstanceKey, Item, Items, Recorded, RunFault, Way, Ways,
-    items_are_in_text, reachable_is_closed,
+    items_are_in_text, number, reachable_is_closed,
 };
 use ig_steps::dots_of_core;
 use ig_tables::enter_values;
@@ -29,16 +30,12 @@ use std::alloc::{AllocError, Global};
 
 /// Takes all items at the position.
 fn take_all(context: &Context<'_>, run: &mut Run, position: u32) -> Result<(), RunFault>
-    requires run { IsRun context.now.core.now context.now.text.now context.now.budget position 0
-        run.old.found run.old.waiting }
-    requires trail { HasTrail context.now.core.now context.now.text.now position 0 run.old.found
-        run.old.waiting run.old.trail }
+    requires run { IsRunIn context.now position 0 run.old }
+    requires trail { HasTrailIn context.now position 0 run.old }
     requires dots { context.now.dots.now ≡ all_dots context.now.core.now }
-    ensures run { MatchResult result (λ _. IsRun context.now.core.now context.now.text.now
-        context.now.budget position (length run.new.found.here.items) run.new.found
-        run.new.waiting) (Refuses context.now.core.now context.now.text.now context.now.budget) }
-    ensures trail { OnOk result (HasTrail context.now.core.now context.now.text.now position
-        (length run.new.found.here.items) run.new.found run.new.waiting run.new.trail) }
+    ensures run { RunsIn context.now position (length run.new.found.here.items) run.new result }
+    ensures trail { OnOk result
+        (HasTrailIn context.now position (length run.new.found.here.items) run.new) }
 {
     let mut place = 0;
     while place < run.found.here.len() {
@@ -135,13 +132,10 @@ fn run_to_end(context: &Context<'_>, run: &mut Run) -> Result<(), RunFault>
     requires nothing { IsNothing run.old.found run.old.waiting }
     requires untrodden { IsUntrodden run.old.waiting run.old.trail }
     requires dots { context.now.dots.now ≡ all_dots context.now.core.now }
-    ensures run { MatchResult result (λ _. IsRun context.now.core.now context.now.text.now
-        context.now.budget (length context.now.text.now) (length run.new.found.here.items)
-        run.new.found run.new.waiting)
-        (Refuses context.now.core.now context.now.text.now context.now.budget) }
-    ensures trail { OnOk result (HasTrail context.now.core.now context.now.text.now
-        (length context.now.text.now) (length run.new.found.here.items) run.new.found
-        run.new.waiting run.new.trail) }
+    ensures run { RunsIn context.now (length context.now.text.now)
+        (length run.new.found.here.items) run.new result }
+    ensures trail { OnOk result (HasTrailIn context.now (length context.now.text.now)
+        (length run.new.found.here.items) run.new) }
 {
     start(context, run)?;
     take_all(context, run, 0)?;
@@ -216,19 +210,9 @@ fn close(alloc: Global, found: &mut Found) -> Result<EnvironmentTable, AllocErro
     let here = found.here.as_slice();
     found.done.extend_from_slice(here)?;
     let envs = found.envs.as_slice();
-    keep_few(envs.len())?;
-    keep_few(found.keys.as_slice().len())?;
+    number(envs.len())?;
+    number(found.keys.as_slice().len())?;
     table_of(alloc, envs)
-}
-
-/// Refuses a table whose members 32 bits don't number.
-fn keep_few(members: usize) -> Result<(), AllocError>
-    ensures { OnOk result (members < numbers_end) }
-{
-    match u32::try_from(members) {
-        Ok(_) => Ok(()),
-        Err(_) => Err(AllocError),
-    }
 }
 
 /// The items that are reachable, each once, and how they come about. `Budget` exactly where there

@@ -3,8 +3,8 @@ ghost use Rattle.std.specs.Prelude.{IfOk};
 ghost use Rattle.ig_item.specs.WellKinded.{NoneTwice};
 ghost use Rattle.ig_tables.specs.Extends.{Enters, Extends};
 
-use crate::numbers::number;
 use ig_expr::Values;
+use ig_item::number;
 use indexmap::IndexSet;
 use std::alloc::AllocError;
 

@@ -7,8 +7,7 @@ ghost use Rattle.ig_item.specs.declared.items.InstanceKey as stored;
 ghost use Rattle.ig_tables.specs.InstanceSet.{AreInstances};
 ghost use Rattle.ig_tables.specs.Extends.{Enters, IsNew};
 
-use crate::numbers::number;
-use ig_item::InstanceKey;
+use ig_item::{InstanceKey, number};
 use indexmap::IndexSet;
 use std::alloc::{AllocError, Global};
 use std::marker::Model;

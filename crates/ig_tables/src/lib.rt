@@ -8,12 +8,12 @@
 //! don't number, and for [`Returned`] more items than they count over all positions.
 #![tactic(auto)]
 
+mod budget;
 mod environments;
 mod instance_set;
-mod numbers;
 mod returned;
 
+pub use budget::within_budget;
 pub use environments::enter_values;
 pub use instance_set::InstanceSet;
-pub use numbers::{number, within_budget};
 pub use returned::Returned;

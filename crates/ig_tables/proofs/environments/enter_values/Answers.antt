@@ -17,5 +17,5 @@ pub returns-clause-enters : goal.returns-clause-enters
 returns-clause-enters c =
     record {
       is = inserted_is values_eq-decides _ _ c.args.values c.in_ok-k.ensures.keys;
-      there = ap (slice_get _) c.in_ok-number.ensures ∙ inserted_at values_eq-decides _ c.args.values _ c.in_ok-k.k c.in_ok-k.ensures.stored.1 c.in_ok-k.ensures.stored.2;
+      there = ap (slice_get _) c.in_ok-number.ensures.number ∙ inserted_at values_eq-decides _ c.args.values _ c.in_ok-k.k c.in_ok-k.ensures.stored.1 c.in_ok-k.ensures.stored.2;
     }

@@ -8,12 +8,12 @@ pub invariant_of-self-2 : goal.invariant_of-self-2
 invariant_of-self-2 c =
     let node : Begun = record { row = c.args.row; begin = c.in_ok-begin.begin } in
     subst (λ (z : List Begun). RiseIn c.self.inside.choices.items z) (sym c.in_ok-push.ensures.items)
-    (node_rise c.self.inside.choices.items c.self.inside.begun.items node (c.in_ok-begin.ensures ∙ ap length c.as_slice.ensures.value) c.self.invariant)
+    (node_rise c.self.inside.choices.items c.self.inside.begun.items node (c.in_ok-begin.ensures.number ∙ ap length c.as_slice.ensures.value) c.self.invariant)
 
 pub returns : goal.returns
 returns c =
     let node : Begun = record { row = c.args.row; begin = c.in_ok-begin.begin } in
     let added : StoredNode = record { row = c.args.row; alternatives = [] } in
     ap (λ (z : List Begun). nodes_from c.self.inside.choices.items z) c.in_ok-push.ensures.items ∙
-    node_more c.self.inside.choices.items c.self.inside.begun.items node (c.in_ok-begin.ensures ∙ ap length c.as_slice.ensures.value) ∙
+    node_more c.self.inside.choices.items c.self.inside.begun.items node (c.in_ok-begin.ensures.number ∙ ap length c.as_slice.ensures.value) ∙
     ap (λ (z : List StoredNode). z ++ added ∷ []) c.self.view_is

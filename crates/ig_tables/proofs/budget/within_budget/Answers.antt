@@ -1,5 +1,5 @@
 use Rattle.std.proofs.Common.{rules}
-use Rattle.ig_tables.proofs.numbers.within_budget.Goals as goal
+use Rattle.ig_tables.proofs.budget.within_budget.Goals as goal
 
 pub returns-then-items-budget-clause-over : goal.returns-then-items-budget-clause-over
 returns-then-items-budget-clause-over c = search rules
