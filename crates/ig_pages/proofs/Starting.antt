@@ -11,8 +11,15 @@ use Rattle.ig_forest.specs.Tags.{TagsAreNamed}
 use Rattle.ig_item.specs.declared.core_grammar.Nonterminal.{Nonterminal}
 use Rattle.ig_print.specs.Laws.{CursorTextsDiffer}
 use Rattle.ig_print.specs.TreeText.{cursor_text}
+use Rattle.ig_print.specs.declared.cursor_text.CursorFault.{CursorFault}
+use Rattle.ig_print.specs.declared.cursor_text.CursorFault.TheVariants as cursor_fault
+use Rattle.ig_print.specs.declared.cursor_text.CursorFault.TheVariants.{NotACursor}
+use Rattle.ig_walker.specs.declared.walker.WalkFault.{WalkFault}
+use Rattle.ig_walker.specs.declared.walker.WalkFault.TheVariants as walk_fault
+use Rattle.ig_walker.specs.declared.walker.WalkFault.TheVariants.{BadCursor}
 use Rattle.ig_walker.specs.Listing.{Listing, HasTree, HasNoTree}
 use Rattle.ig_command.specs.Commands as command
+use Rattle.ig_pages.specs.Faults.{fault_of_cursor, fault_of_walk}
 use Rattle.ig_pages.specs.Pages.{at_first, at_cursor, IsDepthFor, IsStart, Starts, IsPageText, Lists}
 use Rattle.ig_pages.specs.declared.fault.ListFault.{ListFault}
 use Rattle.ig_pages.specs.declared.fault.ListFault.TheVariants as fault
@@ -45,6 +52,20 @@ module _ (f : Forest) (d : ℕ) where
                 let same = differ other cursor (short d other has.0 has.1) small (sym e ∙ sym read) in
                 let P : List ℕ → Type 0 = λ z. Unfold f d z has.0 in none has.0 (subst P same has.1);
           }
+
+      -- why the word isn't read as a cursor is why there is no walker
+      pub starts_unread : (error : CursorFault) →
+          (error ≡ NotACursor → (cs : List ℕ) → IsShortCursor cs → cursor_text cs ≡ word → ⊥) →
+          Starts f d (Some word) (Err (fault_of_cursor error))
+      starts_unread NotACursor none = starts_at_no_text (none refl)
+      starts_unread cursor_fault.Memory none = tt
+
+      -- why no walker stands behind the cursor is why there is none behind the word
+      pub starts_unwalked : (error : WalkFault) → CursorTextsDiffer → (cursor : List ℕ) → IsShortCursor cursor →
+          cursor_text cursor ≡ word → (error ≡ BadCursor → HasNoTree f d cursor) →
+          Starts f d (Some word) (Err (fault_of_walk error))
+      starts_unwalked BadCursor differ cursor small read none = starts_at_no_tree differ cursor small read (none refl)
+      starts_unwalked walk_fault.Memory differ cursor small read none = tt
 
 -- numbers of 32 bits make a short cursor
 pub all_short : (cursor : List ℕ) → ((k : ℕ) → get_or cursor k 0 < 4294967296) → IsShortCursor cursor

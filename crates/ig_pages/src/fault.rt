@@ -1,5 +1,7 @@
 //! Why there is no listing.
 
+use ig_print::CursorFault;
+use ig_walker::WalkFault;
 use std::alloc::AllocError;
 use thiserror::Error;
 
@@ -15,6 +17,34 @@ pub enum ListFault {
     /// Memory ran out.
     #[error("out of memory")]
     Memory,
+}
+
+impl From<CursorFault> for ListFault {
+    ghost use Rattle.std.specs.Prelude.{◌≡◌};
+    ghost use Rattle.ig_pages.specs.Faults.{fault_of_cursor};
+
+    ghost from_gives = { λ error fault. fault ≡ fault_of_cursor error };
+
+    fn from(error: CursorFault) -> ListFault {
+        match error {
+            CursorFault::NotACursor => ListFault::NoCursor,
+            CursorFault::Memory => ListFault::Memory,
+        }
+    }
+}
+
+impl From<WalkFault> for ListFault {
+    ghost use Rattle.std.specs.Prelude.{◌≡◌};
+    ghost use Rattle.ig_pages.specs.Faults.{fault_of_walk};
+
+    ghost from_gives = { λ error fault. fault ≡ fault_of_walk error };
+
+    fn from(error: WalkFault) -> ListFault {
+        match error {
+            WalkFault::BadCursor => ListFault::NoCursor,
+            WalkFault::Memory => ListFault::Memory,
+        }
+    }
 }
 
 impl From<AllocError> for ListFault {

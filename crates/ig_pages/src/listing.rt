@@ -18,8 +18,8 @@ use ig_command::Listing;
 use ig_forest::{Forest, Tree};
 use ig_heights::Heights;
 use ig_item::Core;
-use ig_print::{CursorFault, cursor_texts_differ, push_cursor, push_tree, read_cursor};
-use ig_walker::{WalkFault, Walker, listings_grow};
+use ig_print::{cursor_texts_differ, push_cursor, push_tree, read_cursor};
+use ig_walker::{Walker, listings_grow};
 use std::alloc::{AllocError, Global};
 
 /// The text of a listing of the forest's trees, whose tags name nonterminals of the core grammar.
@@ -80,17 +80,10 @@ fn walker_at<'f>(
         let walker = Walker::first(alloc, forest, heights, depth)?;
         return Ok(walker);
     };
-    let cursor = match read_cursor(alloc, word) {
-        Ok(cursor) => cursor,
-        Err(CursorFault::NotACursor) => return Err(ListFault::NoCursor),
-        Err(CursorFault::Memory) => return Err(ListFault::Memory),
-    };
+    let cursor = read_cursor(alloc, word)?;
     numbers_are_short(cursor.as_slice());
-    match Walker::after(alloc, forest, heights, depth, &cursor) {
-        Ok(walker) => Ok(walker),
-        Err(WalkFault::BadCursor) => Err(ListFault::NoCursor),
-        Err(WalkFault::Memory) => Err(ListFault::Memory),
-    }
+    let walker = Walker::after(alloc, forest, heights, depth, &cursor)?;
+    Ok(walker)
 }
 
 /// Numbers of 32 bits make a short cursor. This law computes nothing.
