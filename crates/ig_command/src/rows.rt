@@ -1,6 +1,6 @@
 //! The rows of the table of commands, each as a command of `clap`.
-ghost use Rattle.std.specs.Prelude.{◌≡◌, ◌≢◌, ◌∷◌, [], IfOk, None, OnOk, codes, map};
-ghost use Rattle.std.specs.Prelude.{string_bytes, true};
+ghost use Rattle.std.specs.Prelude.{◌≡◌, ◌≢◌, ◌∷◌, [], IfOk, None, OnErr, OnOk, codes};
+ghost use Rattle.std.specs.Prelude.{map, string_bytes, true};
 ghost use Rattle.std.specs.List.{list_all};
 ghost use Rattle.clap.specs.Words.{app_of, with_rule};
 ghost use Rattle.ig_command.specs.Rows.{Answers, app_for, app_with, may_stand, option, place};
@@ -71,6 +71,7 @@ pub(crate) fn matches_of<'a>(
 fn refused<'a>(kind: ErrorKind) -> Result<Option<ArgMatches<'a>>, AllocError>
     ensures none { IfOk result (λ r. r ≡ None) }
     ensures memory { OnOk result (kind ≢ ErrorKind.OutOfMemory) }
+    ensures out_of_memory { OnErr result (kind ≡ ErrorKind.OutOfMemory) }
 {
     match kind {
         ErrorKind::OutOfMemory => Err(AllocError),
