@@ -1,3 +1,4 @@
 pub mod Readers
 pub mod Steps
 pub mod Lists
+pub mod Repetitions

@@ -40,6 +40,8 @@ pub fn add<T: Drop>(list: &mut Vec<T>, value: T) -> Result<(), AllocError>
     ensures ok { OnOk result (list.new.items ≡ list.old.items ++ value ∷ []) }
     ensures err { OnErr result (list.new.items ≡ list.old.items) }
 {
-    list.push(value)?;
-    Ok(())
+    match list.push(value) {
+        Ok(()) => Ok(()),
+        Err(_refused) => Err(AllocError),
+    }
 }

@@ -1,5 +1,6 @@
 //! Readers of the parts of a grammar text that stand inside symbols: single tokens, names,
-//! expressions with their arguments, patterns and filters.
+//! expressions with their arguments, patterns, filters, and the signs behind options and lists
+//! with what these make of symbols.
 //!
 //! They go over the tokens by recursive descent. Each function that reads a part promises that the
 //! tokens which it takes read as what it returns by the rules, and that the machine of ig_rules
@@ -11,11 +12,15 @@
 mod expressions;
 mod fault;
 mod filters;
+mod repetitions;
 mod signs;
 mod tokens;
 
 pub use expressions::{read_arguments, read_closed};
 pub use fault::{RuleFault, add};
 pub use filters::{pattern_of, read_filters};
+pub use repetitions::{
+    ListSign, Repetition, read_list_sign, repeated, repetition_at, separated,
+};
 pub use signs::{Sign, read_name, read_sign, stands_at};
 pub use tokens::Tokens;

@@ -16,12 +16,13 @@ use Rattle.ig_rules.specs.Machine as want
 use Rattle.ig_rules.specs.Machine.{Want, after, before, run, after_symbol, after_atom, arguments_wants, alternatives_wants}
 use Rattle.ig_rules.specs.Reading.{Goes}
 use Rattle.ig_readers.specs.declared.fault.RuleFault.{RuleFault}
-use Rattle.ig_symbols.specs.declared.symbols.Repetition.{Repetition}
-use Rattle.ig_symbols.specs.declared.symbols.Repetition.TheVariants as repetitions
-use Rattle.ig_symbols.specs.declared.symbols.ListSign.{ListSign}
-use Rattle.ig_symbols.specs.declared.symbols.ListSign.TheVariants as lists
+use Rattle.ig_readers.specs.declared.repetitions.Repetition.{Repetition}
+use Rattle.ig_readers.specs.declared.repetitions.Repetition.TheVariants as repetitions
+use Rattle.ig_readers.specs.declared.repetitions.ListSign.{ListSign}
+use Rattle.ig_readers.specs.declared.repetitions.ListSign.TheVariants as lists
 use Rattle.ig_readers.specs.Readers.{Stands, Takes, Misses, at_end, at_token, StopsAt, Runs, Finds, Behind, Closed, Front}
-use Rattle.ig_symbols.specs.Parts.{ReadsBare, terminal_of, repetition_token, repeated_of, list_token, separated_of}
+use Rattle.ig_readers.specs.Repetitions.{repetition_token, repeated_of, list_token, separated_of}
+use Rattle.ig_symbols.specs.Parts.{ReadsBare, terminal_of}
 use Rattle.ig_readers.specs.Lists.{one_more, the_last, finish, snoc}
 use Rattle.ig_readers.specs.Steps.{taken, passed, front, joined, in_row, stop_later, stop_first, stop_token, runs_of, by_token, by_itself, in_turn, otherwise, the_same, ReadsToken, the_token, alike_at, rows_alike, rows_same, and_none, relay, reread, After, token_then, sign_then, then_sign, row_more}
 

@@ -2,7 +2,7 @@
 //! returns what it read with the number of the first token behind it.
 
 ghost use Rattle.std.specs.Prelude.{◌≡◌, ◌≤◌, ◌<◌, [], ◌∷◌, ◌++◌, length, true, false, Some};
-ghost use Rattle.std.specs.Prelude.{is_some, IfOk, IfErr, OnOk, MatchOption};
+ghost use Rattle.std.specs.Prelude.{is_some, IfOk, IfErr, OnOk};
 ghost use Rattle.ig_tokens.specs.View.{token_of};
 ghost use Rattle.ig_syntax.specs.Token as spec;
 ghost use Rattle.ig_grammar.specs.Symbol as tree;
@@ -14,34 +14,18 @@ ghost use Rattle.ig_syntax.specs.Rules.{ReadsAlternative, ReadsAlternatives, fil
 ghost use Rattle.ig_rules.specs.Machine as want;
 ghost use Rattle.ig_rules.specs.Machine.{after_symbol, alternatives_wants, close_brace};
 ghost use Rattle.ig_rules.specs.Reading.{Goes};
-ghost use Rattle.ig_readers.specs.Readers.{Stands, Misses, MissesAt, Finds, StopsAt, Behind};
-ghost use Rattle.ig_symbols.specs.Parts.{ReadsBare, terminal_of, repetition_token};
-ghost use Rattle.ig_symbols.specs.Parts.{repeated_of, list_token, separated_of};
+ghost use Rattle.ig_readers.specs.Readers.{Misses, Finds, StopsAt, Behind};
+ghost use Rattle.ig_symbols.specs.Parts.{ReadsBare, terminal_of};
 
 use ig_expr::Exprs;
 use ig_grammar::{Alt, Alts, Filters, Inner, Symbol, Symbols};
 use ig_readers::{
-    RuleFault, Sign, Tokens, pattern_of, read_arguments, read_closed, read_filters, read_name,
-    read_sign, stands_at,
+    RuleFault, Sign, Tokens, pattern_of, read_arguments, read_closed, read_filters, read_list_sign,
+    read_name, read_sign, repeated, repetition_at, separated, stands_at,
 };
 use ig_text::{Pattern, Word};
 use ig_tokens::Token;
 use std::alloc::Global;
-
-/// What stands behind an option or a list.
-#[derive(Clone, Copy)]
-pub(crate) enum Repetition {
-    Opt,
-    Star,
-    Plus,
-}
-
-/// What stands behind a separated list.
-#[derive(Clone, Copy)]
-pub(crate) enum ListSign {
-    Star,
-    Plus,
-}
 
 /// Reads alternatives, with `|` between them, and gives them with the number of the token behind.
 /// Refused as unexpected only where the machine of the rules stops whatever is wanted behind them,
@@ -315,50 +299,6 @@ fn terminal(pattern: Pattern) -> Symbol
     match pattern {
         Pattern::Literal(text) => Symbol::Literal(text),
         Pattern::OneOf(class) => Symbol::Class(class),
-    }
-}
-
-/// The sign of an option or a list that stands there; `None` exactly where none does.
-fn repetition_at(tokens: &Tokens, at: usize) -> Option<Repetition>
-    ensures { MatchOption result (Misses want.sign tokens.now at) (λ s. Stands tokens.now at
-        (repetition_token s)) }
-{
-    match tokens.get(at)? {
-        Token::Question => Some(Repetition::Opt),
-        Token::Star => Some(Repetition::Star),
-        Token::Plus => Some(Repetition::Plus),
-        _ => None,
-    }
-}
-
-fn repeated(repetition: Repetition, atom: Inner) -> Symbol
-    ensures { symbol_of result ≡ repeated_of repetition atom }
-{
-    match repetition {
-        Repetition::Opt => Symbol::Opt(atom),
-        Repetition::Star => Symbol::Star(atom),
-        Repetition::Plus => Symbol::Plus(atom),
-    }
-}
-
-/// The sign of a separated list that stands there, in front of the token of the next number.
-fn read_list_sign(tokens: &Tokens, at: usize) -> Result<ListSign, RuleFault>
-    ensures ok { IfOk result (λ s. Stands tokens.now at (list_token s)) }
-    ensures err { IfErr result (MissesAt want.list_sign tokens.now at) }
-{
-    match tokens.ahead(at)? {
-        Token::Star => Ok(ListSign::Star),
-        Token::Plus => Ok(ListSign::Plus),
-        _ => Err(RuleFault::Unexpected { token: at }),
-    }
-}
-
-fn separated(sign: ListSign, item: Inner, separator: Inner) -> Symbol
-    ensures { symbol_of result ≡ separated_of sign item separator }
-{
-    match sign {
-        ListSign::Star => Symbol::SepStar(item, separator),
-        ListSign::Plus => Symbol::SepPlus(item, separator),
     }
 }
 

@@ -1,7 +1,7 @@
 use Rattle.std.proofs.Common.{rules}
 use Rattle.ig_readers.specs.Readers.{at_token}
 use Rattle.ig_readers.specs.Steps.{stands_as}
-use Rattle.ig_symbols.proofs.symbols.repetition_at.Goals as goal
+use Rattle.ig_readers.proofs.repetitions.repetition_at.Goals as goal
 
 pub returns-in_default : goal.returns-in_default
 returns-in_default c = at_token _ c.in_ok-get.ensures (search rules)

@@ -1,7 +1,7 @@
 use Rattle.std.proofs.Common.{rules, refl}
 use Rattle.ig_readers.specs.Readers.{at_token}
 use Rattle.ig_readers.specs.Steps.{stands_as}
-use Rattle.ig_symbols.proofs.symbols.read_list_sign.Goals as goal
+use Rattle.ig_readers.proofs.repetitions.read_list_sign.Goals as goal
 
 pub returns-in_default : goal.returns-in_default
 returns-in_default c = record { ok = tt; err = record { misses = at_token _ c.in_ok-ahead.ensures.ok (search rules); is_fault = refl } }

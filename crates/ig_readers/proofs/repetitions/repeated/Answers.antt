@@ -1,6 +1,6 @@
 use Rattle.std.proofs.Common.{sym, ap}
-use Rattle.ig_symbols.specs.Parts.{repeated_of}
-use Rattle.ig_symbols.proofs.symbols.repeated.Goals as goal
+use Rattle.ig_readers.specs.Repetitions.{repeated_of}
+use Rattle.ig_readers.proofs.repetitions.repeated.Goals as goal
 
 pub returns-in-Opt : goal.returns-in-Opt
 returns-in-Opt c = ap (λ s. repeated_of s c.args.atom) (sym c.in-Opt.is)

@@ -1,6 +1,6 @@
 use Rattle.std.proofs.Common.{sym, ap}
-use Rattle.ig_symbols.specs.Parts.{separated_of}
-use Rattle.ig_symbols.proofs.symbols.separated.Goals as goal
+use Rattle.ig_readers.specs.Repetitions.{separated_of}
+use Rattle.ig_readers.proofs.repetitions.separated.Goals as goal
 
 pub returns-in-Star : goal.returns-in-Star
 returns-in-Star c = ap (λ s. separated_of s c.args.item c.args.separator) (sym c.in-Star.is)
