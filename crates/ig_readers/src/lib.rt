@@ -19,8 +19,6 @@ mod tokens;
 pub use expressions::{read_arguments, read_closed};
 pub use fault::{RuleFault, add};
 pub use filters::{pattern_of, read_filters};
-pub use repetitions::{
-    ListSign, Repetition, read_list_sign, repeated, repetition_at, separated,
-};
+pub use repetitions::{ListSign, Repetition, read_list_sign, repeated, repetition_at, separated};
 pub use signs::{Sign, read_name, read_sign, stands_at};
 pub use tokens::Tokens;
