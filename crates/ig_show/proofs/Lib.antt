@@ -1,9 +1,7 @@
-pub mod Numerals
 pub mod Steps
 pub mod Falling
 pub mod ReadsBack
 pub mod Apart
-pub mod CanonicalTokens
 pub mod Written
 pub mod Retokenized
 pub mod ReadBack

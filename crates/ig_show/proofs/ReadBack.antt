@@ -4,29 +4,28 @@ use Rattle.ig_syntax.specs.Token.{Token}
 use Rattle.ig_syntax.specs.Rules.{FollowsRules}
 use Rattle.ig_syntax.specs.Lexing as lexing
 use Rattle.ig_syntax.specs.Lexing.{Lexes}
-use Rattle.ig_text.specs.Ranges.{NormalFormIsNormal, NormalRangesStay}
 use Rattle.ig_tokens.specs.Laws.{EndedTokensAreLongest}
+use Rattle.ig_spelling.specs.Laws.{FixedTokensAreSpelled, TokensAreSpelled}
 use Rattle.ig_show.specs.CanonicalText.{pieces_of}
 use Rattle.ig_show.specs.Laws.{CanonicalTextReadsBack}
 use Rattle.ig_show.proofs.Apart.{grammar_apart}
-use Rattle.ig_show.proofs.CanonicalTokens.{canonical}
 use Rattle.ig_show.proofs.Written.{AllSpelled, tokens_spelled}
 use Rattle.ig_show.proofs.ReadsBack.{tokens_follow}
 use Rattle.ig_show.proofs.Retokenized.{lexes, placed, placed_tokens}
 
-all_spelled : NormalFormIsNormal → NormalRangesStay → {at : ℕ} {text : List ℕ} {ts : List (Token × ℕ)} → Lexes at text ts →
+all_spelled : TokensAreSpelled → {at : ℕ} {text : List ℕ} {ts : List (Token × ℕ)} → Lexes at text ts →
     AllSpelled (map (λ p. p.0) ts)
-all_spelled normal stay (lexing.nothing at text e) = tt
-all_spelled normal stay (lexing.a_separator at n text front rest ts e p q l) = all_spelled normal stay l
-all_spelled normal stay (lexing.a_token at n text front rest t ts e p q l) =
-    (canonical normal stay e.stands.spelled_so, all_spelled normal stay l)
+all_spelled spelled (lexing.nothing at text e) = tt
+all_spelled spelled (lexing.a_separator at n text front rest ts e p q l) = all_spelled spelled l
+all_spelled spelled (lexing.a_token at n text front rest t ts e p q l) =
+    (spelled _ t e.stands.spelled_so, all_spelled spelled l)
 
-pub reads_back : EndedTokensAreLongest → NormalFormIsNormal → NormalRangesStay → CanonicalTextReadsBack
-reads_back longest normal stay s g r =
-    let spelled = tokens_spelled r.follows (all_spelled normal stay r.lexes) in
+pub reads_back : EndedTokensAreLongest → FixedTokensAreSpelled → TokensAreSpelled → CanonicalTextReadsBack
+reads_back longest fixed spelled s g r =
+    let all = tokens_spelled fixed r.follows (all_spelled spelled r.lexes) in
     record {
       placed = placed 0 (pieces_of g);
-      lexes = lexes longest 0 (pieces_of g) (grammar_apart g) spelled;
+      lexes = lexes longest 0 (pieces_of g) (grammar_apart g) all;
       follows =
           subst (λ ts. FollowsRules ts g) (sym (placed_tokens 0 (pieces_of g))) (tokens_follow (map (λ p. p.0) r.placed) g r.follows);
     }

@@ -10,9 +10,9 @@ use Rattle.ig_syntax.specs.Spelling as table
 use Rattle.ig_syntax.specs.Lexing as lexing
 use Rattle.ig_syntax.specs.Lexing.{Lexes, bytes}
 use Rattle.ig_tokens.specs.Laws.{ends, EndedTokensAreLongest}
-use Rattle.ig_show.specs.Pieces as pieces
-use Rattle.ig_show.specs.Pieces.{Piece, blank, line_end, text, tokens}
-use Rattle.ig_show.specs.Spelling.{spelling}
+use Rattle.ig_spelling.specs.Pieces as pieces
+use Rattle.ig_spelling.specs.Pieces.{Piece, blank, line_end, text, tokens}
+use Rattle.ig_spelling.specs.Spelling.{spelling}
 use Rattle.ig_show.proofs.Apart.{parted, spaced, ends_word, need, has, Apart}
 use Rattle.ig_show.proofs.Written.{AllSpelled}
 

@@ -26,7 +26,8 @@ use Rattle.ig_grammar.specs.declared.declaration.DeclKind.TheVariants as decls
 use Rattle.ig_grammar.specs.declared.declaration.Level.{Level}
 use Rattle.ig_grammar.specs.declared.declaration.Decl.{Decl}
 use Rattle.ig_grammar.specs.declared.grammar.Grammar.{Grammar}
-use Rattle.ig_show.specs.Pieces.{Piece, blank, line_end, token, text, tokens}
+use Rattle.ig_spelling.specs.Signs.{integer_pieces, operator_token, function_name, truth_token, pattern_token, has_operator}
+use Rattle.ig_spelling.specs.Pieces.{Piece, blank, line_end, token, text, tokens}
 
 -- each of a list, with the separator before it
 abbrev pub separated : {A : Type 0} → List Piece → (A → List Piece → List Piece) → List A → List Piece → List Piece
@@ -41,55 +42,6 @@ joined separator shown (x ∷ xs) ps = shown x (separated separator shown xs ps)
 abbrev pub comma : List Piece
 comma = token Comma ∷ blank ∷ []
 
--- a number in decimal, with `-` where it is negative
-abbrev pub integer_pieces : ℤ → List Piece → List Piece
-integer_pieces (pos n) ps = token (Number n) ∷ ps
-integer_pieces (negsuc n) ps = token Minus ∷ token (Number (suc n)) ∷ ps
-
-abbrev pub operator_token : Op → Token
-operator_token op.Add = sign.Plus
-operator_token op.Sub = sign.Minus
-operator_token op.Mul = sign.Star
-operator_token op.Div = sign.Div
-operator_token op.Mod = sign.Mod
-operator_token op.Less = sign.Less
-operator_token op.LessEqual = sign.AtMost
-operator_token op.Greater = sign.Greater
-operator_token op.GreaterEqual = sign.AtLeast
-operator_token op.Equal = sign.EqualTo
-operator_token op.NotEqual = sign.NotEqualTo
-operator_token op.And = sign.And
-operator_token op.Or = sign.Or
-
-abbrev pub function_name : Function → List ℕ
-function_name functions.Begin = codes "begin"
-function_name functions.End = codes "end"
-function_name functions.Size = codes "size"
-function_name functions.Column = codes "column"
-function_name functions.Line = codes "line"
-function_name functions.Number = codes "number"
-
-abbrev pub pattern_token : Pattern → Token
-pattern_token (patterns.Literal word) = sign.Literal word
-pattern_token (patterns.OneOf class) = sign.OneOf class
-
--- the expression is two terms with an operator between them, or a term behind `not` or `-`
-abbrev pub has_operator : Expression → Bool
-has_operator (Integer n) = false
-has_operator (Truth b) = false
-has_operator expression.Here = false
-has_operator (Variable x) = false
-has_operator (expression.Not a) = true
-has_operator (Negative a) = true
-has_operator (Binary o a b) = true
-has_operator (Of f a) = false
-has_operator (Same a b) = false
-has_operator (Spells a word) = false
-has_operator (Outer a b) = false
-has_operator (Inside a b) = false
-has_operator (FreeBefore p) = false
-has_operator (FreeAfter p) = false
-
 -- a part of an expression stands in parentheses where it has an operator
 abbrev pub as_part : Bool → (List Piece → List Piece) → List Piece → List Piece
 as_part operator shown ps = if operator then token Open ∷ shown (token Close ∷ ps) else shown ps
@@ -101,7 +53,7 @@ two_arguments first second ps = first (token Comma ∷ blank ∷ second (token C
 -- an operator stands between spaces, `not` and `-` have one behind them, and arguments are joined by `, `
 abbrev pub expression_pieces : Expression → List Piece → List Piece
 expression_pieces (Integer n) ps = integer_pieces n ps
-expression_pieces (Truth b) ps = (if b then token sign.True else token sign.False) ∷ ps
+expression_pieces (Truth b) ps = token (truth_token b) ∷ ps
 expression_pieces expression.Here ps = token sign.Here ∷ ps
 expression_pieces (Variable x) ps = token (Name x) ∷ ps
 expression_pieces (expression.Not a) ps = token sign.Not ∷ blank ∷ as_part (has_operator a) (expression_pieces a) ps

@@ -1,5 +1,3 @@
-pub mod Spelling
-pub mod Pieces
 pub mod CanonicalText
 pub mod Writing
 pub mod Laws

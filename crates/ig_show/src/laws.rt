@@ -12,6 +12,6 @@ pub fn canonical_text_reads_back()
     ensures { CanonicalTextReadsBack }
 {
     ig_tokens::ended_tokens_are_longest();
-    ig_text::normal_form_is_normal();
-    ig_text::normal_ranges_stay();
+    ig_spelling::fixed_tokens_are_spelled();
+    ig_spelling::tokens_are_spelled();
 }

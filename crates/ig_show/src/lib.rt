@@ -4,7 +4,6 @@
 mod expressions;
 mod grammar;
 mod laws;
-mod spelling;
 mod symbols;
 
 pub use grammar::{

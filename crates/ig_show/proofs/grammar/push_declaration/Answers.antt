@@ -3,8 +3,9 @@ use Rattle.std.proofs.Common.{◌∷◌, refl}
 use Rattle.std.specs.Str.{chars}
 use Rattle.ig_syntax.specs.Token as sign
 use Rattle.ig_syntax.specs.Token.{Name, Head, Comma, Open, Close}
-use Rattle.ig_show.specs.Pieces.{token, blank, line_end}
-use Rattle.ig_show.proofs.Steps.{if_ok, adds, says, shown_as}
+use Rattle.ig_spelling.specs.Pieces.{token, blank, line_end}
+use Rattle.ig_spelling.specs.Steps.{if_ok, adds, says}
+use Rattle.ig_show.proofs.Steps.{shown_as}
 use Rattle.ig_show.proofs.grammar.push_declaration.Goals as goal
 
 pub returns : goal.returns

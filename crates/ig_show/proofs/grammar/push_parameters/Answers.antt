@@ -3,8 +3,9 @@ use Rattle.std.proofs.Common.{◌∷◌, refl, sym, subst}
 use Rattle.std.specs.Prelude.{string_bytes}
 use Rattle.std.specs.Str.{chars}
 use Rattle.ig_syntax.specs.Token.{Comma}
-use Rattle.ig_show.specs.Pieces.{token, blank}
-use Rattle.ig_show.proofs.Steps.{adds, says, Ahead, first_written, less_ahead, none_ahead}
+use Rattle.ig_spelling.specs.Pieces.{token, blank}
+use Rattle.ig_spelling.specs.Steps.{adds, says}
+use Rattle.ig_show.proofs.Steps.{Ahead, first_written, less_ahead, none_ahead}
 use Rattle.ig_show.proofs.grammar.push_parameters.Goals as goal
 
 pub loop-other-init : goal.loop-other-init
