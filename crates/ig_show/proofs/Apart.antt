@@ -26,8 +26,8 @@ use Rattle.ig_grammar.specs.declared.declaration.Level.{Level}
 use Rattle.ig_grammar.specs.declared.declaration.Decl.{Decl}
 use Rattle.ig_grammar.specs.declared.grammar.Grammar.{Grammar}
 use Rattle.ig_spelling.specs.Pieces.{Piece, blank, line_end, token}
-use Rattle.ig_spelling.specs.Signs.{integer_pieces, has_operator, operator_token, pattern_token}
-use Rattle.ig_show.specs.CanonicalText.{expression_pieces, as_part, separated, joined, comma, call_pieces, filter_pieces, let_pieces, bindings_pieces, symbol_pieces, alternative_pieces, further_symbols, alternatives_pieces, further_alternatives, associativity_pieces, level_pieces, levels_pieces, parameter_pieces, kind_token, head_pieces, declaration_pieces, declaration_token, start_pieces, pieces_of}
+use Rattle.ig_spelling.specs.Signs.{associativity_pieces, integer_pieces, has_operator, operator_token, pattern_token}
+use Rattle.ig_show.specs.CanonicalText.{expression_pieces, as_part, separated, joined, comma, call_pieces, filter_pieces, let_pieces, bindings_pieces, symbol_pieces, alternative_pieces, further_symbols, alternatives_pieces, further_alternatives, level_pieces, levels_pieces, parameter_pieces, kind_token, head_pieces, declaration_pieces, declaration_token, start_pieces, pieces_of}
 
 -- the token begins with a character that ends a word or a number
 abbrev pub ends_word : Token → Bool

@@ -27,8 +27,8 @@ use Rattle.ig_grammar.specs.declared.grammar.Grammar.{Grammar}
 use Rattle.ig_syntax.specs.Rules as rules
 use Rattle.ig_syntax.specs.Rules.{IsOperator, IsFunction, ReadsTerm, ReadsExpression, ReadsArguments, IsPattern, IsFilter, ReadsFilters, ReadsSign, IsSeparated, filtered, ReadsSymbol, ReadsMarked, ReadsPost, ReadsAtom, ReadsAlternatives, ReadsAlternative, ReadsAssociativity, ReadsLevel, ReadsLevels, IsKind, ReadsParameters, IsDeclKind, ReadsDeclaration, ReadsDeclarations, FollowsRules}
 use Rattle.ig_spelling.specs.Pieces.{Piece, blank, line_end, token, tokens}
-use Rattle.ig_spelling.specs.Signs.{operator_token, function_name, pattern_token}
-use Rattle.ig_show.specs.CanonicalText.{expression_pieces, part_pieces, separated, joined, comma, call_pieces, filter_sign, filter_pattern, filter_pieces, symbol_pieces, alternative_pieces, further_symbols, alternatives_pieces, further_alternatives, associativity_pieces, level_pieces, levels_pieces, parameter_pieces, kind_token, head_pieces, declaration_pieces, declaration_token, tokens_of}
+use Rattle.ig_spelling.specs.Signs.{associativity_pieces, operator_token, function_name, pattern_token}
+use Rattle.ig_show.specs.CanonicalText.{expression_pieces, part_pieces, separated, joined, comma, call_pieces, filter_sign, filter_pattern, filter_pieces, symbol_pieces, alternative_pieces, further_symbols, alternatives_pieces, further_alternatives, level_pieces, levels_pieces, parameter_pieces, kind_token, head_pieces, declaration_pieces, declaration_token, tokens_of}
 
 is_operator : (o : Op) → IsOperator (operator_token o) o
 is_operator op.Add = rules.addition

@@ -22,8 +22,8 @@ use Rattle.ig_grammar.specs.declared.grammar.Grammar.{Grammar}
 use Rattle.ig_syntax.specs.Rules as rules
 use Rattle.ig_syntax.specs.Rules.{IsFunction, ReadsTerm, ReadsExpression, ReadsArguments, IsPattern, IsFilter, ReadsFilters, ReadsSign, IsSeparated, filtered, ReadsSymbol, ReadsMarked, ReadsPost, ReadsAtom, ReadsAlternatives, ReadsAlternative, ReadsAssociativity, ReadsLevel, ReadsLevels, ReadsParameters, IsDeclKind, ReadsDeclaration, ReadsDeclarations, FollowsRules}
 use Rattle.ig_spelling.specs.Pieces.{Piece, blank, line_end, token, tokens}
-use Rattle.ig_spelling.specs.Signs.{has_operator, operator_token, function_name, pattern_token}
-use Rattle.ig_show.specs.CanonicalText.{expression_pieces, part_pieces, as_part, separated, joined, comma, call_pieces, filter_sign, filter_pattern, filter_pieces, symbol_pieces, alternative_pieces, further_symbols, alternatives_pieces, further_alternatives, associativity_pieces, level_pieces, levels_pieces, parameter_pieces, kind_token, declaration_pieces, declaration_token, tokens_of}
+use Rattle.ig_spelling.specs.Signs.{associativity_pieces, has_operator, operator_token, function_name, pattern_token}
+use Rattle.ig_show.specs.CanonicalText.{expression_pieces, part_pieces, as_part, separated, joined, comma, call_pieces, filter_sign, filter_pattern, filter_pieces, symbol_pieces, alternative_pieces, further_symbols, alternatives_pieces, further_alternatives, level_pieces, levels_pieces, parameter_pieces, kind_token, declaration_pieces, declaration_token, tokens_of}
 use Rattle.ig_spelling.specs.Laws.{IsSpelled, FixedTokensAreSpelled}
 use Rattle.ig_show.proofs.ReadsBack.{arguments_behind, alternatives_behind, levels_behind, parameters_behind, head_to, same_tokens}
 

@@ -1,16 +1,11 @@
 -- The canonical text of a grammar. `x_pieces x ps` are the pieces of x, and then ps.
-use Rattle.std.specs.Prelude.{ℕ, suc, ℤ, pos, negsuc, List, [], ◌∷◌, ◌++◌, Bool, true, false, Option, Some, None, if◌then◌else◌, codes, encode_utf8_all}
+use Rattle.std.specs.Prelude.{ℕ, List, [], ◌∷◌, ◌++◌, Bool, Option, Some, None, if◌then◌else◌, codes, encode_utf8_all}
 use Rattle.ig_text.specs.declared.pattern.Pattern.{Pattern}
-use Rattle.ig_text.specs.declared.pattern.Pattern.TheVariants as patterns
 use Rattle.ig_expr.specs.Expression.{Expression, Integer, Truth, Variable, Negative, Binary, Of, Same, Spells, Outer, Inside, FreeBefore, FreeAfter}
 use Rattle.ig_expr.specs.Expression as expression
-use Rattle.ig_expr.specs.declared.operator.Op.{Op}
-use Rattle.ig_expr.specs.declared.operator.Op.TheVariants as op
-use Rattle.ig_expr.specs.declared.operator.Function.{Function}
-use Rattle.ig_expr.specs.declared.operator.Function.TheVariants as functions
 use Rattle.ig_expr.specs.declared.kind.Kind.{Kind}
 use Rattle.ig_expr.specs.declared.kind.Kind.TheVariants as kind
-use Rattle.ig_syntax.specs.Token.{Token, Name, Head, Number, Semicolon, Equals, Bar, Greater, Colon, Comma, Open, Close, OpenBrace, CloseBrace, Question, Minus, When}
+use Rattle.ig_syntax.specs.Token.{Token, Name, Head, Semicolon, Equals, Bar, Greater, Colon, Comma, Open, Close, OpenBrace, CloseBrace, Question, Minus, When}
 use Rattle.ig_syntax.specs.Token as sign
 use Rattle.ig_grammar.specs.Symbol.{Symbol, Symbols, no_symbols, next_symbol, Alternatives, no_alternatives, next_alternative}
 use Rattle.ig_grammar.specs.Symbol as tree
@@ -19,14 +14,12 @@ use Rattle.ig_grammar.specs.Binding.{Binding}
 use Rattle.ig_grammar.specs.declared.filter.Filter.{Filter}
 use Rattle.ig_grammar.specs.declared.filter.Filter.TheVariants as filters
 use Rattle.ig_grammar.specs.declared.declaration.Param.{Param}
-use Rattle.ig_grammar.specs.declared.declaration.Assoc.{Assoc}
-use Rattle.ig_grammar.specs.declared.declaration.Assoc.TheVariants as assoc
 use Rattle.ig_grammar.specs.declared.declaration.DeclKind.{DeclKind}
 use Rattle.ig_grammar.specs.declared.declaration.DeclKind.TheVariants as decls
 use Rattle.ig_grammar.specs.declared.declaration.Level.{Level}
 use Rattle.ig_grammar.specs.declared.declaration.Decl.{Decl}
 use Rattle.ig_grammar.specs.declared.grammar.Grammar.{Grammar}
-use Rattle.ig_spelling.specs.Signs.{integer_pieces, operator_token, function_name, truth_token, pattern_token, has_operator}
+use Rattle.ig_spelling.specs.Signs.{integer_pieces, operator_token, function_name, truth_token, pattern_token, associativity_pieces, has_operator}
 use Rattle.ig_spelling.specs.Pieces.{Piece, blank, line_end, token, text, tokens}
 
 -- each of a list, with the separator before it
@@ -152,13 +145,6 @@ abbrev mutual
   further_alternatives no_alternatives ps = ps
   further_alternatives (next_alternative xs ys) ps =
       blank ∷ token Bar ∷ blank ∷ alternative_pieces xs (further_alternatives ys ps)
-
--- an associativity and a space; nothing where there is none
-abbrev pub associativity_pieces : Assoc → List Piece → List Piece
-associativity_pieces assoc.Free ps = ps
-associativity_pieces assoc.Left ps = token sign.Left ∷ blank ∷ ps
-associativity_pieces assoc.Right ps = token sign.Right ∷ blank ∷ ps
-associativity_pieces assoc.Nonassoc ps = token sign.Nonassoc ∷ blank ∷ ps
 
 abbrev pub level_pieces : Level → List Piece → List Piece
 level_pieces level ps = associativity_pieces level.assoc (alternatives_pieces (gathered_alternatives level.alts) ps)

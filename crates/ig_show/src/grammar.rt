@@ -3,11 +3,11 @@
 ghost use Rattle.std.specs.Prelude.{◌≡◌, ◌++◌, ◌∷◌, [], OnOk, IfOk, Some};
 ghost use Rattle.std.specs.Prelude.{string_bytes};
 ghost use Rattle.ig_expr.specs.View.{expression_of};
-ghost use Rattle.ig_syntax.specs.Token.{Colon, Greater};
+ghost use Rattle.ig_syntax.specs.Token.{Colon};
 ghost use Rattle.ig_spelling.specs.Pieces.{token, blank};
 ghost use Rattle.ig_spelling.specs.Writing.{Adds};
 ghost use Rattle.ig_show.specs.CanonicalText.{text_of, expression_text, pattern_text};
-ghost use Rattle.ig_show.specs.CanonicalText.{associativity_pieces, level_pieces, levels_pieces};
+ghost use Rattle.ig_show.specs.CanonicalText.{level_pieces, levels_pieces};
 ghost use Rattle.ig_show.specs.CanonicalText.{parameter_pieces, head_pieces, joined, comma};
 ghost use Rattle.ig_show.specs.CanonicalText.{declaration_token, declaration_pieces};
 ghost use Rattle.ig_show.specs.CanonicalText.{kind_token, separated};
@@ -17,23 +17,12 @@ ghost use Rattle.ig_show.specs.Writing.{IsText};
 use crate::expressions::push_expression;
 use crate::symbols::push_alternatives;
 use ig_expr::{Expr, Kind};
-use ig_grammar::{Assoc, Decl, DeclKind, Grammar, Level, Param};
-use ig_spelling::{push_head, push_name, push_pattern, push_text};
+use ig_grammar::{Decl, DeclKind, Grammar, Level, Param};
+use ig_spelling::{
+    push_associativity, push_greater, push_head, push_name, push_pattern, push_text,
+};
 use ig_text::{Pattern, Word};
 use std::alloc::{AllocError, Global};
-
-/// Adds an associativity and a space, and nothing where there is none.
-fn push_associativity(out: &mut String, assoc: Assoc) -> Result<(), AllocError>
-    ensures { OnOk result (Adds (string_bytes out.old) (string_bytes out.new)
-        (associativity_pieces assoc)) }
-{
-    match assoc {
-        Assoc::Free => Ok(()),
-        Assoc::Left => push_text(out, "left "),
-        Assoc::Right => push_text(out, "right "),
-        Assoc::Nonassoc => push_text(out, "nonassoc "),
-    }
-}
 
 /// Adds a level.
 fn push_level(out: &mut String, level: &Level) -> Result<(), AllocError>
@@ -42,14 +31,6 @@ fn push_level(out: &mut String, level: &Level) -> Result<(), AllocError>
 {
     push_associativity(out, level.assoc)?;
     push_alternatives(out, &level.alts)
-}
-
-/// Adds the sign between two levels, with a space on each side.
-fn push_greater(out: &mut String) -> Result<(), AllocError>
-    ensures { OnOk result (Adds (string_bytes out.old) (string_bytes out.new)
-        (λ ps. blank ∷ token Greater ∷ blank ∷ ps)) }
-{
-    push_text(out, " > ")
 }
 
 /// Adds levels, with ` > ` between two.

@@ -1,4 +1,5 @@
--- Which tokens stand for numbers, operators, functions, truth values and patterns; which expressions have an operator.
+-- Which tokens stand for numbers, operators, functions, truth values, patterns and associativities; which expressions have an
+-- operator.
 use Rattle.std.specs.Prelude.{ℕ, suc, ℤ, pos, negsuc, List, ◌∷◌, Bool, true, false, if◌then◌else◌, codes}
 use Rattle.ig_text.specs.declared.pattern.Pattern.{Pattern}
 use Rattle.ig_text.specs.declared.pattern.Pattern.TheVariants as patterns
@@ -8,9 +9,11 @@ use Rattle.ig_expr.specs.declared.operator.Op.{Op}
 use Rattle.ig_expr.specs.declared.operator.Op.TheVariants as op
 use Rattle.ig_expr.specs.declared.operator.Function.{Function}
 use Rattle.ig_expr.specs.declared.operator.Function.TheVariants as functions
+use Rattle.ig_grammar.specs.declared.declaration.Assoc.{Assoc}
+use Rattle.ig_grammar.specs.declared.declaration.Assoc.TheVariants as assoc
 use Rattle.ig_syntax.specs.Token.{Token, Number, Minus}
 use Rattle.ig_syntax.specs.Token as sign
-use Rattle.ig_spelling.specs.Pieces.{Piece, token}
+use Rattle.ig_spelling.specs.Pieces.{Piece, token, blank}
 
 -- a number in decimal, with `-` where it is negative
 abbrev pub integer_pieces : ℤ → List Piece → List Piece
@@ -46,6 +49,13 @@ truth_token b = if b then sign.True else sign.False
 abbrev pub pattern_token : Pattern → Token
 pattern_token (patterns.Literal word) = sign.Literal word
 pattern_token (patterns.OneOf class) = sign.OneOf class
+
+-- an associativity and a space; nothing where there is none
+abbrev pub associativity_pieces : Assoc → List Piece → List Piece
+associativity_pieces assoc.Free ps = ps
+associativity_pieces assoc.Left ps = token sign.Left ∷ blank ∷ ps
+associativity_pieces assoc.Right ps = token sign.Right ∷ blank ∷ ps
+associativity_pieces assoc.Nonassoc ps = token sign.Nonassoc ∷ blank ∷ ps
 
 -- the expression is two terms with an operator between them, or a term behind `not` or `-`
 abbrev pub has_operator : Expression → Bool

@@ -3,7 +3,7 @@ use Rattle.std.specs.Str.{chars}
 use Rattle.ig_syntax.specs.Token as sign
 use Rattle.ig_spelling.specs.Pieces.{token, blank}
 use Rattle.ig_spelling.specs.Steps.{if_ok, says}
-use Rattle.ig_show.proofs.grammar.push_greater.Goals as goal
+use Rattle.ig_spelling.proofs.levels.push_greater.Goals as goal
 
 pub returns : goal.returns
 unfolding chars

@@ -4,7 +4,7 @@ use Rattle.ig_syntax.specs.Token as sign
 use Rattle.ig_syntax.specs.Token.{Name, Head}
 use Rattle.ig_spelling.specs.Pieces.{token, blank}
 use Rattle.ig_spelling.specs.Steps.{if_ok, says}
-use Rattle.ig_show.proofs.grammar.push_associativity.Goals as goal
+use Rattle.ig_spelling.proofs.levels.push_associativity.Goals as goal
 
 pub returns-in-Left : goal.returns-in-Left
 unfolding chars
