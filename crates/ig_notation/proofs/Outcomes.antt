@@ -19,9 +19,10 @@ use Rattle.ig_readers.specs.declared.fault.RuleFault.{RuleFault}
 use Rattle.ig_readers.specs.declared.fault.RuleFault.TheVariants.{Unexpected, Memory}
 use Rattle.ig_notation.specs.declared.fault.ReadFault.{ReadFault}
 use Rattle.ig_notation.specs.declared.fault.ReadFault.TheVariants as faults
+use Rattle.ig_notation.specs.declared.fault.Large.{Large}
 use Rattle.ig_notation.specs.declared.fault.Large.TheVariants as large
 use Rattle.ig_limits.specs.Limits.{NumbersFit, IsShallow, byte_of, meanings}
-use Rattle.ig_notation.specs.Outcome.{unplaced, HasTokens, IsRead, fault_of, refusal_of, IsReadFault, no_token, large_number, deep, against_rules, no_memory}
+use Rattle.ig_notation.specs.Outcome.{unplaced, HasTokens, IsRead, fault_of, refusal_of, Passes, great_number, many_brackets, IsWithin, IsReadFault, no_token, large_number, deep, against_rules, no_memory}
 use Rattle.ig_notation.specs.Parts.{FailsAt}
 
 same_tokens : (placed : List Placed) → meanings placed ≡ unplaced (tokens_of placed)
@@ -41,30 +42,35 @@ pub token_fault : (source : List ℕ) (fault : TokenFault) → length source ≤
 token_fault source (Broken at) l h = no_token at l h
 token_fault source OutOfMemory l h = no_memory
 
-pub number_fault : (source : List ℕ) (placed : List Placed) → HasTokens source (tokens_of placed) → (NumbersFit (meanings placed) → ⊥) →
+number_fault : (source : List ℕ) (placed : List Placed) → HasTokens source (tokens_of placed) → (NumbersFit (meanings placed) → ⊥) →
     IsReadFault source (faults.TooLarge large.Number)
 number_fault source placed h f = large_number (tokens_of placed) h (subst (λ z. NumbersFit z → ⊥) (same_tokens placed) f)
 
-pub nesting_fault : (source : List ℕ) (placed : List Placed) → HasTokens source (tokens_of placed) → NumbersFit (meanings placed) →
+nesting_fault : (source : List ℕ) (placed : List Placed) → HasTokens source (tokens_of placed) → NumbersFit (meanings placed) →
     (IsShallow (meanings placed) → ⊥) → IsReadFault source (faults.TooLarge large.Nesting)
 nesting_fault source placed h n f =
     deep (tokens_of placed) h (subst NumbersFit (same_tokens placed) n) (subst (λ z. IsShallow z → ⊥) (same_tokens placed) f)
 
-pub rule_fault : (source : List ℕ) (placed : List Placed) (fault : RuleFault) → HasTokens source (tokens_of placed) → NumbersFit (meanings placed) →
-    IsShallow (meanings placed) → RunStops → FailsAt want.grammar (meanings placed) 0 fault →
-    IsReadFault source (refusal_of (length source) (tokens_of placed) fault)
-rule_fault source placed (Unexpected n) h f s law r =
-    against_rules (tokens_of placed) n (byte_of (length source) (tokens_of placed) n) h (subst NumbersFit (same_tokens placed) f)
-    (subst IsShallow (same_tokens placed) s) (subst (λ z. Stops AreOfGrammar z n) (same_tokens placed) (law (meanings placed) n r)) refl
-rule_fault source placed Memory h f s law r = no_memory
+pub limit_fault : (source : List ℕ) (placed : List Placed) (which : Large) → HasTokens source (tokens_of placed) → Passes (meanings placed) which →
+    IsReadFault source (faults.TooLarge which)
+limit_fault source placed large.Bytes h p = elim p [ ]
+limit_fault source placed large.Number h (great_number f) = number_fault source placed h f
+limit_fault source placed large.Nesting h (many_brackets n f) = nesting_fault source placed h n f
 
-pub is_read : (source : List ℕ) (placed : List Placed) (g : Grammar) → HasTokens source (tokens_of placed) → NumbersFit (meanings placed) →
-    IsShallow (meanings placed) → FollowsRules (meanings placed) g → IsRead source g
-is_read source placed g h f s r = record {
+pub rule_fault : (source : List ℕ) (placed : List Placed) (fault : RuleFault) → HasTokens source (tokens_of placed) → IsWithin (meanings placed) → RunStops → FailsAt want.grammar (meanings placed) 0 fault →
+    IsReadFault source (refusal_of (length source) (tokens_of placed) fault)
+rule_fault source placed (Unexpected n) h w law r =
+    against_rules (tokens_of placed) n (byte_of (length source) (tokens_of placed) n) h (subst NumbersFit (same_tokens placed) w.numbers)
+    (subst IsShallow (same_tokens placed) w.shallow) (subst (λ z. Stops AreOfGrammar z n) (same_tokens placed) (law (meanings placed) n r)) refl
+rule_fault source placed Memory h w law r = no_memory
+
+pub is_read : (source : List ℕ) (placed : List Placed) (g : Grammar) → HasTokens source (tokens_of placed) → IsWithin (meanings placed) →
+    FollowsRules (meanings placed) g → IsRead source g
+is_read source placed g h w r = record {
   tokens = tokens_of placed;
   are_tokens = h;
-  numbers = subst NumbersFit (same_tokens placed) f;
-  shallow = subst IsShallow (same_tokens placed) s;
+  numbers = subst NumbersFit (same_tokens placed) w.numbers;
+  shallow = subst IsShallow (same_tokens placed) w.shallow;
   follows = subst (λ z. FollowsRules z g) (same_tokens placed) r;
 }
 

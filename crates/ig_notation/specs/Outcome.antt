@@ -21,6 +21,7 @@ use Rattle.ig_readers.specs.declared.fault.RuleFault.{RuleFault}
 use Rattle.ig_readers.specs.declared.fault.RuleFault.TheVariants.{Unexpected, Memory}
 use Rattle.ig_notation.specs.declared.fault.ReadFault.{ReadFault}
 use Rattle.ig_notation.specs.declared.fault.ReadFault.TheVariants as faults
+use Rattle.ig_notation.specs.declared.fault.Large.{Large}
 use Rattle.ig_notation.specs.declared.fault.Large.TheVariants as large
 
 -- the tokens without their places
@@ -48,6 +49,16 @@ fault_of OutOfMemory = faults.Memory
 abbrev pub refusal_of : ℕ → List (Token × ℕ) → RuleFault → ReadFault
 refusal_of end tokens (Unexpected number) = faults.Syntax (byte_of end tokens number)
 refusal_of end tokens Memory = faults.Memory
+
+-- the limit that the tokens pass: that of numbers, or else that of brackets
+pub data Passes (tokens : List Token) : Large → Type 0 where
+  great_number : (NumbersFit tokens → ⊥) → Passes tokens large.Number
+  many_brackets : NumbersFit tokens → (IsShallow tokens → ⊥) → Passes tokens large.Nesting
+
+-- the tokens pass neither
+pub record IsWithin (tokens : List Token) : Type 0 where
+  pub numbers : NumbersFit tokens
+  pub shallow : IsShallow tokens
 
 -- why a text isn't read: the first of these tests that fails
 pub data IsReadFault (source : List ℕ) : ReadFault → Type 0 where

@@ -1,9 +1,10 @@
 //! Reading a grammar text.
 
-ghost use Rattle.std.specs.Prelude.{◌≡◌, ◌≤◌, IfOk, IfErr, length};
+ghost use Rattle.std.specs.Prelude.{◌≡◌, ◌≤◌, IfOk, IfErr, MatchOption, length};
 ghost use Rattle.ig_syntax.specs.Notation.{most_bytes};
 ghost use Rattle.ig_tokens.specs.View.{tokens_of};
-ghost use Rattle.ig_notation.specs.Outcome.{IsRead, IsReadFault, refusal_of};
+ghost use Rattle.ig_limits.specs.Limits.{meanings};
+ghost use Rattle.ig_notation.specs.Outcome.{IsRead, IsReadFault, refusal_of, IsWithin, Passes};
 
 use crate::declarations::read_grammar;
 use crate::fault::{Large, ReadFault};
@@ -31,21 +32,28 @@ pub fn read(alloc: Global, source: &str) -> Result<Grammar, ReadFault>
     }
     let found = tokenize(alloc, source)?;
     let tokens = found.as_slice();
-    if !numbers_fit(tokens) {
-        return Err(ReadFault::TooLarge {
-            which: Large::Number,
-        });
-    }
-    if !is_shallow(tokens) {
-        return Err(ReadFault::TooLarge {
-            which: Large::Nesting,
-        });
+    if let Some(which) = limit_passed(tokens) {
+        return Err(ReadFault::TooLarge { which });
     }
     ig_rules::run_stops();
     match read_grammar(alloc, &Tokens::new(tokens)) {
         Ok(grammar) => Ok(grammar),
         Err(fault) => Err(refusal(tokens, fault, source)),
     }
+}
+
+/// The limit that the tokens pass, that of numbers before that of brackets; `None` exactly where
+/// they pass neither.
+fn limit_passed(tokens: &[Placed]) -> Option<Large>
+    ensures { MatchOption result (IsWithin (meanings tokens.now)) (Passes (meanings tokens.now)) }
+{
+    if !numbers_fit(tokens) {
+        return Some(Large::Number);
+    }
+    if !is_shallow(tokens) {
+        return Some(Large::Nesting);
+    }
+    None
 }
 
 /// The fault of the text, of which the tokens are at fault by the rules.

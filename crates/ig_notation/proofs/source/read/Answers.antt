@@ -1,7 +1,6 @@
 use Rattle.std.proofs.Common.{sym, subst}
 use Rattle.ig_notation.specs.Outcome.{IsReadFault, too_many_bytes}
-use Rattle.std.proofs.lemmas.Bool.Decides.{not_from_Decides}
-use Rattle.ig_notation.proofs.Outcomes.{short_enough, has_tokens, token_fault, number_fault, nesting_fault, rule_fault, is_read, exits_with}
+use Rattle.ig_notation.proofs.Outcomes.{short_enough, has_tokens, token_fault, limit_fault, rule_fault, is_read, exits_with}
 use Rattle.ig_notation.proofs.source.read.Goals as goal
 
 pub returns-then-is_too_long-clause-fault : goal.returns-then-is_too_long-clause-fault
@@ -11,24 +10,19 @@ pub returns-in_err-found-clause-fault : goal.returns-in_err-found-clause-fault
 returns-in_err-found-clause-fault c =
     exits_with _ _ _ c.from_residual.ensures.1 (token_fault _ _ (short_enough _ _ _ c.is_too_long.ensures c.if-is_too_long.false) c.in_err-found.ensures.fault)
 
-pub returns-then-not-numbers_fit-clause-fault : goal.returns-then-not-numbers_fit-clause-fault
-returns-then-not-numbers_fit-clause-fault c =
+pub returns-in-Some-clause-fault : goal.returns-in-Some-clause-fault
+returns-in-Some-clause-fault c =
     let h = has_tokens _ _ _ (short_enough _ _ _ c.is_too_long.ensures c.if-is_too_long.false) c.in_ok-found.ensures.tokens c.as_slice-tokens.ensures.value in
-    number_fault _ _ h (not_from_Decides _ c.numbers_fit.ensures c.if-not-numbers_fit.true)
-
-pub returns-then-not-is_shallow-clause-fault : goal.returns-then-not-is_shallow-clause-fault
-returns-then-not-is_shallow-clause-fault c =
-    let h = has_tokens _ _ _ (short_enough _ _ _ c.is_too_long.ensures c.if-is_too_long.false) c.in_ok-found.ensures.tokens c.as_slice-tokens.ensures.value in
-    nesting_fault _ _ h (c.numbers_fit.ensures.0 c.if-not-numbers_fit.false) (not_from_Decides _ c.is_shallow.ensures c.if-not-is_shallow.true)
+    limit_fault _ _ _ h c.in-Some.ensures
 
 pub returns-in-Ok-clause-ok : goal.returns-in-Ok-clause-ok
 returns-in-Ok-clause-ok c =
     let h = has_tokens _ _ _ (short_enough _ _ _ c.is_too_long.ensures c.if-is_too_long.false) c.in_ok-found.ensures.tokens c.as_slice-tokens.ensures.value in
-    is_read _ _ _ h (c.numbers_fit.ensures.0 c.if-not-numbers_fit.false) (c.is_shallow.ensures.0 c.if-not-is_shallow.false) (rw c.new.ensures at c.in-Ok.ensures.ok)
+    is_read _ _ _ h c.in_default.ensures (rw c.new.ensures at c.in-Ok.ensures.ok)
 
 pub returns-clause-fault : goal.returns-clause-fault
 returns-clause-fault c =
     let h = has_tokens _ _ _ (short_enough _ _ _ c.is_too_long.ensures c.if-is_too_long.false) c.in_ok-found.ensures.tokens c.as_slice-tokens.ensures.value in
     subst (IsReadFault c.args.source.now) (sym c.refusal.ensures)
-    (rule_fault _ _ _ h (c.numbers_fit.ensures.0 c.if-not-numbers_fit.false) (c.is_shallow.ensures.0 c.if-not-is_shallow.false)
+    (rule_fault _ _ _ h c.in_default.ensures
     c.run_stops.ensures (rw c.new.ensures at c.in-Err.ensures.err))
