@@ -14,7 +14,7 @@ use Rattle.ig_grammar.specs.declared.grammar.Grammar.{Grammar}
 use Rattle.ig_grammar.specs.declared.place.Place.{Place}
 use Rattle.ig_conditions.specs.Causes.{condition_of, NoneHolds}
 use Rattle.std.proofs.lemmas.List.Folds.{list_any_more}
-use Rattle.ig_scope.specs.Room.{HasFewParameters}
+use Rattle.ig_conditions.specs.Room.{HasFewParameters}
 use Rattle.ig_conditions.specs.Heads.{count_names, is_layout, have_layout}
 use Rattle.ig_scope.specs.Told.{FirstIn, FirstPair, AlternativeFree, AlternativeCaught, OfAlternatives, TellsDeclaration, AreFree, TellsDeclarations, TellsGrammar}
 use Rattle.ig_scope.specs.declared.fault.ScopeFault.{ScopeFault}

@@ -17,7 +17,7 @@ use Rattle.ig_grammar.specs.declared.place.Place.{Place}
 use Rattle.ig_scope.specs.Binders.{Leaves, binders}
 use Rattle.ig_conditions.specs.Causes.{condition_of}
 use Rattle.ig_grammar.specs.Counts.{counts_bound}
-use Rattle.ig_scope.specs.Room.{HasFewParameters, room_of}
+use Rattle.ig_conditions.specs.Room.{HasFewParameters, room_of}
 use Rattle.ig_scope.specs.Told.{FirstIn, here, later, FirstNumber, SymbolFree, SymbolCaught, AlternativeFree, AlternativeCaught}
 use Rattle.ig_scope.specs.Told.{StoppedAt, OfAlternative, OfLevel, OfAlternatives}
 use Rattle.ig_scope.specs.declared.fault.ScopeFault.{ScopeFault}

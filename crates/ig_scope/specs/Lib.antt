@@ -1,4 +1,3 @@
 pub mod Places
 pub mod Told
 pub mod Binders
-pub mod Room

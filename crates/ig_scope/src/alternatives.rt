@@ -5,7 +5,7 @@ ghost use Rattle.ig_grammar.specs.declared.symbol.Alt.{Alt};
 ghost use Rattle.ig_grammar.specs.Visible.{parameters};
 ghost use Rattle.ig_grammar.specs.Numbering.{alternatives};
 ghost use Rattle.ig_grammar.specs.Counts.{counts_bound};
-ghost use Rattle.ig_scope.specs.Room.{HasTooMany};
+ghost use Rattle.ig_scope.specs.Binders.{HasTooMany};
 ghost use Rattle.ig_scope.specs.Told.{TellsAlternative, TellsLevel, TellsAlternatives};
 
 use crate::binders::leave_sequence;

@@ -11,8 +11,8 @@ ghost use Rattle.ig_scope.specs.Told.{TellsFault, TellsGrammar};
 
 use crate::alternatives::check_alternatives;
 use crate::fault::ScopeFault;
-use crate::numbered::{Numbered, room_of};
-use ig_conditions::{Head, head_cause, start_cause};
+use crate::numbered::Numbered;
+use ig_conditions::{Head, head_cause, room_of, start_cause};
 use ig_declarations::Declarations;
 use ig_grammar::{Checked, DeclKind, Grammar, Place, is_name};
 use std::alloc::Global;

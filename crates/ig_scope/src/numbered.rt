@@ -2,14 +2,10 @@
 
 ghost use Rattle.std.specs.Prelude.{◌≡◌};
 ghost use Rattle.ig_scope.specs.Places.{HaveNumberedAlternatives, HaveNumberedSymbols};
-ghost use Rattle.ig_scope.specs.Room.{HasFewParameters, room_of};
+ghost use Rattle.ig_conditions.specs.Room.{HasFewParameters, room_of};
 
-use ig_conditions::count_named;
 use ig_declarations::Declarations;
-use ig_grammar::{Decl, is_name};
-
-/// The parameters, labels and lets that an alternative may have.
-const MOST_VARIABLES: usize = 32;
+use ig_grammar::Decl;
 
 /// A declaration, the number of which is `number`.
 #[derive(Clone, Copy)]
@@ -23,16 +19,4 @@ pub(crate) struct Numbered<'d, 'g> {
     ghost left: { room ≡ room_of decl.now },
     ghost alternatives: { HaveNumberedAlternatives decl.now },
     ghost symbols: { HaveNumberedSymbols decl.now },
-}
-
-/// How many labels and lets an alternative of the declaration may have.
-pub(crate) fn room_of(decl: &Decl) -> Option<usize>
-    requires { HasFewParameters decl.now }
-    ensures { result ≡ room_of decl.now }
-{
-    if is_name(&decl.name) {
-        Some(MOST_VARIABLES - count_named(decl.params.as_slice()))
-    } else {
-        None
-    }
 }

@@ -1,7 +1,7 @@
 use Rattle.std.proofs.Common.{sym, ◌∙◌, subst}
 use Rattle.std.specs.Prelude.{IsTrue, ◌↔◌}
 use Rattle.ig_grammar.specs.Visible.{parameters}
-use Rattle.ig_scope.specs.Room.{HasTooMany}
+use Rattle.ig_scope.specs.Binders.{HasTooMany}
 use Rattle.ig_text.proofs.Options.{is_missing}
 use Rattle.ig_scope.proofs.Levels.{passed_told, uncounted}
 use Rattle.ig_scope.proofs.alternatives.is_passed.Goals as goal
