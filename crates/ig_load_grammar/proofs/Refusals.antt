@@ -8,7 +8,7 @@ use Rattle.ig_notation.specs.Outcome.{IsReadFault, ReadOrRefused}
 use Rattle.ig_notation.specs.declared.fault.ReadFault.{ReadFault}
 use Rattle.ig_notation.specs.declared.fault.ReadFault.TheVariants.{Memory}
 use Rattle.ig_scope.specs.Told.{TellsFault}
-use Rattle.ig_scope.specs.declared.fault.ScopeFault.TheVariants.{Broken}
+use Rattle.ig_alternatives.specs.declared.fault.ScopeFault.TheVariants.{Broken}
 use Rattle.ig_conditions.specs.declared.cause.ScopeCause.{ScopeCause}
 use Rattle.ig_grammar.specs.declared.place.Place.{Place}
 use Rattle.ig_load_grammar.specs.Grammar.{LoadGrammar, load_text}

@@ -17,7 +17,7 @@ use Rattle.ig_grammar.specs.declared.declaration.Level.{Level}
 use Rattle.ig_grammar.specs.declared.declaration.Decl.{Decl}
 use Rattle.ig_grammar.specs.declared.grammar.Grammar.{Grammar}
 use Rattle.ig_scope.specs.Places.{AreNumbered}
-use Rattle.ig_scope.specs.Told.{from}
+use Rattle.ig_alternatives.specs.Told.{from}
 
 -- as many occurrences as symbols
 mutual

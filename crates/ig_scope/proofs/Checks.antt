@@ -16,13 +16,14 @@ use Rattle.ig_conditions.specs.Causes.{condition_of, NoneHolds}
 use Rattle.std.proofs.lemmas.List.Folds.{list_any_more}
 use Rattle.ig_conditions.specs.Room.{HasFewParameters}
 use Rattle.ig_conditions.specs.Heads.{count_names, is_layout, have_layout}
-use Rattle.ig_scope.specs.Told.{FirstIn, FirstPair, AlternativeFree, AlternativeCaught, OfAlternatives, TellsDeclaration, AreFree, TellsDeclarations, TellsGrammar}
-use Rattle.ig_scope.specs.declared.fault.ScopeFault.{ScopeFault}
-use Rattle.ig_scope.specs.declared.fault.ScopeFault.TheVariants.{Broken, Memory}
+use Rattle.ig_alternatives.specs.Told.{FirstIn, AlternativeFree, AlternativeCaught, OfAlternatives}
+use Rattle.ig_scope.specs.Told.{FirstPair, TellsDeclaration, AreFree, TellsDeclarations, TellsGrammar}
+use Rattle.ig_alternatives.specs.declared.fault.ScopeFault.{ScopeFault}
+use Rattle.ig_alternatives.specs.declared.fault.ScopeFault.TheVariants.{Broken, Memory}
 use Rattle.ig_text.proofs.Options.{one_value}
 use Rattle.ig_text.proofs.Orders.{below_or_at}
-use Rattle.ig_scope.proofs.Firsts.{first_there, first_before, free_at}
-use Rattle.ig_scope.proofs.Walks.{fault_passed}
+use Rattle.ig_alternatives.specs.Firsts.{first_there, first_before, free_at}
+use Rattle.std.proofs.lemmas.Result.{err_from_is_err_and}
 
 module _ (decls : List Decl) (index : ℕ) (decl : Decl) where
   pub head_told : (c : Condition) → IsLeast (HeadMeets decls index decl) c → FirstPair (DeclarationHas decls index decl) 0 0 c
@@ -90,10 +91,13 @@ free_more decls i decl l e f h k d a s c m g p =
 
 pub declarations_stopped : (decls : List Decl) (i : ℕ) (decl : Decl) (fault : ScopeFault) (r : Result (Unit {0}) ScopeFault) → IsErrAnd r (λ f. f ≡ fault) →
     i < length decls → decl ≡ get_or decls i decl → AreFree decls i → TellsDeclaration decls decl i {T = Unit {0}} (Err fault) → TellsDeclarations decls r
-declarations_stopped decls i decl (Broken cause place) r p l e f h =
-    subst (TellsDeclarations decls) (sym (fault_passed r (Broken cause place) p))
-    (i, decl, slice_get-get_or decls i decl l ∙ ap Some (sym e), h.0, h.1, f)
-declarations_stopped decls i decl Memory r p l e f h = subst (TellsDeclarations decls) (sym (fault_passed r Memory p)) tt
+declarations_stopped decls i decl fault r p l e f h =
+    let told = err_from_is_err_and r p in
+    subst (TellsDeclarations decls) (sym (told.1 ∙ ap Err told.2)) (go fault h)
+  where
+    go : (fault : ScopeFault) → TellsDeclaration decls decl i {T = Unit {0}} (Err fault) → TellsDeclarations decls {T = Unit {0}} (Err fault)
+    go (Broken cause place) h = (i, decl, slice_get-get_or decls i decl l ∙ ap Some (sym e), h.0, h.1, f)
+    go Memory h = tt
 
 pub named_more : (decls : List Decl) (i n m : ℕ) (decl : Decl) (b : Bool) → i < length decls → decl ≡ get_or decls i decl → b ≡ is_name decl.name →
     n ≡ count_names (take i decls) → m ≡ cond b (n + 1) n → m ≡ count_names (take (i + 1) decls)

@@ -1,27 +1,11 @@
 -- The numbers of places have 32 bits.
-use Rattle.std.specs.Prelude.{ℕ, ◌+◌, ◌<◌, List, Contains, length}
-use Rattle.ig_grammar.specs.Numbering.{alternatives}
+use Rattle.std.specs.Prelude.{◌<◌, List, Contains, length}
 use Rattle.ig_grammar.specs.Counts.{counts_bound}
-use Rattle.ig_grammar.specs.Visible.{Occurrence}
-use Rattle.ig_grammar.specs.Condition.{symbols_of}
-use Rattle.ig_grammar.specs.declared.symbol.Alt.{Alt}
 use Rattle.ig_grammar.specs.declared.declaration.Decl.{Decl}
+use Rattle.ig_alternatives.specs.Places.{HaveNumberedAlternatives, HaveNumberedSymbols}
 
--- the alternatives of a declaration have such numbers
-abbrev pub HaveNumberedAlternatives : Decl → Type 0
-HaveNumberedAlternatives decl = length (alternatives decl.levels) < counts_bound
-
--- so have the symbols of each
-abbrev pub HaveNumberedSymbols : Decl → Type 0
-HaveNumberedSymbols decl =
-    (a : Alt) → Contains (alternatives decl.levels) a → length (symbols_of decl a) < counts_bound
-
--- so have the declarations, and what is in each
+-- the declarations have such numbers, and so has what is in each
 pub record AreNumbered (decls : List Decl) : Type 0 where
   pub declarations : length decls < counts_bound
   pub alternatives : (decl : Decl) → Contains decls decl → HaveNumberedAlternatives decl
   pub symbols : (decl : Decl) → Contains decls decl → HaveNumberedSymbols decl
-
--- so have these symbols, of which so many stand before them
-abbrev pub HaveNumbers : ℕ → List Occurrence → Type 0
-HaveNumbers before os = before + length os < counts_bound

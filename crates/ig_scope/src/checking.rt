@@ -4,14 +4,12 @@ ghost use Rattle.ig_grammar.specs.Counts.{counts_bound};
 ghost use Rattle.ig_grammar.specs.WellScoped.{IsWellScoped};
 ghost use Rattle.ig_grammar.specs.Checked.{rules};
 ghost use Rattle.ig_conditions.specs.Heads.{is_layout};
-ghost use Rattle.ig_scope.specs.Places.{AreNumbered, HaveNumberedAlternatives};
-ghost use Rattle.ig_scope.specs.Places.{HaveNumberedSymbols};
+ghost use Rattle.ig_alternatives.specs.Places.{HaveNumberedAlternatives, HaveNumberedSymbols};
+ghost use Rattle.ig_scope.specs.Places.{AreNumbered};
 ghost use Rattle.ig_scope.specs.Told.{TellsDeclaration, TellsDeclarations};
 ghost use Rattle.ig_scope.specs.Told.{TellsFault, TellsGrammar};
 
-use crate::alternatives::check_alternatives;
-use crate::fault::ScopeFault;
-use crate::numbered::Numbered;
+use ig_alternatives::{Numbered, ScopeFault, check_alternatives};
 use ig_conditions::{Head, head_cause, room_of, start_cause};
 use ig_declarations::Declarations;
 use ig_grammar::{Checked, DeclKind, Grammar, Place, is_name};

@@ -1,0 +1,4 @@
+pub mod Places
+pub mod Told
+pub mod Firsts
+pub mod Binders
