@@ -1,30 +1,24 @@
 //! Reading the symbols of alternatives. Each function reads from the token of number `at`, and
 //! returns what it read with the number of the first token behind it.
 
-ghost use Rattle.std.specs.Prelude.{◌≡◌, ◌≤◌, ◌<◌, [], ◌∷◌, ◌++◌, length, true, false, Some};
-ghost use Rattle.std.specs.Prelude.{is_some, IfOk, IfErr, OnOk};
-ghost use Rattle.ig_tokens.specs.View.{token_of};
-ghost use Rattle.ig_syntax.specs.Token as spec;
+ghost use Rattle.std.specs.Prelude.{◌≡◌, ◌≤◌, ◌<◌, [], ◌∷◌, ◌++◌, length, IfOk, IfErr, OnOk};
 ghost use Rattle.ig_grammar.specs.Symbol as tree;
 ghost use Rattle.ig_grammar.specs.Symbol.{gathered};
 ghost use Rattle.ig_grammar.specs.Alternative.{gathered_alternatives};
 ghost use Rattle.ig_grammar.specs.View.{symbol_of};
-ghost use Rattle.ig_syntax.specs.Rules.{ReadsSymbol, ReadsMarked, ReadsPost, ReadsAtom};
-ghost use Rattle.ig_syntax.specs.Rules.{ReadsAlternative, ReadsAlternatives, filtered};
+ghost use Rattle.ig_syntax.specs.Rules.{ReadsSymbol, ReadsMarked, ReadsPost};
+ghost use Rattle.ig_syntax.specs.Rules.{ReadsAlternative, ReadsAlternatives};
 ghost use Rattle.ig_rules.specs.Machine as want;
-ghost use Rattle.ig_rules.specs.Machine.{after_symbol, alternatives_wants, close_brace};
+ghost use Rattle.ig_rules.specs.Machine.{alternatives_wants};
 ghost use Rattle.ig_rules.specs.Reading.{Goes};
-ghost use Rattle.ig_readers.specs.Readers.{Misses, Finds, StopsAt, Behind};
-ghost use Rattle.ig_symbols.specs.Parts.{ReadsBare, terminal_of};
+ghost use Rattle.ig_readers.specs.Readers.{StopsAt};
 
-use ig_expr::Exprs;
-use ig_grammar::{Alt, Alts, Filters, Inner, Symbol, Symbols};
-use ig_readers::{
-    RuleFault, Sign, Tokens, pattern_of, read_arguments, read_closed, read_filters, read_list_sign,
-    read_name, read_sign, repeated, repetition_at, separated, stands_at,
+use ig_grammar::{Alt, Alts, Symbol, Symbols};
+use ig_parts::{
+    Beginning, Opening, beginning_at, begins_symbol, labelled, mark_at, marked, opening_at,
+    read_group_end, read_guard, read_let, read_list_end, read_plain,
 };
-use ig_text::{Pattern, Word};
-use ig_tokens::Token;
+use ig_readers::{RuleFault, Sign, Tokens, stands_at};
 use std::alloc::Global;
 
 /// Reads alternatives, with `|` between them, and gives them with the number of the token behind.
@@ -75,40 +69,6 @@ fn read_alternative(
     Ok((symbols, end))
 }
 
-/// Whether a symbol begins with the token that stands there.
-fn begins_symbol(tokens: &Tokens, at: usize) -> bool
-    ensures yes { result ≡ true → Finds (λ t. is_some (after_symbol t) ≡ true) tokens.now at }
-    ensures no { result ≡ false → Misses want.alternative tokens.now at }
-{
-    match tokens.get(at) {
-        Some(token) => begins(token),
-        None => false,
-    }
-}
-
-/// Whether a symbol begins with the token.
-fn begins(token: Token) -> bool
-    ensures { result ≡ is_some (after_symbol (token_of token.entry)) }
-{
-    match token {
-        Token::When => true,
-        Token::Let => true,
-        Token::Offside => true,
-        Token::Ignore => true,
-        Token::Align => true,
-        Token::OpenBrace => true,
-        Token::Open => true,
-        Token::Name(_) => true,
-        Token::Head(_) => true,
-        Token::Literal(_) => true,
-        Token::Ranges(_) => true,
-        Token::Any => true,
-        Token::XidStart => true,
-        Token::XidContinue => true,
-        _ => false,
-    }
-}
-
 /// Reads a symbol.
 #[cycle(symbols)]
 fn read_symbol(alloc: Global, tokens: &Tokens, at: usize) -> Result<(Symbol, usize), RuleFault>
@@ -117,48 +77,15 @@ fn read_symbol(alloc: Global, tokens: &Tokens, at: usize) -> Result<(Symbol, usi
     ensures progress { IfOk result (λ r. at < r.1) }
     ensures err { IfErr result (StopsAt (want.symbol ∷ []) tokens.now at) }
 {
-    match tokens.ahead(at)? {
-        Token::When => read_guard(alloc, tokens, at + 1),
-        Token::Let => read_let(alloc, tokens, at + 1),
-        Token::Name(name) => {
-            if !stands_at(tokens, at + 1, Sign::Colon) {
-                return read_marked(alloc, tokens, at);
-            }
-            let name = Word::new(alloc, name)?;
+    match beginning_at(tokens, at) {
+        Beginning::Guard => read_guard(alloc, tokens, at + 1),
+        Beginning::Let => read_let(alloc, tokens, at + 1),
+        Beginning::Label(name) => {
             let (symbol, end) = read_marked(alloc, tokens, at + 2)?;
-            Ok((Symbol::Label(name, Inner::new(alloc, symbol)?), end))
+            labelled(alloc, name, symbol, end)
         }
-        _ => read_marked(alloc, tokens, at),
+        Beginning::Marked => read_marked(alloc, tokens, at),
     }
-}
-
-/// Reads what stands behind `when`: a condition in brackets.
-fn read_guard(alloc: Global, tokens: &Tokens, at: usize) -> Result<(Symbol, usize), RuleFault>
-    ensures ok { IfOk result (λ r. Goes tree.Symbol (Behind spec.When ReadsSymbol)
-        (want.open_bracket ∷ want.expression ∷ want.close_bracket ∷ []) [] tokens.now at r.1
-        (symbol_of r.0)) }
-    ensures err { IfErr result (StopsAt (want.open_bracket ∷ want.expression ∷ want.close_bracket ∷
-        []) tokens.now at) }
-{
-    let inside = read_sign(tokens, at, Sign::Open)?;
-    let (condition, end) = read_closed(alloc, tokens, inside)?;
-    Ok((Symbol::Guard(condition), end))
-}
-
-/// Reads what stands behind `let`: a name, `=`, and an expression in brackets.
-fn read_let(alloc: Global, tokens: &Tokens, at: usize) -> Result<(Symbol, usize), RuleFault>
-    ensures ok { IfOk result (λ r. Goes tree.Symbol (Behind spec.Let ReadsSymbol) (want.name ∷
-        want.equals ∷ want.open_bracket ∷ want.expression ∷ want.close_bracket ∷ []) [] tokens.now
-        at r.1 (symbol_of r.0)) }
-    ensures err { IfErr result (StopsAt (want.name ∷ want.equals ∷ want.open_bracket ∷
-        want.expression ∷ want.close_bracket ∷ []) tokens.now at) }
-{
-    let name = read_name(tokens, at)?;
-    let open = read_sign(tokens, at + 1, Sign::Equals)?;
-    let inside = read_sign(tokens, open, Sign::Open)?;
-    let name = Word::new(alloc, name)?;
-    let (value, end) = read_closed(alloc, tokens, inside)?;
-    Ok((Symbol::Let(name, value), end))
 }
 
 /// Reads a symbol with a mark before it or none.
@@ -169,140 +96,41 @@ fn read_marked(alloc: Global, tokens: &Tokens, at: usize) -> Result<(Symbol, usi
     ensures progress { IfOk result (λ r. at < r.1) }
     ensures err { IfErr result (StopsAt (want.marked ∷ []) tokens.now at) }
 {
-    match tokens.ahead(at)? {
-        Token::Offside => {
-            let (symbol, end) = read_filtered(alloc, tokens, at + 1)?;
-            Ok((Symbol::Offside(Inner::new(alloc, symbol)?), end))
-        }
-        Token::Ignore => {
-            let (symbol, end) = read_filtered(alloc, tokens, at + 1)?;
-            Ok((Symbol::Ignore(Inner::new(alloc, symbol)?), end))
-        }
-        Token::Align => {
-            let (symbol, end) = read_filtered(alloc, tokens, at + 1)?;
-            Ok((Symbol::Align(Inner::new(alloc, symbol)?), end))
-        }
-        _ => read_filtered(alloc, tokens, at),
-    }
+    let Some(mark) = mark_at(tokens, at) else {
+        return read_unmarked(alloc, tokens, at);
+    };
+    let (symbol, end) = read_unmarked(alloc, tokens, at + 1)?;
+    marked(alloc, mark, symbol, end)
 }
 
-/// Reads a symbol without a mark, and the filters behind it.
+/// Reads a symbol without a mark, with the filters behind it.
 #[cycle(symbols)]
-fn read_filtered(alloc: Global, tokens: &Tokens, at: usize) -> Result<(Symbol, usize), RuleFault>
+fn read_unmarked(alloc: Global, tokens: &Tokens, at: usize) -> Result<(Symbol, usize), RuleFault>
     ensures ok { IfOk result (λ r. Goes tree.Symbol ReadsPost (want.post ∷ []) [] tokens.now at r.1
         (symbol_of r.0)) }
     ensures progress { IfOk result (λ r. at < r.1) }
     ensures err { IfErr result (StopsAt (want.post ∷ []) tokens.now at) }
 {
-    let (symbol, behind) = read_bare(alloc, tokens, at)?;
-    match read_filters(alloc, tokens, behind) {
-        Ok((filters, end)) => Ok((filtered(alloc, symbol, filters)?, end)),
-        Err(fault) => {
-            drop(symbol);
-            Err(fault)
+    match opening_at(tokens, at) {
+        Opening::Brace => {
+            let (item, next) = read_marked(alloc, tokens, at + 1)?;
+            match read_marked(alloc, tokens, next) {
+                Ok((separator, close)) => read_list_end(alloc, tokens, close, item, separator),
+                Err(fault) => {
+                    drop(item);
+                    Err(fault)
+                }
+            }
         }
-    }
-}
-
-/// A symbol with the filters behind it; the symbol itself where there is none.
-fn filtered(alloc: Global, symbol: Symbol, filters: Filters) -> Result<Symbol, RuleFault>
-    ensures ok { IfOk result (λ x. symbol_of x ≡ filtered (symbol_of symbol) filters) }
-    ensures err { IfErr result (λ e. e ≡ RuleFault.Memory) }
-{
-    if filters.as_slice().is_empty() {
-        return Ok(symbol);
-    }
-    Ok(Symbol::Filtered(Inner::new(alloc, symbol)?, filters))
-}
-
-/// Reads a separated list, or an atom and the sign behind it.
-#[cycle(symbols)]
-fn read_bare(alloc: Global, tokens: &Tokens, at: usize) -> Result<(Symbol, usize), RuleFault>
-    ensures ok { IfOk result (λ r. Goes tree.Symbol ReadsBare (want.post ∷ []) (want.filters ∷ [])
-        tokens.now at r.1 (symbol_of r.0)) }
-    ensures progress { IfOk result (λ r. at < r.1) }
-    ensures err { IfErr result (StopsAt (want.post ∷ []) tokens.now at) }
-{
-    match tokens.ahead(at)? {
-        Token::OpenBrace => read_separated(alloc, tokens, at + 1),
-        _ => read_repeated(alloc, tokens, at),
-    }
-}
-
-/// Reads an atom and the sign behind it, where there is one.
-#[cycle(symbols)]
-fn read_repeated(alloc: Global, tokens: &Tokens, at: usize) -> Result<(Symbol, usize), RuleFault>
-    ensures ok { IfOk result (λ r. Goes tree.Symbol ReadsBare (want.atom ∷ want.sign ∷ []) []
-        tokens.now at r.1 (symbol_of r.0)) }
-    ensures progress { IfOk result (λ r. at < r.1) }
-    ensures err { IfErr result (StopsAt (want.atom ∷ want.sign ∷ []) tokens.now at) }
-{
-    let (atom, end) = read_atom(alloc, tokens, at)?;
-    let Some(repetition) = repetition_at(tokens, end) else {
-        return Ok((atom, end));
-    };
-    let atom = Inner::new(alloc, atom)?;
-    Ok((repeated(repetition, atom), end + 1))
-}
-
-/// Reads a separated list behind its `{`.
-#[cycle(symbols)]
-fn read_separated(alloc: Global, tokens: &Tokens, at: usize) -> Result<(Symbol, usize), RuleFault>
-    ensures ok { IfOk result (λ r. Goes tree.Symbol (Behind spec.OpenBrace ReadsBare) (want.marked ∷
-        want.marked ∷ close_brace ∷ want.list_sign ∷ []) [] tokens.now at r.1 (symbol_of r.0)) }
-    ensures err { IfErr result (StopsAt (want.marked ∷ want.marked ∷ close_brace ∷
-        want.list_sign ∷ []) tokens.now at) }
-{
-    let (item, next) = read_marked(alloc, tokens, at)?;
-    let item = Inner::new(alloc, item)?;
-    let (separator, close) = read_marked(alloc, tokens, next)?;
-    let separator = Inner::new(alloc, separator)?;
-    let end = read_sign(tokens, close, Sign::CloseBrace)?;
-    let sign = read_list_sign(tokens, end)?;
-    Ok((separated(sign, item, separator), end + 1))
-}
-
-/// Reads a literal, a class, a call or a group.
-#[cycle(symbols)]
-fn read_atom(alloc: Global, tokens: &Tokens, at: usize) -> Result<(Symbol, usize), RuleFault>
-    ensures ok { IfOk result (λ r. Goes tree.Symbol ReadsAtom (want.atom ∷ []) [] tokens.now at r.1
-        (symbol_of r.0)) }
-    ensures progress { IfOk result (λ r. at < r.1) }
-    ensures err { IfErr result (StopsAt (want.atom ∷ []) tokens.now at) }
-{
-    match tokens.ahead(at)? {
-        Token::Name(name) => {
-            let name = Word::new(alloc, name)?;
-            Ok((Symbol::Call(name, Exprs::new(alloc)), at + 1))
-        }
-        Token::Head(name) => {
-            let name = Word::new(alloc, name)?;
-            let (arguments, end) = read_arguments(alloc, tokens, at + 1)?;
-            Ok((Symbol::Call(name, arguments), end))
-        }
-        Token::Open => {
+        Opening::Bracket => {
             let (alternatives, close) = read_alternatives(alloc, tokens, at + 1)?;
-            let end = read_sign(tokens, close, Sign::Close)?;
-            Ok((Symbol::Group(alternatives), end))
+            read_group_end(alloc, tokens, close, alternatives)
         }
-        token => match pattern_of(alloc, token)? {
-            Some(pattern) => Ok((terminal(pattern), at + 1)),
-            None => Err(RuleFault::Unexpected { token: at }),
-        },
+        Opening::Nothing => read_plain(alloc, tokens, at),
     }
 }
 
-/// A pattern as a symbol.
-fn terminal(pattern: Pattern) -> Symbol
-    ensures { symbol_of result ≡ terminal_of pattern }
-{
-    match pattern {
-        Pattern::Literal(text) => Symbol::Literal(text),
-        Pattern::OneOf(class) => Symbol::Class(class),
-    }
-}
-
-/// Adds a symbol at the end.
+/// Adds a symbol at the end. Refused for want of memory alone.
 fn add_symbol(symbols: &mut Symbols, symbol: Symbol) -> Result<(), RuleFault>
     ensures ok { OnOk result (symbols.new ≡ symbols.old ++ symbol_of symbol ∷ []) }
     ensures err { IfErr result (λ e. e ≡ RuleFault.Memory) }
@@ -311,7 +139,7 @@ fn add_symbol(symbols: &mut Symbols, symbol: Symbol) -> Result<(), RuleFault>
     Ok(())
 }
 
-/// Adds an alternative at the end.
+/// Adds an alternative at the end. Refused for want of memory alone.
 fn add_alternative(alternatives: &mut Alts, alternative: Alt) -> Result<(), RuleFault>
     ensures ok { OnOk result (alternatives.new ≡ alternatives.old ++ alternative ∷ []) }
     ensures err { IfErr result (λ e. e ≡ RuleFault.Memory) }

@@ -12,32 +12,20 @@ use Rattle.ig_symbols.proofs.symbols.+symbols.Given as goal
 
 -- how many tokens are left, and how deep the function stands among those that read from the same token
 
-abbrev pub decreases-read_atom : goal.decreases-read_atom
-decreases-read_atom l = 8 * (length l.tokens.now - l.at) + 0
-
-abbrev pub decreases-read_repeated : goal.decreases-read_repeated
-decreases-read_repeated l = 8 * (length l.tokens.now - l.at) + 1
-
-abbrev pub decreases-read_bare : goal.decreases-read_bare
-decreases-read_bare l = 8 * (length l.tokens.now - l.at) + 2
-
-abbrev pub decreases-read_filtered : goal.decreases-read_filtered
-decreases-read_filtered l = 8 * (length l.tokens.now - l.at) + 3
+abbrev pub decreases-read_unmarked : goal.decreases-read_unmarked
+decreases-read_unmarked l = 5 * (length l.tokens.now - l.at) + 0
 
 abbrev pub decreases-read_marked : goal.decreases-read_marked
-decreases-read_marked l = 8 * (length l.tokens.now - l.at) + 4
+decreases-read_marked l = 5 * (length l.tokens.now - l.at) + 1
 
 abbrev pub decreases-read_symbol : goal.decreases-read_symbol
-decreases-read_symbol l = 8 * (length l.tokens.now - l.at) + 5
-
-abbrev pub decreases-read_separated : goal.decreases-read_separated
-decreases-read_separated l = 8 * (length l.tokens.now - l.at) + 5
+decreases-read_symbol l = 5 * (length l.tokens.now - l.at) + 2
 
 abbrev pub decreases-read_alternative : goal.decreases-read_alternative
-decreases-read_alternative l = 8 * (length l.tokens.now - l.at) + 6
+decreases-read_alternative l = 5 * (length l.tokens.now - l.at) + 3
 
 abbrev pub decreases-read_alternatives : goal.decreases-read_alternatives
-decreases-read_alternatives l = 8 * (length l.tokens.now - l.at) + 7
+decreases-read_alternatives l = 5 * (length l.tokens.now - l.at) + 4
 
 -- what is read so far is the front of the symbols, or of the alternatives
 abbrev pub invariant-read_alternatives-loop-alternatives : goal.invariant-read_alternatives-loop-alternatives

@@ -2,8 +2,8 @@ use Rattle.std.proofs.Common.{refl, [], ◌∷◌}
 use Rattle.ig_syntax.specs.Token.{Open}
 use Rattle.ig_rules.specs.Machine as want
 use Rattle.ig_readers.specs.Steps.{missed, stop_sign, exits}
-use Rattle.ig_symbols.proofs.SymbolParts.{guard}
-use Rattle.ig_symbols.proofs.symbols.read_guard.Goals as goal
+use Rattle.ig_parts.proofs.Around.{guard}
+use Rattle.ig_parts.proofs.parts.read_guard.Goals as goal
 
 pub returns-clause-ok : goal.returns-clause-ok
 returns-clause-ok c = guard _ _ _ _ _ c.in_ok-inside.ensures.ok c.in_ok-condition.ensures.ok

@@ -2,8 +2,8 @@ use Rattle.std.proofs.Common.{refl, [], ◌∷◌}
 use Rattle.ig_syntax.specs.Token.{Name, Equals, Open}
 use Rattle.ig_rules.specs.Machine as want
 use Rattle.ig_readers.specs.Steps.{missed, stop_next, stop_sign, exits}
-use Rattle.ig_symbols.proofs.SymbolParts.{let_be}
-use Rattle.ig_symbols.proofs.symbols.read_let.Goals as goal
+use Rattle.ig_parts.proofs.Around.{let_be}
+use Rattle.ig_parts.proofs.parts.read_let.Goals as goal
 
 pub returns-clause-ok : goal.returns-clause-ok
 returns-clause-ok c =
