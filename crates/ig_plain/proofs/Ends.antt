@@ -7,6 +7,7 @@ use Rattle.std.proofs.Math.Seq.{take-length}
 use Rattle.std.proofs.lemmas.List.Elements.{Contains-append_left, Contains-append_right}
 use Rattle.ig_text.proofs.Lists.{contains_from_at, mapped_in, same_map}
 use Rattle.ig_expr.specs.declared.value.Value.{Value}
+use Rattle.ig_item.specs.Induction.{kept}
 use Rattle.ig_item.specs.Items.{Item, Follows, Reachable, MoreThan, root_instance}
 use Rattle.ig_item.specs.Laws.{ItemsAreInText}
 use Rattle.ig_item.specs.Recorded.{AreReachable}
@@ -22,7 +23,6 @@ use Rattle.ig_plain.specs.Tables.{IsNamed, no_key}
 use Rattle.ig_plain.specs.Found.{means, found_in, later_in, taken_in, Named}
 use Rattle.ig_plain.specs.Run.{IsRun}
 use Rattle.ig_plain.proofs.Growth.{found_named}
-use Rattle.ig_plain.proofs.Following.{kept}
 use Rattle.ig_plain.proofs.Distinct.{different, counted}
 use Rattle.ig_plain.proofs.Completes.{instances_once}
 use Rattle.ig_plain.proofs.Fewer.{at_most}

@@ -1,12 +1,12 @@
 -- What follows from the taken items and one more.
-use Rattle.std.proofs.Common.{◌≡◌, ◌⊎◌, ⊎_elim, inl, inr, ℕ, zero, suc, ◌<◌, List, [], ◌∷◌, ◌++◌, Some, length, Contains, sym, ap, ◌∙◌, subst, arith, slice_get, take}
+use Rattle.std.proofs.Common.{◌≡◌, ◌⊎◌, ⊎_elim, inl, inr, ℕ, List, [], ◌∷◌, ◌++◌, length, Contains, sym, ap, ◌∙◌, subst, arith, slice_get}
 use Rattle.std.proofs.lemmas.Option.{same_Some, slice_get_within}
 use Rattle.std.proofs.lemmas.List.Elements.{Contains-append_cases}
-use Rattle.ig_text.proofs.Lists.{contains_one, at_from_contains, within_take}
+use Rattle.ig_text.proofs.Lists.{contains_one}
 use Rattle.ig_item.specs.Step.{Step}
 use Rattle.ig_item.specs.Core.{IsAlternative, numbered}
 use Rattle.ig_item.specs.Items as items
-use Rattle.ig_item.specs.Items.{Item, Follows, Reachable, IsDerivation, StandsBefore, IsComplete, Calls, first, root_instance}
+use Rattle.ig_item.specs.Items.{Item, Follows, Reachable, StandsBefore, IsComplete}
 use Rattle.ig_item.specs.Laws.{ReachableIsClosed}
 use Rattle.ig_item.specs.declared.core_grammar.Nonterminal.{Nonterminal}
 use Rattle.ig_item.specs.declared.core_grammar.CoreAlt.{CoreAlt}
@@ -14,36 +14,6 @@ use Rattle.ig_plain.specs.Rules as rules
 use Rattle.ig_plain.specs.Rules.{After}
 
 module _ (core : List Nonterminal) (text : List ℕ) where
-  -- the rules give no less from more
-  pub follows_more : {known wider : Item → Type 0} {x : Item} → ((y : Item) → known y → wider y) →
-      Follows core text known x → Follows core text wider x
-  follows_more more (items.root x e) = items.root x e
-  follows_more more (items.test it names c x k before holds e) = items.test it names c x (more it k) before holds e
-  follows_more more (items.bind it names name c v x k before has e) = items.bind it names name c v x (more it k) before has e
-  follows_more more (items.terminal it names what label excluded j x k before matches free e) =
-      items.terminal it names what label excluded j x (more it k) before matches free e
-  follows_more more (items.call it callee label excluded nonterminal a alternative x k calls at e) =
-      items.call it callee label excluded nonterminal a alternative x (more it k) calls at e
-  follows_more more (items.return it done label excluded x k l calls complete free e) =
-      items.return it done label excluded x (more it k) (more done l) calls complete free e
-
-  kept_below : (P : Item → Type 0) → ((x : Item) → Follows core text P x → P x) → (xs : List Item) →
-      IsDerivation core text xs → (n k : ℕ) → k < n → (x : Item) → slice_get xs k ≡ Some x → P x
-  kept_below P rule xs d zero k lt x e = absurd (omega arith)
-  kept_below P rule xs d (suc n) k lt x e =
-      rule x
-      (follows_more
-      (λ y c.
-      let at = at_from_contains (take k xs) y c in
-      let h = within_take xs k at.0 y at.1 in
-      kept_below P rule xs d n at.0 (omega (arith, h.0)) y h.1)
-      (d k x e))
-
-  -- what the rules keep holds of each reachable item
-  pub kept : (P : Item → Type 0) → ((x : Item) → Follows core text P x → P x) → (x : Item) → Reachable core text x → P x
-  kept P rule x r =
-      let at = at_from_contains r.items x r.among in kept_below P rule r.items r.derivation (suc at.0) at.0 (omega arith) x at.1
-
   pub same_alternative : (n a : ℕ) (m k : Nonterminal) (u v : CoreAlt) → IsAlternative core n a m u → IsAlternative core n a k v → u ≡ v
   same_alternative n a m k u v p q =
       let e : m ≡ k = same_Some m k (sym p.there ∙ q.there) in
