@@ -1,9 +1,10 @@
 //! The items that a run has found.
-ghost use Rattle.std.specs.Prelude.{◌≡◌, [], ◌∷◌, ◌++◌, ◌+◌, ◌<◌, ◌≤◌, IfErr, IfOk, OnOk, Some};
+ghost use Rattle.std.specs.Prelude.{◌≡◌, [], ◌∷◌, ◌++◌, ◌+◌, ◌<◌, ◌≤◌, IfErr, IfOk, OnErr, OnOk, Some};
 ghost use Rattle.std.specs.Prelude.{ℕ, Contains, length};
 ghost use Rattle.std.specs.Prelude.{slice_get, slice_index_or};
 ghost use Rattle.std.specs.Option.{option_to_list};
 ghost use Rattle.ig_item.specs.Items.{past};
+ghost use Rattle.ig_item.specs.Limits.{numbers_end};
 ghost use Rattle.ig_item.specs.WellKinded.{NoneTwice};
 ghost use Rattle.ig_item.specs.declared.run_fault.RunFault.TheVariants.{Budget};
 ghost use Rattle.ig_item.specs.declared.ways.Way.TheVariants.{Node};
@@ -161,7 +162,8 @@ fn add_behind_call(
 
 /// The number of the item at that place among those at the position.
 pub(crate) fn number_of(found: &Found, place: usize) -> Result<u32, AllocError>
-    ensures { IfOk result (λ n. n ≡ length found.now.done.items + place) }
+    ensures number { IfOk result (λ n. n ≡ length found.now.done.items + place) }
+    ensures refused { OnErr result (numbers_end ≤ length found.now.done.items + place) }
 {
     number(found.done.len().saturating_add(place))
 }

@@ -20,7 +20,7 @@ returns-in_err-add-clause-adds c =
 pub returns-clause-ways : goal.returns-clause-ways
 returns-clause-ways c =
     let behind : c.in_ok-number.number ≡ length c.args.found.now.done.items + length c.args.found.now.here.items =
-    omega (arith, c.in_ok-number.ensures, c.len.ensures) in
+    omega (arith, c.in_ok-number.ensures.number, c.len.ensures) in
     on_ok_weaker c.push.result
     (λ p. pushed_records c.args.item (Node c.args.prev c.args.done) c.args.found.now c.push.new.found c.args.trail.now _ c.push.new.trail p refl refl
     (pushed_node c.args.item (Node c.args.prev c.args.done) c.in_ok-number.number c.args.found.now c.push.new.found c.args.trail.now _ c.push.new.trail p

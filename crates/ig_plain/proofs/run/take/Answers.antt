@@ -26,7 +26,7 @@ take_step-requires-clause-next c =
     record {
       place = c.args.place;
       at = c.item_at-item.ensures;
-      numbered = c.in_ok-number.ensures;
+      numbered = c.in_ok-number.ensures.number;
       trail = subst (λ z. HasTrail c.args.context.now.core.now c.args.context.now.text.now z c.args.place c.args.run.now.found c.args.run.now.waiting c.args.run.now.trail)
           (sym (c.requires.run.taking.stored.at c.item_at-item.result
           (contains_from_at c.args.run.now.found.here.items c.args.place c.item_at-item.result c.item_at-item.ensures))) c.requires.trail;
@@ -54,7 +54,7 @@ take_complete-requires-clause-next c =
     record {
       place = c.args.place;
       at = c.item_at-item.ensures;
-      numbered = c.in_ok-number.ensures;
+      numbered = c.in_ok-number.ensures.number;
       trail = subst (λ z. HasTrail c.args.context.now.core.now c.args.context.now.text.now z c.args.place c.args.run.now.found c.args.run.now.waiting c.args.run.now.trail)
           (sym (c.requires.run.taking.stored.at c.item_at-item.result
           (contains_from_at c.args.run.now.found.here.items c.args.place c.item_at-item.result c.item_at-item.ensures))) c.requires.trail;
