@@ -9,7 +9,7 @@ use Rattle.ig_expr.specs.Expression.{Expression}
 use Rattle.ig_expr.specs.Evaluation.{value_of}
 use Rattle.ig_expr.specs.declared.value.Value.{Value}
 use Rattle.ig_item.specs.Step.{Call}
-use Rattle.ig_item.specs.Items.{Item, Reachable, Calls, MatchesNone, StandsBefore, past, span_of}
+use Rattle.ig_item.specs.Items.{Item, Reachable, Calls, StandsBefore}
 use Rattle.ig_item.specs.Laws.{ReachableIsClosed, ItemsAreInText}
 use Rattle.ig_item.specs.Tables.{instance_by, HaveValues}
 use Rattle.ig_item.specs.WellKinded.{NoneTwice}
@@ -24,7 +24,7 @@ use Rattle.ig_calls.specs.declared.waiting.Called.{Called}
 use Rattle.ig_tables.specs.Extends.{Extends}
 use Rattle.ig_plain.specs.Found.{means, instances_in, taken_in, Named, AreNamed, Adds}
 use Rattle.ig_plain.specs.Rules as rules
-use Rattle.ig_plain.specs.Rules.{After, IsFirstOf, IsCaller}
+use Rattle.ig_plain.specs.Rules.{After, IsFirstOf, IsPastCall}
 use Rattle.ig_calls.specs.Waiting.{called_at, not_called, lengthened, with_caller}
 use Rattle.ig_plain.specs.Run.{IsRun, IsWaiting, IsTaken, IsEntered, EntersInstance, Refuses}
 use Rattle.ig_plain.proofs.Extending.{extends_same, extends_itself}
@@ -193,7 +193,7 @@ module _ (core : List Nonterminal) (text : List ℕ) (law : ReachableIsClosed) (
             (λ e. apart (end_same ∙ e))
 
         pub goes_past : (called_at u i).last_end ≡ Some p → (f : Found) (o : Result (Unit {0}) RunFault) →
-            Adds p (λ x. MatchesNone text excluded item.position p × (x ≡ past (means t item) (span_of label item.position p) p)) budget t f o →
+            Adds p (IsPastCall text label excluded p (means t item)) budget t f o →
             IsTaken core text budget p k f u o
         goes_past last f o d =
             calls_past core text law inside budget p k t v item here run_2 at_2 i (instance_by t.envs.keys key) label excluded instance_2 calls_2 u number is_bare cells called

@@ -6,7 +6,7 @@ use Rattle.ig_expr.specs.Expression.{Expression}
 use Rattle.ig_expr.specs.Evaluation.{value_of}
 use Rattle.ig_expr.specs.declared.value.Value.{Value}
 use Rattle.ig_item.specs.Step.{Call}
-use Rattle.ig_item.specs.Items.{Item, MatchesNone, StandsBefore, past, span_of}
+use Rattle.ig_item.specs.Items.{Item, StandsBefore, span_of}
 use Rattle.ig_item.specs.Laws.{ReachableIsClosed, ItemsAreInText}
 use Rattle.ig_item.specs.Tables.{instance_by}
 use Rattle.ig_item.specs.WellKinded.{NoneTwice}
@@ -20,7 +20,7 @@ use Rattle.ig_plain.specs.declared.trail.Trail.{Trail}
 use Rattle.ig_calls.specs.declared.waiting.Waiting.{Waiting}
 use Rattle.ig_tables.specs.Extends.{Extends}
 use Rattle.ig_plain.specs.Found.{means, Adds}
-use Rattle.ig_plain.specs.Rules.{StandsAtBareCall}
+use Rattle.ig_plain.specs.Rules.{StandsAtBareCall, IsPastCall}
 use Rattle.ig_calls.specs.Waiting.{called_at, lengthened, with_caller}
 use Rattle.ig_plain.specs.Run.{IsRun, EntersInstance}
 use Rattle.ig_plain.specs.Trail.{By, ComeByNodes, Records, HasTrail, EntersOn}
@@ -92,7 +92,7 @@ module _ (core : List Nonterminal) (text : List ℕ) (law : ReachableIsClosed) (
         is ∙ ap (λ (z : List stored.Item). length z + k) (sym (e ∙ done))
 
     -- what is behind the call was found by nodes
-    pub by_nodes_2 : ComeByNodes t u (λ z. MatchesNone text excluded p p × (z ≡ past (means t item) (span_of label p p) p))
+    pub by_nodes_2 : ComeByNodes t u (IsPastCall text label excluded p (means t item))
     by_nodes_2 x m j at_j =
         found_by_node core text t u _ trail_2.ways (means t item) names nonterminal arguments label excluded
         (subst (λ (z : Item). StandsBefore core z names (Call nonterminal arguments label excluded))
@@ -137,8 +137,8 @@ module _ (core : List Nonterminal) (text : List ℕ) (law : ReachableIsClosed) (
       -- the callee ended here
       pub goes_past_on : (d : ℕ) → (called_at x i).last_end ≡ Some p → d ≡ (called_at x i).last_done →
           (f : Found) (y : Trail) (o : Result (Unit {0}) RunFault) →
-          Adds p (λ z. MatchesNone text excluded p p × (z ≡ past (means t item) (span_of label p p) p)) budget t f o →
-          OnOk o (Records (By (Node number d) (λ z. MatchesNone text excluded p p × (z ≡ past (means t item) (span_of label p p) p))) t f u y) →
+          Adds p (IsPastCall text label excluded p (means t item)) budget t f o →
+          OnOk o (Records (By (Node number d) (IsPastCall text label excluded p (means t item))) t f u y) →
           OnOk o (HasTrail core text p (suc k) f x y)
       goes_past_on d last d_is f y o adds rec =
           past_on core text law budget p k t v u item number refl run_2 at_2 number_2 trail_2 inside i (instance_by t.envs.keys key) label excluded

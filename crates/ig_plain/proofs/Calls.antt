@@ -24,7 +24,7 @@ use Rattle.ig_calls.specs.declared.waiting.Called.{Called}
 use Rattle.ig_calls.specs.declared.waiting.Caller.{Caller}
 use Rattle.ig_plain.specs.Found.{means, instances_in, found_in, later_in, taken_in, Named, Adds}
 use Rattle.ig_plain.specs.Rules as rules
-use Rattle.ig_plain.specs.Rules.{After, IsCaller}
+use Rattle.ig_plain.specs.Rules.{After, IsCaller, IsPastCall}
 use Rattle.ig_calls.specs.Waiting.{called_at, not_called, lengthened, first_or, with_caller}
 use Rattle.ig_plain.specs.Run.{Chains, ChainEnds, HasCallers, HasEnd, IsWaiting, IsRun, IsTaken}
 use Rattle.ig_plain.proofs.Extending.{extends_itself}
@@ -284,24 +284,21 @@ module _ (core : List Nonterminal) (text : List ℕ) (law : ReachableIsClosed) (
 
     -- the callee ended here
     pub calls_past : (called_at v i).last_end ≡ Some p → (t : Found) (result : Result (Unit {0}) RunFault) →
-        Adds p (λ x. MatchesNone text excluded one.position p × (x ≡ past one (span_of label one.position p) p)) budget s t result →
+        Adds p (IsPastCall text label excluded p one) budget s t result →
         IsTaken core text budget p k t u result
     calls_past is t result d = go result d
       where
         end : HasEnd core (taken_in s k) callee p
         end = (r.waiting.ends i callee (called_at v i) there there_known).0 is
 
-        may : Item → Type 0
-        may x = MatchesNone text excluded one.position p × (x ≡ past one (span_of label one.position p) p)
-
-        sound : (x : Item) → MatchesNone text excluded one.position p × (x ≡ past one (span_of label one.position p) p) → After core text (taken_in s k) one x
+        sound : (x : Item) → IsPastCall text label excluded p one x → After core text (taken_in s k) one x
         sound x m =
             rules.return end.item label excluded end.among (subst (λ (z : Instance). Calls core text one z label excluded) (sym end.of) calls) end.complete
             (subst (λ (n : ℕ). MatchesNone text excluded one.position n) (sym end.ends) m.0)
             (m.1 ∙ ap (λ (n : ℕ). past one (span_of label one.position n) n) (sym end.ends))
 
         go : (result : Result (Unit {0}) RunFault) →
-            Adds p (λ x. MatchesNone text excluded one.position p × (x ≡ past one (span_of label one.position p) p)) budget s t result →
+            Adds p (IsPastCall text label excluded p one) budget s t result →
             IsTaken core text budget p k t u result
         go (Ok w) d =
             record {

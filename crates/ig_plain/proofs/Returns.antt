@@ -24,7 +24,7 @@ use Rattle.ig_plain.specs.declared.found.Found.{Found}
 use Rattle.ig_plain.specs.declared.trail.Trail.{Trail}
 use Rattle.ig_calls.specs.declared.waiting.Caller.{Caller}
 use Rattle.ig_plain.specs.Found.{means, Named, AreNamed, Adds}
-use Rattle.ig_plain.specs.Rules.{StandsAtBareCall, StandsAtCall, IsReturn, step_at}
+use Rattle.ig_plain.specs.Rules.{StandsAtBareCall, StandsAtCall, IsReturn, step_at, IsPastCall}
 use Rattle.ig_plain.specs.Run as run
 use Rattle.ig_plain.specs.Run.{Chains, IsChainOf, IsReturnToOne}
 use Rattle.ig_plain.specs.Trail.{AreKnown, By, ComeByNodes, IsIndexed, IsReturnBy, Records}
@@ -48,11 +48,8 @@ step_there core it names step b =
 -- the item after the call, of that label and those excluded patterns
 module _ (core : List Nonterminal) (text : List ℕ) (it : Item) (end callee : ℕ) (arguments : List Expression) (label : Option (List ℕ))
     (excluded : List Pattern) (names : List (List ℕ)) (before : StandsBefore core it names (Call callee arguments label excluded)) where
-  abbrev Behind : Item → Type 0
-  Behind x = MatchesNone text excluded it.position end × (x ≡ past it (span_of label it.position end) end)
-
   -- these are the items after the call, whatever names it goes by
-  pub into_return : (x : Item) → Behind x → IsReturn core text it end x
+  pub into_return : (x : Item) → IsPastCall text label excluded end it x → IsReturn core text it end x
   into_return x m =
       record {
         call = record { names = names; callee = callee; arguments = arguments; label = label; excluded = excluded; before = before };
@@ -60,7 +57,7 @@ module _ (core : List Nonterminal) (text : List ℕ) (it : Item) (end callee : �
         is = m.1;
       }
 
-  from_return : (x : Item) → IsReturn core text it end x → Behind x
+  from_return : (x : Item) → IsReturn core text it end x → IsPastCall text label excluded end it x
   from_return x m =
       let steps =
       one_step core text it m.call.names names (Call m.call.callee m.call.arguments m.call.label m.call.excluded)
@@ -71,13 +68,13 @@ module _ (core : List Nonterminal) (text : List ℕ) (it : Item) (end callee : �
         m.is ∙ ap (λ (z : Option (List ℕ)). past it (span_of z it.position end) end) l,
       )
 
-  pub return_alike : (budget : ℕ) (a b : Found) (r : Result (Unit {0}) RunFault) → Adds end Behind budget a b r →
+  pub return_alike : (budget : ℕ) (a b : Found) (r : Result (Unit {0}) RunFault) → Adds end (IsPastCall text label excluded end it) budget a b r →
       Adds end (IsReturn core text it end) budget a b r
-  return_alike budget a b r d = adds_alike end Behind (IsReturn core text it end) budget a b r into_return from_return d
+  return_alike budget a b r d = adds_alike end (IsPastCall text label excluded end it) (IsReturn core text it end) budget a b r into_return from_return d
 
-  pub records_return : (way : Way) (a b : Found) (t u : Trail) → Records (By way Behind) a b t u →
+  pub records_return : (way : Way) (a b : Found) (t u : Trail) → Records (By way (IsPastCall text label excluded end it)) a b t u →
       Records (By way (IsReturn core text it end)) a b t u
-  records_return way a b t u r = records_same way Behind (IsReturn core text it end) a b t u into_return from_return r
+  records_return way a b t u r = records_same way (IsPastCall text label excluded end it) (IsReturn core text it end) a b t u into_return from_return r
 
 -- the item after a call that has neither a label nor an excluded pattern
 module _ (core : List Nonterminal) (text : List ℕ) (it : Item) (end : ℕ) (bare : StandsAtBareCall core it) where

@@ -28,7 +28,7 @@ use Rattle.ig_calls.specs.declared.waiting.Caller.{Caller}
 use Rattle.ig_plain.specs.Found as found
 use Rattle.ig_plain.specs.Found.{means, found_in, later_in, taken_in, instances_in, Adds, AddsTerminal, GrowsLater}
 use Rattle.ig_plain.specs.Rules as rules
-use Rattle.ig_plain.specs.Rules.{IsBehind, IsReturn, StandsAtBareCall, StandsAtCall}
+use Rattle.ig_plain.specs.Rules.{IsBehind, IsReturn, StandsAtBareCall, StandsAtCall, IsPastCall}
 use Rattle.ig_calls.specs.Waiting.{called_at, lengthened, with_caller, with_end}
 use Rattle.ig_plain.specs.Run as run
 use Rattle.ig_plain.specs.Run.{Chains, IsRun, IsReturnToOne}
@@ -428,14 +428,14 @@ module _ (core : List Nonterminal) (text : List ℕ) (law : ReachableIsClosed) (
     -- the callee ended here
     pub past_on : (d : ℕ) → (called_at w i).last_end ≡ Some p → d ≡ (called_at w i).last_done →
         (t : Found) (u : Trail) (result : Result (Unit {0}) RunFault) →
-        Adds p (λ x. MatchesNone text excluded it.position p × (x ≡ past it (span_of label it.position p) p)) budget s t result →
-        OnOk result (Records (By (Node number d) (λ x. MatchesNone text excluded it.position p × (x ≡ past it (span_of label it.position p) p))) s t
+        Adds p (IsPastCall text label excluded p it) budget s t result →
+        OnOk result (Records (By (Node number d) (IsPastCall text label excluded p it)) s t
         trail u) →
         OnOk result (HasTrail core text p (suc k) t v u)
     past_on d last d_is t u result adds rec =
         let f : IsFirstEnd core (Contains (taken_in s k)) (found_in s) node d =
         subst (IsFirstEnd core (Contains (taken_in s k)) (found_in s) node) (sym d_is) (h.ends i callee (called_at w i) named known_i last) in
-        step_on (λ x. MatchesNone text excluded it.position p × (x ≡ past it (span_of label it.position p) p))
+        step_on (IsPastCall text label excluded p it)
         (Node number d) t v u result adds rec unfinished
         (λ g x m.
         ways.comes (Node number d) it (tree node)

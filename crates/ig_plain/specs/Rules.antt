@@ -56,6 +56,11 @@ IsBehind text what label excluded it x =
     (j : ℕ) × Matches text what it.position j × MatchesNone text excluded it.position j ×
     (x ≡ past it (span_of label it.position j) j)
 
+-- x is the item after a call with that label, whose callee ended at `end`: the text that it covers is a match of no excluded pattern
+abbrev pub IsPastCall : List ℕ → Option (List ℕ) → List Pattern → ℕ → Item → Item → Type 0
+IsPastCall text label excluded end it x =
+    MatchesNone text excluded it.position end × (x ≡ past it (span_of label it.position end) end)
+
 -- x is the first item of an alternative of the instance, which is one of the first n
 pub record IsFirst (core : List Nonterminal) (callee : Instance) (n : ℕ) (x : Item) : Type 0 where
   pub number : ℕ

@@ -1,10 +1,9 @@
 //! What an item that is taken adds by itself: items behind tests, bindings and terminals.
 ghost use Rattle.std.specs.Prelude.{◌≡◌, [], ◌∷◌, ◌<◌, OnOk, length, slice_index_or};
 ghost use Rattle.ig_expr.specs.View.{expression_of};
-ghost use Rattle.ig_item.specs.Items.{MatchesNone, past, span_of};
 ghost use Rattle.ig_item.specs.declared.ways.Way.TheVariants.{Node, Pass};
 ghost use Rattle.ig_steps.specs.Compiled.{form_of};
-ghost use Rattle.ig_plain.specs.Rules.{IsBehind};
+ghost use Rattle.ig_plain.specs.Rules.{IsBehind, IsPastCall};
 ghost use Rattle.ig_plain.specs.Found.{Adds, AddsTerminal, AreNamed, Named, means};
 ghost use Rattle.ig_plain.specs.Trail.{By, ComeByNodes, IsBehindBind, IsBehindTest, IsIndexed};
 ghost use Rattle.ig_plain.specs.Trail.{Records, RecordsTerminal, Unfound};
@@ -107,17 +106,14 @@ pub(crate) fn go_behind(
     requires named { Named found.old from.item }
     requires all_named { AreNamed found.old }
     requires indexed { IsIndexed found.old trail.old }
-    requires by_nodes { ComeByNodes found.old trail.old (λ x. MatchesNone context.now.text.now
-        qualifiers.now.not.now from.item.position end × (x ≡ past (means found.old from.item)
-        (span_of qualifiers.now.label.now from.item.position end) end)) }
-    ensures adds { Adds end (λ x. MatchesNone context.now.text.now qualifiers.now.not.now
-        from.item.position end × (x ≡ past (means found.old from.item)
-        (span_of qualifiers.now.label.now from.item.position end) end))
-        context.now.budget found.old found.new result }
-    ensures ways { OnOk result (Records (By (Node from.number done) (λ x. MatchesNone
-        context.now.text.now qualifiers.now.not.now from.item.position end × (x ≡ past (means
-        found.old from.item) (span_of qualifiers.now.label.now from.item.position end) end)))
-        found.old found.new trail.old trail.new) }
+    requires by_nodes { ComeByNodes found.old trail.old (IsPastCall context.now.text.now
+        qualifiers.now.label.now qualifiers.now.not.now end (means found.old from.item)) }
+    ensures adds { Adds end (IsPastCall context.now.text.now qualifiers.now.label.now
+        qualifiers.now.not.now end (means found.old from.item)) context.now.budget found.old
+        found.new result }
+    ensures ways { OnOk result (Records (By (Node from.number done) (IsPastCall
+        context.now.text.now qualifiers.now.label.now qualifiers.now.not.now end
+        (means found.old from.item))) found.old found.new trail.old trail.new) }
 {
     let start = from.item.position;
     if !matches_none(qualifiers.not, context.text, start, end) {

@@ -1,10 +1,11 @@
-use Rattle.std.proofs.Common.{ap, ◌∙◌, subst, ◌≡◌}
+use Rattle.std.proofs.Common.{ap, ◌∙◌, subst}
 use Rattle.std.proofs.lemmas.Result.{on_ok_weaker}
 use Rattle.ig_item.specs.Step.{Call}
 use Rattle.ig_item.specs.View.{step_of}
-use Rattle.ig_item.specs.Items.{MatchesNone, past, span_of, StandsBefore}
+use Rattle.ig_item.specs.Items.{MatchesNone, StandsBefore}
 use Rattle.ig_item.specs.declared.ways.Way.TheVariants.{Node}
 use Rattle.ig_plain.specs.Found.{Adds, means}
+use Rattle.ig_plain.specs.Rules.{IsPastCall}
 use Rattle.ig_plain.specs.Trail.{By, Records}
 use Rattle.ig_plain.proofs.Additions.{adds_stops}
 use Rattle.ig_plain.proofs.Returns.{into_return, return_alike, records_return, into_bare, bare_alike, records_bare, step_is}
@@ -32,7 +33,7 @@ returns-in-Call-clause-adds c =
     return_alike c.args.context.now.core.now c.args.context.now.text.now it c.args.end c.in-Call.nonterminal c.in-Call.args c.in-Call.label c.in-Call.not c.requires.calls.names
     (subst (StandsBefore c.args.context.now.core.now it c.requires.calls.names) call c.requires.calls.before)
     c.args.context.now.budget c.args.found.now c.go_behind.new.found c.go_behind.result
-    (subst (λ z. Adds c.args.end (λ x. MatchesNone c.args.context.now.text.now z c.args.caller.item.position c.args.end × (x ≡ past it (span_of c.in-Call.label c.args.caller.item.position c.args.end) c.args.end)) c.args.context.now.budget c.args.found.now c.go_behind.new.found c.go_behind.result)
+    (subst (λ z. Adds c.args.end (IsPastCall c.args.context.now.text.now c.in-Call.label z c.args.end it) c.args.context.now.budget c.args.found.now c.go_behind.new.found c.go_behind.result)
     c.as_slice-not.ensures c.go_behind.ensures.adds)
 
 pub returns-in-Call-clause-ways : goal.returns-in-Call-clause-ways
@@ -47,7 +48,7 @@ returns-in-Call-clause-ways c =
     (λ r. records_return c.args.context.now.core.now c.args.context.now.text.now it c.args.end c.in-Call.nonterminal c.in-Call.args c.in-Call.label c.in-Call.not c.requires.calls.names
     (subst (StandsBefore c.args.context.now.core.now it c.requires.calls.names) call c.requires.calls.before)
     way c.args.found.now c.go_behind.new.found c.args.trail.now c.go_behind.new.trail
-    (subst (λ z. Records (By way (λ x. MatchesNone c.args.context.now.text.now z c.args.caller.item.position c.args.end × (x ≡ past it (span_of c.in-Call.label c.args.caller.item.position c.args.end) c.args.end)))
+    (subst (λ z. Records (By way (IsPastCall c.args.context.now.text.now c.in-Call.label z c.args.end it))
     c.args.found.now c.go_behind.new.found c.args.trail.now c.go_behind.new.trail) c.as_slice-not.ensures r)) c.go_behind.ensures.ways
 
 pub go_behind_bare_call-requires-clause-by_nodes : goal.go_behind_bare_call-requires-clause-by_nodes
