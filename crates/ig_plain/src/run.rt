@@ -15,7 +15,6 @@ ghost use Rattle.ig_plain.specs.Found.{Adds, AreNamed, Named, means};
 ghost use Rattle.ig_plain.specs.Rules.{IsFirstOf, IsReturn, Stands, StandsAtBareCall};
 ghost use Rattle.ig_plain.specs.Rules.{StandsAtCall, step_at};
 ghost use Rattle.ig_steps.specs.Compiled.{form_of};
-ghost use Rattle.ig_steps.specs.Names.{all_dots};
 ghost use Rattle.ig_plain.specs.Contexts.{EntersIn, EntersOnIn, HasTrailIn, IsNextIn, IsRunIn};
 ghost use Rattle.ig_plain.specs.Contexts.{RunsIn, TakesIn, TakesOnIn, TakingIn};
 ghost use Rattle.ig_plain.specs.Run.{IsChainOf, IsReturnToOne};
@@ -286,7 +285,6 @@ fn take_step(
 ) -> Result<(), RunFault>
     requires taking { TakingIn context.now taken run.old }
     requires next { IsNextIn context.now taken run.old }
-    requires dots { context.now.dots.now ≡ all_dots context.now.core.now }
     requires nonterminal { nonterminal ≡ (means run.old.found taken.item).instance.nonterminal }
     requires stands { Stands context.now.core.now (means run.old.found taken.item)
         (step_of step.now) }
@@ -348,7 +346,6 @@ pub(crate) fn take(
     requires run { IsRunIn context.now position place run.old }
     requires trail { HasTrailIn context.now position place run.old }
     requires there { place < length run.old.found.here.items }
-    requires dots { context.now.dots.now ≡ all_dots context.now.core.now }
     ensures run { RunsIn context.now position (place + 1) run.new result }
     ensures trail { OnOk result (HasTrailIn context.now position (place + 1) run.new) }
 {

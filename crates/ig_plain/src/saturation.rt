@@ -9,7 +9,6 @@ ghost use Rattle.ig_item.specs.WellKinded.{NoneTwice};
 ghost use Rattle.ig_item.specs.Limits.{numbers_end};
 ghost use Rattle.ig_plain.specs.Contexts.{HasTrailIn, IsRunIn, RunsIn};
 ghost use Rattle.ig_plain.specs.Run.{IsRun, Refuses};
-ghost use Rattle.ig_steps.specs.Names.{all_dots};
 ghost use Rattle.ig_plain.specs.Arrival.{ArrivesWith, IsNothing, IsParted};
 ghost use Rattle.ig_plain.specs.Trail.{ArrivesOn, HasTrail, IsUntrodden, PartsTrail};
 
@@ -32,7 +31,6 @@ use std::alloc::{AllocError, Global};
 fn take_all(context: &Context<'_>, run: &mut Run, position: u32) -> Result<(), RunFault>
     requires run { IsRunIn context.now position 0 run.old }
     requires trail { HasTrailIn context.now position 0 run.old }
-    requires dots { context.now.dots.now ≡ all_dots context.now.core.now }
     ensures run { RunsIn context.now position (length run.new.found.here.items) run.new result }
     ensures trail { OnOk result
         (HasTrailIn context.now position (length run.new.found.here.items) run.new) }
@@ -131,7 +129,6 @@ fn last_position(text: &Text) -> u32
 fn run_to_end(context: &Context<'_>, run: &mut Run) -> Result<(), RunFault>
     requires nothing { IsNothing run.old.found run.old.waiting }
     requires untrodden { IsUntrodden run.old.waiting run.old.trail }
-    requires dots { context.now.dots.now ≡ all_dots context.now.core.now }
     ensures run { RunsIn context.now (length context.now.text.now)
         (length run.new.found.here.items) run.new result }
     ensures trail { OnOk result (HasTrailIn context.now (length context.now.text.now)

@@ -75,7 +75,7 @@ pub take_test-requires-clause-new : goal.take_test-requires-clause-new
 take_test-requires-clause-new c =
     subst (λ z. Unfound c.args.run.now.found (IsBehindTest c.args.context.now.text.now z (expression_of c.in-Test.condition) (means c.args.run.now.found c.args.taken.item)))
     (sym (names_are c.args.context.now.core.now (means c.args.run.now.found c.args.taken.item) _ c.args.nonterminal _ c.requires.stands c.requires.nonterminal
-    (λ m d. c.in-Some.ensures.names c.args.context.now.core.now m d c.requires.dots)))
+    (λ m d. c.in-Some.ensures.names c.args.context.now.core.now m d c.args.context.now.known)))
     (new_test c.args.context.now.core.now c.args.context.now.text.now c.args.run.now.found c.args.run.now.trail _ c.requires.next.trail.ways (means c.args.run.now.found c.args.taken.item)
     (not_taken c.args.context.now.core.now c.args.context.now.text.now c.args.taken.item.position c.requires.next.place c.args.run.now.found c.args.run.now.waiting c.args.run.now.trail
     c.args.taken.item c.args.taken.number
@@ -94,7 +94,7 @@ returns-in-Some-clause-takes c =
     (subst (λ z. Adds c.args.taken.item.position (IsBehindTest c.args.context.now.text.now z (expression_of c.in-Test.condition) (means c.args.run.now.found c.args.taken.item))
     c.args.context.now.budget c.args.run.now.found c.take_test.new.found c.take_test.result)
     (names_are c.args.context.now.core.now (means c.args.run.now.found c.args.taken.item) _ c.args.nonterminal _ c.requires.stands c.requires.nonterminal
-    (λ m d. c.in-Some.ensures.names c.args.context.now.core.now m d c.requires.dots)) c.take_test.ensures.adds)
+    (λ m d. c.in-Some.ensures.names c.args.context.now.core.now m d c.args.context.now.known)) c.take_test.ensures.adds)
 
 pub returns-in-Some-clause-trail : goal.returns-in-Some-clause-trail
 returns-in-Some-clause-trail c =
@@ -111,17 +111,17 @@ returns-in-Some-clause-trail c =
     (subst (λ z. Adds c.args.taken.item.position (IsBehindTest c.args.context.now.text.now z (expression_of c.in-Test.condition) (means c.args.run.now.found c.args.taken.item))
     c.args.context.now.budget c.args.run.now.found c.take_test.new.found c.take_test.result)
     (names_are c.args.context.now.core.now (means c.args.run.now.found c.args.taken.item) _ c.args.nonterminal _ c.requires.stands c.requires.nonterminal
-    (λ m d. c.in-Some.ensures.names c.args.context.now.core.now m d c.requires.dots)) c.take_test.ensures.adds)
+    (λ m d. c.in-Some.ensures.names c.args.context.now.core.now m d c.args.context.now.known)) c.take_test.ensures.adds)
     (subst (λ z. OnOk c.take_test.result (Records (By (Pass c.args.taken.number) (IsBehindTest c.args.context.now.text.now z (expression_of c.in-Test.condition)
     (means c.args.run.now.found c.args.taken.item))) c.args.run.now.found c.take_test.new.found c.args.run.now.trail c.take_test.new.trail))
     (names_are c.args.context.now.core.now (means c.args.run.now.found c.args.taken.item) _ c.args.nonterminal _ c.requires.stands c.requires.nonterminal
-    (λ m d. c.in-Some.ensures.names c.args.context.now.core.now m d c.requires.dots)) c.take_test.ensures.ways)
+    (λ m d. c.in-Some.ensures.names c.args.context.now.core.now m d c.args.context.now.known)) c.take_test.ensures.ways)
 
 pub take_bind-requires-clause-new : goal.take_bind-requires-clause-new
 take_bind-requires-clause-new c =
     subst (λ z. Unfound c.args.run.now.found (IsBehindBind c.args.context.now.text.now z (expression_of c.in-Bind.expression) (means c.args.run.now.found c.args.taken.item)))
     (sym (names_are c.args.context.now.core.now (means c.args.run.now.found c.args.taken.item) _ c.args.nonterminal _ c.requires.stands c.requires.nonterminal
-    (λ m d. c.in-Some-known_at.ensures.names c.args.context.now.core.now m d c.requires.dots)))
+    (λ m d. c.in-Some-known_at.ensures.names c.args.context.now.core.now m d c.args.context.now.known)))
     (new_bind c.args.context.now.core.now c.args.context.now.text.now c.args.run.now.found c.args.run.now.trail _ c.requires.next.trail.ways (means c.args.run.now.found c.args.taken.item)
     (not_taken c.args.context.now.core.now c.args.context.now.text.now c.args.taken.item.position c.requires.next.place c.args.run.now.found c.args.run.now.waiting c.args.run.now.trail
     c.args.taken.item c.args.taken.number
@@ -140,7 +140,7 @@ returns-in-Some-known_at-clause-takes c =
     (subst (λ z. Adds c.args.taken.item.position (IsBehindBind c.args.context.now.text.now z (expression_of c.in-Bind.expression) (means c.args.run.now.found c.args.taken.item))
     c.args.context.now.budget c.args.run.now.found c.take_bind.new.found c.take_bind.result)
     (names_are c.args.context.now.core.now (means c.args.run.now.found c.args.taken.item) _ c.args.nonterminal _ c.requires.stands c.requires.nonterminal
-    (λ m d. c.in-Some-known_at.ensures.names c.args.context.now.core.now m d c.requires.dots)) c.take_bind.ensures.adds)
+    (λ m d. c.in-Some-known_at.ensures.names c.args.context.now.core.now m d c.args.context.now.known)) c.take_bind.ensures.adds)
 
 pub returns-in-Some-known_at-clause-trail : goal.returns-in-Some-known_at-clause-trail
 returns-in-Some-known_at-clause-trail c =
@@ -157,18 +157,18 @@ returns-in-Some-known_at-clause-trail c =
     (subst (λ z. Adds c.args.taken.item.position (IsBehindBind c.args.context.now.text.now z (expression_of c.in-Bind.expression) (means c.args.run.now.found c.args.taken.item))
     c.args.context.now.budget c.args.run.now.found c.take_bind.new.found c.take_bind.result)
     (names_are c.args.context.now.core.now (means c.args.run.now.found c.args.taken.item) _ c.args.nonterminal _ c.requires.stands c.requires.nonterminal
-    (λ m d. c.in-Some-known_at.ensures.names c.args.context.now.core.now m d c.requires.dots)) c.take_bind.ensures.adds)
+    (λ m d. c.in-Some-known_at.ensures.names c.args.context.now.core.now m d c.args.context.now.known)) c.take_bind.ensures.adds)
     (subst (λ z. OnOk c.take_bind.result (Records (By (Pass c.args.taken.number) (IsBehindBind c.args.context.now.text.now z (expression_of c.in-Bind.expression)
     (means c.args.run.now.found c.args.taken.item))) c.args.run.now.found c.take_bind.new.found c.args.run.now.trail c.take_bind.new.trail))
     (names_are c.args.context.now.core.now (means c.args.run.now.found c.args.taken.item) _ c.args.nonterminal _ c.requires.stands c.requires.nonterminal
-    (λ m d. c.in-Some-known_at.ensures.names c.args.context.now.core.now m d c.requires.dots)) c.take_bind.ensures.ways)
+    (λ m d. c.in-Some-known_at.ensures.names c.args.context.now.core.now m d c.args.context.now.known)) c.take_bind.ensures.ways)
 
 pub take_test-requires-clause-compiled : goal.take_test-requires-clause-compiled
 take_test-requires-clause-compiled c =
     forms_are c.args.context.now.core.now (means c.args.run.now.found c.args.taken.item) _ _ c.args.nonterminal c.in-Some.known.names.now
     c.in-Some.known.forms.now
     c.requires.stands (ap step_of c.in-Test.is) c.requires.nonterminal (λ m d t. c.in-Some.ensures.forms c.args.context.now.core.now m d t
-    c.requires.dots)
+    c.args.context.now.known)
 
 pub take_bind-requires-clause-compiled : goal.take_bind-requires-clause-compiled
 take_bind-requires-clause-compiled c =
@@ -176,27 +176,27 @@ take_bind-requires-clause-compiled c =
     c.in-Some-known_at.known.names.now
     c.in-Some-known_at.known.forms.now
     c.requires.stands (ap step_of c.in-Bind.is) c.requires.nonterminal (λ m d t. c.in-Some-known_at.ensures.forms c.args.context.now.core.now m d t
-    c.requires.dots)
+    c.args.context.now.known)
 
 pub take_call-requires-clause-compiled : goal.take_call-requires-clause-compiled
 take_call-requires-clause-compiled c =
     forms_are c.args.context.now.core.now (means c.args.run.now.found c.args.taken.item) _ _ c.args.nonterminal c.in-Some-known_at-2.known.names.now
     c.in-Some-known_at-2.known.forms.now
     c.requires.stands (ap step_of c.in-Call.is) c.requires.nonterminal
-    (λ m d t. c.in-Some-known_at-2.ensures.forms c.args.context.now.core.now m d t c.requires.dots) ∙
+    (λ m d t. c.in-Some-known_at-2.ensures.forms c.args.context.now.core.now m d t c.args.context.now.known) ∙
     ap (map (form_of c.in-Some-known_at-2.known.names.now)) (sym c.as_slice-args.ensures)
 
 pub unreachable-requires : goal.unreachable-requires
 unreachable-requires c =
     is_known c.args.context.now.core.now (means c.args.run.now.found c.args.taken.item) _ c.args.nonterminal c.requires.stands c.requires.nonterminal
-    (λ m d s. c.in_default.ensures.none c.args.context.now.core.now m d s c.requires.dots)
+    (λ m d s. c.in_default.ensures.none c.args.context.now.core.now m d s c.args.context.now.known)
 
 pub unreachable-requires-in_default-known_at : goal.unreachable-requires-in_default-known_at
 unreachable-requires-in_default-known_at c =
     is_known c.args.context.now.core.now (means c.args.run.now.found c.args.taken.item) _ c.args.nonterminal c.requires.stands c.requires.nonterminal
-    (λ m d s. c.in_default-known_at.ensures.none c.args.context.now.core.now m d s c.requires.dots)
+    (λ m d s. c.in_default-known_at.ensures.none c.args.context.now.core.now m d s c.args.context.now.known)
 
 pub unreachable-requires-in_default-known_at-2 : goal.unreachable-requires-in_default-known_at-2
 unreachable-requires-in_default-known_at-2 c =
     is_known c.args.context.now.core.now (means c.args.run.now.found c.args.taken.item) _ c.args.nonterminal c.requires.stands c.requires.nonterminal
-    (λ m d s. c.in_default-known_at-2.ensures.none c.args.context.now.core.now m d s c.requires.dots)
+    (λ m d s. c.in_default-known_at-2.ensures.none c.args.context.now.core.now m d s c.args.context.now.known)
