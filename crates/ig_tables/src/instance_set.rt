@@ -67,12 +67,14 @@ impl InstanceSet {
     }
 
     /// The number of the instance, from 0, which is added at the end if it isn't there; and whether
-    /// it was added. Refused where memory lacks, or 32 bits don't hold the number.
+    /// it was added. Refused where memory lacks, or 32 bits don't hold the number: then they are as
+    /// they were.
     pub fn enter(&mut self, key: InstanceKey) -> Result<(u32, bool), AllocError>
         ensures once { NoneTwice self.new }
         ensures enters { IfOk result (λ r. Enters self.old self.new key r.0) }
         ensures new { IfOk result (λ r. r.1 ≡ true → IsNew self.old self.new key r.0) }
         ensures old { IfOk result (λ r. r.1 ≡ false → self.new ≡ self.old) }
+        ensures refused { OnErr result (self.new ≡ self.old) }
     {
         if let Some(place) = self.place_of(key) {
             return Ok((number(place)?, false));
