@@ -1,6 +1,7 @@
 -- Functions that add items, one after the other.
-use Rattle.std.proofs.Common.{◌≡◌, ◌⊎◌, ⊎_elim, ℕ, ◌<◌, ◌≤◌, List, ◌++◌, Contains, refl, sym, ap, ◌∙◌, subst, arith}
+use Rattle.std.proofs.Common.{◌≡◌, ◌⊎◌, ⊎_elim, ℕ, ◌<◌, ◌≤◌, List, ◌++◌, length, Contains, refl, sym, ap, ◌∙◌, subst, arith}
 use Rattle.std.specs.Prelude.{Result, Ok, Err, OnOk, IfErr}
+use Rattle.std.specs.Option.{option_to_list}
 use Rattle.std.specs.Result.{IsErrAnd}
 use Rattle.std.proofs.lemmas.Result.{err_from_is_err_and}
 use Rattle.std.proofs.lemmas.List.Elements.{Contains-append_left, Contains-append_right}
@@ -12,14 +13,16 @@ use Rattle.ig_text.proofs.Lists.{mapped_in}
 use Rattle.ig_expr.specs.Expression.{Expression}
 use Rattle.ig_expr.specs.Evaluation.{value_of}
 use Rattle.ig_expr.specs.declared.value.Value.TheVariants.{Bool as truth}
-use Rattle.ig_item.specs.Items.{Item}
+use Rattle.ig_item.specs.Items.{Item, past}
 use Rattle.ig_item.specs.declared.run_fault.RunFault.{RunFault}
 use Rattle.ig_item.specs.declared.run_fault.RunFault.TheVariants.{Budget, Memory}
 use Rattle.ig_item.specs.declared.items.InstanceKey.{InstanceKey}
-use Rattle.ig_plain.specs.Tables.{item_by}
+use Rattle.ig_item.specs.WellKinded.{NoneTwice}
+use Rattle.ig_tables.specs.Extends.{Extends}
+use Rattle.ig_plain.specs.Tables.{item_by, IsPast}
 use Rattle.ig_plain.specs.declared.found.Found.{Found}
-use Rattle.ig_plain.specs.Found.{means, found_in, later_in, count, AreNamed, Grows, GrowsLater, Has, Adds, AddsLater}
-use Rattle.ig_plain.proofs.Growth.{grows_not, grows_weaker, grows_then, all_kept, named_all}
+use Rattle.ig_plain.specs.Found.{means, found_in, later_in, count, Named, Grows, GrowsLater, Has, Adds, AddsLater}
+use Rattle.ig_plain.proofs.Growth.{grows_not, grows_weaker, grows_then, all_kept, past_means}
 use Rattle.ig_plain.proofs.Extending.{extends_itself}
 
 same_means : (a b : Found) (x : stored.Item) → b.envs.keys ≡ a.envs.keys → b.keys ≡ a.keys → means b x ≡ means a x
@@ -56,31 +59,30 @@ module _ (p : ℕ) where
       record { grows = grows_weaker p may other a b into d.grows; has = tt; within = tt; fault = d.fault }
 
   -- tables grew before
-  pub adds_after : (may : Item → Type 0) (budget : ℕ) (a b c : Found) (r : Result (Unit {0}) RunFault) → AreNamed a → Grows p may a b →
+  pub adds_after : (may : Item → Type 0) (budget : ℕ) (a b c : Found) (r : Result (Unit {0}) RunFault) → Grows p may a b →
       count b ≡ count a → Adds p may budget b c r → Adds p may budget a c r
-  adds_after may budget a b c (Ok u) n g same d =
-      record { grows = grows_then p may a b c n.values g d.grows; has = d.has; within = λ h. d.within (omega (arith, same, h)); fault = tt }
-  adds_after may budget a b c (Err f) n g same d =
-      record { grows = grows_then p may a b c n.values g d.grows; has = tt; within = tt; fault = d.fault }
+  adds_after may budget a b c (Ok u) g same d =
+      record { grows = grows_then p may a b c g d.grows; has = d.has; within = λ h. d.within (omega (arith, same, h)); fault = tt }
+  adds_after may budget a b c (Err f) g same d =
+      record { grows = grows_then p may a b c g d.grows; has = tt; within = tt; fault = d.fault }
 
   -- one after the other
-  pub adds_then : (may : Item → Type 0) (first second : Item → Type 0) (budget : ℕ) (a b c : Found) (r : Result (Unit {0}) RunFault) → AreNamed a →
-      ((x : Item) → first x → may x) → ((x : Item) → second x → may x) → ((x : Item) → may x → first x ⊎ second x) →
+  pub adds_then : (may : Item → Type 0) (first second : Item → Type 0) (budget : ℕ) (a b c : Found) (r : Result (Unit {0}) RunFault) → ((x : Item) → first x → may x) → ((x : Item) → second x → may x) → ((x : Item) → may x → first x ⊎ second x) →
       Adds p first budget a b (Ok tt) → Adds p second budget b c r → Adds p may budget a c r
-  adds_then may first second budget a b c (Ok u) n f s split d e =
+  adds_then may first second budget a b c (Ok u) f s split d e =
       let g = grows_weaker p first may a b f d.grows in
       let h = grows_weaker p second may b c s e.grows in
       record {
-        grows = grows_then p may a b c n.values g h;
+        grows = grows_then p may a b c g h;
         has = λ x m.
-            ⊎_elim (λ (k : first x). all_kept p may b c (named_all p may a b n g) h x (d.has x k)) (λ (k : second x). e.has x k) (split x m);
+            ⊎_elim (λ (k : first x). all_kept p may b c h x (d.has x k)) (λ (k : second x). e.has x k) (split x m);
         within = λ l. e.within (d.within l);
         fault = tt;
       }
-  adds_then may first second budget a b c (Err f') n f s split d e =
+  adds_then may first second budget a b c (Err f') f s split d e =
       let g = grows_weaker p first may a b f d.grows in
       let h = grows_weaker p second may b c s e.grows in
-      record { grows = grows_then p may a b c n.values g h; has = tt; within = tt; fault = e.fault }
+      record { grows = grows_then p may a b c g h; has = tt; within = tt; fault = e.fault }
 
   -- the exits of a `?`
   pub adds_exit : (may : Item → Type 0) (budget : ℕ) (a b : Found) (r : Result (Unit {0}) RunFault) → IsErrAnd r (λ y. y ≡ Memory) →
@@ -128,6 +130,22 @@ module _ (p : ℕ) where
   pub adds_without : {V : Type 0} (C : V → Type 0) (may : V → Item → Type 0) (budget : ℕ) (a : Found) → ((w : V) → C w → ⊥) →
       Adds p (λ x. (w : V) × C w × may w x) budget a a (Ok tt)
   adds_without {V} C may budget a never = adds_nothing (λ x. (w : V) × C w × may w x) budget a (λ x m. absurd (never m.0 m.1))
+
+-- the item after a step was added in tables that grew before
+pub adds_past : (budget : ℕ) (a b c : Found) (it x : stored.Item) (bound : Option Value) (end : ℕ) (r : Result (Unit {0}) RunFault) →
+    Adds x.position (λ y. y ≡ means b x) budget b c r → Named a it → IsPast a.envs.keys b.envs.keys it bound end x →
+    Extends a.envs.keys b.envs.keys → (NoneTwice a.envs.keys → NoneTwice b.envs.keys) → b.keys ≡ a.keys → b.done.items ≡ a.done.items →
+    b.here.items ≡ a.here.items → b.later.items ≡ a.later.items →
+    Adds end (λ y. y ≡ past (means a it) (option_to_list bound) end) budget a c r
+adds_past budget a b c it x bound end r d named before envs once keys done here later =
+    let may : Item → Type 0 = λ y. y ≡ past (means a it) (option_to_list bound) end in
+    let is : means b x ≡ past (means a it) (option_to_list bound) end =
+    ap (λ (z : List InstanceKey). item_by b.envs.keys z x) keys ∙
+    past_means a.envs.keys b.envs.keys a.keys it bound end x envs a.named.values named before in
+    adds_after end may budget a b c r (grows_not end may a b envs once keys done here later)
+    (let k = ap length done in let l = ap length here in let m = ap length later in omega (arith, k, l, m))
+    (adds_alike end (λ y. y ≡ means b x) may budget b c r (λ y e. e ∙ is) (λ y e. e ∙ sym is)
+    (subst (λ (n : ℕ). Adds n (λ y. y ≡ means b x) budget b c r) before.position d))
 
 -- an item was added at a later position
 pub later_added : (p budget : ℕ) (x : Item) (a b : Found) (y : stored.Item) (r : Result (Unit {0}) RunFault) → GrowsLater p x a b →

@@ -52,7 +52,7 @@ module _ (core : List Nonterminal) (text : List ℕ) (law : ReachableIsClosed) (
         taking = takes_found core text law budget p k s item r.taking at may t d.grows sound d.has (d.within r.taking.within) (λ x a. inl (complete x a));
         firsts = firsts_kept core text law budget p k s w item here r at may t d.grows;
         waiting = subst (λ (z : List Item). IsWaiting core text p t z w) (sym (taken_now core text law budget p k s item r.taking at may t d.grows sound))
-            (waits_alone core text p s t (taken_in s k) it w (keeps_grown p may s t r.taking.stored.named d.grows) apart unfinished r.waiting);
+            (waits_alone core text p s t (taken_in s k) it w (keeps_grown p may s t d.grows) apart unfinished r.waiting);
       }
   takes_alone may t (Err f) d sound complete apart unfinished = refuses core text law budget p k s item r.taking at may t f d sound
 
@@ -133,7 +133,7 @@ module _ (core : List Nonterminal) (text : List ℕ) (law : ReachableIsClosed) (
               means_same = means_still core text law budget p k s item r.taking at x t g (over x m) (follows x m);
               instances = ap (map (instance_by t.envs.keys)) g.keys ∙
                   same_map (instance_by t.envs.keys) (instance_by s.envs.keys) s.keys
-                  (λ key c. instance_kept s.envs.keys t.envs.keys key g.envs (r.taking.stored.named.values key c));
+                  (λ key c. instance_kept s.envs.keys t.envs.keys key g.envs (s.named.values key c));
             }
 
         taken_one : ((y : Item) → IsBehind text what label excluded it y → y ≡ x) → count t ≤ budget → IsRun core text budget p (suc k) t w

@@ -8,7 +8,7 @@ use Rattle.std.proofs.lemmas.List.Elements.{Contains-append_left, Contains-appen
 use Rattle.ig_text.proofs.Lists.{at_from_contains, left_at, right_at, contains_one, none_in_nil, mapped_in, unmapped_in, same_map}
 use Rattle.ig_plain.specs.Rules.{IsCaller}
 use Rattle.ig_item.specs.Items.{Item, Follows, first}
-use Rattle.ig_item.specs.Tables.{instance_by, HaveValues}
+use Rattle.ig_item.specs.Tables.{instance_by}
 use Rattle.ig_item.specs.WellKinded.{NoneTwice}
 use Rattle.ig_item.specs.declared.core_grammar.Nonterminal.{Nonterminal}
 use Rattle.ig_item.specs.declared.items.Instance.{Instance}
@@ -17,7 +17,7 @@ use Rattle.ig_item.specs.declared.items.Item as stored
 use Rattle.ig_plain.specs.declared.found.Found.{Found}
 use Rattle.ig_calls.specs.declared.waiting.Waiting.{Waiting}
 use Rattle.ig_plain.specs.Tables.{IsNamed, item_by}
-use Rattle.ig_plain.specs.Found.{means, instances_in, found_in, later_in, taken_in, Named, AreNamed, IsStored}
+use Rattle.ig_plain.specs.Found.{means, instances_in, found_in, later_in, taken_in, Named, IsStored}
 use Rattle.ig_plain.specs.Run.{IsWaiting, IsTaking, IsRun}
 use Rattle.ig_plain.specs.Arrival.{IsParted, ArrivesWith}
 use Rattle.ig_plain.proofs.Distinct.{once_both, once_single}
@@ -114,9 +114,6 @@ arrives_with position a b empty none envs keys done p =
 
 module _ (core : List Nonterminal) (text : List ℕ) (budget p : ℕ) (a b : Found) (w : Waiting) (r : IsRun core text budget p (length a.here.items) a w)
     (m : ArrivesWith (p + 1) a b) where
-  abbrev n : AreNamed a
-  n = r.taking.stored.named
-
   pub same : (x : stored.Item) → means b x ≡ means a x
   same x =
       ap (λ z. item_by z b.keys x) m.envs ∙ ap (λ (z : List InstanceKey). item_by a.envs.keys z x) m.keys
@@ -177,14 +174,6 @@ module _ (core : List Nonterminal) (text : List ℕ) (budget p : ℕ) (a b : Fou
         tables = record {
           environments = subst NoneTwice (sym m.envs) r.taking.stored.tables.environments;
           instances = subst NoneTwice (sym m.keys) r.taking.stored.tables.instances;
-        };
-        named = record {
-          values = subst (λ (z : List InstanceKey). HaveValues b.envs.keys z) (sym m.keys) (subst (λ z. HaveValues z a.keys) (sym m.envs) n.values);
-          done = λ x c.
-              named x
-              (⊎_elim (n.done x) (n.here x) (Contains-append_cases a.done.items a.here.items x (subst (λ (z : List stored.Item). Contains z x) m.done c)));
-          here = λ x c. named x (n.later x (m.here x c).0);
-          later = λ x c. named x (n.later x (m.later x c).0);
         };
         before = λ x c.
             ⊎_elim (λ (h : Contains a.done.items x). let l = r.taking.stored.before x h in omega (arith, l))

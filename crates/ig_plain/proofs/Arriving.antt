@@ -1,8 +1,9 @@
 -- The next position is reached: the ways to the items at it are known already.
-use Rattle.std.proofs.Common.{◌≡◌, ⊎_elim, inl, inr, ℕ, suc, ◌+◌, ◌<◌, ◌≤◌, List, [], ◌∷◌, ◌++◌, Some, length, map, take, Contains, refl, sym, ap, ◌∙◌, subst, arith, slice_get, length-append, append_assoc, set}
+use Rattle.std.proofs.Common.{◌≡◌, ◌⊎◌, ⊎_elim, inl, inr, ℕ, suc, ◌+◌, ◌<◌, ◌≤◌, List, [], ◌∷◌, ◌++◌, Some, length, map, take, Contains, refl, sym, ap, ◌∙◌, subst, arith, slice_get, length-append, append_assoc, set, Bool, true, false, if◌then◌else◌}
 use Rattle.std.proofs.lemmas.List.{append-nil, map-append, length-map, length-take-le, take_all, take_more_set}
 use Rattle.std.proofs.lemmas.Option.{slice_get_within}
-use Rattle.ig_text.proofs.Lists.{at_from_contains, right_at, sides, take_step, same_map, unmapped_at, mapped_at}
+use Rattle.std.proofs.lemmas.List.Elements.{Contains-append_cases}
+use Rattle.ig_text.proofs.Lists.{at_from_contains, among_all, contains_from_at, contains_one, right_at, sides, take_step, same_map, unmapped_at, mapped_at}
 use Rattle.ig_item.specs.Items.{Item}
 use Rattle.ig_item.specs.Ways as ways
 use Rattle.ig_item.specs.Ways.{WayLists, WayTo, AreEnds}
@@ -18,12 +19,12 @@ use Rattle.ig_calls.specs.declared.waiting.Waiting.{Waiting}
 use Rattle.ig_tables.specs.Extends.{Extends}
 use Rattle.ig_plain.specs.Found.{means, found_in, later_in, taken_in}
 use Rattle.ig_plain.specs.Run.{IsRun}
-use Rattle.ig_plain.specs.Arrival.{IsParted, ArrivesWith}
+use Rattle.ig_plain.specs.Arrival.{IsParted, ArrivesWith, WereThere}
 use Rattle.ig_plain.specs.Trail as trail
 use Rattle.ig_plain.specs.Trail.{Pairs, IsRecorded, FollowTrail, HasTrail, PartsTrail, ArrivesOn}
 use Rattle.ig_plain.proofs.Growth.{longer, extends_at}
 use Rattle.ig_plain.proofs.Distinct.{different}
-use Rattle.ig_plain.proofs.Pairing.{IsSameFrom, all_same, same_more, same_set, front_at, behind_at, pairs_left, pairs_right, pairs_sides, pairs_mapped, pairs_unmapped}
+use Rattle.ig_plain.proofs.Pairing.{IsSameFrom, all_same, same_more, same_set, set_among, front_at, behind_at, pairs_left, pairs_right, pairs_sides, pairs_mapped, pairs_unmapped}
 use Rattle.ig_plain.proofs.Extending.{extends_same}
 use Rattle.ig_plain.proofs.Recording.{way_more}
 use Rattle.ig_plain.proofs.Trails.{RecordsMore, follow, ends_found, ends_none}
@@ -95,6 +96,7 @@ pub record IsPartedTo (position : ℕ) (later left : List stored.Item) (prevs nu
   pub behind : kept ≤ i
   pub items_left : IsSameFrom later left i
   pub prevs_left : IsSameFrom prevs numbers i
+  pub left_there : (x : stored.Item) → Contains left x → Contains later x
   pub items : IsParted position (take i later) here after (take kept left)
   pub trail : PartsTrail (take i later) (take i prevs) here after v w (take kept left) (take kept numbers)
 
@@ -106,6 +108,7 @@ parted_none position later prevs here v =
       behind = omega arith;
       items_left = all_same later;
       prevs_left = all_same prevs;
+      left_there = λ x c. c;
       items = parts_none position here;
       trail = record {
         more = [];
@@ -134,6 +137,15 @@ parted_all position later left prevs numbers here after v w kept i even le p =
           (subst (λ (z : List stored.Item). PartsTrail z (take i prevs) here after v w (take kept left) (take kept numbers)) xs p.trail),
     )
 
+-- no other items are there than before
+pub no_others : (position : ℕ) (later left : List stored.Item) (prevs numbers : List ℕ) (here after : List stored.Item) (v w : WayLists)
+    (kept i : ℕ) → IsPartedTo position later left prevs numbers here after v w kept i → WereThere later here after left
+no_others position later left prevs numbers here after v w kept i p =
+    record {
+      at = λ x c. ⊎_elim (λ h. inl h) (λ h. inr (among_all later i x h.0)) (p.items.here_now x c);
+      behind = p.left_there;
+    }
+
 module _ (position : ℕ) (later left : List stored.Item) (prevs numbers : List ℕ) (here after : List stored.Item) (v w : WayLists) (kept i : ℕ)
     (item : stored.Item) (prev : ℕ) (even : length prevs ≡ length later) (at : slice_get left i ≡ Some item)
     (prev_at : slice_get numbers i ≡ Some prev) (p : IsPartedTo position later left prevs numbers here after v w kept i) where
@@ -160,6 +172,21 @@ module _ (position : ℕ) (later left : List stored.Item) (prevs numbers : List 
       subst (λ (z : List stored.Item). PartsTrail z (take (i + 1) prevs) here h v u r q) (sym items_next)
       (subst (λ (z : List ℕ). PartsTrail (take i later ++ item ∷ []) z here h v u r q) (sym prevs_next) t)
 
+  -- nor behind a push of the item, if memory lasted
+  pub no_others_pushed : (b : Bool) (next : List stored.Item) → next ≡ (if b then after ++ item ∷ [] else after) → WereThere later here next left
+  no_others_pushed b next is = record { at = λ x c. each b is x c; behind = p.left_there }
+    where
+      before : WereThere later here after left
+      before = no_others position later left prevs numbers here after v w kept i p
+
+      each : (b : Bool) → next ≡ (if b then after ++ item ∷ [] else after) → (x : stored.Item) → Contains next x → Contains here x ⊎ Contains later x
+      each true e x c =
+          ⊎_elim (before.at x)
+          (λ (h : Contains (item ∷ []) x).
+          inr (p.left_there x (subst (Contains left) (sym (contains_one item x h)) (contains_from_at left i item at))))
+          (Contains-append_cases after (item ∷ []) x (subst (λ (z : List stored.Item). Contains z x) e c))
+      each false e x c = before.at x (subst (λ (z : List stored.Item). Contains z x) e c)
+
   -- the item is at the position
   pub parted_here : (more : List stored.Item) (u : WayLists) → item.position ≡ position → more ≡ after ++ item ∷ [] →
       u ≡ record w { firsts = w.firsts ++ Leaf prev ∷ [] } →
@@ -171,6 +198,7 @@ module _ (position : ℕ) (later left : List stored.Item) (prevs numbers : List 
         behind = let l = p.behind in omega (arith, l);
         items_left = same_more later left i p.items_left;
         prevs_left = same_more prevs numbers i p.prevs_left;
+        left_there = p.left_there;
         items = subst (λ (z : List stored.Item). IsParted position z here (after ++ item ∷ []) (take kept left)) (sym items_next)
             (parts_here position (take i later) here after (take kept left) item p.items there);
         trail = trail_next (after ++ item ∷ []) (take kept left) (take kept numbers) (record w { firsts = w.firsts ++ Leaf prev ∷ [] })
@@ -191,6 +219,9 @@ module _ (position : ℕ) (later left : List stored.Item) (prevs numbers : List 
         behind = omega (arith, l);
         items_left = same_set later left i kept item l p.items_left;
         prevs_left = same_set prevs numbers i kept prev l p.prevs_left;
+        left_there = λ x c.
+            ⊎_elim (p.left_there x) (λ (e : x ≡ item). p.left_there x (subst (Contains left) (sym e) (contains_from_at left i item at)))
+            (set_among left kept item x c);
         items = subst (IsParted position (take (i + 1) later) here after) (sym rest)
             (subst (λ (z : List stored.Item). IsParted position z here after (take kept left ++ item ∷ [])) (sym items_next)
             (parts_kept position (take i later) here after (take kept left) item p.items away));
@@ -321,7 +352,7 @@ module _ (core : List Nonterminal) (text : List ℕ) (budget p : ℕ) (a b : Fou
   arrives_on =
       record {
         ways = subst (FollowTrail core text b u) (taken_was core text budget p a b w r m ∙ sym (taken_all core text budget p a b w r m)) follows;
-        callers = known_more core a b w.callers.items r.taking.stored.named
+        callers = known_more core a b w.callers.items
             (record { more = b.here.items; is = ap (λ (z : List stored.Item). z ++ b.here.items) m.done }) (λ x n. means_same x) h.callers;
         ends = λ i callee called at known_called e.
             let l = r.waiting.before i called (p + 1) known_called e in absurd (omega (arith, l));

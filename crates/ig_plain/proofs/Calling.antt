@@ -11,7 +11,7 @@ use Rattle.ig_expr.specs.declared.value.Value.{Value}
 use Rattle.ig_item.specs.Step.{Call}
 use Rattle.ig_item.specs.Items.{Item, Reachable, Calls, StandsBefore}
 use Rattle.ig_item.specs.Laws.{ReachableIsClosed, ItemsAreInText}
-use Rattle.ig_item.specs.Tables.{instance_by, HaveValues}
+use Rattle.ig_item.specs.Tables.{instance_by}
 use Rattle.ig_item.specs.WellKinded.{NoneTwice}
 use Rattle.ig_item.specs.declared.core_grammar.Nonterminal.{Nonterminal}
 use Rattle.ig_item.specs.declared.items.Instance.{Instance}
@@ -22,13 +22,13 @@ use Rattle.ig_plain.specs.declared.found.Found.{Found}
 use Rattle.ig_calls.specs.declared.waiting.Waiting.{Waiting}
 use Rattle.ig_calls.specs.declared.waiting.Called.{Called}
 use Rattle.ig_tables.specs.Extends.{Extends}
-use Rattle.ig_plain.specs.Found.{means, instances_in, taken_in, Named, AreNamed, Adds}
+use Rattle.ig_plain.specs.Found.{means, instances_in, taken_in, Named, Adds}
 use Rattle.ig_plain.specs.Rules as rules
 use Rattle.ig_plain.specs.Rules.{After, IsFirstOf, IsPastCall}
 use Rattle.ig_calls.specs.Waiting.{called_at, not_called, lengthened, with_caller}
 use Rattle.ig_plain.specs.Run.{IsRun, IsWaiting, IsTaken, IsEntered, EntersInstance, Refuses}
 use Rattle.ig_plain.proofs.Extending.{extends_same, extends_itself}
-use Rattle.ig_plain.proofs.Growth.{extends_at, instance_kept, values_more, grows_not}
+use Rattle.ig_plain.proofs.Growth.{extends_at, instance_kept, grows_not}
 use Rattle.ig_plain.proofs.Following.{one_step, not_both}
 use Rattle.ig_plain.proofs.Running.{takes_found, taken_now, follows_reachable}
 use Rattle.ig_plain.proofs.Waiters.{waits_alone}
@@ -72,7 +72,7 @@ module _ (core : List Nonterminal) (text : List ℕ) (law : ReachableIsClosed) (
         taking = takes_found core text law budget p k s item r.taking at never s g (λ x m. absurd m) (λ x m. absurd m) r.taking.within (λ x a. absurd (nothing x a));
         firsts = r.firsts;
         waiting = subst (λ (z : List Item). IsWaiting core text p s z w) (sym (taken_now core text law budget p k s item r.taking at never s g (λ x m. absurd m)))
-            (waits_alone core text p s s (taken_in s k) it w (keeps_grown p never s s r.taking.stored.named g) (λ callee c. apart callee c.label c.excluded c.calls)
+            (waits_alone core text p s s (taken_in s k) it w (keeps_grown p never s s g) (λ callee c. apart callee c.label c.excluded c.calls)
             (λ complete. not_both core text it names _ before complete) r.waiting);
       }
     where
@@ -102,20 +102,16 @@ module _ (core : List Nonterminal) (text : List ℕ) (law : ReachableIsClosed) (
           here = here_same;
           later = later;
           tables = record { environments = once; instances = subst NoneTwice (sym keys) r.taking.stored.tables.instances };
-          values = subst (HaveValues s1.envs.keys) (sym keys) (values_more s.envs.keys s1.envs.keys s.keys envs r.taking.stored.named.values);
         }
 
     pub run_1 : IsRun core text budget p k s1 w
     run_1 = run_moved core text budget p k s s1 w r moved keys
 
-    pub named_1 : AreNamed s1
-    named_1 = run_1.taking.stored.named
-
     pub env_there : env < length s1.envs.keys
     env_there = slice_get_within s1.envs.keys env vs there
 
     means_1 : means s1 item ≡ it
-    means_1 = moved_means s s1 r.taking.stored.named moved item named_item
+    means_1 = moved_means s s1 moved item named_item
 
     pub calls_1 : Calls core text it (instance_by s1.envs.keys key) label excluded
     calls_1 =
@@ -144,7 +140,7 @@ module _ (core : List Nonterminal) (text : List ℕ) (law : ReachableIsClosed) (
       run_2 = subst (λ (n : ℕ). IsRun core text budget n k t v) (sym start) result.run
 
       pub means_2 : means t item ≡ it
-      means_2 = result.same item (moved_named s s1 r.taking.stored.named moved item named_item) ∙ means_1
+      means_2 = result.same item (moved_named s s1 moved item named_item) ∙ means_1
 
       pub at_2 : slice_get t.here.items k ≡ Some item
       at_2 = extends_at s1.here.items t.here.items k item result.here (subst (λ (z : List stored.Item). slice_get z k ≡ Some item) (sym here_same) at)
@@ -166,7 +162,7 @@ module _ (core : List Nonterminal) (text : List ℕ) (law : ReachableIsClosed) (
           last_there core text law inside budget p k t v item here run_2 at_2 i (instance_by t.envs.keys key) label excluded instance_2 calls_2
 
       pub named_2 : Named t item
-      named_2 = run_2.taking.stored.named.here item (contains_from_at t.here.items k item at_2)
+      named_2 = t.named.here item (contains_from_at t.here.items k item at_2)
 
       module _ (u : Waiting) (number : ℕ) (is_bare : Bool) (cells : u.callers.items ≡ lengthened v.callers.items (called_at v i).last item number is_bare)
           (called : u.called.items ≡ set v.called.items i (with_caller (called_at v i) (suc (length v.callers.items)))) where

@@ -265,7 +265,7 @@ module _ (core : List Nonterminal) (text : List ℕ) (law : ReachableIsClosed) (
     waits_then t keeps =
         waits_call core text p s t (taken_in s k) item v u i callee keeps
         (item_named core text law budget p k s v item here r at) r.waiting
-        (instances_once s r.taking.stored.named r.taking.stored.tables.environments r.taking.stored.tables.instances) there
+        (instances_once s r.taking.stored.tables.environments r.taking.stored.tables.instances) there
         (record { label = label; excluded = excluded; calls = calls }) number is_bare cells called
 
     -- the callee has no end here
@@ -279,7 +279,7 @@ module _ (core : List Nonterminal) (text : List ℕ) (law : ReachableIsClosed) (
               ⊎_elim (λ h. inr h) (λ h. absurd (apart ((r.waiting.ends i callee (called_at v i) there there_known).1 h.0))) (sorts x a));
           firsts = r.firsts;
           waiting = subst (λ (z : List Item). IsWaiting core text p s z u) (sym (taken_now core text law budget p k s item r.taking at never s g (λ x m. absurd m)))
-              (waits_then s (keeps_grown p never s s r.taking.stored.named g));
+              (waits_then s (keeps_grown p never s s g));
         }
 
     -- the callee ended here
@@ -306,6 +306,6 @@ module _ (core : List Nonterminal) (text : List ℕ) (law : ReachableIsClosed) (
                   (λ x a. ⊎_elim (λ h. inr h) (λ h. inl (h.1, h.2)) (sorts x a));
               firsts = firsts_kept core text law budget p k s v item here r at _ t d.grows;
               waiting = subst (λ (z : List Item). IsWaiting core text p t z u) (sym (taken_now core text law budget p k s item r.taking at _ t d.grows sound))
-                  (waits_then t (keeps_grown p _ s t r.taking.stored.named d.grows));
+                  (waits_then t (keeps_grown p _ s t d.grows));
             }
         go (Err f) d = refuses core text law budget p k s item r.taking at _ t f d sound

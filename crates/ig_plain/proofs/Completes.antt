@@ -20,7 +20,7 @@ use Rattle.ig_plain.specs.declared.found.Found.{Found}
 use Rattle.ig_calls.specs.declared.waiting.Waiting.{Waiting}
 use Rattle.ig_calls.specs.declared.waiting.Called.{Called}
 use Rattle.ig_plain.specs.Tables.{no_key}
-use Rattle.ig_plain.specs.Found.{means, instances_in, found_in, later_in, taken_in, Named, AreNamed, Grows, Adds}
+use Rattle.ig_plain.specs.Found.{means, instances_in, found_in, later_in, taken_in, Named, Grows, Adds}
 use Rattle.ig_plain.specs.Rules as rules
 use Rattle.ig_plain.specs.Rules.{After, IsCaller, StandsAtCall, IsReturn}
 use Rattle.ig_calls.specs.Waiting.{called_at, not_called, with_end}
@@ -33,9 +33,9 @@ use Rattle.ig_plain.proofs.Returns.{one_chain}
 use Rattle.ig_plain.proofs.Running.{takes_found, taken_now, refuses}
 use Rattle.ig_plain.proofs.Waiters.{Keeps, Ended, ended_already, waits_complete}
 
-pub instances_once : (s : Found) → AreNamed s → NoneTwice s.envs.keys → NoneTwice s.keys → NoneTwice (instances_in s)
-instances_once s n e k =
-    once_mapped (instance_by s.envs.keys) s.keys k (λ x y c d h. one_instance s.envs.keys s.keys e k n.values x y c d h)
+pub instances_once : (s : Found) → NoneTwice s.envs.keys → NoneTwice s.keys → NoneTwice (instances_in s)
+instances_once s e k =
+    once_mapped (instance_by s.envs.keys) s.keys k (λ x y c d h. one_instance s.envs.keys s.keys e k s.named.values x y c d h)
 
 -- the instance of a stored item
 pub instance_at : (s : Found) (x : stored.Item) → Named s x → slice_get (instances_in s) x.instance ≡ Some (means s x).instance
@@ -44,13 +44,13 @@ instance_at s x n =
     ap (option_map (instance_by s.envs.keys)) (slice_get-get_or s.keys x.instance no_key n.instance)
 
 -- more items at the position keep all names
-pub keeps_grown : (p : ℕ) (may : Item → Type 0) (a b : Found) → AreNamed a → Grows p may a b → Keeps a b
-keeps_grown p may a b n g =
+pub keeps_grown : (p : ℕ) (may : Item → Type 0) (a b : Found) → Grows p may a b → Keeps a b
+keeps_grown p may a b g =
     record {
       named = λ x h. named_grown p may a b x g h;
-      means_same = λ x h. means_grown p may a b x g n.values h;
+      means_same = λ x h. means_grown p may a b x g h;
       instances = ap (map (instance_by b.envs.keys)) g.keys ∙
-          same_map (instance_by b.envs.keys) (instance_by a.envs.keys) a.keys (λ key c. instance_kept a.envs.keys b.envs.keys key g.envs (n.values key c));
+          same_map (instance_by b.envs.keys) (instance_by a.envs.keys) a.keys (λ key c. instance_kept a.envs.keys b.envs.keys key g.envs (a.named.values key c));
     }
 
 module _ (core : List Nonterminal) (text : List ℕ) (law : ReachableIsClosed) (budget p k : ℕ) (s : Found) (w : Waiting) (item : stored.Item)
@@ -59,7 +59,7 @@ module _ (core : List Nonterminal) (text : List ℕ) (law : ReachableIsClosed) (
   it = means s item
 
   pub item_named : Named s item
-  item_named = r.taking.stored.named.here item (contains_from_at s.here.items k item at)
+  item_named = s.named.here item (contains_from_at s.here.items k item at)
 
   pub called_there : item.instance < length w.called.items
   called_there =
@@ -67,7 +67,7 @@ module _ (core : List Nonterminal) (text : List ℕ) (law : ReachableIsClosed) (
       let e = r.waiting.lengths in omega (arith, l, e)
 
   once : NoneTwice (instances_in s)
-  once = instances_once s r.taking.stored.named r.taking.stored.tables.environments r.taking.stored.tables.instances
+  once = instances_once s r.taking.stored.tables.environments r.taking.stored.tables.instances
 
   pub known_called : slice_get w.called.items item.instance ≡ Some (called_at w item.instance)
   known_called = slice_get-get_or w.called.items item.instance not_called called_there
@@ -76,8 +76,8 @@ module _ (core : List Nonterminal) (text : List ℕ) (law : ReachableIsClosed) (
       (nonterminal : Nonterminal) (alternative : CoreAlt) → IsAlternative core callee.nonterminal a nonterminal alternative →
       Contains (found_in t ++ later_in t) (first callee a)
   firsts_kept may t g callee c a nonterminal alternative has =
-      all_kept p may s t r.taking.stored.named g (first callee a)
-      (r.firsts callee (subst (λ (z : List Instance). Contains z callee) (keeps_grown p may s t r.taking.stored.named g).instances c) a nonterminal alternative has)
+      all_kept p may s t g (first callee a)
+      (r.firsts callee (subst (λ (z : List Instance). Contains z callee) (keeps_grown p may s t g).instances c) a nonterminal alternative has)
 
   module _ (complete : IsComplete core it) where
     -- what follows comes from a caller
@@ -109,7 +109,7 @@ module _ (core : List Nonterminal) (text : List ℕ) (law : ReachableIsClosed) (
               (h.6 ∙ ap (λ (n : ℕ). past h.0 (span_of h.1 h.0.position n) n) (here ∙ sym end.ends)))));
           firsts = r.firsts;
           waiting = subst (λ (z : List Item). IsWaiting core text p s z w) (sym (taken_now core text law budget p k s item r.taking at never s g (λ x m. absurd m)))
-              (waits_complete core text p s s (taken_in s k) it w w item.instance (keeps_grown p never s s r.taking.stored.named g) once
+              (waits_complete core text p s s (taken_in s k) it w w item.instance (keeps_grown p never s s g) once
               (ended_already w item.instance p is) (instance_at s item item_named) complete here r.waiting);
         }
 
@@ -176,7 +176,7 @@ module _ (core : List Nonterminal) (text : List ℕ) (law : ReachableIsClosed) (
           taking = takes_found core text law budget p k s item r.taking at Returned t d.grows sound d.has (d.within r.taking.within) (λ x a. inl (complete_one x a));
           firsts = firsts_kept Returned t d.grows;
           waiting = subst (λ (z : List Item). IsWaiting core text p t z v) (sym (taken_now core text law budget p k s item r.taking at Returned t d.grows sound))
-              (waits_complete core text p s t (taken_in s k) it w v item.instance (keeps_grown p Returned s t r.taking.stored.named d.grows) once ended
+              (waits_complete core text p s t (taken_in s k) it w v item.instance (keeps_grown p Returned s t d.grows) once ended
               (instance_at s item item_named) complete here r.waiting);
         }
     completes t v (Err f) ended d = refuses core text law budget p k s item r.taking at Returned t f d sound

@@ -83,8 +83,8 @@ module _ (envs : List (List Value)) (keys : List InstanceKey) (envs_once : NoneT
 module _ (p : ℕ) (s : Found) (r : IsStored p s) where
   named : (x : stored.Item) → Contains ((s.done.items ++ s.here.items) ++ s.later.items) x → Named s x
   named x c =
-      ⊎_elim (λ (h : Contains (s.done.items ++ s.here.items) x). ⊎_elim (r.named.done x) (r.named.here x) (Contains-append_cases s.done.items s.here.items x h))
-      (r.named.later x) (Contains-append_cases (s.done.items ++ s.here.items) s.later.items x c)
+      ⊎_elim (λ (h : Contains (s.done.items ++ s.here.items) x). ⊎_elim (s.named.done x) (s.named.here x) (Contains-append_cases s.done.items s.here.items x h))
+      (s.named.later x) (Contains-append_cases (s.done.items ++ s.here.items) s.later.items x c)
 
   pub found_once : NoneTwice (s.done.items ++ s.here.items)
   found_once = once_both s.done.items s.here.items r.done_once r.here_once (λ x c d. let e = r.at x d in omega (arith, r.before x c, e))
@@ -100,7 +100,7 @@ module _ (p : ℕ) (s : Found) (r : IsStored p s) where
   different =
       subst NoneTwice (map-append (means s) (s.done.items ++ s.here.items) s.later.items)
       (once_mapped (means s) ((s.done.items ++ s.here.items) ++ s.later.items) all_once
-      (λ x y c d e. one_item s.envs.keys s.keys r.tables.environments r.tables.instances r.named.values x y (named x c) (named y d) e))
+      (λ x y c d e. one_item s.envs.keys s.keys r.tables.environments r.tables.instances s.named.values x y (named x c) (named y d) e))
 
   pub counted : length (found_in s ++ later_in s) ≡ count s
   counted =

@@ -83,7 +83,7 @@ module _ (core : List Nonterminal) (text : List ℕ) (law : ItemsAreInText) (bud
 
   pub items_same : items_of tables ≡ found_in s
   items_same =
-      same_map (item_of tables) (means s) (s.done.items ++ s.here.items) (λ x c. key_same x (found_named s r.taking.stored.named x c))
+      same_map (item_of tables) (means s) (s.done.items ++ s.here.items) (λ x c. key_same x (found_named s x c))
 
   pub exactly : AreReachable core text tables
   exactly x =
@@ -101,10 +101,7 @@ module _ (core : List Nonterminal) (text : List ℕ) (law : ItemsAreInText) (bud
       let l = at_most m.items (found_in s) m.different (λ x c. complete x (m.reachable x c)) in let f = few in let n = m.more in omega (arith, l, f, n)
 
   pub keys_once : NoneTwice tables.instances
-  keys_once = instances_once s r.taking.stored.named r.taking.stored.tables.environments r.taking.stored.tables.instances
-
-  pub inside : (x : stored.Item) → Contains (s.done.items ++ s.here.items) x → Named s x
-  inside x c = found_named s r.taking.stored.named x c
+  keys_once = instances_once s r.taking.stored.tables.environments r.taking.stored.tables.instances
 
 -- tables that are complete
 pub are_tables : (envs table : List (List Value)) (ks keys : List InstanceKey) (items all : List stored.Item) → table ≡ envs → keys ≡ ks → items ≡ all →

@@ -17,7 +17,7 @@ use Rattle.ig_item.specs.declared.ways.Way.TheVariants.{Begin}
 use Rattle.ig_plain.specs.declared.found.Found.{Found}
 use Rattle.ig_plain.specs.declared.trail.Trail.{Trail}
 use Rattle.ig_plain.specs.Tables.{no_key}
-use Rattle.ig_plain.specs.Found.{means, Named, AreNamed, Grows, Adds}
+use Rattle.ig_plain.specs.Found.{means, Named, Grows, Adds}
 use Rattle.ig_plain.specs.Rules.{IsFirst, IsFirstOf}
 use Rattle.ig_plain.specs.Trail.{By, Records, Unfound}
 use Rattle.ig_plain.proofs.Growth.{grows_weaker, longer, instance_kept, extends_or, extends_cases, means_grown}
@@ -27,13 +27,13 @@ use Rattle.ig_plain.proofs.Recording.{records_nothing, records_same, records_the
 abbrev pub first_stored : ℕ → InstanceKey → ℕ → stored.Item
 first_stored instance key n = record { instance = instance; alternative = n + 1; dot = 0; env = key.env; position = key.start }
 
-module _ (core : List Nonterminal) (instance : ℕ) (key : InstanceKey) (budget : ℕ) (a : Found) (named : AreNamed a)
+module _ (core : List Nonterminal) (instance : ℕ) (key : InstanceKey) (budget : ℕ) (a : Found)
     (at : slice_get a.keys instance ≡ Some key) where
   abbrev callee : Instance
   callee = instance_by a.envs.keys key
 
   env_there : key.env < length a.envs.keys
-  env_there = named.values key (contains_from_at a.keys instance key at)
+  env_there = a.named.values key (contains_from_at a.keys instance key at)
 
   pub no_firsts : slice_get core key.nonterminal ≡ None → Adds key.start (IsFirstOf core callee) budget a a (Ok tt)
   no_firsts none =
@@ -120,7 +120,7 @@ module _ (core : List Nonterminal) (instance : ℕ) (key : InstanceKey) (budget 
     pub goes : (c : Found) (r : Result (Unit {0}) RunFault) → Adds key.start (IsFirst core callee n) budget a b (Ok tt) →
         Adds key.start (λ x. x ≡ means b next) budget b c r → Adds key.start (IsFirst core callee (n + 1)) budget a c r
     goes c r d e =
-        adds_then key.start (IsFirst core callee (n + 1)) (IsFirst core callee n) (λ x. x ≡ means b next) budget a b c r named
+        adds_then key.start (IsFirst core callee (n + 1)) (IsFirst core callee n) (λ x. x ≡ means b next) budget a b c r
         (more_first n) is_first splits d e
 
     pub records_goes : (c : Found) (t u v : Trail) → Records (By Begin (IsFirst core callee n)) a b t u →
@@ -135,7 +135,7 @@ module _ (core : List Nonterminal) (instance : ℕ) (key : InstanceKey) (budget 
     is_new new c =
         ⊎_elim
         (λ (h : Contains a.here.items next).
-        let same : means b next ≡ means a next = means_grown key.start (IsFirst core callee n) a b next g named.values (named.here next h) in
+        let same : means b next ≡ means a next = means_grown key.start (IsFirst core callee n) a b next g (a.named.here next h) in
         new (means a next) (first_of (n + 1) (means a next) (is_first (means a next) (sym same)))
         (mapped_in (means a) (a.done.items ++ a.here.items) next (Contains-append_right a.done.items a.here.items next h)))
         (λ (h : Contains g.here.more next).

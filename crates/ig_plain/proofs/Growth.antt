@@ -16,7 +16,7 @@ use Rattle.ig_item.specs.declared.items.Item as stored
 use Rattle.ig_plain.specs.declared.found.Found.{Found}
 use Rattle.ig_tables.specs.Extends.{Extends}
 use Rattle.ig_plain.specs.Tables.{IsNamed, IsPast, item_by, no_key}
-use Rattle.ig_plain.specs.Found.{means, found_in, later_in, Named, AreNamed, Grows}
+use Rattle.ig_plain.specs.Found.{means, found_in, later_in, Named, Grows}
 
 module _ {X : Type 0} where
   pub longer : (xs ys : List X) → Extends xs ys → length xs ≤ length ys
@@ -122,7 +122,6 @@ module _ (p : ℕ) where
         later = later;
         here = record { more = []; is = here ∙ sym (append-nil a.here.items) };
         here_once = λ n. subst NoneTwice (sym here) n;
-        named = λ x c. absurd (none_in_nil x c);
         at = λ x c. absurd (none_in_nil x c);
         each = λ x c. absurd (none_in_nil x c);
       }
@@ -137,17 +136,16 @@ module _ (p : ℕ) where
         here = g.here;
         later = g.later;
         here_once = g.here_once;
-        named = g.named;
         at = g.at;
         each = λ x c. w (means b x) (g.each x c);
       }
 
   -- an item was added at the position, if it wasn't there
-  pub grows_here : (a b : Found) (x : stored.Item) → Named a x → x.position ≡ p → b.envs.keys ≡ a.envs.keys → b.keys ≡ a.keys →
+  pub grows_here : (a b : Found) (x : stored.Item) → x.position ≡ p → b.envs.keys ≡ a.envs.keys → b.keys ≡ a.keys →
       b.done.items ≡ a.done.items → b.later.items ≡ a.later.items → (here : Extends a.here.items b.here.items) →
       ((y : stored.Item) → Contains here.more y → y ≡ x) →
       (NoneTwice a.here.items → NoneTwice b.here.items) → Grows p (λ y. y ≡ means a x) a b
-  grows_here a b x named at envs keys done later here only once =
+  grows_here a b x at envs keys done later here only once =
       let same : (y : stored.Item) → item_by b.envs.keys b.keys y ≡ item_by a.envs.keys a.keys y =
       λ y. ap (λ (z : List (List Value)). item_by z b.keys y) envs ∙ ap (λ (z : List InstanceKey). item_by a.envs.keys z y) keys in
       record {
@@ -158,33 +156,24 @@ module _ (p : ℕ) where
         here = here;
         later = later;
         here_once = once;
-        named = λ y h.
-            subst (λ (z : stored.Item). Named b z) (sym (only y h))
-            (subst (λ (z : List (List Value)). IsNamed z b.keys x) (sym envs)
-            (subst (λ (z : List InstanceKey). IsNamed a.envs.keys z x) (sym keys) named));
         at = λ y c. ap (λ (z : stored.Item). z.position) (only y c) ∙ at;
         each = λ y h. ap (means b) (only y h) ∙ same x;
       }
 
-  pub means_grown : (may : Item → Type 0) (a b : Found) (x : stored.Item) → Grows p may a b → HaveValues a.envs.keys a.keys →
-      Named a x → means b x ≡ means a x
-  means_grown may a b x g have named =
+  pub means_grown : (may : Item → Type 0) (a b : Found) (x : stored.Item) → Grows p may a b → Named a x → means b x ≡ means a x
+  means_grown may a b x g named =
       means_kept a.envs.keys b.envs.keys a.keys b.keys x g.envs
-      (record { more = []; is = g.keys ∙ sym (append-nil a.keys) }) have named
-
-  pub values_grown : (may : Item → Type 0) (a b : Found) → Grows p may a b → HaveValues a.envs.keys a.keys → HaveValues b.envs.keys b.keys
-  values_grown may a b g have =
-      subst (HaveValues b.envs.keys) (sym g.keys) (values_more a.envs.keys b.envs.keys a.keys g.envs have)
+      (record { more = []; is = g.keys ∙ sym (append-nil a.keys) }) a.named.values named
 
   pub named_grown : (may : Item → Type 0) (a b : Found) (x : stored.Item) → Grows p may a b → Named a x → Named b x
   named_grown may a b x g n =
       subst (λ (z : List InstanceKey). IsNamed b.envs.keys z x) (sym g.keys) (named_more a.envs.keys b.envs.keys a.keys x g.envs n)
 
   -- one after the other
-  pub grows_then : (may : Item → Type 0) (a b c : Found) → HaveValues a.envs.keys a.keys → Grows p may a b → Grows p may b c →
-      Grows p may a c
-  grows_then may a b c have g h =
-      let have_b = values_grown may a b g have in
+  pub grows_then : (may : Item → Type 0) (a b c : Found) → Grows p may a b → Grows p may b c → Grows p may a c
+  grows_then may a b c g h =
+      let added : (x : stored.Item) → Contains g.here.more x → Contains b.here.items x =
+      λ x k. subst (λ (z : List stored.Item). Contains z x) (sym g.here.is) (Contains-append_right a.here.items g.here.more x k) in
       record {
         envs = extends_then a.envs.keys b.envs.keys c.envs.keys g.envs h.envs;
         envs_once = λ n. h.envs_once (g.envs_once n);
@@ -193,69 +182,54 @@ module _ (p : ℕ) where
         later = h.later ∙ g.later;
         here = extends_then a.here.items b.here.items c.here.items g.here h.here;
         here_once = λ n. h.here_once (g.here_once n);
-        named = λ x i.
-            ⊎_elim (λ (k : Contains g.here.more x). named_grown may b c x h (g.named x k)) (λ (k : Contains h.here.more x). h.named x k)
-            (Contains-append_cases g.here.more h.here.more x i);
         at = λ x i. ⊎_elim (λ (k : Contains g.here.more x). g.at x k) (λ (k : Contains h.here.more x). h.at x k) (Contains-append_cases g.here.more h.here.more x i);
         each = λ x i.
-            ⊎_elim (λ (k : Contains g.here.more x). subst may (sym (means_grown may b c x h have_b (g.named x k))) (g.each x k))
+            ⊎_elim (λ (k : Contains g.here.more x). subst may (sym (means_grown may b c x h (b.named.here x (added x k)))) (g.each x k))
             (λ (k : Contains h.here.more x). h.each x k) (Contains-append_cases g.here.more h.here.more x i);
       }
 
--- all of what is found stays
-pub named_all : (p : ℕ) (may : Item → Type 0) (a b : Found) → AreNamed a → Grows p may a b → AreNamed b
-named_all p may a b n g =
-    record {
-      values = values_grown p may a b g n.values;
-      done = λ x c. named_grown p may a b x g (n.done x (subst (λ (z : List stored.Item). Contains z x) g.done c));
-      here = λ x c.
-          ⊎_elim (λ (h : Contains a.here.items x). named_grown p may a b x g (n.here x h)) (λ (h : Contains g.here.more x). g.named x h)
-          (extends_cases a.here.items b.here.items x g.here c);
-      later = λ x c. named_grown p may a b x g (n.later x (subst (λ (z : List stored.Item). Contains z x) g.later c));
-    }
+pub found_named : (a : Found) → (x : stored.Item) → Contains (a.done.items ++ a.here.items) x → Named a x
+found_named a x c = ⊎_elim (a.named.done x) (a.named.here x) (Contains-append_cases a.done.items a.here.items x c)
 
-pub found_named : (a : Found) → AreNamed a → (x : stored.Item) → Contains (a.done.items ++ a.here.items) x → Named a x
-found_named a n x c = ⊎_elim (n.done x) (n.here x) (Contains-append_cases a.done.items a.here.items x c)
-
-pub means_list : (p : ℕ) (may : Item → Type 0) (a b : Found) → AreNamed a → Grows p may a b → (xs : List stored.Item) →
+pub means_list : (p : ℕ) (may : Item → Type 0) (a b : Found) → Grows p may a b → (xs : List stored.Item) →
     ((x : stored.Item) → Contains xs x → Named a x) → map (means b) xs ≡ map (means a) xs
-means_list p may a b n g xs named = same_map (means b) (means a) xs (λ x c. means_grown p may a b x g n.values (named x c))
+means_list p may a b g xs named = same_map (means b) (means a) xs (λ x c. means_grown p may a b x g (named x c))
 
-pub later_same : (p : ℕ) (may : Item → Type 0) (a b : Found) → AreNamed a → Grows p may a b → later_in b ≡ later_in a
-later_same p may a b n g = ap (map (means b)) g.later ∙ means_list p may a b n g a.later.items n.later
+pub later_same : (p : ℕ) (may : Item → Type 0) (a b : Found) → Grows p may a b → later_in b ≡ later_in a
+later_same p may a b g = ap (map (means b)) g.later ∙ means_list p may a b g a.later.items a.named.later
 
 -- what was found, and then what was added
-pub found_grown : (p : ℕ) (may : Item → Type 0) (a b : Found) → AreNamed a → (g : Grows p may a b) →
+pub found_grown : (p : ℕ) (may : Item → Type 0) (a b : Found) → (g : Grows p may a b) →
     found_in b ≡ found_in a ++ map (means b) g.here.more
-found_grown p may a b n g =
+found_grown p may a b g =
     let lists : b.done.items ++ b.here.items ≡ (a.done.items ++ a.here.items) ++ g.here.more =
     ap (λ (z : List stored.Item). z ++ b.here.items) g.done ∙ ap (λ (z : List stored.Item). a.done.items ++ z) g.here.is ∙
     sym (append_assoc a.done.items a.here.items g.here.more) in
     ap (map (means b)) lists ∙ map-append (means b) (a.done.items ++ a.here.items) g.here.more ∙
     ap (λ (z : List Item). z ++ map (means b) g.here.more)
-    (means_list p may a b n g (a.done.items ++ a.here.items) (found_named a n))
+    (means_list p may a b g (a.done.items ++ a.here.items) (found_named a))
 
-pub found_kept : (p : ℕ) (may : Item → Type 0) (a b : Found) → AreNamed a → Grows p may a b → (x : Item) → Contains (found_in a) x →
+pub found_kept : (p : ℕ) (may : Item → Type 0) (a b : Found) → Grows p may a b → (x : Item) → Contains (found_in a) x →
     Contains (found_in b) x
-found_kept p may a b n g x c =
-    subst (λ (z : List Item). Contains z x) (sym (found_grown p may a b n g)) (Contains-append_left (found_in a) (map (means b) g.here.more) x c)
+found_kept p may a b g x c =
+    subst (λ (z : List Item). Contains z x) (sym (found_grown p may a b g)) (Contains-append_left (found_in a) (map (means b) g.here.more) x c)
 
-pub later_kept : (p : ℕ) (may : Item → Type 0) (a b : Found) → AreNamed a → Grows p may a b → (x : Item) → Contains (later_in a) x →
+pub later_kept : (p : ℕ) (may : Item → Type 0) (a b : Found) → Grows p may a b → (x : Item) → Contains (later_in a) x →
     Contains (later_in b) x
-later_kept p may a b n g x c = subst (λ (z : List Item). Contains z x) (sym (later_same p may a b n g)) c
+later_kept p may a b g x c = subst (λ (z : List Item). Contains z x) (sym (later_same p may a b g)) c
 
-pub all_kept : (p : ℕ) (may : Item → Type 0) (a b : Found) → AreNamed a → Grows p may a b → (x : Item) →
+pub all_kept : (p : ℕ) (may : Item → Type 0) (a b : Found) → Grows p may a b → (x : Item) →
     Contains (found_in a ++ later_in a) x → Contains (found_in b ++ later_in b) x
-all_kept p may a b n g x c =
-    ⊎_elim (λ (h : Contains (found_in a) x). Contains-append_left (found_in b) (later_in b) x (found_kept p may a b n g x h))
-    (λ (h : Contains (later_in a) x). Contains-append_right (found_in b) (later_in b) x (later_kept p may a b n g x h))
+all_kept p may a b g x c =
+    ⊎_elim (λ (h : Contains (found_in a) x). Contains-append_left (found_in b) (later_in b) x (found_kept p may a b g x h))
+    (λ (h : Contains (later_in a) x). Contains-append_right (found_in b) (later_in b) x (later_kept p may a b g x h))
     (Contains-append_cases (found_in a) (later_in a) x c)
 
 -- what is found now was found before, or is allowed
-pub found_from : (p : ℕ) (may : Item → Type 0) (a b : Found) → AreNamed a → Grows p may a b → (x : Item) → Contains (found_in b) x →
+pub found_from : (p : ℕ) (may : Item → Type 0) (a b : Found) → Grows p may a b → (x : Item) → Contains (found_in b) x →
     Contains (found_in a) x ⊎ may x
-found_from p may a b n g x c =
+found_from p may a b g x c =
     ⊎_elim (λ (h : Contains (found_in a) x). inl h)
     (λ (h : Contains (map (means b) g.here.more) x).
     let u = unmapped_in (means b) g.here.more x h in inr (subst may u.2 (g.each u.0 u.1)))
-    (Contains-append_cases (found_in a) (map (means b) g.here.more) x (subst (λ (z : List Item). Contains z x) (found_grown p may a b n g) c))
+    (Contains-append_cases (found_in a) (map (means b) g.here.more) x (subst (λ (z : List Item). Contains z x) (found_grown p may a b g) c))

@@ -1,5 +1,5 @@
 -- An instance is called: it is found in the table, or added with its first items.
-use Rattle.std.proofs.Common.{◌≡◌, ⊎_elim, ℕ, ◌<◌, ◌≤◌, List, [], ◌∷◌, ◌++◌, Some, length, map, take, Contains, refl, sym, ap, ◌∙◌, subst, arith, slice_get, length-append}
+use Rattle.std.proofs.Common.{◌≡◌, ⊎_elim, ℕ, ◌≤◌, List, [], ◌∷◌, ◌++◌, Some, length, map, take, Contains, refl, sym, ap, ◌∙◌, subst, arith, slice_get}
 use Rattle.std.specs.Prelude.{Result, Ok, Err, MatchResult}
 use Rattle.std.specs.Result.{IsErrAnd}
 use Rattle.std.proofs.lemmas.Result.{err_from_is_err_and}
@@ -13,13 +13,12 @@ use Rattle.ig_item.specs.WellKinded.{NoneTwice}
 use Rattle.ig_item.specs.declared.core_grammar.Nonterminal.{Nonterminal}
 use Rattle.ig_item.specs.declared.items.Instance.{Instance}
 use Rattle.ig_item.specs.declared.items.InstanceKey.{InstanceKey}
-use Rattle.ig_item.specs.declared.items.Item as stored
 use Rattle.ig_item.specs.declared.run_fault.RunFault.{RunFault}
 use Rattle.ig_item.specs.declared.run_fault.RunFault.TheVariants.{Budget, Memory}
 use Rattle.ig_plain.specs.declared.found.Found.{Found}
 use Rattle.ig_calls.specs.declared.waiting.Waiting.{Waiting}
 use Rattle.ig_tables.specs.Extends.{Extends, IsNew}
-use Rattle.ig_plain.specs.Found.{means, instances_in, taken_in, Named, AreNamed, Adds}
+use Rattle.ig_plain.specs.Found.{means, instances_in, taken_in, Named, Adds}
 use Rattle.ig_plain.specs.Rules.{IsFirstOf}
 use Rattle.ig_calls.specs.Waiting.{not_called}
 use Rattle.ig_plain.specs.Run.{IsWaiting, IsRun, IsEntered, Refuses}
@@ -39,29 +38,26 @@ at_exit r P Q e h q =
     subst (λ z. MatchResult z P Q) (sym p.1) (subst Q (sym p.2) q)
 
 -- tables that moved keep what waits
-pub moved_keeps : (s t : Found) (n : AreNamed s) (m : Moved s t) → t.keys ≡ s.keys → Keeps s t
-moved_keeps s t n m same =
+pub moved_keeps : (s t : Found) (m : Moved s t) → t.keys ≡ s.keys → Keeps s t
+moved_keeps s t m same =
     record {
-      named = moved_named s t n m;
-      means_same = moved_means s t n m;
+      named = moved_named s t m;
+      means_same = moved_means s t m;
       instances = ap (map (instance_by t.envs.keys)) same ∙
-          same_map (instance_by t.envs.keys) (instance_by s.envs.keys) s.keys (λ key c. instance_kept s.envs.keys t.envs.keys key m.envs (n.values key c));
+          same_map (instance_by t.envs.keys) (instance_by s.envs.keys) s.keys (λ key c. instance_kept s.envs.keys t.envs.keys key m.envs (s.named.values key c));
     }
 
 module _ (core : List Nonterminal) (text : List ℕ) (budget p k : ℕ) (s t : Found) (w : Waiting) (r : IsRun core text budget p k s w) where
-  named : AreNamed s
-  named = r.taking.stored.named
-
   -- a run whose tables moved, without a new instance
   pub run_moved : Moved s t → t.keys ≡ s.keys → IsRun core text budget p k t w
   run_moved m same =
-      let keeps = moved_keeps s t named m same in
+      let keeps = moved_keeps s t m same in
       record {
-        taking = moved_taking s t named m core text budget p k r.taking;
+        taking = moved_taking s t m core text budget p k r.taking;
         firsts = λ callee c a nonterminal alternative has.
-            moved_back s t named m (first callee a)
+            moved_back s t m (first callee a)
             (r.firsts callee (subst (λ (z : List Instance). Contains z callee) keeps.instances c) a nonterminal alternative has);
-        waiting = subst (λ (z : List Item). IsWaiting core text p t z w) (sym (moved_taken s t named m k))
+        waiting = subst (λ (z : List Item). IsWaiting core text p t z w) (sym (moved_taken s t m k))
             (waits_kept core text p s t (taken_in s k) w keeps r.waiting);
       }
 
@@ -69,15 +65,12 @@ module _ (core : List Nonterminal) (text : List ℕ) (budget p k : ℕ) (s t : F
   inside x c =
       let u = unmapped_in (means s) (s.done.items ++ take k s.here.items) x c in
       let n : Named s u.0 =
-      ⊎_elim (named.done u.0) (λ (h : Contains (take k s.here.items) u.0). named.here u.0 (among_all s.here.items k u.0 h))
+      ⊎_elim (s.named.done u.0) (λ (h : Contains (take k s.here.items) u.0). s.named.here u.0 (among_all s.here.items k u.0 h))
       (Contains-append_cases s.done.items (take k s.here.items) u.0 u.1) in
       contains_from_at (instances_in s) u.0.instance x.instance (instance_at s u.0 n ∙ ap (λ (z : Item). Some z.instance) u.2)
 
 module _ (core : List Nonterminal) (text : List ℕ) (budget k : ℕ) (key : InstanceKey) (s : Found) (w : Waiting)
-    (r : IsRun core text budget key.start k s w) (env : key.env < length s.envs.keys) where
-  named_s : AreNamed s
-  named_s = r.taking.stored.named
-
+    (r : IsRun core text budget key.start k s w) where
   -- the tables are the same
   pub moved_same : (t : Found) → t.envs.keys ≡ s.envs.keys → t.done.items ≡ s.done.items → t.here.items ≡ s.here.items →
       t.later.items ≡ s.later.items → t.keys ≡ s.keys → Moved s t
@@ -92,7 +85,6 @@ module _ (core : List Nonterminal) (text : List ℕ) (budget k : ℕ) (key : Ins
           environments = subst NoneTwice (sym envs) r.taking.stored.tables.environments;
           instances = subst NoneTwice (sym keys) r.taking.stored.tables.instances;
         };
-        values = subst (λ (z : List InstanceKey). HaveValues t.envs.keys z) (sym keys) (subst (λ z. HaveValues z s.keys) (sym envs) named_s.values);
       }
 
   -- the instance is there
@@ -103,12 +95,12 @@ module _ (core : List Nonterminal) (text : List ℕ) (budget k : ℕ) (key : Ins
       record {
         run = run_moved core text budget key.start k s t w r m keys;
         there = there;
-        named = moved_named s t named_s m;
-        same = moved_means s t named_s m;
+        named = moved_named s t m;
+        same = moved_means s t m;
         envs = m.envs;
         done = done;
         here = extends_same s.here.items t.here.items here;
-        taken = moved_taken s t named_s m k;
+        taken = moved_taken s t m k;
       }
 
   -- the instance is new
@@ -122,13 +114,6 @@ module _ (core : List Nonterminal) (text : List ℕ) (budget k : ℕ) (key : Ins
         subst (λ (z : List InstanceKey). slice_get z i ≡ Some key) (sym new.added)
         (right_at s.keys (key ∷ []) i 0 key (let e = new.last in omega (arith, e)) refl)
 
-    values_now : HaveValues s1.envs.keys s1.keys
-    values_now x c =
-        subst (λ (z : List _). x.env < length z) (sym envs)
-        (⊎_elim (λ (h : Contains s.keys x). named_s.values x h)
-        (λ (h : Contains (key ∷ []) x). subst (λ (z : InstanceKey). z.env < length s.envs.keys) (sym (contains_one key x h)) env)
-        (Contains-append_cases s.keys (key ∷ []) x (subst (λ (z : List InstanceKey). Contains z x) new.added c)))
-
     pub moved : Moved s s1
     moved =
         record {
@@ -138,7 +123,6 @@ module _ (core : List Nonterminal) (text : List ℕ) (budget k : ℕ) (key : Ins
           here = here;
           later = later;
           tables = record { environments = subst NoneTwice (sym envs) r.taking.stored.tables.environments; instances = once };
-          values = values_now;
         }
 
     abbrev fresh : Instance
@@ -153,12 +137,9 @@ module _ (core : List Nonterminal) (text : List ℕ) (budget k : ℕ) (key : Ins
     apart c =
         let u = unmapped_in (instance_by s.envs.keys) s.keys fresh c in
         let e : u.0 ≡ key =
-        one_instance s.envs.keys s1.keys r.taking.stored.tables.environments once (subst (λ z. HaveValues z s1.keys) envs values_now) u.0 key
+        one_instance s.envs.keys s1.keys r.taking.stored.tables.environments once (subst (λ z. HaveValues z s1.keys) envs s1.named.values) u.0 key
         (extends_in s.keys s1.keys u.0 keys_more u.1) (contains_from_at s1.keys i key key_at) u.2 in
         new.new (subst (Contains s.keys) e u.1)
-
-    pub named_1 : AreNamed s1
-    named_1 = (moved_taking s s1 named_s moved core text budget key.start k r.taking).stored.named
 
     fresh_same : instance_by s1.envs.keys key ≡ fresh
     fresh_same = ap (λ z. instance_by z key) envs
@@ -170,29 +151,29 @@ module _ (core : List Nonterminal) (text : List ℕ) (budget k : ℕ) (key : Ins
       pub refused_new : (t : Found) (f : RunFault) → Adds key.start (IsFirstOf core (instance_by s1.envs.keys key)) budget s1 t (Err f) → Refuses core text budget f
       refused_new t Budget d =
           exceeds_grown core text budget key.start k (IsFirstOf core (instance_by s1.envs.keys key)) s1 t
-          (moved_taking s s1 named_s moved core text budget key.start k r.taking) d.grows reach_1 (d.fault refl)
+          (moved_taking s s1 moved core text budget key.start k r.taking) d.grows reach_1 (d.fault refl)
       refused_new t Memory d = tt
 
       pub entered_new : (t : Found) (v : Waiting) → v.called.items ≡ w.called.items ++ not_called ∷ [] → v.callers.items ≡ w.callers.items →
           Adds key.start (IsFirstOf core (instance_by s1.envs.keys key)) budget s1 t (Ok tt) → IsEntered core text budget k key s t v i
       entered_new t v called cells d =
           let may : Item → Type 0 = IsFirstOf core (instance_by s1.envs.keys key) in
-          let taking1 = moved_taking s s1 named_s moved core text budget key.start k r.taking in
+          let taking1 = moved_taking s s1 moved core text budget key.start k r.taking in
           let few : k ≤ length s1.here.items = taking1.few in
-          let keeps = keeps_grown key.start may s1 t named_1 d.grows in
+          let keeps = keeps_grown key.start may s1 t d.grows in
           let waits1 : IsWaiting core text key.start s1 (taken_in s k) v =
-          waits_new core text key.start s s1 (taken_in s k) w v fresh (moved_named s s1 named_s moved) (moved_means s s1 named_s moved) all_instances apart
+          waits_new core text key.start s s1 (taken_in s k) w v fresh (moved_named s s1 moved) (moved_means s s1 moved) all_instances apart
           (inside core text budget key.start k s s w r) called cells r.waiting in
-          let taken1 : taken_in s1 k ≡ taken_in s k = moved_taken s s1 named_s moved k in
-          let taken2 : taken_in t k ≡ taken_in s1 k = taken_grown key.start may s1 t k named_1 d.grows few in
+          let taken1 : taken_in s1 k ≡ taken_in s k = moved_taken s s1 moved k in
+          let taken2 : taken_in t k ≡ taken_in s1 k = taken_grown key.start may s1 t k d.grows few in
           record {
             run = record {
               taking = taking_grown core text budget key.start k may s1 t taking1 d.grows reach_1 (d.within taking1.within);
               firsts = λ callee c a nonterminal alternative has.
                   ⊎_elim
                   (λ (h : Contains (instances_in s) callee).
-                  all_kept key.start may s1 t named_1 d.grows (first callee a)
-                  (moved_back s s1 named_s moved (first callee a) (r.firsts callee h a nonterminal alternative has)))
+                  all_kept key.start may s1 t d.grows (first callee a)
+                  (moved_back s s1 moved (first callee a) (r.firsts callee h a nonterminal alternative has)))
                   (λ (h : Contains (fresh ∷ []) callee).
                   let e : callee ≡ instance_by s1.envs.keys key = contains_one fresh callee h ∙ sym fresh_same in
                   d.has (first callee a)
@@ -203,32 +184,10 @@ module _ (core : List Nonterminal) (text : List ℕ) (budget k : ℕ) (key : Ins
                   (waits_kept core text key.start s1 t (taken_in s k) v keeps waits1);
             };
             there = ap (λ (z : List InstanceKey). slice_get z i) d.grows.keys ∙ key_at;
-            named = λ x n. keeps.named x (moved_named s s1 named_s moved x n);
-            same = λ x n. keeps.means_same x (moved_named s s1 named_s moved x n) ∙ moved_means s s1 named_s moved x n;
+            named = λ x n. keeps.named x (moved_named s s1 moved x n);
+            same = λ x n. keeps.means_same x (moved_named s s1 moved x n) ∙ moved_means s s1 moved x n;
             envs = extends_then s.envs.keys s1.envs.keys t.envs.keys moved.envs d.grows.envs;
             done = d.grows.done ∙ done;
             here = extends_then s.here.items s1.here.items t.here.items (extends_same s.here.items s1.here.items here) d.grows.here;
             taken = taken2 ∙ taken1;
           }
-
--- names stay as an instance is added
-pub named_keys : (s t : Found) (key : InstanceKey) (i : ℕ) → AreNamed s → key.env < length s.envs.keys → IsNew s.keys t.keys key i →
-    t.envs.keys ≡ s.envs.keys → t.done.items ≡ s.done.items → t.here.items ≡ s.here.items → t.later.items ≡ s.later.items → AreNamed t
-named_keys s t key i n env new envs done here later =
-    record {
-      values = λ x c.
-          subst (λ (z : List _). x.env < length z) (sym envs)
-          (⊎_elim (λ (h : Contains s.keys x). n.values x h)
-          (λ (h : Contains (key ∷ []) x). subst (λ (z : InstanceKey). z.env < length s.envs.keys) (sym (contains_one key x h)) env)
-          (Contains-append_cases s.keys (key ∷ []) x (subst (λ (z : List InstanceKey). Contains z x) new.added c)));
-      done = λ x c. more x (n.done x (subst (λ (z : List stored.Item). Contains z x) done c));
-      here = λ x c. more x (n.here x (subst (λ (z : List stored.Item). Contains z x) here c));
-      later = λ x c. more x (n.later x (subst (λ (z : List stored.Item). Contains z x) later c));
-    }
-  where
-    more : (x : stored.Item) → Named s x → Named t x
-    more x h =
-        record {
-          instance = let l = ap length new.added ∙ length-append s.keys (key ∷ []) in omega (arith, l, h.instance);
-          env = let l = ap length envs in omega (arith, l, h.env);
-        }

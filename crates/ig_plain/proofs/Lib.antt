@@ -18,6 +18,7 @@ pub mod Links
 pub mod Completes
 pub mod Onward
 pub mod Moving
+pub mod Naming
 pub mod Instances
 pub mod Calls
 pub mod Calling

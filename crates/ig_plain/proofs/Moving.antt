@@ -4,7 +4,6 @@ use Rattle.std.proofs.lemmas.Option.{same_Some, slice_get_within}
 use Rattle.std.proofs.lemmas.List.Elements.{Contains-append_left, Contains-append_right, Contains-append_cases}
 use Rattle.ig_text.proofs.Lists.{among_all, sides, none_in_nil, same_map}
 use Rattle.ig_item.specs.Items.{Item, Follows, Reachable, MoreThan}
-use Rattle.ig_item.specs.Tables.{HaveValues}
 use Rattle.ig_item.specs.WellKinded.{NoneTwice}
 use Rattle.ig_item.specs.declared.core_grammar.Nonterminal.{Nonterminal}
 use Rattle.ig_item.specs.declared.items.Instance.{Instance}
@@ -14,7 +13,7 @@ use Rattle.ig_calls.specs.declared.waiting.Waiting.{Waiting}
 use Rattle.ig_calls.specs.declared.waiting.Called.{Called}
 use Rattle.ig_calls.specs.declared.waiting.Caller.{Caller}
 use Rattle.ig_tables.specs.Extends.{Extends}
-use Rattle.ig_plain.specs.Found.{means, instances_in, found_in, later_in, taken_in, count, Named, AreNamed, AreTables, IsStored, Grows}
+use Rattle.ig_plain.specs.Found.{means, instances_in, found_in, later_in, taken_in, count, Named, AreTables, IsStored, Grows}
 use Rattle.ig_plain.specs.Rules.{IsCaller}
 use Rattle.ig_calls.specs.Waiting.{not_called}
 use Rattle.ig_plain.specs.Run as run
@@ -32,9 +31,8 @@ pub record Moved (s t : Found) : Type 0 where
   pub here : t.here.items ≡ s.here.items
   pub later : t.later.items ≡ s.later.items
   pub tables : AreTables t
-  pub values : HaveValues t.envs.keys t.keys
 
-module _ (s t : Found) (n : AreNamed s) (m : Moved s t) where
+module _ (s t : Found) (m : Moved s t) where
   pub moved_named : (x : stored.Item) → Named s x → Named t x
   moved_named x h =
       record {
@@ -43,7 +41,7 @@ module _ (s t : Found) (n : AreNamed s) (m : Moved s t) where
       }
 
   pub moved_means : (x : stored.Item) → Named s x → means t x ≡ means s x
-  moved_means x h = means_kept s.envs.keys t.envs.keys s.keys t.keys x m.envs m.keys n.values h
+  moved_means x h = means_kept s.envs.keys t.envs.keys s.keys t.keys x m.envs m.keys s.named.values h
 
   moved_map : (xs ys : List stored.Item) → ys ≡ xs → ((x : stored.Item) → Contains xs x → Named s x) → map (means t) ys ≡ map (means s) xs
   moved_map xs ys e named = ap (map (means t)) e ∙ same_map (means t) (means s) xs (λ x c. moved_means x (named x c))
@@ -51,16 +49,16 @@ module _ (s t : Found) (n : AreNamed s) (m : Moved s t) where
   pub moved_found : found_in t ≡ found_in s
   moved_found =
       moved_map (s.done.items ++ s.here.items) (t.done.items ++ t.here.items)
-      (ap (λ (z : List stored.Item). z ++ t.here.items) m.done ∙ ap (λ (z : List stored.Item). s.done.items ++ z) m.here) (found_named s n)
+      (ap (λ (z : List stored.Item). z ++ t.here.items) m.done ∙ ap (λ (z : List stored.Item). s.done.items ++ z) m.here) (found_named s)
 
   pub moved_later : later_in t ≡ later_in s
-  moved_later = moved_map s.later.items t.later.items m.later n.later
+  moved_later = moved_map s.later.items t.later.items m.later s.named.later
 
   pub moved_taken : (k : ℕ) → taken_in t k ≡ taken_in s k
   moved_taken k =
       moved_map (s.done.items ++ take k s.here.items) (t.done.items ++ take k t.here.items)
       (ap (λ (z : List stored.Item). z ++ take k t.here.items) m.done ∙ ap (λ (z : List stored.Item). s.done.items ++ take k z) m.here)
-      (λ x c. ⊎_elim (n.done x) (λ (h : Contains (take k s.here.items) x). n.here x (among_all s.here.items k x h)) (Contains-append_cases s.done.items (take k s.here.items) x c))
+      (λ x c. ⊎_elim (s.named.done x) (λ (h : Contains (take k s.here.items) x). s.named.here x (among_all s.here.items k x h)) (Contains-append_cases s.done.items (take k s.here.items) x c))
 
   pub moved_all : (x : Item) → Contains (found_in t ++ later_in t) x → Contains (found_in s ++ later_in s) x
   moved_all x c =
@@ -79,12 +77,6 @@ module _ (s t : Found) (n : AreNamed s) (m : Moved s t) where
   moved_stored p r =
       record {
         tables = m.tables;
-        named = record {
-          values = m.values;
-          done = λ x c. moved_named x (n.done x (subst (λ (z : List stored.Item). Contains z x) m.done c));
-          here = λ x c. moved_named x (n.here x (subst (λ (z : List stored.Item). Contains z x) m.here c));
-          later = λ x c. moved_named x (n.later x (subst (λ (z : List stored.Item). Contains z x) m.later c));
-        };
         before = λ x c. r.before x (subst (λ (z : List stored.Item). Contains z x) m.done c);
         at = λ x c. r.at x (subst (λ (z : List stored.Item). Contains z x) m.here c);
         behind = λ x c. r.behind x (subst (λ (z : List stored.Item). Contains z x) m.later c);
@@ -110,21 +102,20 @@ module _ (s t : Found) (n : AreNamed s) (m : Moved s t) where
 pub taking_grown : (core : List Nonterminal) (text : List ℕ) (budget p k : ℕ) (may : Item → Type 0) (s t : Found) → IsTaking core text budget p k s →
     Grows p may s t → ((x : Item) → may x → Reachable core text x) → count t ≤ budget → IsTaking core text budget p k t
 taking_grown core text budget p k may s t r g sound within =
-    let n = r.stored.named in
-    let same = taken_grown p may s t k n g r.few in
+    let same = taken_grown p may s t k g r.few in
     record {
       stored = stored_grown p may s t r.stored g;
       reachable = λ x c.
           ⊎_elim
           (λ (h : Contains (found_in t) x).
           ⊎_elim (λ (i : Contains (found_in s) x). r.reachable x (Contains-append_left (found_in s) (later_in s) x i)) (λ (i : may x). sound x i)
-          (found_from p may s t n g x h))
+          (found_from p may s t g x h))
           (λ (h : Contains (later_in t) x).
-          r.reachable x (Contains-append_right (found_in s) (later_in s) x (subst (λ (z : List Item). Contains z x) (later_same p may s t n g) h)))
+          r.reachable x (Contains-append_right (found_in s) (later_in s) x (subst (λ (z : List Item). Contains z x) (later_same p may s t g) h)))
           (Contains-append_cases (found_in t) (later_in t) x c);
-      closed = λ x f. all_kept p may s t n g x (r.closed x (subst (λ (z : List Item). Follows core text (Contains z) x) same f));
+      closed = λ x f. all_kept p may s t g x (r.closed x (subst (λ (z : List Item). Follows core text (Contains z) x) same f));
       came = λ x c.
-          let h = r.came x (subst (λ (z : List Item). Contains z x) (later_same p may s t n g) c) in
+          let h = r.came x (subst (λ (z : List Item). Contains z x) (later_same p may s t g) c) in
           (h.0, subst (λ (z : List Item). Contains z h.0) (sym same) h.1, h.2);
       few = let e = ap length g.here.is in let l = length-append s.here.items g.here.more in omega (arith, e, l, r.few);
       within = within;
@@ -133,15 +124,14 @@ taking_grown core text budget p k may s t r g sound within =
 pub exceeds_grown : (core : List Nonterminal) (text : List ℕ) (budget p k : ℕ) (may : Item → Type 0) (s t : Found) → IsTaking core text budget p k s →
     Grows p may s t → ((x : Item) → may x → Reachable core text x) → budget < count t → MoreThan core text budget
 exceeds_grown core text budget p k may s t r g sound more =
-    let n = r.stored.named in
     too_many p t (stored_grown p may s t r.stored g) core text budget
     (λ x c.
     ⊎_elim
     (λ (h : Contains (found_in t) x).
     ⊎_elim (λ (i : Contains (found_in s) x). r.reachable x (Contains-append_left (found_in s) (later_in s) x i)) (λ (i : may x). sound x i)
-    (found_from p may s t n g x h))
+    (found_from p may s t g x h))
     (λ (h : Contains (later_in t) x).
-    r.reachable x (Contains-append_right (found_in s) (later_in s) x (subst (λ (z : List Item). Contains z x) (later_same p may s t n g) h)))
+    r.reachable x (Contains-append_right (found_in s) (later_in s) x (subst (λ (z : List Item). Contains z x) (later_same p may s t g) h)))
     (Contains-append_cases (found_in t) (later_in t) x c)) more
 
 module _ (core : List Nonterminal) (text : List ℕ) (p : ℕ) where

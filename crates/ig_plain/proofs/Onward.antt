@@ -19,7 +19,7 @@ use Rattle.ig_calls.specs.declared.waiting.Waiting.{Waiting}
 use Rattle.ig_calls.specs.declared.waiting.Called.{Called}
 use Rattle.ig_calls.specs.declared.waiting.Caller.{Caller}
 use Rattle.ig_tables.specs.Extends.{Extends}
-use Rattle.ig_plain.specs.Found.{means, found_in, later_in, taken_in, instances_in, Named, AreNamed, IsStored, Grows}
+use Rattle.ig_plain.specs.Found.{means, found_in, later_in, taken_in, instances_in, Named, IsStored, Grows}
 use Rattle.ig_plain.specs.Rules.{StandsAtBareCall}
 use Rattle.ig_plain.specs.Trail.{FollowTrail, HasTrail, AreKnown, IsNext}
 use Rattle.ig_plain.proofs.Extending.{extends_itself}
@@ -40,15 +40,14 @@ pub record Goes (s t : Found) (k : ℕ) (it : Item) : Type 0 where
   pub same : (x : stored.Item) → Named s x → means t x ≡ means s x
 
 -- callers stay known as more is found
-pub known_more : (core : List Nonterminal) (s t : Found) (cells : List Caller) → AreNamed s →
-    Extends (s.done.items ++ s.here.items) (t.done.items ++ t.here.items) → ((x : stored.Item) → Named s x → means t x ≡ means s x) →
+pub known_more : (core : List Nonterminal) (s t : Found) (cells : List Caller) → Extends (s.done.items ++ s.here.items) (t.done.items ++ t.here.items) → ((x : stored.Item) → Named s x → means t x ≡ means s x) →
     AreKnown core s cells → AreKnown core t cells
-known_more core s t cells named numbers same known cell c =
+known_more core s t cells numbers same known cell c =
     let k = known cell c in
     let found = contains_from_at (s.done.items ++ s.here.items) cell.number cell.item k.numbered in
     record {
       numbered = extends_at (s.done.items ++ s.here.items) (t.done.items ++ t.here.items) cell.number cell.item numbers k.numbered;
-      bare = λ b. subst (StandsAtBareCall core) (sym (same cell.item (found_named s named cell.item found))) (k.bare b);
+      bare = λ b. subst (StandsAtBareCall core) (sym (same cell.item (found_named s cell.item found))) (k.bare b);
     }
 
 -- nothing is found twice
@@ -62,16 +61,16 @@ module _ (p k : ℕ) (s : Found) (item : stored.Item) (r : IsStored p s) (at : s
   goes_here may t g =
       let lt = slice_get_within s.here.items k item at in
       record {
-        found = record { more = map (means t) g.here.more; is = found_grown p may s t r.named g };
+        found = record { more = map (means t) g.here.more; is = found_grown p may s t g };
         once = items_once p t (stored_grown p may s t r g);
-        instances = (keeps_grown p may s t r.named g).instances;
-        taken = taken_grown p may s t (suc k) r.named g (omega (arith, lt)) ∙ taken_step s k item at;
+        instances = (keeps_grown p may s t g).instances;
+        taken = taken_grown p may s t (suc k) g (omega (arith, lt)) ∙ taken_step s k item at;
         numbers = record {
           more = g.here.more;
           is = ap (λ (z : List stored.Item). z ++ t.here.items) g.done ∙ ap (λ (z : List stored.Item). s.done.items ++ z) g.here.is ∙
               sym (append_assoc s.done.items s.here.items g.here.more);
         };
-        same = λ x n. means_grown p may s t x g r.named.values n;
+        same = λ x n. means_grown p may s t x g n;
       }
 
   -- nothing was found
@@ -151,7 +150,7 @@ module _ (core : List Nonterminal) (text : List ℕ) (p k : ℕ) (s : Found) (w 
 
     -- callers stay known
     pub known_on : (cells : List Caller) → AreKnown core s cells → AreKnown core t cells
-    known_on cells known = known_more core s t cells r.named g.numbers g.same known
+    known_on cells known = known_more core s t cells g.numbers g.same known
 
     -- a first end stays the first
     pub first_now : (key : NodeKey) (d : ℕ) → IsFirstEnd core (Contains (taken_in s k)) (found_in s) key d →

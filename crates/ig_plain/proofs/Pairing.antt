@@ -1,8 +1,8 @@
 -- Two lists side by side, and lists that grow at their end.
-use Rattle.std.proofs.Common.{◌≡◌, ◌⊎◌, ⊎_elim, inl, inr, ℕ, zero, suc, ◌+◌, ◌<◌, ◌≤◌, List, [], ◌∷◌, ◌++◌, Some, length, map, refl, ◌∙◌, subst, arith, slice_get, set}
+use Rattle.std.proofs.Common.{◌≡◌, ◌⊎◌, ⊎_elim, inl, inr, ℕ, zero, suc, ◌+◌, ◌<◌, ◌≤◌, List, [], ◌∷◌, ◌++◌, Some, length, map, refl, ◌∙◌, subst, arith, slice_get, set, sym, Contains}
 use Rattle.std.proofs.lemmas.List.{length-set}
-use Rattle.std.proofs.lemmas.Option.{slice_get_within}
-use Rattle.ig_text.proofs.Lists.{left_at, right_at, sides, unmapped_at, mapped_at}
+use Rattle.std.proofs.lemmas.Option.{same_Some, slice_get_within}
+use Rattle.ig_text.proofs.Lists.{at_from_contains, contains_from_at, left_at, right_at, sides, unmapped_at, mapped_at}
 use Rattle.ig_tables.specs.Extends.{Extends}
 use Rattle.ig_plain.specs.Trail.{Pairs}
 
@@ -23,6 +23,19 @@ module _ {X : Type 0} where
       ⊎_elim (λ (h : slice_get xs k ≡ Some x). let l = slice_get_within xs k x h in absurd (omega (arith, l, is)))
       (λ (h : (n : ℕ) × (k ≡ length xs + n) × (slice_get e.more n ≡ Some x)).
       let same : h.0 ≡ m = omega (arith, h.1, is) in subst (λ (n : ℕ). slice_get e.more n ≡ Some x) same h.2) (extends_sides xs ys e k x at)
+
+  -- a member of a list of which one place was set
+  set_sides : (xs : List X) (k m : ℕ) (x y : X) → slice_get (set xs k x) m ≡ Some y → (slice_get xs m ≡ Some y) ⊎ (y ≡ x)
+  set_sides [] k m x y e = inl e
+  set_sides (z ∷ zs) zero zero x y e = inr (sym (same_Some x y e))
+  set_sides (z ∷ zs) zero (suc m) x y e = inl e
+  set_sides (z ∷ zs) (suc k) zero x y e = inl e
+  set_sides (z ∷ zs) (suc k) (suc m) x y e = set_sides zs k m x y e
+
+  pub set_among : (xs : List X) (k : ℕ) (x y : X) → Contains (set xs k x) y → Contains xs y ⊎ (y ≡ x)
+  set_among xs k x y c =
+      let at = at_from_contains (set xs k x) y c in
+      ⊎_elim (λ (h : slice_get xs at.0 ≡ Some y). inl (contains_from_at xs at.0 y h)) (λ (e : y ≡ x). inr e) (set_sides xs k at.0 x y at.1)
 
 module _ {X Y : Type 0} where
   pub pairs_left : (xs more : List X) (ns numbers : List Y) (x : X) (n : Y) → Pairs xs ns x n → Pairs (xs ++ more) (ns ++ numbers) x n

@@ -1,6 +1,8 @@
 -- What is recorded of the ways to items, one after the other.
 use Rattle.std.proofs.Common.{◌≡◌, ◌⊎◌, ⊎_elim, inl, inr, ℕ, zero, suc, ◌+◌, ◌<◌, List, [], ◌∷◌, ◌++◌, Some, length, Contains, refl, sym, ap, ◌∙◌, subst, arith, slice_get, length-append, append_assoc, map}
 use Rattle.std.specs.Prelude.{Result, Ok, Err, OnOk, Option, option_map}
+use Rattle.std.specs.Option.{option_to_list}
+use Rattle.std.proofs.lemmas.Result.{on_ok_weaker}
 use Rattle.std.proofs.lemmas.List.{map-append}
 use Rattle.std.proofs.lemmas.Option.{same_Some, slice_get_within, slice_get-map}
 use Rattle.std.proofs.lemmas.List.Elements.{Contains-append_right, Contains-append_cases}
@@ -12,18 +14,19 @@ use Rattle.ig_item.specs.Ways.{WayLists, WayTo, found, again}
 use Rattle.ig_expr.specs.declared.value.Value.{Value}
 use Rattle.ig_item.specs.declared.items.InstanceKey.{InstanceKey}
 use Rattle.ig_item.specs.declared.items.Item as stored
+use Rattle.ig_item.specs.declared.run_fault.RunFault.{RunFault}
 use Rattle.ig_item.specs.declared.ways.Way.{Way}
 use Rattle.ig_item.specs.declared.ways.Way.TheVariants.{Leaf, Node}
 use Rattle.ig_item.specs.declared.ways.FurtherWay.{FurtherWay}
 use Rattle.ig_plain.specs.declared.found.Found.{Found}
 use Rattle.ig_plain.specs.declared.trail.Trail.{Trail}
 use Rattle.ig_tables.specs.Extends.{Extends}
-use Rattle.ig_plain.specs.Tables.{item_by}
+use Rattle.ig_plain.specs.Tables.{item_by, IsPast}
 use Rattle.ig_plain.specs.Rules.{IsBehind}
-use Rattle.ig_plain.specs.Found.{means, found_in, later_in, Named, AreNamed}
+use Rattle.ig_plain.specs.Found.{means, found_in, later_in, Named}
 use Rattle.ig_tables.specs.Returned.{entry}
 use Rattle.ig_plain.specs.Trail.{IsRecorded, here, later, By, ComeByNodes, ComesOnce, IsIndexed, IsNodeAt, Pushes, Unfound, Records, RecordsLater, RecordsTerminal}
-use Rattle.ig_plain.proofs.Growth.{means_kept, found_named, longer, extends_at, extends_in, extends_then, extends_cases}
+use Rattle.ig_plain.proofs.Growth.{means_kept, past_means, found_named, longer, extends_at, extends_in, extends_then, extends_cases}
 use Rattle.ig_plain.proofs.Extending.{extends_itself, extends_by, extends_same}
 use Rattle.ig_plain.proofs.Terminals.{same_end, one_behind}
 use Rattle.ig_plain.proofs.Indexing.{indexed_same, indexed_once, indexed_node}
@@ -47,17 +50,34 @@ pub meant_at : (s : Found) (number : ℕ) (item : stored.Item) → slice_get (s.
 meant_at s number item at = slice_get-map (means s) (s.done.items ++ s.here.items) number ∙ ap (option_map (means s)) at
 
 -- tables grew
-module _ (a b : Found) (named : AreNamed a) (envs : Extends a.envs.keys b.envs.keys) (keys : Extends a.keys b.keys) where
-  pub means_same : (x : stored.Item) → Named a x → means b x ≡ means a x
-  means_same x n = means_kept a.envs.keys b.envs.keys a.keys b.keys x envs keys named.values n
+module _ (a : Found) (envs : List (List Value)) (keys : List InstanceKey) (wider : Extends a.envs.keys envs) (more : Extends a.keys keys) where
+  pub means_same : (x : stored.Item) → Named a x → item_by envs keys x ≡ means a x
+  means_same x n = means_kept a.envs.keys envs a.keys keys x wider more a.named.values n
+
+  -- an item that means none of those found isn't there
+  pub not_here : (x : stored.Item) (y : Item) → item_by envs keys x ≡ y → Unfound a (λ z. z ≡ y) → Contains a.here.items x → ⊥
+  not_here x y is new c =
+      new (means a x) (sym (means_same x (a.named.here x c)) ∙ is)
+      (mapped_in (means a) (a.done.items ++ a.here.items) x (Contains-append_right a.done.items a.here.items x c))
+
+  -- an item that is among those at the position was found by a node, if all were that mean the same
+  pub by_node_here : (t : Trail) (x : stored.Item) (y : Item) → item_by envs keys x ≡ y → ComeByNodes a t (λ z. z ≡ y) → (k : ℕ) →
+      slice_get a.here.items k ≡ Some x → IsNodeAt t.ways.firsts (length a.done.items + k)
+  by_node_here t x y is nodes k at =
+      nodes (means a x) (sym (means_same x (a.named.here x (contains_from_at a.here.items k x at))) ∙ is) (length a.done.items + k)
+      (meant_at a (length a.done.items + k) x (right_at a.done.items a.here.items (length a.done.items + k) k x refl at))
+
+module _ (a b : Found) (envs : Extends a.envs.keys b.envs.keys) (keys : Extends a.keys b.keys) where
+  same : (x : stored.Item) → Named a x → means b x ≡ means a x
+  same x n = means_same a b.envs.keys b.keys envs keys x n
 
   pub found_same : b.done.items ≡ a.done.items → b.here.items ≡ a.here.items → found_in b ≡ found_in a
   found_same done at =
       ap (map (means b)) (ap (λ (z : List stored.Item). z ++ b.here.items) done ∙ ap (λ (z : List stored.Item). a.done.items ++ z) at) ∙
-      same_map (means b) (means a) (a.done.items ++ a.here.items) (λ x c. means_same x (found_named a named x c))
+      same_map (means b) (means a) (a.done.items ++ a.here.items) (λ x c. same x (found_named a x c))
 
   later_map : map (means b) a.later.items ≡ later_in a
-  later_map = same_map (means b) (means a) a.later.items (λ x c. means_same x (named.later x c))
+  later_map = same_map (means b) (means a) a.later.items (λ x c. same x (a.named.later x c))
 
   pub behind_same : b.later.items ≡ a.later.items → later_in b ≡ later_in a
   behind_same is = ap (map (means b)) is ∙ later_map
@@ -66,19 +86,6 @@ module _ (a b : Found) (named : AreNamed a) (envs : Extends a.envs.keys b.envs.k
   behind_one x y is means_is =
       ap (map (means b)) is ∙ map-append (means b) a.later.items (x ∷ []) ∙ ap (λ (z : List Item). z ++ means b x ∷ []) later_map ∙
       ap (λ (z : Item). later_in a ++ z ∷ []) means_is
-
-  -- an item that means none of those found isn't there
-  pub not_here : (x : stored.Item) (y : Item) → means b x ≡ y → Unfound a (λ z. z ≡ y) → Contains a.here.items x → ⊥
-  not_here x y is new c =
-      new (means a x) (sym (means_same x (named.here x c)) ∙ is)
-      (mapped_in (means a) (a.done.items ++ a.here.items) x (Contains-append_right a.done.items a.here.items x c))
-
-  -- an item that is among those at the position was found by a node, if all were that mean the same
-  pub by_node_here : (t : Trail) (x : stored.Item) (y : Item) → means b x ≡ y → ComeByNodes a t (λ z. z ≡ y) → (k : ℕ) →
-      slice_get a.here.items k ≡ Some x → IsNodeAt t.ways.firsts (length a.done.items + k)
-  by_node_here t x y is nodes k at =
-      nodes (means a x) (sym (means_same x (named.here x (contains_from_at a.here.items k x at))) ∙ is) (length a.done.items + k)
-      (meant_at a (length a.done.items + k) x (right_at a.done.items a.here.items (length a.done.items + k) k x refl at))
 
 -- a way stays one as the lists grow
 pub way_more : (v w : WayLists) (k : ℕ) (way : Way) → Extends v.firsts w.firsts → Extends v.further w.further → WayTo v k way →
@@ -332,15 +339,27 @@ pub records_same : (way : Way) (may other : Item → Type 0) (a b : Found) (t u 
 records_same way may other a b t u into back r =
     records_alike (By way may) (By way other) a b t u (λ w x m. (m.0, into x m.1)) (λ w x m. (m.0, back x m.1)) r
 
--- the item was named in tables that grew before
-pub records_past : (a b c : Found) (t u : Trail) (way : Way) (x : stored.Item) (y : Item) → AreNamed a → Extends a.envs.keys b.envs.keys →
-    b.keys ≡ a.keys → b.done.items ≡ a.done.items → b.here.items ≡ a.here.items → b.later.items ≡ a.later.items → means b x ≡ y →
-    Records (By way (λ z. z ≡ means b x)) b c t u → Records (By way (λ z. z ≡ y)) a c t u
-records_past a b c t u way x y named envs keys done at behind is r =
-    let same = extends_same a.keys b.keys keys in
-    records_after (By way (λ z. z ≡ y)) a b c t u (found_same a b named envs same done at) (behind_same a b named envs same behind)
+-- the item after a step was added in tables that grew before
+pub records_past : (a b c : Found) (t u : Trail) (way : Way) (it x : stored.Item) (bound : Option Value) (end : ℕ)
+    (r : Result (Unit {0}) RunFault) → OnOk r (Records (By way (λ z. z ≡ means b x)) b c t u) → Named a it →
+    IsPast a.envs.keys b.envs.keys it bound end x → Extends a.envs.keys b.envs.keys → b.keys ≡ a.keys → b.done.items ≡ a.done.items →
+    b.here.items ≡ a.here.items → b.later.items ≡ a.later.items →
+    OnOk r (Records (By way (λ z. z ≡ past (means a it) (option_to_list bound) end)) a c t u)
+records_past a b c t u way it x bound end r d named before envs keys done at behind =
+    on_ok_weaker r
+    (λ (e : Records (By way (λ z. z ≡ means b x)) b c t u).
+    records_after (By way (λ z. z ≡ past (means a it) (option_to_list bound) end)) a b c t u
+    (found_same a b envs more done at) (behind_same a b envs more behind)
     (indexed_same a.done.items b.done.items a.here.items b.here.items t.ways.firsts t.ways.firsts t.returned t.returned done at refl refl)
-    (records_same way (λ z. z ≡ means b x) (λ z. z ≡ y) b c t u (λ z e. e ∙ is) (λ z e. e ∙ sym is) r)
+    (records_same way (λ z. z ≡ means b x) (λ z. z ≡ past (means a it) (option_to_list bound) end) b c t u (λ z e. e ∙ is) (λ z e. e ∙ sym is) e)) d
+  where
+    more : Extends a.keys b.keys
+    more = extends_same a.keys b.keys keys
+
+    is : means b x ≡ past (means a it) (option_to_list bound) end
+    is =
+        ap (λ (z : List InstanceKey). item_by b.envs.keys z x) keys ∙
+        past_means a.envs.keys b.envs.keys a.keys it bound end x envs a.named.values named before
 
 -- where a condition holds, and where it doesn't
 pub records_where : (C : Type 0) (way : Way) (may : Item → Type 0) (a b : Found) (t u : Trail) → C → Records (By way may) a b t u →
@@ -363,14 +382,14 @@ pub records_without : {V : Type 0} (C : V → Type 0) (way : Way) (may : V → I
 records_without {V} C way may a t never = records_nothing (By way (λ x. (w : V) × C w × may w x)) a t (λ w x m. never m.1.0 m.1.1)
 
 -- an item was added at a later position
-pub records_later : (n : ℕ) (x : stored.Item) (y : Item) (a b : Found) (t u : Trail) → AreNamed a → Extends a.envs.keys b.envs.keys →
+pub records_later : (n : ℕ) (x : stored.Item) (y : Item) (a b : Found) (t u : Trail) → Extends a.envs.keys b.envs.keys →
     b.keys ≡ a.keys → b.done.items ≡ a.done.items → b.here.items ≡ a.here.items → b.later.items ≡ a.later.items ++ x ∷ [] → means b x ≡ y →
     u.ways ≡ t.ways → u.later.items ≡ t.later.items ++ n ∷ [] → u.returned ≡ t.returned → RecordsLater n y a b t u
-records_later n x y a b t u named envs keys done at behind is ways prevs returned =
+records_later n x y a b t u envs keys done at behind is ways prevs returned =
     let same = extends_same a.keys b.keys keys in
     record {
-      found = found_same a b named envs same done at;
-      behind = behind_one a b named envs same x y behind is;
+      found = found_same a b envs same done at;
+      behind = behind_one a b envs same x y behind is;
       ways = ways;
       later = prevs;
       indexed = indexed_same a.done.items b.done.items a.here.items b.here.items t.ways.firsts u.ways.firsts t.returned u.returned done at

@@ -23,12 +23,12 @@ use Rattle.ig_item.specs.declared.ways.Way.TheVariants.{Node}
 use Rattle.ig_plain.specs.declared.found.Found.{Found}
 use Rattle.ig_plain.specs.declared.trail.Trail.{Trail}
 use Rattle.ig_calls.specs.declared.waiting.Caller.{Caller}
-use Rattle.ig_plain.specs.Found.{means, Named, AreNamed, Adds}
+use Rattle.ig_plain.specs.Found.{means, Named, Adds}
 use Rattle.ig_plain.specs.Rules.{StandsAtBareCall, StandsAtCall, IsReturn, step_at, IsPastCall}
 use Rattle.ig_plain.specs.Run as run
 use Rattle.ig_plain.specs.Run.{Chains, IsChainOf, IsReturnToOne}
 use Rattle.ig_plain.specs.Trail.{AreKnown, By, ComeByNodes, IsIndexed, IsReturnBy, Records}
-use Rattle.ig_plain.proofs.Growth.{means_grown, named_grown, named_all, grows_weaker}
+use Rattle.ig_plain.proofs.Growth.{means_grown, named_grown, grows_weaker}
 use Rattle.ig_plain.proofs.Additions.{adds_nothing, adds_alike, adds_then}
 use Rattle.ig_plain.proofs.Recording.{records_nothing, records_alike, records_same, records_then}
 use Rattle.ig_plain.proofs.Nodes.{ways_numbered, by_nodes_on}
@@ -154,7 +154,7 @@ pub record Walks (core : List Nonterminal) (text : List ℕ) (cells : List Calle
   pub adds : Adds end (λ x. (y : stored.Item) × Contains visited y × IsReturn core text (means a y) end x) budget a b (Ok tt)
   pub ways : Records (IsVisit core text done end a visited) a b t u
 
-module _ (core : List Nonterminal) (text : List ℕ) (cells : List Caller) (head done end budget : ℕ) (a : Found) (t : Trail) (named : AreNamed a)
+module _ (core : List Nonterminal) (text : List ℕ) (cells : List Caller) (head done end budget : ℕ) (a : Found) (t : Trail)
     (chain : IsChainOf core cells head a) (known : AreKnown core a cells) (once : NoneTwice (a.done.items ++ a.here.items)) where
   abbrev Visited : List stored.Item → Item → Type 0
   Visited ys x = (y : stored.Item) × Contains ys y × IsReturn core text (means a y) end x
@@ -181,7 +181,7 @@ module _ (core : List Nonterminal) (text : List ℕ) (cells : List Caller) (head
         (subst (λ (z : List stored.Item). Contains z here.cell.item) (sym here.is) (Contains-append_left (here.cell.item ∷ []) here.rest here.cell.item (it_is_in here.cell.item))))
 
     pub means_here : means b here.cell.item ≡ means a here.cell.item
-    means_here = means_grown end (Visited w.visited) a b here.cell.item w.adds.grows named.values (chain.named here.cell.item in_chain)
+    means_here = means_grown end (Visited w.visited) a b here.cell.item w.adds.grows (chain.named here.cell.item in_chain)
 
     pub caller_named : Named b here.cell.item
     caller_named = named_grown end (Visited w.visited) a b here.cell.item w.adds.grows (chain.named here.cell.item in_chain)
@@ -192,9 +192,6 @@ module _ (core : List Nonterminal) (text : List ℕ) (cells : List Caller) (head
     caller_bare : IsTrue here.cell.is_bare → StandsAtBareCall core (means b here.cell.item)
     caller_bare e =
         subst (StandsAtBareCall core) (sym means_here) ((known here.cell (contains_from_at cells k here.cell here.there)).bare e)
-
-    pub all_named : AreNamed b
-    all_named = named_all end (Visited w.visited) a b named w.adds.grows
 
     -- what is behind it was found by nodes
     pub by_nodes_here : IsIndexed a t → ComeByNodes a t (IsReturnToOne core text cells head end a) →
@@ -213,7 +210,7 @@ module _ (core : List Nonterminal) (text : List ℕ) (cells : List Caller) (head
     pub walks_on : (c : Found) (r : Result (Unit {0}) RunFault) → Adds end (IsReturn core text (means b here.cell.item) end) budget b c r →
         Adds end (Visited (w.visited ++ here.cell.item ∷ [])) budget a c r
     walks_on c r d =
-        adds_then end (Visited (w.visited ++ here.cell.item ∷ [])) (Visited w.visited) (IsReturn core text (means b here.cell.item) end) budget a b c r named
+        adds_then end (Visited (w.visited ++ here.cell.item ∷ [])) (Visited w.visited) (IsReturn core text (means b here.cell.item) end) budget a b c r
         (λ x m. (m.0, Contains-append_left w.visited (here.cell.item ∷ []) m.0 m.1, m.2))
         (λ x m. (
           here.cell.item,

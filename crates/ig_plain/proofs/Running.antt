@@ -7,7 +7,6 @@ use Rattle.std.proofs.lemmas.List.Elements.{Contains-append_left, Contains-appen
 use Rattle.ig_text.proofs.Lists.{at_from_contains, contains_from_at, within_take, contains_one, among_all, it_is_in, mapped_in, unmapped_in, same_map, take_step}
 use Rattle.ig_item.specs.Items.{Item, Follows, Reachable, MoreThan}
 use Rattle.ig_item.specs.Laws.{ReachableIsClosed}
-use Rattle.ig_item.specs.Tables.{HaveValues}
 use Rattle.ig_item.specs.WellKinded.{NoneTwice}
 use Rattle.ig_item.specs.declared.core_grammar.Nonterminal.{Nonterminal}
 use Rattle.ig_item.specs.declared.items.Item as stored
@@ -16,10 +15,10 @@ use Rattle.ig_item.specs.declared.run_fault.RunFault.TheVariants.{Budget, Memory
 use Rattle.ig_plain.specs.declared.found.Found.{Found}
 use Rattle.ig_tables.specs.Extends.{Extends}
 use Rattle.ig_plain.specs.Tables.{IsNamed}
-use Rattle.ig_plain.specs.Found.{means, found_in, later_in, taken_in, count, Named, AreNamed, IsStored, Grows, GrowsLater, Has, Adds}
+use Rattle.ig_plain.specs.Found.{means, found_in, later_in, taken_in, count, Named, IsStored, Grows, GrowsLater, Has, Adds}
 use Rattle.ig_plain.specs.Rules.{After, IsPastTerminal}
 use Rattle.ig_plain.specs.Run.{IsTaking, Refuses}
-use Rattle.ig_plain.proofs.Growth.{extends_cases, named_all, means_list, all_kept, found_from, later_same, found_named, means_kept, named_more, values_more}
+use Rattle.ig_plain.proofs.Growth.{extends_cases, means_list, all_kept, found_from, later_same, found_named, means_kept, named_more}
 use Rattle.ig_plain.proofs.Following.{splits, after_reachable}
 use Rattle.ig_plain.proofs.Distinct.{too_many, one_item, once_both, once_single}
 use Rattle.ig_plain.proofs.Terminals.{from_one}
@@ -29,7 +28,6 @@ pub stored_grown : (p : ℕ) (may : Item → Type 0) (a b : Found) → IsStored 
 stored_grown p may a b r g =
     record {
       tables = record { environments = g.envs_once r.tables.environments; instances = subst NoneTwice (sym g.keys) r.tables.instances };
-      named = named_all p may a b r.named g;
       before = λ x c. r.before x (subst (λ (z : List stored.Item). Contains z x) g.done c);
       at = λ x c. ⊎_elim (λ (h : Contains a.here.items x). r.at x h) (λ (h : Contains g.here.more x). g.at x h) (extends_cases a.here.items b.here.items x g.here c);
       behind = λ x c. r.behind x (subst (λ (z : List stored.Item). Contains z x) g.later c);
@@ -39,9 +37,9 @@ stored_grown p may a b r g =
     }
 
 -- the taken items, of those found
-taken_named : (s : Found) (k : ℕ) → AreNamed s → (x : stored.Item) → Contains (s.done.items ++ take k s.here.items) x → Named s x
-taken_named s k n x c =
-    ⊎_elim (n.done x) (λ (h : Contains (take k s.here.items) x). n.here x (among_all s.here.items k x h)) (Contains-append_cases s.done.items (take k s.here.items) x c)
+taken_named : (s : Found) (k : ℕ) → (x : stored.Item) → Contains (s.done.items ++ take k s.here.items) x → Named s x
+taken_named s k x c =
+    ⊎_elim (s.named.done x) (λ (h : Contains (take k s.here.items) x). s.named.here x (among_all s.here.items k x h)) (Contains-append_cases s.done.items (take k s.here.items) x c)
 
 pub taken_found : (s : Found) (k : ℕ) (x : Item) → Contains (taken_in s k) x → Contains (found_in s) x
 taken_found s k x c =
@@ -64,12 +62,12 @@ taken_step s k item at =
     map-append (means s) (s.done.items ++ take k s.here.items) (item ∷ [])
 
 -- more items at the position change nothing in those taken
-pub taken_grown : (p : ℕ) (may : Item → Type 0) (a b : Found) (k : ℕ) → AreNamed a → Grows p may a b → k ≤ length a.here.items →
+pub taken_grown : (p : ℕ) (may : Item → Type 0) (a b : Found) (k : ℕ) → Grows p may a b → k ≤ length a.here.items →
     taken_in b k ≡ taken_in a k
-taken_grown p may a b k n g few =
+taken_grown p may a b k g few =
     let front : take k b.here.items ≡ take k a.here.items = ap (take k) g.here.is ∙ take-append-le k a.here.items g.here.more few in
     ap (map (means b)) (ap (λ (z : List stored.Item). z ++ take k b.here.items) g.done ∙ ap (λ (z : List stored.Item). a.done.items ++ z) front) ∙
-    means_list p may a b n g (a.done.items ++ take k a.here.items) (taken_named a k n)
+    means_list p may a b g (a.done.items ++ take k a.here.items) (taken_named a k)
 
 module _ (core : List Nonterminal) (text : List ℕ) (law : ReachableIsClosed) (budget p k : ℕ) (s : Found) (item : stored.Item)
     (r : IsTaking core text budget p k s) (at : slice_get s.here.items k ≡ Some item) where
@@ -91,16 +89,16 @@ module _ (core : List Nonterminal) (text : List ℕ) (law : ReachableIsClosed) (
         ⊎_elim
         (λ (h : Contains (found_in t) x).
         ⊎_elim (λ (i : Contains (found_in s) x). r.reachable x (Contains-append_left (found_in s) (later_in s) x i))
-        (λ (i : may x). follows_reachable x (sound x i)) (found_from p may s t r.stored.named g x h))
+        (λ (i : may x). follows_reachable x (sound x i)) (found_from p may s t g x h))
         (λ (h : Contains (later_in t) x).
-        r.reachable x (Contains-append_right (found_in s) (later_in s) x (subst (λ (z : List Item). Contains z x) (later_same p may s t r.stored.named g) h)))
+        r.reachable x (Contains-append_right (found_in s) (later_in s) x (subst (λ (z : List Item). Contains z x) (later_same p may s t g) h)))
         (Contains-append_cases (found_in t) (later_in t) x c)
 
     pub exceeds : budget < count t → MoreThan core text budget
     exceeds more = too_many p t (stored_grown p may s t r.stored g) core text budget reachable_now more
 
     pub taken_now : taken_in t (suc k) ≡ taken_in s k ++ means s item ∷ []
-    taken_now = taken_grown p may s t (suc k) r.stored.named g (omega (arith, lt)) ∙ taken_step s k item at
+    taken_now = taken_grown p may s t (suc k) g (omega (arith, lt)) ∙ taken_step s k item at
 
     pub takes_found : Has may t → count t ≤ budget →
         ((x : Item) → After core text (taken_in s k) (means s item) x → may x ⊎ Contains (found_in s ++ later_in s) x) →
@@ -110,13 +108,13 @@ module _ (core : List Nonterminal) (text : List ℕ) (law : ReachableIsClosed) (
           stored = stored_grown p may s t r.stored g;
           reachable = reachable_now;
           closed = λ x f.
-              ⊎_elim (λ (h : Follows core text (Contains (taken_in s k)) x). all_kept p may s t r.stored.named g x (r.closed x h))
+              ⊎_elim (λ (h : Follows core text (Contains (taken_in s k)) x). all_kept p may s t g x (r.closed x h))
               (λ (h : After core text (taken_in s k) (means s item) x).
-              ⊎_elim (λ (i : may x). has x i) (λ (i : Contains (found_in s ++ later_in s) x). all_kept p may s t r.stored.named g x i) (complete x h))
+              ⊎_elim (λ (i : may x). has x i) (λ (i : Contains (found_in s ++ later_in s) x). all_kept p may s t g x i) (complete x h))
               (splits core text (taken_in s k) (means s item) x
               (subst (λ (z : List Item). Follows core text (Contains z) x) taken_now f));
           came = λ x c.
-              let h = r.came x (subst (λ (z : List Item). Contains z x) (later_same p may s t r.stored.named g) c) in
+              let h = r.came x (subst (λ (z : List Item). Contains z x) (later_same p may s t g) c) in
               (h.0, subst (λ (z : List Item). Contains z h.0) (sym taken_now) (Contains-append_left (taken_in s k) (means s item ∷ []) h.0 h.1), h.2);
           few = let n = length-append s.here.items g.here.more in let e = ap length g.here.is in omega (arith, lt, n, e);
           within = within;
@@ -138,24 +136,24 @@ module _ (core : List Nonterminal) (text : List ℕ) (law : ReachableIsClosed) (
         subst (λ z. IsNamed t.envs.keys z y) (sym g.keys) (named_more s.envs.keys t.envs.keys s.keys y g.envs n)
 
     pub means_still : (y : stored.Item) → Named s y → means t y ≡ means s y
-    means_still y n = means_kept s.envs.keys t.envs.keys s.keys t.keys y g.envs kept_keys r.stored.named.values n
+    means_still y n = means_kept s.envs.keys t.envs.keys s.keys t.keys y g.envs kept_keys s.named.values n
 
     pub found_still : found_in t ≡ found_in s
     found_still =
         ap (map (means t)) (ap (λ (z : List stored.Item). z ++ t.here.items) g.done ∙ ap (λ (z : List stored.Item). s.done.items ++ z) g.here) ∙
-        same_map (means t) (means s) (s.done.items ++ s.here.items) (λ y c. means_still y (found_named s r.stored.named y c))
+        same_map (means t) (means s) (s.done.items ++ s.here.items) (λ y c. means_still y (found_named s y c))
 
     later_now : later_in t ≡ later_in s ++ x ∷ []
     later_now =
         ap (map (means t)) g.later ∙ map-append (means t) s.later.items (g.item ∷ []) ∙
-        ap (λ (z : List Item). z ++ means t g.item ∷ []) (same_map (means t) (means s) s.later.items (λ y c. means_still y (r.stored.named.later y c))) ∙
+        ap (λ (z : List Item). z ++ means t g.item ∷ []) (same_map (means t) (means s) s.later.items (λ y c. means_still y (s.named.later y c))) ∙
         ap (λ (z : Item). later_in s ++ z ∷ []) g.is
 
     pub taken_later : taken_in t (suc k) ≡ taken_in s k ++ means s item ∷ []
     taken_later =
         ap (map (means t))
         (ap (λ (z : List stored.Item). z ++ take (suc k) t.here.items) g.done ∙ ap (λ (z : List stored.Item). s.done.items ++ take (suc k) z) g.here) ∙
-        same_map (means t) (means s) (s.done.items ++ take (suc k) s.here.items) (λ y c. means_still y (taken_named s (suc k) r.stored.named y c)) ∙
+        same_map (means t) (means s) (s.done.items ++ take (suc k) s.here.items) (λ y c. means_still y (taken_named s (suc k) y c)) ∙
         taken_step s k item at
 
     -- it isn't among the later items: it would have come from an item that was taken before
@@ -165,8 +163,8 @@ module _ (core : List Nonterminal) (text : List ℕ) (law : ReachableIsClosed) (
         let e : h.0 ≡ means s item = from_one core text h.0 (means s item) x h.2 past in
         let u = unmapped_in (means s) (s.done.items ++ take k s.here.items) h.0 h.1 in
         let same : u.0 ≡ item =
-        one_item s.envs.keys s.keys r.stored.tables.environments r.stored.tables.instances r.stored.named.values u.0 item
-        (taken_named s k r.stored.named u.0 u.1) (r.stored.named.here item (contains_from_at s.here.items k item at)) (u.2 ∙ e) in
+        one_item s.envs.keys s.keys r.stored.tables.environments r.stored.tables.instances s.named.values u.0 item
+        (taken_named s k u.0 u.1) (s.named.here item (contains_from_at s.here.items k item at)) (u.2 ∙ e) in
         ⊎_elim
         (λ (i : Contains s.done.items u.0).
         let q = r.stored.before u.0 i in let w = r.stored.at item (contains_from_at s.here.items k item at) in let z = ap (λ (y : stored.Item). y.position) same in
@@ -179,21 +177,12 @@ module _ (core : List Nonterminal) (text : List ℕ) (law : ReachableIsClosed) (
 
     stored_new : Contains s.later.items g.item → ⊥
     stored_new c =
-        new_later (subst (Contains (later_in s)) (sym (means_still g.item (r.stored.named.later g.item c)) ∙ g.is) (mapped_in (means s) s.later.items g.item c))
+        new_later (subst (Contains (later_in s)) (sym (means_still g.item (s.named.later g.item c)) ∙ g.is) (mapped_in (means s) s.later.items g.item c))
 
     stored_later : IsStored p t
     stored_later =
         record {
           tables = record { environments = g.envs_once r.stored.tables.environments; instances = subst NoneTwice (sym g.keys) r.stored.tables.instances };
-          named = record {
-            values = subst (HaveValues t.envs.keys) (sym g.keys) (values_more s.envs.keys t.envs.keys s.keys g.envs r.stored.named.values);
-            done = λ y c. named_still y (r.stored.named.done y (subst (λ (z : List stored.Item). Contains z y) g.done c));
-            here = λ y c. named_still y (r.stored.named.here y (subst (λ (z : List stored.Item). Contains z y) g.here c));
-            later = λ y c.
-                ⊎_elim (λ (h : Contains s.later.items y). named_still y (r.stored.named.later y h))
-                (λ (h : Contains (g.item ∷ []) y). subst (Named t) (sym (contains_one g.item y h)) g.named)
-                (Contains-append_cases s.later.items (g.item ∷ []) y (subst (λ (z : List stored.Item). Contains z y) g.later c));
-          };
           before = λ y c. r.stored.before y (subst (λ (z : List stored.Item). Contains z y) g.done c);
           at = λ y c. r.stored.at y (subst (λ (z : List stored.Item). Contains z y) g.here c);
           behind = λ y c.

@@ -22,7 +22,7 @@ use Rattle.ig_plain.specs.Found.{means, found_in, later_in, taken_in}
 use Rattle.ig_plain.specs.Rules.{IsFirstOf}
 use Rattle.ig_calls.specs.Waiting.{not_called}
 use Rattle.ig_plain.specs.Trail as trail
-use Rattle.ig_plain.specs.Trail.{IsRecorded, FollowTrail, HasTrail, Records, By, IsUntrodden, Unfound}
+use Rattle.ig_plain.specs.Trail.{IsRecorded, FollowTrail, HasTrail, Records, By, IsUntrodden}
 use Rattle.ig_plain.proofs.Growth.{extends_cases}
 use Rattle.ig_plain.proofs.Indexing.{indexed_same, indexed_none}
 
@@ -39,8 +39,11 @@ pub nothing_found : (s : Found) → s.done.items ≡ [] → s.here.items ≡ [] 
 nothing_found s done here =
     ap (λ (z : List stored.Item). map (means s) (z ++ s.here.items)) done ∙ ap (λ (z : List stored.Item). map (means s) z) here
 
-pub none_unfound : (s : Found) (may : Item → Type 0) → found_in s ≡ [] → Unfound s may
-none_unfound s may none x m c = none_in_nil x (subst (λ (z : List Item). Contains z x) none c)
+pub none_unfound : (f : stored.Item → Item) (xs ys : List stored.Item) → xs ≡ [] → ys ≡ [] → (x : Item) → Contains (map f (xs ++ ys)) x → ⊥
+none_unfound f xs ys e d x c =
+    none_in_nil x
+    (subst (λ (z : List Item). Contains z x)
+    (ap (λ (z : List stored.Item). map f (z ++ ys)) e ∙ ap (λ (z : List stored.Item). map f z) d) c)
 
 module _ (core : List Nonterminal) (text : List ℕ) (root : Instance) (s t : Found) (v : Waiting) (tr u : Trail) (no_done : s.done.items ≡ [])
     (no_here : s.here.items ≡ []) (done : t.done.items ≡ []) (later : s.later.items ≡ []) (called : v.called.items ≡ not_called ∷ []) (untrodden : IsUntrodden v tr)

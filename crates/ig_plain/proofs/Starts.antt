@@ -2,7 +2,7 @@
 use Rattle.std.proofs.Common.{◌≡◌, ⊎_elim, ℕ, zero, suc, List, [], ◌∷◌, ◌++◌, Some, None, length, map, Contains, refl, sym, ap, ◌∙◌, subst, arith, slice_get, Bool, true, false}
 use Rattle.std.specs.Prelude.{Result, Ok, Err, MatchResult}
 use Rattle.std.proofs.lemmas.List.{append-nil}
-use Rattle.std.proofs.lemmas.Option.{same_Some, slice_get_within, get_or_from_slice_get}
+use Rattle.std.proofs.lemmas.Option.{same_Some, get_or_from_slice_get}
 use Rattle.std.proofs.lemmas.List.Elements.{Contains-append_cases}
 use Rattle.ig_text.proofs.Lists.{contains_from_at, contains_one, none_in_nil, unmapped_in}
 use Rattle.ig_expr.specs.declared.value.Value.{Value}
@@ -23,11 +23,11 @@ use Rattle.ig_plain.specs.declared.found.Found.{Found}
 use Rattle.ig_calls.specs.declared.waiting.Waiting.{Waiting}
 use Rattle.ig_calls.specs.declared.waiting.Called.{Called}
 use Rattle.ig_tables.specs.Extends.{IsNew}
-use Rattle.ig_plain.specs.Found.{means, instances_in, found_in, later_in, taken_in, count, AreNamed, IsStored, Grows, Adds}
+use Rattle.ig_plain.specs.Found.{means, instances_in, found_in, later_in, taken_in, count, IsStored, Grows, Adds}
 use Rattle.ig_plain.specs.Rules.{IsFirstOf}
 use Rattle.ig_calls.specs.Waiting.{not_called}
 use Rattle.ig_plain.specs.Run as run
-use Rattle.ig_plain.specs.Run.{IsWaiting, IsTaking, IsRun, Refuses}
+use Rattle.ig_plain.specs.Run.{IsRun, Refuses}
 use Rattle.ig_plain.specs.Arrival.{IsNothing}
 use Rattle.ig_plain.proofs.Growth.{found_from, later_same}
 use Rattle.ig_plain.proofs.Distinct.{too_many}
@@ -64,17 +64,6 @@ module _ (core : List Nonterminal) (text : List ℕ) (law : ReachableIsClosed) (
   once_none : (xs : List stored.Item) → xs ≡ [] → NoneTwice xs
   once_none xs e i j x p q = absurd (none_of xs e x (contains_from_at xs i x p))
 
-  pub named_1 : AreNamed s1
-  named_1 =
-      record {
-        values = λ x c.
-            let e = contains_one key x (subst (λ (z : List InstanceKey). Contains z x) keys c) in
-            let l = slice_get_within s1.envs.keys env [] there in let q = ap (λ (z : InstanceKey). z.env) e in omega (arith, l, q);
-        done = λ x c. absurd (none_of s1.done.items no_done x c);
-        here = λ x c. absurd (none_of s1.here.items no_here x c);
-        later = λ x c. absurd (none_of s1.later.items no_later x c);
-      }
-
   key_once : NoneTwice s1.keys
   key_once = subst NoneTwice (sym keys) once_one
     where
@@ -88,7 +77,6 @@ module _ (core : List Nonterminal) (text : List ℕ) (law : ReachableIsClosed) (
   stored_1 =
       record {
         tables = record { environments = envs_once; instances = key_once };
-        named = named_1;
         before = λ x c. absurd (none_of s1.done.items no_done x c);
         at = λ x c. absurd (none_of s1.here.items no_here x c);
         behind = λ x c. absurd (none_of s1.later.items no_later x c);
@@ -129,9 +117,9 @@ module _ (core : List Nonterminal) (text : List ℕ) (law : ReachableIsClosed) (
         (λ (i : Contains (found_in s1) x).
         let u = unmapped_in (means s1) (s1.done.items ++ s1.here.items) x i in
         absurd (⊎_elim (none_of s1.done.items no_done u.0) (none_of s1.here.items no_here u.0) (Contains-append_cases s1.done.items s1.here.items u.0 u.1)))
-        (λ (i : IsFirstOf core root x). reach x i) (found_from 0 (IsFirstOf core root) s1 t named_1 g x h))
+        (λ (i : IsFirstOf core root x). reach x i) (found_from 0 (IsFirstOf core root) s1 t g x h))
         (λ (h : Contains (later_in t) x).
-        let u = unmapped_in (means s1) s1.later.items x (subst (λ (z : List Item). Contains z x) (later_same 0 (IsFirstOf core root) s1 t named_1 g) h) in
+        let u = unmapped_in (means s1) s1.later.items x (subst (λ (z : List Item). Contains z x) (later_same 0 (IsFirstOf core root) s1 t g) h) in
         absurd (none_of s1.later.items no_later u.0 u.1))
         (Contains-append_cases (found_in t) (later_in t) x c)
 
@@ -164,7 +152,7 @@ module _ (core : List Nonterminal) (text : List ℕ) (law : ReachableIsClosed) (
   starts v t (Err f) called d = refused t f d
   starts v t (Ok u) called d =
       let may : Item → Type 0 = IsFirstOf core root in
-      let all : instances_in t ≡ root ∷ [] = (keeps_grown 0 may s1 t named_1 d.grows).instances ∙ ap (map (instance_by s1.envs.keys)) keys in
+      let all : instances_in t ≡ root ∷ [] = (keeps_grown 0 may s1 t d.grows).instances ∙ ap (map (instance_by s1.envs.keys)) keys in
       let one : v.called.items ≡ not_called ∷ [] = called ∙ ap (λ (z : List Called). z ++ not_called ∷ []) empty.called in
       let known_one : (i : ℕ) (c : Called) → slice_get v.called.items i ≡ Some c → c ≡ not_called =
       λ i c e. contains_one not_called c (subst (λ (z : List Called). Contains z c) one (contains_from_at v.called.items i c e)) in

@@ -15,6 +15,11 @@ pub record IsParted (position : ℕ) (later here after rest : List stored.Item) 
   pub rest_once : NoneTwice later → NoneTwice rest
   pub count : length after + length rest ≤ length here + length later
 
+-- what is in `here` and `later` now was in them before
+pub record WereThere (later here after rest : List stored.Item) : Type 0 where
+  pub at : (x : stored.Item) → Contains after x → Contains here x ⊎ Contains later x
+  pub behind : (x : stored.Item) → Contains rest x → Contains later x
+
 -- the items at the old position are taken, and those at the new one are next
 pub record ArrivesWith (position : ℕ) (a b : Found) : Type 0 where
   pub envs : b.envs.keys ≡ a.envs.keys

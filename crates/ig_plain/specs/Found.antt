@@ -1,7 +1,7 @@
 -- The items that a run has found.
 use Rattle.std.specs.Prelude.{◌≡◌, ℕ, ◌+◌, ◌<◌, ◌≤◌, List, ◌++◌, map, length, take, Contains, Result, Option, OnOk, IfErr, [], ◌∷◌, MatchResult}
 use Rattle.ig_item.specs.Items.{Item}
-use Rattle.ig_item.specs.Tables.{instance_by, HaveValues}
+use Rattle.ig_item.specs.Tables.{instance_by}
 use Rattle.ig_item.specs.WellKinded.{NoneTwice}
 use Rattle.ig_item.specs.declared.items.Instance.{Instance}
 use Rattle.ig_item.specs.declared.items.Item as stored
@@ -39,25 +39,14 @@ count s = length s.done.items + length s.here.items + length s.later.items
 abbrev pub Named : Found → stored.Item → Type 0
 Named s x = IsNamed s.envs.keys s.keys x
 
-abbrev pub AllNamed : Found → List stored.Item → Type 0
-AllNamed s xs = (x : stored.Item) → Contains xs x → Named s x
-
 -- nothing stands twice in the tables
 pub record AreTables (s : Found) : Type 0 where
   pub environments : NoneTwice s.envs.keys
   pub instances : NoneTwice s.keys
 
--- all items have their names in the tables
-pub record AreNamed (s : Found) : Type 0 where
-  pub values : HaveValues s.envs.keys s.keys
-  pub done : AllNamed s s.done.items
-  pub here : AllNamed s s.here.items
-  pub later : AllNamed s s.later.items
-
 -- no item stands twice, and each stands where its position says
 pub record IsStored (p : ℕ) (s : Found) : Type 0 where
   pub tables : AreTables s
-  pub named : AreNamed s
   pub before : (x : stored.Item) → Contains s.done.items x → x.position < p
   pub at : (x : stored.Item) → Contains s.here.items x → x.position ≡ p
   pub behind : (x : stored.Item) → Contains s.later.items x → p < x.position
@@ -74,7 +63,6 @@ pub record Grows (p : ℕ) (may : Item → Type 0) (a b : Found) : Type 0 where
   pub later : b.later.items ≡ a.later.items
   pub here : Extends a.here.items b.here.items
   pub here_once : NoneTwice a.here.items → NoneTwice b.here.items
-  pub named : (x : stored.Item) → Contains here.more x → Named b x
   pub at : (x : stored.Item) → Contains here.more x → x.position ≡ p
   pub each : (x : stored.Item) → Contains here.more x → may (means b x)
 
@@ -87,7 +75,6 @@ pub record GrowsLater (p : ℕ) (x : Item) (a b : Found) : Type 0 where
   pub here : b.here.items ≡ a.here.items
   pub item : stored.Item
   pub later : b.later.items ≡ a.later.items ++ item ∷ []
-  pub named : Named b item
   pub behind : p < item.position
   pub is : means b item ≡ x
 

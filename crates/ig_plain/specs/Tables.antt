@@ -3,7 +3,7 @@ use Rattle.std.specs.Prelude.{◌≡◌, ℕ, suc, ◌<◌, List, [], ◌++◌, 
 use Rattle.std.specs.Option.{option_to_list}
 use Rattle.ig_expr.specs.declared.value.Value.{Value}
 use Rattle.ig_item.specs.Items.{Item}
-use Rattle.ig_item.specs.Tables.{instance_by}
+use Rattle.ig_item.specs.Tables.{instance_by, HaveValues}
 use Rattle.ig_item.specs.declared.items.InstanceKey.{InstanceKey}
 use Rattle.ig_item.specs.declared.items.Item as stored
 use Rattle.ig_tables.specs.Extends.{Extends}
@@ -31,6 +31,13 @@ item_by envs keys x =
 pub record IsNamed (envs : List (List Value)) (keys : List InstanceKey) (x : stored.Item) : Type 0 where
   pub instance : x.instance < length keys
   pub env : x.env < length envs
+
+-- all instances have their values, and the items before the position, at it and behind it their names in the tables
+pub record AreNamed (envs : List (List Value)) (keys : List InstanceKey) (before at behind : List stored.Item) : Type 0 where
+  pub values : HaveValues envs keys
+  pub done : (x : stored.Item) → Contains before x → IsNamed envs keys x
+  pub here : (x : stored.Item) → Contains at x → IsNamed envs keys x
+  pub later : (x : stored.Item) → Contains behind x → IsNamed envs keys x
 
 -- the stored item after the next step of `it`, which bound these values and came to `end`
 pub record IsPast (before after : List (List Value)) (it : stored.Item) (bound : Option Value) (end : ℕ) (x : stored.Item) :

@@ -6,6 +6,7 @@
 //! run out before. [`saturate`] gives the items alone.
 #![tactic(auto)]
 
+mod adds;
 mod context;
 mod found;
 mod laws;

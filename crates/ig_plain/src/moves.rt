@@ -4,12 +4,13 @@ ghost use Rattle.ig_expr.specs.View.{expression_of};
 ghost use Rattle.ig_item.specs.declared.ways.Way.TheVariants.{Node, Pass};
 ghost use Rattle.ig_steps.specs.Compiled.{form_of};
 ghost use Rattle.ig_plain.specs.Rules.{IsBehind, IsPastCall};
-ghost use Rattle.ig_plain.specs.Found.{Adds, AddsTerminal, AreNamed, Named, means};
+ghost use Rattle.ig_plain.specs.Found.{Adds, AddsTerminal, Named, means};
 ghost use Rattle.ig_plain.specs.Trail.{By, ComeByNodes, IsBehindBind, IsBehindTest, IsIndexed};
 ghost use Rattle.ig_plain.specs.Trail.{Records, RecordsTerminal, Unfound};
 
+use crate::adds::{go_behind_call, go_later, go_on};
 use crate::context::Context;
-use crate::found::{Found, go_behind_call, go_later, go_on};
+use crate::found::Found;
 use crate::trail::Trail;
 use ig_calls::Taken;
 use ig_expr::{Expr, Value, Values};
@@ -36,7 +37,6 @@ pub(crate) fn take_test(
     from: Taken,
 ) -> Result<(), RunFault>
     requires named { Named found.old from.item }
-    requires all_named { AreNamed found.old }
     requires compiled { known.now.forms.now ≡
         form_of known.now.names.now (expression_of condition.now) ∷ [] }
     requires new { Unfound found.old (IsBehindTest context.now.text.now known.now.names.now
@@ -68,7 +68,6 @@ pub(crate) fn take_bind(
     from: Taken,
 ) -> Result<(), RunFault>
     requires named { Named found.old from.item }
-    requires all_named { AreNamed found.old }
     requires compiled { known.now.forms.now ≡
         form_of known.now.names.now (expression_of expression.now) ∷ [] }
     requires new { Unfound found.old (IsBehindBind context.now.text.now known.now.names.now
@@ -104,7 +103,6 @@ pub(crate) fn go_behind(
     end: u32,
 ) -> Result<(), RunFault>
     requires named { Named found.old from.item }
-    requires all_named { AreNamed found.old }
     requires indexed { IsIndexed found.old trail.old }
     requires by_nodes { ComeByNodes found.old trail.old (IsPastCall context.now.text.now
         qualifiers.now.label.now qualifiers.now.not.now end (means found.old from.item)) }
@@ -134,7 +132,6 @@ pub(crate) fn take_terminal(
     from: Taken,
 ) -> Result<(), RunFault>
     requires named { Named found.old from.item }
-    requires all_named { AreNamed found.old }
     requires new { Unfound found.old (IsBehind context.now.text.now what.now
         qualifiers.now.label.now qualifiers.now.not.now (means found.old from.item)) }
     ensures adds { AddsTerminal context.now.text.now what.now qualifiers.now.label.now

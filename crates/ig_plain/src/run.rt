@@ -11,7 +11,7 @@ ghost use Rattle.ig_item.specs.WellKinded.{IsWellKinded};
 ghost use Rattle.ig_item.specs.Step.{Call};
 ghost use Rattle.ig_item.specs.View.{step_of};
 ghost use Rattle.ig_item.specs.declared.ways.Way.TheVariants.{Begin, Node};
-ghost use Rattle.ig_plain.specs.Found.{Adds, AreNamed, Named, means};
+ghost use Rattle.ig_plain.specs.Found.{Adds, Named, means};
 ghost use Rattle.ig_plain.specs.Rules.{IsFirstOf, IsReturn, Stands, StandsAtBareCall};
 ghost use Rattle.ig_plain.specs.Rules.{StandsAtCall, step_at};
 ghost use Rattle.ig_steps.specs.Compiled.{form_of};
@@ -21,8 +21,9 @@ ghost use Rattle.ig_plain.specs.Run.{IsChainOf, IsReturnToOne};
 ghost use Rattle.ig_plain.specs.Trail.{AreKnown, By, ComeByNodes, IsIndexed, IsReturnBy};
 ghost use Rattle.ig_plain.specs.Trail.{Records, Unfound};
 
+use crate::adds::{add_new, go_behind_bare_call};
 use crate::context::Context;
-use crate::found::{Found, add_new, go_behind_bare_call, number_of};
+use crate::found::{Found, number_of};
 use crate::moves::{go_behind, take_bind, take_terminal, take_test, values_at};
 use crate::trail::Trail;
 use ig_calls::{
@@ -54,7 +55,6 @@ pub(crate) fn add_firsts(
     instance: u32,
     key: InstanceKey,
 ) -> Result<(), RunFault>
-    requires all_named { AreNamed found.old }
     requires there { slice_get found.old.keys instance ≡ Some key }
     requires new { Unfound found.old
         (IsFirstOf context.now.core.now (instance_by found.old.envs.keys key)) }
@@ -107,7 +107,6 @@ fn return_to(
     end: u32,
 ) -> Result<(), RunFault>
     requires named { Named found.old caller.item }
-    requires all_named { AreNamed found.old }
     requires calls { StandsAtCall context.now.core.now (means found.old caller.item) }
     requires bare { IsTrue caller.is_bare →
         StandsAtBareCall context.now.core.now (means found.old caller.item) }
@@ -152,7 +151,6 @@ fn return_to_all(
     done: u32,
     end: u32,
 ) -> Result<(), RunFault>
-    requires all_named { AreNamed found.old }
     requires chain { IsChainOf context.now.core.now callers.now head found.old }
     requires known { AreKnown context.now.core.now found.old callers.now }
     requires once { NoneTwice (found.old.done.items ++ found.old.here.items) }
@@ -260,7 +258,6 @@ fn take_call(
 
 /// The number of the instance. Where it is new, its first items are added.
 fn call_instance(context: &Context<'_>, run: &mut Run, key: InstanceKey) -> Result<u32, RunFault>
-    requires all_named { AreNamed run.old.found }
     requires env { key.env < length run.old.found.envs.keys }
     requires once { NoneTwice run.old.found.keys }
     requires envs_once { NoneTwice run.old.found.envs.keys }

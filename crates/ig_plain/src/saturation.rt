@@ -3,13 +3,12 @@ ghost use Rattle.std.specs.Prelude.{◌≡◌, ◌≤◌, ◌+◌, ◌<◌, ◌+
 ghost use Rattle.std.specs.Prelude.{MatchResult, OnOk, length};
 ghost use Rattle.ig_item.specs.Items.{MoreThan};
 ghost use Rattle.ig_item.specs.Recorded.{AreReachable, IsRecorded};
-ghost use Rattle.ig_item.specs.Tables.{HaveValues, items_of, tables_by};
-ghost use Rattle.ig_plain.specs.Found.{AllNamed};
+ghost use Rattle.ig_item.specs.Tables.{items_of, tables_by};
 ghost use Rattle.ig_item.specs.WellKinded.{NoneTwice};
 ghost use Rattle.ig_item.specs.Limits.{numbers_end};
 ghost use Rattle.ig_plain.specs.Contexts.{HasTrailIn, IsRunIn, RunsIn};
 ghost use Rattle.ig_plain.specs.Run.{IsRun, Refuses};
-ghost use Rattle.ig_plain.specs.Arrival.{ArrivesWith, IsNothing, IsParted};
+ghost use Rattle.ig_plain.specs.Arrival.{ArrivesWith, IsNothing, IsParted, WereThere};
 ghost use Rattle.ig_plain.specs.Trail.{ArrivesOn, HasTrail, IsUntrodden, PartsTrail};
 
 use crate::context::Context;
@@ -44,7 +43,8 @@ fn take_all(context: &Context<'_>, run: &mut Run, position: u32) -> Result<(), R
 }
 
 /// Parts the later items: those at the position are added to `here`, with their ways, and the
-/// others stay, in order. Each came from the item of its number in `prevs`.
+/// others stay, in order. Each came from the item of its number in `prevs`. Whatever the answer,
+/// no other items are there.
 fn part(
     here: &mut Vec<Item>,
     ways: &mut Ways,
@@ -55,6 +55,7 @@ fn part(
     requires numbered { length prevs.old.items ≡ length later.old.items }
     ensures parted { OnOk result (IsParted position later.old.items here.old.items here.new.items
         later.new.items) }
+    ensures there { WereThere later.old.items here.old.items here.new.items later.new.items }
     ensures ways { OnOk result (PartsTrail later.old.items prevs.old.items here.old.items
         here.new.items ways.old ways.new later.new.items prevs.new.items) }
 {
@@ -183,8 +184,6 @@ fn table_of(alloc: Global, envs: &[Values]) -> Result<EnvironmentTable, AllocErr
 /// The items over their tables. Refused where a table has 4,294,967,296 members too, which no
 /// memory holds.
 fn finish(alloc: Global, mut found: Found) -> Result<Items, AllocError>
-    requires values { HaveValues found.envs.keys found.keys }
-    requires named { AllNamed found (found.done.items ++ found.here.items) }
     requires few { length (found.done.items ++ found.here.items) < numbers_end }
     ensures { IfOk result (λ t. t ≡ tables_by found.keys found.envs.keys (found.done.items ++
         found.here.items)) }

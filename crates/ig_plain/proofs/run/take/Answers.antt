@@ -8,7 +8,7 @@ use Rattle.ig_plain.proofs.run.take.Goals as goal
 
 pub nonterminal_of-nonterminal-requires : goal.nonterminal_of-nonterminal-requires
 nonterminal_of-nonterminal-requires c =
-    c.requires.run.taking.stored.named.here c.item_at-item.result
+    c.args.run.now.found.named.here c.item_at-item.result
     (contains_from_at c.args.run.now.found.here.items c.args.place c.item_at-item.result c.item_at-item.ensures)
 
 pub take_step-requires-clause-taking : goal.take_step-requires-clause-taking

@@ -5,18 +5,22 @@ use Rattle.ig_steps.specs.Compiled.{values_in}
 use Rattle.ig_plain.proofs.Forms.{there_with}
 use Rattle.ig_plain.proofs.Instances.{at_exit}
 use Rattle.ig_plain.proofs.Completes.{run_at}
-use Rattle.ig_plain.proofs.Calling.{no_call, named_1, stops, callee_there, last_2, still_there, named_2, run_2, only_waits, goes_past}
+use Rattle.ig_plain.proofs.Calling.{no_call, stops, callee_there, last_2, still_there, named_2, only_waits, goes_past}
 use Rattle.ig_plain.proofs.Onward.{trail_at}
 use Rattle.ig_plain.proofs.CallingOn.{no_call_on, trail_2, by_nodes_2, only_waits_on, goes_past_on}
+use Rattle.ig_plain.proofs.Naming.{wider}
 use Rattle.ig_plain.proofs.run.take_call.Goals as goal
 
+pub invariant_of-run : goal.invariant_of-run
+invariant_of-run c = record { named = wider c.args.run.now.found.named _ c.enter_arguments.ensures.extends }
+
 pub values_at-values-requires : goal.values_at-values-requires
-values_at-values-requires c = (c.requires.taking.run.taking.stored.named.here c.args.taken.item
+values_at-values-requires c = (c.args.run.now.found.named.here c.args.taken.item
     (contains_from_at c.args.run.now.found.here.items c.requires.taking.number c.args.taken.item c.requires.taking.at)).env
 
 pub enter_arguments-requires : goal.enter_arguments-requires
 enter_arguments-requires c = record {
-  there = (c.requires.taking.run.taking.stored.named.here c.args.taken.item
+  there = (c.args.run.now.found.named.here c.args.taken.item
       (contains_from_at c.args.run.now.found.here.items c.requires.taking.number c.args.taken.item c.requires.taking.at)).env;
 }
 
@@ -40,17 +44,6 @@ returns-in_default-clause-trail c =
     (run_at c.args.context.now.core.now c.args.context.now.text.now c.args.context.now.budget c.args.taken.item c.args.run.now.found c.args.run.now.waiting c.requires.taking k e) e
     c.args.known.now.names.now c.args.nonterminal _ c.args.qualifiers.now.label.now c.args.qualifiers.now.not.now c.requires.before c.args.run.now.trail c.args.taken.number h.1 h.0
     c.values_at-values.result.now c.values_at-values.ensures (c.in_ok-arguments.ensures.none c.in_default.is)
-
-pub call_instance-requires-clause-all_named : goal.call_instance-requires-clause-all_named
-call_instance-requires-clause-all_named c =
-    named_1 c.args.context.now.core.now c.args.context.now.text.now c.reachable_is_closed.ensures c.items_are_in_text.ensures c.args.context.now.budget c.args.taken.item.position
-    c.requires.taking.number c.args.run.now.found c.args.run.now.waiting c.args.taken.item refl
-    c.requires.taking.run c.requires.taking.at c.args.known.now.names.now c.args.nonterminal _ c.args.qualifiers.now.label.now c.args.qualifiers.now.not.now c.requires.before
-    _ c.in_ok-env.env c.values_at-values.result.now (values_in c.values_at-values.result.now c.in-Some.arguments) c.values_at-values.ensures
-    c.in_ok-env.ensures.extends (c.in_ok-env.ensures.once c.requires.taking.run.taking.stored.tables.environments)
-    (there_with c.enter_arguments.new.envs.keys c.in_ok-env.env _ c.values_at-values.result.now c.in-Some.arguments c.values_at-values.ensures
-    c.in_ok-env.ensures.enters.there)
-    refl refl refl refl (c.in_ok-arguments.ensures.some c.in-Some.arguments c.in-Some.is)
 
 pub call_instance-requires-clause-env : goal.call_instance-requires-clause-env
 call_instance-requires-clause-env c = slice_get_within c.enter_arguments.new.envs.keys c.in_ok-env.env _
@@ -154,18 +147,6 @@ go_behind-requires-clause-named c =
     c.in_ok-env.ensures.enters.there)
     refl refl refl refl (c.in_ok-arguments.ensures.some c.in-Some.arguments c.in-Some.is)
     c.call_instance.new.run.found c.call_instance.new.run.waiting c.in_ok-callee.callee refl c.in_ok-callee.ensures.enters
-
-pub go_behind-requires-clause-all_named : goal.go_behind-requires-clause-all_named
-go_behind-requires-clause-all_named c =
-    (run_2 c.args.context.now.core.now c.args.context.now.text.now c.reachable_is_closed.ensures c.items_are_in_text.ensures c.args.context.now.budget c.args.taken.item.position
-    c.requires.taking.number c.args.run.now.found c.args.run.now.waiting c.args.taken.item refl
-    c.requires.taking.run c.requires.taking.at c.args.known.now.names.now c.args.nonterminal _ c.args.qualifiers.now.label.now c.args.qualifiers.now.not.now c.requires.before
-    _ c.in_ok-env.env c.values_at-values.result.now (values_in c.values_at-values.result.now c.in-Some.arguments) c.values_at-values.ensures
-    c.in_ok-env.ensures.extends (c.in_ok-env.ensures.once c.requires.taking.run.taking.stored.tables.environments)
-    (there_with c.enter_arguments.new.envs.keys c.in_ok-env.env _ c.values_at-values.result.now c.in-Some.arguments c.values_at-values.ensures
-    c.in_ok-env.ensures.enters.there)
-    refl refl refl refl (c.in_ok-arguments.ensures.some c.in-Some.arguments c.in-Some.is)
-    c.call_instance.new.run.found c.call_instance.new.run.waiting c.in_ok-callee.callee refl c.in_ok-callee.ensures.enters).taking.stored.named
 
 pub go_behind-requires-clause-indexed : goal.go_behind-requires-clause-indexed
 go_behind-requires-clause-indexed c =

@@ -17,15 +17,15 @@ use Rattle.ig_plain.proofs.TakenOn.{test_on, bind_on, terminal_on}
 use Rattle.ig_plain.proofs.run.take_step.Goals as goal
 
 pub take_terminal-requires-clause-named : goal.take_terminal-requires-clause-named
-take_terminal-requires-clause-named c = c.requires.taking.run.taking.stored.named.here c.args.taken.item
+take_terminal-requires-clause-named c = c.args.run.now.found.named.here c.args.taken.item
     (contains_from_at c.args.run.now.found.here.items c.requires.taking.number c.args.taken.item c.requires.taking.at)
 
 pub take_test-requires-clause-named : goal.take_test-requires-clause-named
-take_test-requires-clause-named c = c.requires.taking.run.taking.stored.named.here c.args.taken.item
+take_test-requires-clause-named c = c.args.run.now.found.named.here c.args.taken.item
     (contains_from_at c.args.run.now.found.here.items c.requires.taking.number c.args.taken.item c.requires.taking.at)
 
 pub take_bind-requires-clause-named : goal.take_bind-requires-clause-named
-take_bind-requires-clause-named c = c.requires.taking.run.taking.stored.named.here c.args.taken.item
+take_bind-requires-clause-named c = c.args.run.now.found.named.here c.args.taken.item
     (contains_from_at c.args.run.now.found.here.items c.requires.taking.number c.args.taken.item c.requires.taking.at)
 
 pub take_terminal-requires-clause-new : goal.take_terminal-requires-clause-new

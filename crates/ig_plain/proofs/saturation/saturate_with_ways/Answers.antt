@@ -1,20 +1,12 @@
 use Rattle.std.proofs.Common.{arith}
-use Rattle.ig_plain.proofs.Ends.{items_few, no_more, inside}
+use Rattle.ig_plain.proofs.Ends.{items_few, no_more}
 use Rattle.ig_plain.proofs.Ending.{is_recorded}
 use Rattle.ig_plain.proofs.saturation.saturate_with_ways.Goals as goal
 
-pub finish-requires-clause-values : goal.finish-requires-clause-values
-finish-requires-clause-values c = c.in_ok-whole.ensures.run.taking.stored.named.values
-
-pub finish-requires-clause-named : goal.finish-requires-clause-named
-finish-requires-clause-named c =
-    inside c.args.core.now c.args.text.now c.items_are_in_text.ensures c.args.budget c.in_ok-whole.whole.found c.in_ok-whole.whole.waiting
-    c.in_ok-whole.ensures.run
-
-pub finish-requires-clause-few : goal.finish-requires-clause-few
-finish-requires-clause-few c =
+pub finish-requires : goal.finish-requires
+finish-requires c =
     let l = items_few c.args.core.now c.args.text.now c.items_are_in_text.ensures c.args.budget c.in_ok-whole.whole.found c.in_ok-whole.whole.waiting
-    c.in_ok-whole.ensures.run in omega (arith, l, c.ranges.budget.fits)
+    c.in_ok-whole.ensures.run in record { few = omega (arith, l, c.ranges.budget.fits) }
 
 pub of-requires : goal.of-requires
 of-requires c =

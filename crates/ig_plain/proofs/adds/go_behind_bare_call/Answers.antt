@@ -9,7 +9,7 @@ use Rattle.ig_plain.proofs.Growth.{grows_not, bare_means}
 use Rattle.ig_plain.proofs.Extending.{extends_itself}
 use Rattle.ig_plain.proofs.Additions.{adds_fails, adds_alike}
 use Rattle.ig_plain.proofs.Recording.{meant_at, records_same}
-use Rattle.ig_plain.proofs.found.go_behind_bare_call.Goals as goal
+use Rattle.ig_plain.proofs.adds.go_behind_bare_call.Goals as goal
 
 pub returns-in_default-clause-adds : goal.returns-in_default-clause-adds
 returns-in_default-clause-adds c =

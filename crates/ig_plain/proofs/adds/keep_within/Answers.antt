@@ -1,6 +1,6 @@
 use Rattle.std.proofs.Common.{arith}
 use Rattle.std.proofs.lemmas.Result.{on_ok_weaker, IfErr-weaker}
-use Rattle.ig_plain.proofs.found.keep_within.Goals as goal
+use Rattle.ig_plain.proofs.adds.keep_within.Goals as goal
 
 pub returns : goal.returns
 returns c = record {

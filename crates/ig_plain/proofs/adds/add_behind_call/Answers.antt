@@ -5,7 +5,7 @@ use Rattle.ig_plain.proofs.Growth.{grows_not}
 use Rattle.ig_plain.proofs.Extending.{extends_itself}
 use Rattle.ig_plain.proofs.Additions.{adds_exit}
 use Rattle.ig_plain.proofs.Recording.{pushed_records, pushed_node}
-use Rattle.ig_plain.proofs.found.add_behind_call.Goals as goal
+use Rattle.ig_plain.proofs.adds.add_behind_call.Goals as goal
 
 pub returns-in_err-number-clause-adds : goal.returns-in_err-number-clause-adds
 returns-in_err-number-clause-adds c =

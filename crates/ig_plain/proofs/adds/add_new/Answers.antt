@@ -1,7 +1,7 @@
 use Rattle.std.proofs.Common.{refl}
 use Rattle.std.proofs.lemmas.Result.{on_ok_weaker}
 use Rattle.ig_plain.proofs.Recording.{pushed_records, pushed_once}
-use Rattle.ig_plain.proofs.found.add_new.Goals as goal
+use Rattle.ig_plain.proofs.adds.add_new.Goals as goal
 
 pub returns-clause-ways : goal.returns-clause-ways
 returns-clause-ways c =

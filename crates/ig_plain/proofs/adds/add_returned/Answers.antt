@@ -8,7 +8,7 @@ use Rattle.ig_plain.proofs.Extending.{extends_itself}
 use Rattle.ig_plain.proofs.Indexing.{not_indexed}
 use Rattle.ig_plain.proofs.Additions.{adds_exit, adds_nothing}
 use Rattle.ig_plain.proofs.Recording.{meant_at, records_further}
-use Rattle.ig_plain.proofs.found.add_returned.Goals as goal
+use Rattle.ig_plain.proofs.adds.add_returned.Goals as goal
 
 pub add_behind_call-requires-clause-new : goal.add_behind_call-requires-clause-new
 add_behind_call-requires-clause-new c =
