@@ -2,6 +2,7 @@ pub mod Live
 pub mod FirstRoot
 pub mod Lists
 pub mod Rows
+pub mod Founds
 pub mod Marks
 pub mod LiveOrder
 pub mod Links

@@ -1,8 +1,7 @@
 //! What a run found, as rows are read off it.
 ghost use Rattle.std.specs.Prelude.{◌≡◌, IfSome, IsTrue, slice_get};
 ghost use Rattle.std.specs.declared.cmp.Ordering.TheVariants.{Less};
-ghost use Rattle.ig_live.specs.Rows.{IsThere, row_of};
-ghost use Rattle.ig_live.specs.Rows.{row_cmp};
+ghost use Rattle.ig_live.specs.Founds.{IsThereIn, number_cmp_in, row_in};
 
 use crate::rows::ItemRow;
 use ig_item::{InstanceKey, Item};
@@ -20,8 +19,8 @@ pub struct Found<'a> {
 impl<'a> Found<'a> {
     /// The item of that number, from 0, as a row. Takes no memory.
     pub fn row(&self, number: u32) -> ItemRow
-        requires { IsThere self.now.items.now self.now.keys.now self.now.places.now number }
-        ensures { result ≡ row_of self.now.items.now self.now.keys.now self.now.places.now number }
+        requires { IsThereIn self.now number }
+        ensures { result ≡ row_in self.now number }
     {
         let item = self.items[number as usize];
         let key = self.keys[item.instance as usize];
@@ -38,8 +37,7 @@ impl<'a> Found<'a> {
 
     /// The item of that number as a row, if it is there.
     pub(crate) fn find_row(&self, number: u32) -> Option<ItemRow>
-        ensures { IfSome result (λ row.
-            row ≡ row_of self.now.items.now self.now.keys.now self.now.places.now number) }
+        ensures { IfSome result (λ row. row ≡ row_in self.now number) }
     {
         let item = item_at(self.items, number)?;
         let key = key_at(self.keys, item.instance)?;
@@ -58,9 +56,7 @@ impl<'a> Found<'a> {
 
     /// Whether both items are there, and the row of the first one is below that of the second.
     pub(crate) fn is_below(&self, a: u32, b: u32) -> bool
-        ensures { IsTrue result → row_cmp
-            (row_of self.now.items.now self.now.keys.now self.now.places.now a)
-            (row_of self.now.items.now self.now.keys.now self.now.places.now b) ≡ Less }
+        ensures { IsTrue result → number_cmp_in self.now a b ≡ Less }
     {
         let Some(x) = self.find_row(a) else {
             return false;
