@@ -16,7 +16,7 @@ use Rattle.ig_item.specs.declared.ways.FurtherWay.{FurtherWay}
 use Rattle.ig_item.specs.declared.ways.FurtherEnd.{FurtherEnd}
 use Rattle.ig_live.specs.Marks.{is_live}
 use Rattle.ig_live.specs.Marks.{IsMarked}
-use Rattle.ig_live.specs.CodeWayMarks.{HasPrev, OfNode, first, further, Leads, previous, child, LeadsFrom, AreWhole, AreFound, MarksMore}
+use Rattle.ig_live.specs.CodeWayMarks.{HasPrev, OfNode, first, further, Leads, previous, child, LeadsFrom, AreWhole, AreFound, MarksMore, ThatItem}
 use Rattle.ig_live.specs.declared.mark.Mark.{Mark}
 use Rattle.ig_live.specs.declared.mark.Mark.TheVariants.{Dead, Open, Complete}
 use Rattle.ig_live.specs.declared.marks.Walk.{Walk}
@@ -84,7 +84,7 @@ module _ (marks : List Mark) (number : ℕ) (mark : Mark) (lt : number < length 
 -- an item that is marked now
 pub marked_now : (a b : Walk) (number : ℕ) (mark old : Mark) → AreFound a (length a.marks.items) → number < length a.marks.items →
     slice_get a.marks.items number ≡ Some old → is_live old ≡ false → is_live mark ≡ true → b.marks.items ≡ set a.marks.items number mark →
-    b.found.items ≡ a.found.items ++ number ∷ [] → MarksMore a b (λ k m. (k ≡ number) × (m ≡ mark))
+    b.found.items ≡ a.found.items ++ number ∷ [] → MarksMore a b (ThatItem number mark)
 marked_now a b number mark old are lt at dead live marks found = record {
   found = record {
     long = ap length marks ∙ length-set a.marks.items number mark;
@@ -167,12 +167,12 @@ module _ (lists : WayLists) where
 
   -- a previous item is marked, and nodes are whole
   pub whole_with : (a b : Walk) (number count : ℕ) (mark : Mark) → AreFound a count → AreWhole lists a.marks.items →
-      MarksMore a b (λ k m. (k ≡ number) × (m ≡ mark)) → IsNoFirst number → AreWhole lists b.marks.items
+      MarksMore a b (ThatItem number mark) → IsNoFirst number → AreWhole lists b.marks.items
   whole_with a b number count mark are whole more not_first end c marked =
       let m = mark_of b.marks.items end.first marked in
       elim (more.new end.first m.0 m.1 m.2) [
         | inl before ↦
-            still_marked a b (λ k m. (k ≡ number) × (m ≡ mark)) count are more end.item
+            still_marked a b (ThatItem number mark) count are more end.item
             (whole end c (marked_by a.marks.items end.first m.0 before m.2))
         | inr now ↦ absurd (not_first end c now.0)
       ]
@@ -202,9 +202,9 @@ module _ (lists : WayLists) where
 
   pub part_next : (a b c : Walk) (done i number : ℕ) (run : List FurtherEnd) (d : FurtherEnd) → i < length run →
       MarksMore a b (NodePart done (take i run)) → number ≡ (get_or run i d).item →
-      MarksMore b c (λ k m. (k ≡ number) × (m ≡ Complete)) → MarksMore a c (NodePart done (take (i + 1) run))
+      MarksMore b c (ThatItem number Complete) → MarksMore a c (NodePart done (take (i + 1) run))
   part_next a b c done i number run d lt ab is bc =
-      marks_then a b c (NodePart done (take i run)) (λ k m. (k ≡ number) × (m ≡ Complete)) (NodePart done (take (i + 1) run)) ab bc
+      marks_then a b c (NodePart done (take i run)) (ThatItem number Complete) (NodePart done (take (i + 1) run)) ab bc
       (λ k m. (there k m, back k m))
     where
       taken : take (i + 1) run ≡ take i run ++ get_or run i d ∷ []
@@ -249,33 +249,33 @@ module _ (lists : WayLists) where
 
   -- a way over no node
   pub leads_back : (a b : Walk) (way : Way) (number : ℕ) → HasPrev way number → ((k : ℕ) → HasPrev way k → k ≡ number) →
-      ((prev done : ℕ) → way ≡ Node prev done → ⊥) → MarksMore a b (λ k m. (k ≡ number) × (m ≡ Open)) → MarksMore a b (Leads lists way)
+      ((prev done : ℕ) → way ≡ Node prev done → ⊥) → MarksMore a b (ThatItem number Open) → MarksMore a b (Leads lists way)
   leads_back a b way number has only none more =
-      marks_same a b (λ k m. (k ≡ number) × (m ≡ Open)) (Leads lists way) more
+      marks_same a b (ThatItem number Open) (Leads lists way) more
       (λ k m. (λ h. previous (subst (HasPrev way) (sym h.0) has) h.1, back k m))
     where
       back : (k : ℕ) (m : Mark) → Leads lists way k m → (k ≡ number) × (m ≡ Open)
       back k m (previous p is_open) = (only k p, is_open)
       back k m (child prev done e node) = absurd (none prev done e)
 
-  pub leads_by_pass : (a b : Walk) (way : Way) (number : ℕ) → way ≡ Pass number → MarksMore a b (λ k m. (k ≡ number) × (m ≡ Open)) →
+  pub leads_by_pass : (a b : Walk) (way : Way) (number : ℕ) → way ≡ Pass number → MarksMore a b (ThatItem number Open) →
       MarksMore a b (Leads lists way)
   leads_by_pass a b way number is more =
       subst (λ (z : Way). MarksMore a b (Leads lists z)) (sym is)
       (leads_back a b (Pass number) number refl (λ k p. sym p) (λ prev done e. cc) more)
 
-  pub leads_by_leaf : (a b : Walk) (way : Way) (number : ℕ) → way ≡ Leaf number → MarksMore a b (λ k m. (k ≡ number) × (m ≡ Open)) →
+  pub leads_by_leaf : (a b : Walk) (way : Way) (number : ℕ) → way ≡ Leaf number → MarksMore a b (ThatItem number Open) →
       MarksMore a b (Leads lists way)
   leads_by_leaf a b way number is more =
       subst (λ (z : Way). MarksMore a b (Leads lists z)) (sym is)
       (leads_back a b (Leaf number) number refl (λ k p. sym p) (λ prev done e. cc) more)
 
   -- a way over a node
-  pub leads_by_node : (a b c : Walk) (way : Way) (prev done : ℕ) → way ≡ Node prev done → MarksMore a b (λ k m. (k ≡ prev) × (m ≡ Open)) →
+  pub leads_by_node : (a b c : Walk) (way : Way) (prev done : ℕ) → way ≡ Node prev done → MarksMore a b (ThatItem prev Open) →
       MarksMore b c (OfNode lists done) → MarksMore a c (Leads lists way)
   leads_by_node a b c way prev done is ab bc =
       subst (λ (z : Way). MarksMore a c (Leads lists z)) (sym is)
-      (marks_then a b c (λ k m. (k ≡ prev) × (m ≡ Open)) (OfNode lists done) (Leads lists (Node prev done)) ab bc
+      (marks_then a b c (ThatItem prev Open) (OfNode lists done) (Leads lists (Node prev done)) ab bc
       (λ k m. (there k m, back k m)))
     where
       there : (k : ℕ) (m : Mark) → Leads lists (Node prev done) k m → ((k ≡ prev) × (m ≡ Open)) ⊎ OfNode lists done k m

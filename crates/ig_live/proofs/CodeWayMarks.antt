@@ -23,7 +23,7 @@ use Rattle.ig_live.specs.Live.{Gives, IsLive}
 use Rattle.ig_live.specs.Live.{root_key}
 use Rattle.ig_live.specs.Marks.{is_live}
 use Rattle.ig_live.specs.Marks.{IsMarked, AreMarks}
-use Rattle.ig_live.specs.CodeWayMarks.{IsAWay, HasPrev, OfNode, first, further, Leads, previous, child, AreWhole, AreFound, MarksMore}
+use Rattle.ig_live.specs.CodeWayMarks.{IsAWay, HasPrev, OfNode, first, further, Leads, previous, child, AreWhole, AreFound, MarksMore, ThatItem}
 use Rattle.ig_live.specs.declared.mark.Mark.{Mark}
 use Rattle.ig_live.specs.declared.mark.Mark.TheVariants.{Dead, Open, Complete}
 use Rattle.ig_live.specs.declared.marks.Walk.{Walk}
@@ -342,7 +342,7 @@ module _ (r : Recording) (way : Way) (is_a : IsAWay r way) where
     prev_fits w are = let lt = prev_within r is_a.recorded is_a.number k way is_a.to has in let long = are.long in omega (arith, lt, long)
 
     pub prev_whole : (a b : Walk) → AreFound a (length r.ways.firsts) → AreWhole r.ways a.marks.items →
-        MarksMore a b (λ j m. (j ≡ k) × (m ≡ Open)) → AreWhole r.ways b.marks.items
+        MarksMore a b (ThatItem k Open) → AreWhole r.ways b.marks.items
     prev_whole a b are whole more =
         whole_with r.ways a b k (length r.ways.firsts) Open are whole more (prev_no_first r is_a.recorded is_a.number k way is_a.to has)
 

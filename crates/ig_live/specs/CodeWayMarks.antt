@@ -50,6 +50,10 @@ pub record AreFound (w : Walk) (count : ℕ) : Type 0 where
   pub same : (k : ℕ) → Contains w.found.items k ↔ IsMarked w.marks.items k
   pub counted : length w.found.items ≡ length (filter is_live w.marks.items)
 
+-- the item of that number alone, with that mark
+abbrev pub ThatItem : ℕ → Mark → ℕ → Mark → Type 0
+ThatItem number mark k m = (k ≡ number) × (m ≡ mark)
+
 -- exactly the numbers with P were marked besides, with their marks, and the earlier ones are found where they were
 pub record MarksMore (before after : Walk) (P : ℕ → Mark → Type 0) : Type 0 where
   pub found : AreFound after (length before.marks.items)

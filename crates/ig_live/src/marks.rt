@@ -6,7 +6,7 @@ ghost use Rattle.ig_item.specs.Ways.{IsFirstEnd};
 ghost use Rattle.ig_live.specs.Marks.{is_live};
 ghost use Rattle.ig_live.specs.CodeWayMarks.{AreFound, AreWhole, IsAWay, Leads};
 ghost use Rattle.ig_live.specs.Marks.{AreMarks};
-ghost use Rattle.ig_live.specs.CodeWayMarks.{LeadsFrom, MarksMore, OfNode};
+ghost use Rattle.ig_live.specs.CodeWayMarks.{LeadsFrom, MarksMore, OfNode, ThatItem};
 ghost use Rattle.ig_live.specs.Live.{root_key};
 ghost use Rattle.ig_live.specs.declared.mark.Mark.TheVariants.{Complete};
 
@@ -128,8 +128,7 @@ impl Walk {
     fn mark_end(&mut self, end: FurtherEnd) -> Result<(), AllocError>
         requires found { AreFound self.old (length self.old.marks.items) }
         requires number { end.item < length self.old.marks.items }
-        ensures { OnOk result
-            (MarksMore self.old self.new (λ k m. (k ≡ end.item) × (m ≡ Complete))) }
+        ensures { OnOk result (MarksMore self.old self.new (ThatItem end.item Complete)) }
     {
         self.mark(end.item, Mark::Complete)
     }
@@ -139,7 +138,7 @@ impl Walk {
         requires found { AreFound self.old (length self.old.marks.items) }
         requires number { number < length self.old.marks.items }
         requires mark { is_live mark ≡ true }
-        ensures { OnOk result (MarksMore self.old self.new (λ k m. (k ≡ number) × (m ≡ mark))) }
+        ensures { OnOk result (MarksMore self.old self.new (ThatItem number mark)) }
     {
         if self.marks[number as usize].is_live() {
             return Ok(());
