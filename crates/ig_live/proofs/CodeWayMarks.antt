@@ -4,10 +4,10 @@ use Rattle.std.proofs.lemmas.Bool.{cases_eq}
 use Rattle.std.proofs.lemmas.List.Elements.{Contains-get_or}
 use Rattle.std.proofs.lemmas.Option.{same_Some, slice_get_within}
 use Rattle.ig_text.proofs.Lists.{at_from_contains, get_within}
-use Rattle.ig_item.specs.Core.{IsAlternative, numbered}
 use Rattle.ig_item.specs.Gives as rules
 use Rattle.ig_item.specs.Gives.{NodeKey, Taken, tree, Completes}
 use Rattle.ig_item.specs.Items.{Item, Reachable, IsComplete, StandsBefore}
+use Rattle.ig_item.specs.Laws.{AlternativesAreOne}
 use Rattle.ig_item.specs.Recorded.{Recording, IsRecorded}
 use Rattle.ig_item.specs.Step.{Step, Test, Bind, Term, Call}
 use Rattle.ig_item.specs.Tables.{items_of}
@@ -29,13 +29,6 @@ use Rattle.ig_live.specs.declared.mark.Mark.TheVariants.{Dead, Open, Complete}
 use Rattle.ig_live.specs.declared.marks.Walk.{Walk}
 use Rattle.ig_live.proofs.CodeWalk.{IsNoFirst, mark_of, whole_with, Reached, at_root, step, AreReached}
 
--- the alternative of a number is one
-same_alternative : (core : List Nonterminal) (n a : ℕ) (nt mt : Nonterminal) (alt other : CoreAlt) → IsAlternative core n a nt alt →
-    IsAlternative core n a mt other → (nt ≡ mt) × (alt ≡ other)
-same_alternative core n a nt mt alt other p q =
-    let e : nt ≡ mt = same_Some nt mt (sym p.there ∙ q.there) in
-    (e, same_Some alt other (sym p.has ∙ ap (λ (z : Nonterminal). numbered z.alternatives a) e ∙ q.has))
-
 -- the previous item of a rule stands before a step
 module _ (core : List Nonterminal) (text : List ℕ) where
   any_step : {prev x : Item} {taken : Taken} → Gives core text prev taken x → (names : List (List ℕ)) × (step : Step) × StandsBefore core prev names step
@@ -53,14 +46,14 @@ module _ (r : Recording) (recorded : IsRecorded r) where
   Known = Reachable r.core r.text
 
   -- a complete item is the previous one of no step
-  not_complete : {prev x : Item} {taken : Taken} → Gives r.core r.text prev taken x → IsComplete r.core prev → ⊥
-  not_complete {prev} gives c =
+  not_complete : AlternativesAreOne → {prev x : Item} {taken : Taken} → Gives r.core r.text prev taken x → IsComplete r.core prev → ⊥
+  not_complete alternatives_one {prev} gives c =
       let (names, next, b) = any_step r.core r.text gives in
       let same =
-      same_alternative r.core prev.instance.nonterminal prev.alternative c.nonterminal b.nonterminal c.alternative b.alternative
+      alternatives_one r.core prev.instance.nonterminal prev.alternative c.nonterminal b.nonterminal c.alternative b.alternative
       c.has b.has in
       let within = slice_get_within b.alternative.steps prev.dot next b.next in
-      let long = ap (λ (z : CoreAlt). length z.steps) same.1 in
+      let long = ap (λ (z : CoreAlt). length z.steps) same.alternatives in
       let last = c.last in
       omega (arith, within, last, long)
 
@@ -129,12 +122,12 @@ module _ (r : Recording) (recorded : IsRecorded r) where
   prev_within : (n k : ℕ) (way : Way) → WayTo r.ways n way → HasPrev way k → k < length r.ways.firsts
   prev_within n k way to has = let p = prev_at k (way_item n way to).1 has in within_firsts k p.prev p.there
 
-  prev_no_first : (n k : ℕ) (way : Way) → WayTo r.ways n way → HasPrev way k → IsNoFirst r.ways k
-  prev_no_first n k way to has end among is =
+  prev_no_first : AlternativesAreOne → (n k : ℕ) (way : Way) → WayTo r.ways n way → HasPrev way k → IsNoFirst r.ways k
+  prev_no_first alternatives_one n k way to has end among is =
       let p = prev_at k (way_item n way to).1 has in
       let h = ((recorded.are_ways.ends.exact end).0 among).first.end in
       let same : h.item ≡ p.prev = same_Some h.item p.prev (sym h.there ∙ ap (slice_get items) is ∙ p.there) in
-      not_complete p.gives (subst (IsComplete r.core) same h.completes.complete)
+      not_complete alternatives_one p.gives (subst (IsComplete r.core) same h.completes.complete)
 
   -- so are the complete items of nodes
   done_within : (n p d : ℕ) (way : Way) → WayTo r.ways n way → way ≡ Node p d → d < length r.ways.firsts
@@ -185,7 +178,7 @@ module _ (r : Recording) (recorded : IsRecorded r) where
   number_of : (x : Item) → Known x → (k : ℕ) × (slice_get items k ≡ Some x)
   number_of x known = at_from_contains items x ((recorded.reachable x).1 known)
 
-  module _ (root : ℕ) (of_root : IsFirstEnd r.core Known items (root_key r.text) root) where
+  module _ (alternatives_one : AlternativesAreOne) (root : ℕ) (of_root : IsFirstEnd r.core Known items (root_key r.text) root) where
     -- what is reached is live, and marked as it has to be
     record IsRight (k : ℕ) (m : Mark) : Type 0 where
       item : Item
@@ -211,7 +204,7 @@ module _ (r : Recording) (recorded : IsRecorded r) where
           item = p.prev;
           there = p.there;
           live = live.previous x p.prev p.taken l p.gives;
-          unfinished = λ e. not_complete p.gives;
+          unfinished = λ e. not_complete alternatives_one p.gives;
           complete = λ e. let both : Open ≡ Complete = sym is_open ∙ e in cc;
         }
     led_right x way k m l is_way (child p d is node) =
@@ -341,10 +334,10 @@ module _ (r : Recording) (way : Way) (is_a : IsAWay r way) where
     pub prev_fits : (w : Walk) → AreFound w (length r.ways.firsts) → k < length w.marks.items
     prev_fits w are = let lt = prev_within r is_a.recorded is_a.number k way is_a.to has in let long = are.long in omega (arith, lt, long)
 
-    pub prev_whole : (a b : Walk) → AreFound a (length r.ways.firsts) → AreWhole r.ways a.marks.items →
+    pub prev_whole : AlternativesAreOne → (a b : Walk) → AreFound a (length r.ways.firsts) → AreWhole r.ways a.marks.items →
         MarksMore a b (ThatItem k Open) → AreWhole r.ways b.marks.items
-    prev_whole a b are whole more =
-        whole_with r.ways a b k (length r.ways.firsts) Open are whole more (prev_no_first r is_a.recorded is_a.number k way is_a.to has)
+    prev_whole alternatives_one a b are whole more =
+        whole_with r.ways a b k (length r.ways.firsts) Open are whole more (prev_no_first r is_a.recorded alternatives_one is_a.number k way is_a.to has)
 
   pub done_fits : (prev done : ℕ) → way ≡ Node prev done → done < length r.ways.firsts
   done_fits prev done is = done_within r is_a.recorded is_a.number prev done way is_a.to is

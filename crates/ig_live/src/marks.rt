@@ -12,7 +12,7 @@ ghost use Rattle.ig_live.specs.declared.mark.Mark.TheVariants.{Complete};
 
 use crate::mark::Mark;
 use crate::ways::Links;
-use ig_item::{FurtherEnd, Way};
+use ig_item::{FurtherEnd, Way, alternatives_are_one};
 use std::alloc::{AllocError, Global};
 
 /// The marks of all items, and the numbers of those that are live, in the order in which they were
@@ -32,6 +32,7 @@ pub fn marks_of(alloc: Global, links: &Links, root: u32) -> Result<Vec<Mark>, Al
     ensures { IfOk result (λ marks. AreMarks links.now.core links.now.text
         (items_of links.now.tables) marks.items) }
 {
+    alternatives_are_one();
     let count = links.len();
     let mut walk = no_marks(alloc, count)?;
     walk.mark_node(links, root)?;
@@ -92,6 +93,7 @@ impl Walk {
         ensures more { OnOk result (MarksMore self.old self.new (Leads links.now.ways way)) }
         ensures whole { OnOk result (AreWhole links.now.ways self.new.marks.items) }
     {
+        alternatives_are_one();
         match way {
             Way::Begin => Ok(()),
             Way::Pass { prev } => self.mark(prev, Mark::Open),

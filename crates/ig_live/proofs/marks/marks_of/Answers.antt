@@ -12,7 +12,7 @@ loop-turn-init c =
 
 pub returns-in_default : goal.returns-in_default
 returns-in_default c =
-    reached_live c.args.links.now c.len-count.ensures.recorded c.args.root c.requires _
+    reached_live c.args.links.now c.len-count.ensures.recorded c.alternatives_are_one.ensures c.args.root c.requires _
     (walk_stops c.args.links.now.ways c.args.root c.loop-turn.walk c.loop-turn.turn c.loop-turn.invariant (sym c.at.ensures ∙ c.in_default.is))
 
 pub visit-requires-clause-number : goal.visit-requires-clause-number
@@ -26,6 +26,6 @@ loop-turn-preserved c =
 
 pub returns : goal.returns
 returns c =
-    reached_live c.args.links.now c.len-count.ensures.recorded c.args.root c.requires _
+    reached_live c.args.links.now c.len-count.ensures.recorded c.alternatives_are_one.ensures c.args.root c.requires _
     (walk_runs_out c.args.links.now.ways c.args.root c.loop-turn.walk c.loop-turn.turn c.loop-turn.invariant
     (subst (λ (n : ℕ). n ≤ c.loop-turn.turn) c.len-count.ensures.number c.loop-turn-test.false))

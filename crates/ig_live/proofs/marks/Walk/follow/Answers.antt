@@ -34,7 +34,7 @@ mark-requires-in-Node-clause-number c =
 pub mark_node-requires-clause-whole : goal.mark_node-requires-clause-whole
 mark_node-requires-clause-whole c =
     prev_whole c.args.links.now c.args.way c.requires.way c.in-Node.prev (by_node c.args.way c.in-Node.prev c.in-Node.done c.in-Node.is)
-    c.args.self.now c.mark-in-Node.new.self c.requires.found c.requires.whole c.in_ok-mark-in-Node.ensures
+    c.alternatives_are_one.ensures c.args.self.now c.mark-in-Node.new.self c.requires.found c.requires.whole c.in_ok-mark-in-Node.ensures
 
 pub mark_node-requires-clause-done : goal.mark_node-requires-clause-done
 mark_node-requires-clause-done c = done_fits c.args.links.now c.args.way c.requires.way c.in-Node.prev c.in-Node.done c.in-Node.is
@@ -48,7 +48,7 @@ pub returns-in-Pass-clause-whole : goal.returns-in-Pass-clause-whole
 returns-in-Pass-clause-whole c =
     on_ok_weaker c.mark.result
     (prev_whole c.args.links.now c.args.way c.requires.way c.in-Pass.prev (by_pass c.args.way c.in-Pass.prev c.in-Pass.is)
-    c.args.self.now c.mark.new.self c.requires.found c.requires.whole) c.mark.ensures
+    c.alternatives_are_one.ensures c.args.self.now c.mark.new.self c.requires.found c.requires.whole) c.mark.ensures
 
 pub returns-in-Leaf-clause-more : goal.returns-in-Leaf-clause-more
 returns-in-Leaf-clause-more c =
@@ -60,7 +60,7 @@ pub returns-in-Leaf-clause-whole : goal.returns-in-Leaf-clause-whole
 returns-in-Leaf-clause-whole c =
     on_ok_weaker c.mark-in-Leaf.result
     (prev_whole c.args.links.now c.args.way c.requires.way c.in-Leaf.prev (by_leaf c.args.way c.in-Leaf.prev c.in-Leaf.is)
-    c.args.self.now c.mark-in-Leaf.new.self c.requires.found c.requires.whole) c.mark-in-Leaf.ensures
+    c.alternatives_are_one.ensures c.args.self.now c.mark-in-Leaf.new.self c.requires.found c.requires.whole) c.mark-in-Leaf.ensures
 
 pub returns-in_ok-mark-in-Node-clause-more : goal.returns-in_ok-mark-in-Node-clause-more
 returns-in_ok-mark-in-Node-clause-more c =
