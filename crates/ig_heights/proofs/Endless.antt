@@ -37,7 +37,7 @@ module _ (f : Forest) (l t : Table) (rules : IsLeastTable f l) (whole : IsWholeT
   rule_given : (r : Rule) → Contains t.rules.items r → height_at hs r.target ≤ t.nodes →
       need t.nodes hs r ≤ height_at hs r.target
   rule_given r c known =
-      elim (least.given r.target ((whole.fits.rules r c).target) known) [
+      elim (least.given r.target ((t.fit r c).target) known) [
         | inl free ↦ absurd (whole.none_free r c free)
         | inr given ↦
             let a = at_from_contains t.rules.items r c in let b = at_from_contains t.rules.items given.rule given.among in

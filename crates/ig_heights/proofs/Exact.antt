@@ -157,7 +157,7 @@ module _ (f : Forest) (t : Table) (rules : IsLeastTable f t) (hs : List ℕ) (le
 
   item_given : (k : ℕ) → k < length f.items → of_item k ≤ length f.nodes → ByEntry k
   item_given k inside known =
-      let m = rules.nodes in let g = rules.ground in let p = rules.fits.ground in
+      let m = rules.nodes in let g = rules.ground in let p = t.there in
       elim (least.given (length f.nodes + k) (omega (arith, inside, g, p)) (omega (arith, known, m))) [
         | inl e ↦ absurd (omega (arith, e, g, inside))
         | inr given ↦ entry_by k given.rule (rules.sound given.rule given.among) given.target given.needs
@@ -165,7 +165,7 @@ module _ (f : Forest) (t : Table) (rules : IsLeastTable f t) (hs : List ℕ) (le
 
   node_given : (v : ℕ) → v < length f.nodes → of_node v ≤ length f.nodes → ByChoice v
   node_given v inside known =
-      let m = rules.nodes in let g = rules.ground in let p = rules.fits.ground in
+      let m = rules.nodes in let g = rules.ground in let p = t.there in
       elim (least.given v (omega (arith, inside, g, p)) (omega (arith, known, m))) [
         | inl e ↦ absurd (omega (arith, e, g, inside))
         | inr given ↦ choice_by v given.rule (rules.sound given.rule given.among) given.target inside given.needs

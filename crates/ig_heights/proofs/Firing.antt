@@ -2,7 +2,8 @@
 use Rattle.std.proofs.Common.{◌≡◌, ◌↔◌, ℕ, ◌<◌, ◌≤◌, Bool, true, leb, ltb, IsTrue, List, length, get_or, sym, ◌∙◌, subst}
 use Rattle.std.proofs.lemmas.Bool.{leb-true, ltb-true, lt-ltb}
 use Rattle.std.proofs.lemmas.Option.{same_Some, slice_get-get_or}
-use Rattle.ig_heights.specs.Rules.{FitsRule, height_at}
+use Rattle.ig_heights.specs.Fits.{FitsRule}
+use Rattle.ig_heights.specs.Rules.{height_at}
 use Rattle.ig_heights.specs.Work.{Fires}
 use Rattle.ig_heights.specs.declared.rule.Rule.{Rule}
 use Rattle.ig_heights.specs.declared.work.Work.{Work}

@@ -6,7 +6,7 @@ use Rattle.std.proofs.lemmas.List.Elements.{Contains-append_left, Contains-push,
 use Rattle.std.proofs.lemmas.Bool.{cases_eq}
 use Rattle.ig_text.proofs.Lists.{at_from_contains, contains_from_at, none_in_nil, left_at}
 use Rattle.ig_text.proofs.Orders.{le_or_lt}
-use Rattle.ig_heights.specs.Rules.{FitsRule, FitsTable}
+use Rattle.ig_heights.specs.Fits.{FitsRule, FitAll}
 use Rattle.ig_heights.specs.Table.{Chain, IsSource, NeedsAll, IsWholeTable, AreLinks, AreLasts, Links, Linked}
 use Rattle.ig_heights.specs.Table as table
 use Rattle.ig_heights.specs.declared.rule.Rule.{Rule}
@@ -231,12 +231,12 @@ links_none ground rules links last none is =
     no_link : (j : ℕ) (r : Rule) → slice_get no_links j ≡ Some r → ⊥
     no_link j r e = cc
 
-module _ (t : Table) (fits : FitsTable t) (parts : t.parts ≡ suc t.ground) (rs : List Rule) (same : rs ≡ t.rules.items) where
+module _ (t : Table) (parts : t.parts ≡ suc t.ground) (rs : List Rule) (same : rs ≡ t.rules.items) where
   pub links_step : (i : ℕ) (d : Rule) (links longer : List Rule) (last ends : List ℕ) → i < length rs →
       AreLinks t.ground (take i t.rules.items) links last → Linked t.ground (get_or rs i d) links last longer ends →
       AreLinks t.ground (take (i + 1) t.rules.items) longer ends
   links_step i d links longer last ends less are linked =
-      let f = fits.rules (get_or rs i d) (subst (λ (z : List Rule). Contains z (get_or rs i d)) same (i, less, read_at rs i d less)) in
+      let f = t.fit (get_or rs i d) (subst (λ (z : List Rule). Contains z (get_or rs i d)) same (i, less, read_at rs i d less)) in
       let a = f.left in let b = f.right in
       subst (λ (z : List Rule). AreLinks t.ground (take (i + 1) z) longer ends) same
       (links_next t.ground (take i rs) (take (i + 1) rs) (get_or rs i d) (taken_only rs i d less) (taken_all rs i d less) (taken_here rs i d less)
@@ -295,14 +295,13 @@ module _ (ground : ℕ) (links : List Rule) (last : List ℕ) where
           below d = elim (le_or_lt q p) [ inr less ↦ less | inl past ↦ absurd (d (omega (arith, past, low, next))) ]
 
 -- the whole table
-module _ (l t : Table) (fits : FitsTable l) (links : List Rule) (last : List ℕ) (are : AreLinks l.ground l.rules.items links last)
-    (lasts : AreLasts l.ground links t.rules.items last (length last)) (nodes : t.nodes ≡ l.nodes) (ground : t.ground ≡ l.ground)
-    (parts : t.parts ≡ suc l.ground + length links) where
+module _ (l : Table) (links : List Rule) (last : List ℕ) (are : AreLinks l.ground l.rules.items links last) (rs : List Rule)
+    (lasts : AreLasts l.ground links rs last (length last)) where
   data Kind (j : ℕ) (r : Rule) : Type 0 where
     a_link : slice_get links j ≡ Some r → r.target ≡ suc l.ground + j → Kind j r
     a_last : (q : ℕ) → j ≡ length links + q → q < l.ground → r ≡ record { target = q; left = get_or last q 0; right = l.ground } → Kind j r
 
-  kind : (j : ℕ) (r : Rule) → slice_get t.rules.items j ≡ Some r → Kind j r
+  kind : (j : ℕ) (r : Rule) → slice_get rs j ≡ Some r → Kind j r
   kind j r e =
       elim (lasts.lasts j r e) [
         | inl link ↦ a_link link (are.targets j r link)
@@ -323,45 +322,51 @@ module _ (l t : Table) (fits : FitsTable l) (links : List Rule) (last : List ℕ
   no_ground j r (a_link at_j a) e = omega (arith, a, e)
   no_ground j r (a_last q at_j low is) e = let t = ap (λ (z : Rule). z.target) is in omega (arith, t, e, low)
 
+  distinct : (i j : ℕ) (r s : Rule) → slice_get rs i ≡ Some r → slice_get rs j ≡ Some s → r.target ≡ s.target → i ≡ j
+  distinct i j r s at_i at_j e = distinct_by i j r s (kind i r at_i) (kind j s at_j) e
+
   index_within : (j : ℕ) (r : Rule) → slice_get links j ≡ Some r → j < length links
   index_within j r e = slice_get_within links j r e
 
-  kind_fits : (j : ℕ) (r : Rule) → Kind j r → FitsRule t.parts r
-  kind_fits j r (a_link at_j a) =
+  kind_fits : (parts j : ℕ) (r : Rule) → parts ≡ suc l.ground + length links → Kind j r → FitsRule parts r
+  kind_fits parts j r many (a_link at_j a) =
       let f = are.fits r (contains_from_at links j r at_j) in let x = f.0 in let y = f.1 in let w = index_within j r at_j in
-      record { target = omega (arith, a, w, parts); left = omega (arith, x, parts); right = omega (arith, y, parts) }
-  kind_fits j r (a_last q at_j low is) =
+      record { target = omega (arith, a, w, many); left = omega (arith, x, many); right = omega (arith, y, many) }
+  kind_fits parts j r many (a_last q at_j low is) =
       let e = are.ends q low in
-      subst (FitsRule t.parts) (sym is) (record { target = omega (arith, low, parts); left = omega (arith, e, parts); right = omega (arith, parts) })
+      subst (FitsRule parts) (sym is) (record { target = omega (arith, low, many); left = omega (arith, e, many); right = omega (arith, many) })
 
-  more : (r : Rule) → Contains links r → Contains t.rules.items r
-  more r c = let a = at_from_contains links r c in contains_from_at t.rules.items a.0 r (lasts.before a.0 r a.1)
+  kind_among : (r : Rule) → Contains rs r → (j : ℕ) × Kind j r
+  kind_among r among = let x = at_from_contains rs r among in (x.0, kind x.0 r x.1)
 
-  needs_all : (q : ℕ) → q < l.ground → NeedsAll t.rules.items l.ground q (IsSource l.rules.items q)
+  pub all_fit : (parts : ℕ) → parts ≡ suc l.ground + length links → FitAll parts rs
+  all_fit parts many r among = let k = kind_among r among in kind_fits parts k.0 r many k.1
+
+  none_free : (r : Rule) → Contains rs r → r.target ≡ l.ground → ⊥
+  none_free r among e = let k = kind_among r among in no_ground k.0 r k.1 e
+
+  more : (r : Rule) → Contains links r → Contains rs r
+  more r c = let a = at_from_contains links r c in contains_from_at rs a.0 r (lasts.before a.0 r a.1)
+
+  needs_all : (q : ℕ) → q < l.ground → NeedsAll rs l.ground q (IsSource l.rules.items q)
   needs_all q low =
       let n = are.needs q low in let long = are.long in
       record {
         needs = l.ground ∷ n.needs;
-        chain = table.link q (get_or last q 0) l.ground n.needs (lasts.here q (omega (arith, low, long))) (chain_more links t.rules.items more n.chain);
+        chain = table.link q (get_or last q 0) l.ground n.needs (lasts.here q (omega (arith, low, long))) (chain_more links rs more n.chain);
         all = λ p s. let c = n.all p s in let less = c.1 in (suc c.0, omega (arith, less), c.2);
         only = λ p c. elim (among_more n.needs l.ground p c) [ inl e ↦ inl e | inr o ↦ n.only p o ];
       }
 
-  pub table_whole : IsWholeTable l t
-  table_whole =
-      record {
-        nodes = nodes;
-        ground = ground;
-        fits =
-            (let a = fits.nodes in let b = fits.few in let c = fits.small in
-            record {
-              nodes = omega (arith, a, nodes, ground);
-              ground = omega (arith, ground, parts);
-              few = omega (arith, b, nodes);
-              small = omega (arith, c, ground);
-              rules = λ r among. let x = at_from_contains t.rules.items r among in kind_fits x.0 r (kind x.0 r x.1);
-            });
-        distinct = λ i j r s at_i at_j e. distinct_by i j r s (kind i r at_i) (kind j s at_j) e;
-        none_free = λ r among e. let x = at_from_contains t.rules.items r among in no_ground x.0 r (kind x.0 r x.1) (e ∙ ground);
-        needs = λ q low. subst (λ (n : ℕ). NeedsAll t.rules.items n q (IsSource l.rules.items q)) (sym ground) (needs_all q low);
-      }
+pub table_whole : (l t : Table) (links : List Rule) (last : List ℕ) → AreLinks l.ground l.rules.items links last →
+    AreLasts l.ground links t.rules.items last (length last) → t.nodes ≡ l.nodes → t.ground ≡ l.ground → IsWholeTable l t
+table_whole l t links last are lasts nodes ground =
+    record {
+      nodes = nodes;
+      ground = ground;
+      distinct = distinct l links last are t.rules.items lasts;
+      none_free = λ r among e. none_free l links last are t.rules.items lasts r among (e ∙ ground);
+      needs = λ q low.
+          subst (λ (n : ℕ). NeedsAll t.rules.items n q (IsSource l.rules.items q)) (sym ground)
+          (needs_all l links last are t.rules.items lasts q low);
+    }

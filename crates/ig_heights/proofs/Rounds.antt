@@ -3,7 +3,8 @@ use Rattle.std.proofs.Common.{◌≡◌, ◌⊎◌, inl, inr, ℕ, suc, ◌+◌,
 use Rattle.std.proofs.lemmas.List.Elements.{Contains-append_left, Contains-push, Contains-push_cases}
 use Rattle.std.proofs.lemmas.Option.{slice_get-get_or, get_or_from_slice_get}
 use Rattle.std.proofs.lemmas.List.{drop_all, drop_more}
-use Rattle.ig_heights.specs.Rules.{rise, height_at, FitsRule, FitsTable}
+use Rattle.ig_heights.specs.Fits.{FitsRule}
+use Rattle.ig_heights.specs.Rules.{rise, height_at}
 use Rattle.ig_heights.specs.Work.{unset, IsWork, Works, Fires, Looks, UseAll, weight}
 use Rattle.ig_heights.specs.Work as work
 use Rattle.ig_heights.specs.declared.rule.Rule.{Rule}
@@ -115,7 +116,7 @@ module _ (t : Table) (part : ℕ) (start b a : Work) (rule : Rule) (rest : List 
 pub few_rounds : (t : Table) (b : Work) (rest : List Rule) → t.nodes < 4294967296 → Works t b rest → b.height < 4294967296
 few_rounds t b rest few law = let r = law.room in omega (arith, few, r)
 
-module _ (t : Table) (part : ℕ) (uses : List Rule) (fits : FitsTable t) (all : UseAll t part uses) where
+module _ (t : Table) (part : ℕ) (uses : List Rule) (all : UseAll t part uses) where
   pub visit_none : (b : Work) → Works t b uses → height_at b.heights.items part ≡ b.height → Visits t part b b uses
   visit_none b law round = record { works = law; round = round; less = omega arith }
 
@@ -126,7 +127,7 @@ module _ (t : Table) (part : ℕ) (uses : List Rule) (fits : FitsTable t) (all :
       FitsRule (length a.heights.items) (get_or uses i d)
   rule_fits b a rest i d visits less =
       subst (λ (n : ℕ). FitsRule n (get_or uses i d)) (sym visits.works.long)
-      (fits.rules (get_or uses i d) ((all (get_or uses i d) (i, less, read i d less)).0))
+      (t.fit (get_or uses i d) ((all (get_or uses i d) (i, less, read i d less)).0))
 
   pub visit_next : (start b a : Work) (i : ℕ) (d : Rule) → i < length uses → Visits t part start b (drop i uses) →
       Looks t.nodes (get_or uses i d) b a → Visits t part start a (drop (i + 1) uses)
@@ -135,7 +136,7 @@ module _ (t : Table) (part : ℕ) (uses : List Rule) (fits : FitsTable t) (all :
       let e : drop i uses ≡ rule ∷ drop (i + 1) uses = drop_more uses i d less in
       let among = all rule (i, less, read i d less) in
       looked t part start b a rule (drop (i + 1) uses) (subst (λ (z : List Rule). Visits t part start b z) e visits) among.1 among.0
-      (fits.rules rule among.0) looks
+      (t.fit rule among.0) looks
 
   pub visit_end : (start b : Work) (i : ℕ) → length uses ≤ i → Visits t part start b (drop i uses) →
       Visits t part start b []

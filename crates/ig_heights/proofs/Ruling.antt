@@ -10,7 +10,7 @@ use Rattle.ig_forest.specs.declared.entry.Choice.{Choice}
 use Rattle.ig_forest.specs.declared.entry.Entry.{Entry}
 use Rattle.ig_forest.specs.declared.entry.Entry.TheVariants.{Begin, Pass, Take}
 use Rattle.ig_forest.specs.declared.entry.Child.TheVariants as child
-use Rattle.ig_heights.specs.Rules.{FitsRule}
+use Rattle.ig_heights.specs.Fits.{FitsRule, FitAll}
 use Rattle.ig_heights.specs.Table.{ground_of, entry_rule, choice_rule, choices_in, entries_in, choices_at, entries_at, IsRuleOf, IsRuleBy, IsLeastTable, Adds}
 use Rattle.ig_heights.specs.Table as table
 use Rattle.ig_heights.specs.declared.rule.Rule.{Rule}
@@ -192,33 +192,30 @@ module _ (f : Forest) where
     parted r (table.choice v node c less has among is) = inl (table.choice v node c less has among is)
     parted r (table.entry k it e less has among is) = inr (table.entry k it e less has among is)
 
+    module _ (a b rs : List Rule) (none : a ≡ []) (first : Adds a b (IsRuleOf f (length f.nodes) 0))
+        (second : Adds b rs (IsRuleOf f 0 (length f.items))) where
+      all_sound : (r : Rule) → Contains rs r → IsRuleOf f (length f.nodes) (length f.items) r
+      all_sound r c =
+          elim ((second r).0 c) [
+            | inl in_b ↦ elim ((first r).0 in_b) [
+              | inl in_a ↦ absurd (none_in_nil r (subst (λ (z : List Rule). Contains z r) none in_a))
+              | inr p ↦ widen_nodes r p
+            ]
+            | inr p ↦ widen_items r p
+          ]
+
+      all_there : (r : Rule) → IsRuleOf f (length f.nodes) (length f.items) r → Contains rs r
+      all_there r p = elim (parted r p) [ inl q ↦ (second r).1 (inl ((first r).1 (inr q))) | inr q ↦ (second r).1 (inr q) ]
+
+      pub all_fit : (parts : ℕ) → parts ≡ suc (ground_of f) → FitAll parts rs
+      all_fit parts is r c = subst (λ (n : ℕ). FitsRule n r) (sym is) (rule_fits r (all_sound r c))
+
     pub table_least : (t : Table) (a b : List Rule) → t.nodes ≡ length f.nodes → t.ground ≡ ground_of f → t.parts ≡ suc t.ground →
-        length f.nodes < 4294967296 → length f.items < 4294967296 → a ≡ [] → Adds a b (IsRuleOf f (length f.nodes) 0) →
-        Adds b t.rules.items (IsRuleOf f 0 (length f.items)) → IsLeastTable f t
-    table_least t a b nodes ground parts few_nodes few_items none first second = record {
+        a ≡ [] → Adds a b (IsRuleOf f (length f.nodes) 0) → Adds b t.rules.items (IsRuleOf f 0 (length f.items)) → IsLeastTable f t
+    table_least t a b nodes ground parts none first second = record {
       nodes = nodes;
       ground = ground;
       parts = parts;
-      fits = record {
-        nodes = omega (arith, nodes, ground);
-        ground = omega (arith, parts);
-        few = omega (arith, nodes, few_nodes);
-        small = omega (arith, ground, few_nodes, few_items);
-        rules = λ r c. subst (λ (n : ℕ). FitsRule n r) (sym parts_are) (rule_fits r (sound_now r c));
-      };
-      sound = sound_now;
-      whole = λ r p. elim (parted r p) [ inl q ↦ (second r).1 (inl ((first r).1 (inr q))) | inr q ↦ (second r).1 (inr q) ];
+      sound = all_sound a b t.rules.items none first second;
+      whole = all_there a b t.rules.items none first second;
     }
-      where
-        parts_are : t.parts ≡ suc (ground_of f)
-        parts_are = parts ∙ ap suc ground
-
-        sound_now : (r : Rule) → Contains t.rules.items r → IsRuleOf f (length f.nodes) (length f.items) r
-        sound_now r c =
-            elim ((second r).0 c) [
-              | inl in_b ↦ elim ((first r).0 in_b) [
-                | inl in_a ↦ absurd (none_in_nil r (subst (λ (z : List Rule). Contains z r) none in_a))
-                | inr p ↦ widen_nodes r p
-              ]
-              | inr p ↦ widen_items r p
-            ]

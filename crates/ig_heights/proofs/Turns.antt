@@ -9,7 +9,7 @@ use Rattle.std.specs.Option.{option_to_list}
 use Rattle.ig_text.proofs.Emptiness.{emptied}
 use Rattle.ig_text.proofs.Lists.{none_in_nil}
 use Rattle.ig_text.proofs.Orders.{le_or_lt}
-use Rattle.ig_heights.specs.Rules.{height_at, need, FitsTable, AreLeast}
+use Rattle.ig_heights.specs.Rules.{height_at, need, AreLeast}
 use Rattle.ig_heights.specs.Work.{unset, Waits, IsWork, Works, AreUses, UseAll, Takes, Pops, weight}
 use Rattle.ig_heights.specs.Work as work
 use Rattle.ig_heights.specs.declared.rule.Rule.{Rule}
@@ -20,11 +20,11 @@ use Rattle.ig_heights.proofs.Numbers.{rise_cases, rise_low, set_there, unset_low
 none_some : {n : ℕ} → None ≡ Some n → ⊥
 none_some e = cc
 
-module _ (t : Table) (fits : FitsTable t) where
+module _ (t : Table) where
   -- at the beginning the ground alone has a height
   module _ (hs : List ℕ) (is : hs ≡ set (replicate t.parts (suc t.nodes)) t.ground 0) where
     within : t.ground < length (replicate t.parts (suc t.nodes))
-    within = let l = length-replicate t.parts (suc t.nodes) in let g = fits.ground in omega (arith, l, g)
+    within = let l = length-replicate t.parts (suc t.nodes) in let g = t.there in omega (arith, l, g)
 
     at_ground : height_at hs t.ground ≡ 0
     at_ground = ap (λ (z : List ℕ). height_at z t.ground) is ∙ get_or-set_same (replicate t.parts (suc t.nodes)) t.ground 0 0 within
@@ -68,7 +68,7 @@ module _ (t : Table) (fits : FitsTable t) where
         | is_blank g ↦ inl (omega (arith, g, h))
         | is_absent past g ↦ inl (omega (arith, g))
       ]
-      | is_absent past h ↦ let f = (fits.rules r c).left in absurd (omega (arith, past, f))
+      | is_absent past h ↦ let f = (t.fit r c).left in absurd (omega (arith, past, f))
     ]
 
     low_first : (p : ℕ) → height_at hs p ≤ t.nodes → height_at hs p ≡ 0
@@ -94,7 +94,7 @@ module _ (t : Table) (fits : FitsTable t) where
         }
       where
         in_ground : (p : ℕ) → Contains (t.ground ∷ []) p → (p < t.parts) × (height_at hs p ≡ 0)
-        in_ground p (zero, within, same) = let g = fits.ground in (omega (arith, g, same), ap (height_at hs) (sym same) ∙ at_ground)
+        in_ground p (zero, within, same) = let g = t.there in (omega (arith, g, same), ap (height_at hs) (sym same) ∙ at_ground)
         in_ground p (suc k, within, same) = absurd (omega (arith, within))
 
   -- the next round
@@ -161,7 +161,7 @@ module _ (t : Table) (fits : FitsTable t) where
               | inl known ↦ known
               | inr none ↦
                   let o = obeyed_now r c in let l = low_now r.left left in let s = low_now r.right right in let m = law.room in
-                  let f = (fits.rules r c).target in let n = law.long in
+                  let f = (t.fit r c).target in let n = law.long in
                   elim (rise_cases t.nodes r.target) [
                     | inl node ↦
                         let e = node.1 in let less = node.0 in

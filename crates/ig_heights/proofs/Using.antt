@@ -5,7 +5,7 @@ use Rattle.std.proofs.lemmas.Option.{slice_get-get_or, get_or_from_slice_get}
 use Rattle.std.proofs.lemmas.List.{take_all, take_more, get_or-set_same}
 use Rattle.std.proofs.lemmas.Bool.{cases_eq}
 use Rattle.ig_text.proofs.Lists.{none_in_nil}
-use Rattle.ig_heights.specs.Rules.{FitsRule, FitsTable}
+use Rattle.ig_heights.specs.Fits.{FitsRule}
 use Rattle.ig_heights.specs.Work.{AreUses, AreNoRows}
 use Rattle.ig_heights.specs.declared.rule.Rule.{Rule}
 use Rattle.ig_heights.specs.declared.rule.Table.{Table}
@@ -156,10 +156,10 @@ module _ {X : Type 0} (xs : List X) (i : ℕ) (d : X) (less : i < length xs) whe
   pub taken_here : Contains (take (i + 1) xs) (get_or xs i d)
   taken_here = subst (λ (z : List X). Contains z (get_or xs i d)) (sym (take_more xs i d less)) (Contains-push (take i xs) (get_or xs i d))
 
-module _ (t : Table) (fits : FitsTable t) (rs : List Rule) (same : rs ≡ t.rules.items) (i : ℕ) (d : Rule) (less : i < length rs) where
+module _ (t : Table) (rs : List Rule) (same : rs ≡ t.rules.items) (i : ℕ) (d : Rule) (less : i < length rs) where
   pub fits_at : FitsRule t.parts (get_or rs i d)
   fits_at =
-      fits.rules (get_or rs i d) (subst (λ (z : List Rule). Contains z (get_or rs i d)) same (i, less, read_at rs i d less))
+      t.fit (get_or rs i d) (subst (λ (z : List Rule). Contains z (get_or rs i d)) same (i, less, read_at rs i d less))
 
   pub left_within : (rows : List (List Rule)) → length rows ≡ t.parts → (get_or rs i d).left < length rows
   left_within rows long = let f = fits_at.left in omega (arith, f, long)

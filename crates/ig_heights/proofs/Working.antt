@@ -3,7 +3,8 @@ use Rattle.std.proofs.Common.{◌≡◌, ◌⊎◌, inl, inr, ℕ, zero, suc, �
 use Rattle.std.proofs.lemmas.List.{get_or-set_same}
 use Rattle.std.proofs.lemmas.Bool.{cases_eq}
 use Rattle.ig_text.proofs.Orders.{le_or_lt}
-use Rattle.ig_heights.specs.Rules.{rise, height_at, need, FitsRule, IsGiven}
+use Rattle.ig_heights.specs.Fits.{FitsRule}
+use Rattle.ig_heights.specs.Rules.{rise, height_at, need, IsGiven}
 use Rattle.ig_heights.specs.Work.{unset, Waits, IsWork}
 use Rattle.ig_heights.specs.Work as work
 use Rattle.ig_heights.specs.declared.rule.Rule.{Rule}

@@ -1,3 +1,4 @@
+pub mod Fits
 pub mod Heights
 pub mod Laws
 pub mod Rules

@@ -1,6 +1,5 @@
 -- Rules between numbered parts, and the heights that they give.
 use Rattle.std.specs.Prelude.{◌≡◌, ◌⊎◌, ℕ, zero, suc, ◌+◌, ◌<◌, ◌≤◌, max, List, length, get_or, slice_get, Some, Contains}
-use Rattle.ig_item.specs.Limits.{numbers_end}
 use Rattle.ig_heights.specs.declared.rule.Rule.{Rule}
 use Rattle.ig_heights.specs.declared.rule.Table.{Table}
 
@@ -16,24 +15,6 @@ height_at heights part = get_or heights part 0
 -- what the rule makes has this height at least
 abbrev pub need : ℕ → List ℕ → Rule → ℕ
 need nodes heights rule = max (height_at heights rule.left) (height_at heights rule.right) + rise nodes rule.target
-
--- the numbers of a rule are there
-pub record FitsRule (parts : ℕ) (rule : Rule) : Type 0 where
-  pub target : rule.target < parts
-  pub left : rule.left < parts
-  pub right : rule.right < parts
-
--- more than there are nodes and items, each of which has a number of 32 bits
-abbrev pub ground_end : ℕ
-ground_end = 8589934592
-
--- nodes come first, and among the other parts is one that needs nothing
-pub record FitsTable (table : Table) : Type 0 where
-  pub nodes : table.nodes ≤ table.ground
-  pub ground : table.ground < table.parts
-  pub few : table.nodes < numbers_end
-  pub small : table.ground < ground_end
-  pub rules : (rule : Rule) → Contains table.rules.items rule → FitsRule table.parts rule
 
 -- some rule gives the part this height
 pub record IsGiven (nodes : ℕ) (rules : List Rule) (heights : List ℕ) (part : ℕ) : Type 0 where

@@ -5,7 +5,6 @@ use Rattle.ig_forest.specs.declared.entry.Choice.{Choice}
 use Rattle.ig_forest.specs.declared.entry.Entry.{Entry}
 use Rattle.ig_forest.specs.declared.entry.Entry.TheVariants.{Begin, Pass, Take}
 use Rattle.ig_forest.specs.declared.entry.Child.TheVariants as child
-use Rattle.ig_heights.specs.Rules.{FitsTable}
 use Rattle.ig_heights.specs.declared.rule.Rule.{Rule}
 use Rattle.ig_heights.specs.declared.rule.Table.{Table}
 
@@ -45,7 +44,6 @@ pub record IsLeastTable (f : Forest) (table : Table) : Type 0 where
   pub nodes : table.nodes ≡ length f.nodes
   pub ground : table.ground ≡ ground_of f
   pub parts : table.parts ≡ suc table.ground
-  pub fits : FitsTable table
   pub sound : (rule : Rule) → Contains table.rules.items rule → IsRuleOf f (length f.nodes) (length f.items) rule
   pub whole : (rule : Rule) → IsRuleOf f (length f.nodes) (length f.items) rule → Contains table.rules.items rule
 
@@ -73,7 +71,6 @@ pub record NeedsAll (rules : List Rule) (ground part : ℕ) (P : ℕ → Type 0)
 pub record IsWholeTable (least whole : Table) : Type 0 where
   pub nodes : whole.nodes ≡ least.nodes
   pub ground : whole.ground ≡ least.ground
-  pub fits : FitsTable whole
   pub distinct : (i j : ℕ) (r s : Rule) → slice_get whole.rules.items i ≡ Some r →
       slice_get whole.rules.items j ≡ Some s → r.target ≡ s.target → i ≡ j
   pub none_free : (r : Rule) → Contains whole.rules.items r → r.target ≡ whole.ground → ⊥

@@ -1,4 +1,7 @@
 //! Rules between numbered parts.
+ghost use Rattle.std.specs.Prelude.{◌<◌, ◌≤◌};
+ghost use Rattle.ig_item.specs.Limits.{numbers_end};
+ghost use Rattle.ig_heights.specs.Fits.{FitAll, ground_end};
 
 /// The target has trees where both sources have some.
 #[derive(Clone, Copy, PartialEq, Eq, Debug)]
@@ -9,11 +12,16 @@ pub(crate) struct Rule {
 }
 
 /// Rules between parts that are numbered from 0: first the nodes, and among the others the ground,
-/// which needs nothing.
+/// which needs nothing. All parts of the rules are there.
 #[derive(Drop)]
 pub(crate) struct Table {
     pub nodes: usize,
     pub ground: usize,
     pub parts: usize,
     pub rules: Vec<Rule>,
+    ghost first: { nodes ≤ ground },
+    ghost there: { ground < parts },
+    ghost few: { nodes < numbers_end },
+    ghost small: { ground < ground_end },
+    ghost fit: { FitAll parts rules.items },
 }

@@ -1,6 +1,5 @@
 //! The rules that use a part.
 ghost use Rattle.std.specs.Prelude.{◌≡◌, ◌<◌, ◌++◌, ◌∷◌, [], IfOk, OnOk, length, get_or, set};
-ghost use Rattle.ig_heights.specs.Rules.{FitsTable};
 ghost use Rattle.ig_heights.specs.Work.{AreNoRows, AreUses};
 
 use crate::rule::{Rule, Table};
@@ -9,7 +8,6 @@ use std::alloc::{AllocError, Global};
 
 /// The rules that use a part, for each part.
 pub(crate) fn uses_of(alloc: Global, table: &Table) -> Result<Vec<Sequence<Rule>>, AllocError>
-    requires fits { FitsTable table.now }
     ensures { IfOk result (λ rows. AreUses table.now.rules.items table.now.parts rows.items) }
 {
     let mut rows = no_rows(alloc, table.parts)?;

@@ -1,6 +1,6 @@
 //! Rules by which a part is made once the sources of all its rules are.
 ghost use Rattle.std.specs.Prelude.{◌≡◌, ◌<◌, [], suc, IfOk, OnOk, length};
-ghost use Rattle.ig_heights.specs.Rules.{FitsTable, ground_end};
+ghost use Rattle.ig_heights.specs.Fits.{ground_end};
 ghost use Rattle.ig_heights.specs.Table.{AreLasts, AreLinks, IsWholeTable, Linked, Links};
 
 use crate::rule::{Rule, Table};
@@ -9,7 +9,6 @@ use std::alloc::{AllocError, Global};
 /// One rule for each part. The sources of a part's rules form a chain of new parts, and the part
 /// needs its end.
 pub(crate) fn whole_rules(alloc: Global, least: &Table) -> Result<Table, AllocError>
-    requires fits { FitsTable least.now }
     requires parts { least.now.parts ≡ suc least.now.ground }
     ensures { IfOk result (IsWholeTable least.now) }
 {
@@ -27,7 +26,6 @@ pub(crate) fn whole_rules(alloc: Global, least: &Table) -> Result<Table, AllocEr
 
 /// Adds two links for each rule to the chain of its target, and gives the ends of the chains.
 fn add_links(alloc: Global, links: &mut Vec<Rule>, least: &Table) -> Result<Vec<usize>, AllocError>
-    requires fits { FitsTable least.now }
     requires parts { least.now.parts ≡ suc least.now.ground }
     requires none { links.old.items ≡ [] }
     ensures { IfOk result (λ last. AreLinks least.now.ground least.now.rules.items

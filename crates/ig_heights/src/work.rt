@@ -1,7 +1,8 @@
 //! Least heights by a work list.
 ghost use Rattle.std.specs.Prelude.{◌≡◌, ◌<◌, ◌≤◌, ◌↔◌, [], suc, IfOk, IsTrue, OnOk, length};
 ghost use Rattle.ig_item.specs.Limits.{numbers_end};
-ghost use Rattle.ig_heights.specs.Rules.{AreLeast, FitsRule, FitsTable, height_at};
+ghost use Rattle.ig_heights.specs.Fits.{FitsRule};
+ghost use Rattle.ig_heights.specs.Rules.{AreLeast, height_at};
 ghost use Rattle.ig_heights.specs.Work.{Fires, Looks, Pops, Takes, UseAll, Works, weight};
 
 use crate::rule::{Rule, Table};
@@ -22,7 +23,6 @@ pub(crate) struct Work {
 /// The least heights that the rules give, by part; one above the number of nodes where they give
 /// none. Each part is taken once.
 pub(crate) fn least_heights(alloc: Global, table: &Table) -> Result<Vec<usize>, AllocError>
-    requires fits { FitsTable table.now }
     ensures { IfOk result (λ heights. AreLeast table.now heights.items) }
 {
     let use_table = uses_of(alloc, table)?;
@@ -36,7 +36,6 @@ pub(crate) fn least_heights(alloc: Global, table: &Table) -> Result<Vec<usize>, 
 
 /// Nothing has a height but the ground.
 fn begun(alloc: Global, table: &Table) -> Result<Work, AllocError>
-    requires fits { FitsTable table.now }
     ensures { IfOk result (λ work. Works table.now work []) }
 {
     let mut heights = vec![in alloc; table.nodes + 1; table.parts]?;
@@ -85,7 +84,6 @@ impl Work {
 
     /// Looks at each rule that uses the part.
     fn visit(&mut self, table: &Table, part: usize, uses: &[Rule]) -> Result<(), AllocError>
-        requires fits { FitsTable table.now }
         requires uses { UseAll table.now part uses.now }
         requires part { height_at self.old.heights.items part ≡ self.old.height }
         requires work { Works table.now self.old uses.now }

@@ -7,18 +7,18 @@ loop-rule-init c =
     (c.in_ok-last.ensures.items_if_clones_equal (λ y e. e))
 
 pub add_rule-requires-clause-ground : goal.add_rule-requires-clause-ground
-add_rule-requires-clause-ground c = c.requires.fits.small
+add_rule-requires-clause-ground c = c.args.least.now.small
 
 pub add_rule-requires-clause-last : goal.add_rule-requires-clause-last
 add_rule-requires-clause-last c = c.loop-rule.invariant.long
 
 pub loop-rule-preserved : goal.loop-rule-preserved
 loop-rule-preserved c =
-    links_step c.args.least.now c.requires.fits c.requires.parts c.deref-rule-items.result.now c.deref-rule-items.ensures.value c.loop-rule.rule-index _
+    links_step c.args.least.now c.requires.parts c.deref-rule-items.result.now c.deref-rule-items.ensures.value c.loop-rule.rule-index _
     c.loop-rule.links.items c.add_rule.new.links.items c.loop-rule.last.items c.add_rule.new.last.items c.loop-rule-test.true c.loop-rule.invariant
     c.in_ok-add_rule.ensures
 
 pub returns : goal.returns
 returns c =
-    links_all c.args.least.now c.requires.fits c.requires.parts c.deref-rule-items.result.now c.deref-rule-items.ensures.value c.loop-rule.rule-index
+    links_all c.args.least.now c.requires.parts c.deref-rule-items.result.now c.deref-rule-items.ensures.value c.loop-rule.rule-index
     c.loop-rule.links.items c.loop-rule.last.items c.loop-rule-test.false c.loop-rule.invariant

@@ -7,7 +7,7 @@ use Rattle.ig_heights.proofs.Answering.{nodes_small, items_small, heights_are}
 use Rattle.ig_heights.proofs.heights.Heights.of.Goals as goal
 
 few : (f : Forest) (l : Table) → IsLeastTable f l → length f.nodes < 4294967296
-few f l rules = let n = rules.nodes in let s = rules.fits.few in omega (arith, n, s)
+few f l rules = let n = rules.nodes in let s = l.few in omega (arith, n, s)
 
 pub part_of-requires-clause-small : goal.part_of-requires-clause-small
 part_of-requires-clause-small c =
