@@ -2,7 +2,7 @@
 use Rattle.std.proofs.Common.{◌≡◌, ◌⊎◌, inl, inr, ℕ, zero, suc, ◌+◌, ◌<◌, ◌≤◌, List, ◌∷◌, ◌++◌, Some, length, slice_get, Contains, refl, sym, ap, ◌∙◌, arith}
 use Rattle.std.proofs.lemmas.Option.{same_Some, slice_get_within}
 use Rattle.ig_text.specs.Tree.{Tree, Trees, Leaf, Node, one, join, height, greatest_height}
-use Rattle.ig_text.proofs.Lists.{at_from_contains, contains_from_at}
+use Rattle.ig_text.proofs.Lists.{at_from_contains, contains_from_at, in_rest}
 use Rattle.ig_text.proofs.Orders.{le_or_lt}
 use Rattle.ig_forest.specs.Forest as forest
 use Rattle.ig_forest.specs.Forest.{Forest, ItemNode}
@@ -21,7 +21,6 @@ use Rattle.ig_heights.specs.declared.rule.Rule.{Rule}
 use Rattle.ig_heights.specs.declared.rule.Table.{Table}
 use Rattle.ig_heights.proofs.Numbers.{rise_one}
 use Rattle.ig_heights.proofs.Depths.{greatest_one, node_low, item_low, node_at, item_at}
-use Rattle.ig_heights.proofs.Working.{among_more}
 
 module _ (f : Forest) (l t : Table) (rules : IsLeastTable f l) (whole : IsWholeTable l t) (hs : List ℕ) (least : AreLeast t hs) where
   nodes_is : t.nodes ≡ length f.nodes
@@ -51,7 +50,7 @@ module _ (f : Forest) (l t : Table) (rules : IsLeastTable f l) (whole : IsWholeT
   chain_low (table.empty c is) known p among = let less = among.1 in absurd (omega (arith, less))
   chain_low (table.link c last part others rule chain) known p among =
       let g = rule_given _ rule known in
-      elim (among_more others part p among) [
+      elim (in_rest part others p among) [
         | inl e ↦ let h = ap (height_at hs) e in omega (arith, g, h)
         | inr o ↦ let h = chain_low chain (omega (arith, g, known)) p o in omega (arith, g, h)
       ]

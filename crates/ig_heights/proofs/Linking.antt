@@ -4,7 +4,7 @@ use Rattle.std.proofs.lemmas.List.{get_or-replicate, length-replicate, take_all,
 use Rattle.std.proofs.lemmas.Option.{same_Some, slice_get_within}
 use Rattle.std.proofs.lemmas.List.Elements.{Contains-append_left, Contains-push, Contains-push_cases}
 use Rattle.std.proofs.lemmas.Bool.{cases_eq}
-use Rattle.ig_text.proofs.Lists.{at_from_contains, contains_from_at, none_in_nil, left_at}
+use Rattle.ig_text.proofs.Lists.{at_from_contains, contains_from_at, none_in_nil, in_rest, left_at}
 use Rattle.ig_text.proofs.Orders.{le_or_lt}
 use Rattle.ig_heights.specs.Fits.{FitsRule, FitAll}
 use Rattle.ig_heights.specs.Table.{Chain, IsSource, NeedsAll, IsWholeTable, AreLinks, AreLasts, Links, Linked}
@@ -12,7 +12,6 @@ use Rattle.ig_heights.specs.Table as table
 use Rattle.ig_heights.specs.declared.rule.Rule.{Rule}
 use Rattle.ig_heights.specs.declared.rule.Table.{Table}
 use Rattle.ig_heights.proofs.Numbers.{set_there, long_push}
-use Rattle.ig_heights.proofs.Working.{among_more}
 use Rattle.ig_heights.proofs.Using.{read_at, taken_only, taken_all, taken_here}
 
 abbrev no_links : List Rule
@@ -189,10 +188,10 @@ module _ (ground : ℕ) (rules more : List Rule) (rule : Rule) (only : (r : Rule
 
           only_now : (p : ℕ) → Contains (rule.right ∷ rule.left ∷ old.needs) p → (p ≡ ground) ⊎ IsSource more rule.target p
           only_now p c =
-              elim (among_more (rule.left ∷ old.needs) rule.right p c) [
-                | inl e ↦ inr (record { rule = rule; among = here; target = refl; is = inr e })
-                | inr d ↦ elim (among_more old.needs rule.left p d) [
-                  | inl e ↦ inr (record { rule = rule; among = here; target = refl; is = inl e })
+              elim (in_rest rule.right (rule.left ∷ old.needs) p c) [
+                | inl e ↦ inr (record { rule = rule; among = here; target = refl; is = inr (sym e) })
+                | inr d ↦ elim (in_rest rule.left old.needs p d) [
+                  | inl e ↦ inr (record { rule = rule; among = here; target = refl; is = inl (sym e) })
                   | inr o ↦ elim (old.only p o) [ inl e ↦ inl e | inr s ↦ inr (source_more rule.target p s) ]
                 ]
               ]
@@ -355,7 +354,7 @@ module _ (l : Table) (links : List Rule) (last : List ℕ) (are : AreLinks l.gro
         needs = l.ground ∷ n.needs;
         chain = table.link q (get_or last q 0) l.ground n.needs (lasts.here q (omega (arith, low, long))) (chain_more links rs more n.chain);
         all = λ p s. let c = n.all p s in let less = c.1 in (suc c.0, omega (arith, less), c.2);
-        only = λ p c. elim (among_more n.needs l.ground p c) [ inl e ↦ inl e | inr o ↦ n.only p o ];
+        only = λ p c. elim (in_rest l.ground n.needs p c) [ inl e ↦ inl (sym e) | inr o ↦ n.only p o ];
       }
 
 pub table_whole : (l t : Table) (links : List Rule) (last : List ℕ) → AreLinks l.ground l.rules.items links last →

@@ -1,7 +1,8 @@
 -- One look at a rule keeps the work list lawful.
-use Rattle.std.proofs.Common.{◌≡◌, ◌⊎◌, inl, inr, ℕ, zero, suc, ◌+◌, ◌*◌, ◌<◌, ◌≤◌, List, ◌∷◌, length, set, Contains, sym, ap, ◌∙◌, subst, arith, length-set}
+use Rattle.std.proofs.Common.{◌≡◌, ◌⊎◌, inl, inr, ℕ, suc, ◌+◌, ◌*◌, ◌<◌, ◌≤◌, List, ◌∷◌, length, set, Contains, sym, ap, ◌∙◌, subst, arith, length-set}
 use Rattle.std.proofs.lemmas.List.{get_or-set_same}
 use Rattle.std.proofs.lemmas.Bool.{cases_eq}
+use Rattle.ig_text.proofs.Lists.{in_rest}
 use Rattle.ig_text.proofs.Orders.{le_or_lt}
 use Rattle.ig_heights.specs.Fits.{FitsRule}
 use Rattle.ig_heights.specs.Rules.{rise, height_at, need, IsGiven}
@@ -10,10 +11,6 @@ use Rattle.ig_heights.specs.Work as work
 use Rattle.ig_heights.specs.declared.rule.Rule.{Rule}
 use Rattle.ig_heights.specs.declared.rule.Table.{Table}
 use Rattle.ig_heights.proofs.Numbers.{rise_cases, rise_low, rise_one, set_there, unset_set, unset_some}
-
-pub among_more : {X : Type 0} (xs : List X) (x y : X) → Contains (x ∷ xs) y → (y ≡ x) ⊎ Contains xs y
-among_more xs x y (zero, within, is) = inl (sym is)
-among_more xs x y (suc k, within, is) = inr (k, omega (arith, within), is)
 
 -- a rule that uses a part of the round's height needs that height at least
 needs_round : (nodes height part : ℕ) (heights : List ℕ) (rule : Rule) → (rule.left ≡ part) ⊎ (rule.right ≡ part) →
@@ -30,7 +27,7 @@ module _ (t : Table) (hs cs ns : List ℕ) (h part : ℕ) (rule : Rule) (rest : 
   waits_still r (work.right_current c) = inl (work.right_current c)
   waits_still r (work.left_next c) = inl (work.left_next c)
   waits_still r (work.right_next c) = inl (work.right_next c)
-  waits_still r (work.itself c) = elim (among_more rest rule r c) [ inl e ↦ inr e | inr o ↦ inl (work.itself o) ]
+  waits_still r (work.itself c) = elim (in_rest rule rest r c) [ inl e ↦ inr (sym e) | inr o ↦ inl (work.itself o) ]
 
   -- what is higher than the round waits, or has no height
   beyond : (p : ℕ) → h < height_at hs p → (height_at hs p ≡ suc t.nodes) ⊎ Contains ns p
