@@ -14,7 +14,9 @@ ghost use Rattle.ig_steps.specs.Names.{all_dots, dots_of, dots_of_alternatives};
 
 use crate::compiled::{Form, forms_of_step};
 use crate::rows::push_row;
-use ig_item::{Core, CoreAlt, Item, Nonterminal, Step, Steps, VisibleNames, names_are_at_dots};
+use ig_item::{
+    Core, CoreAlt, Item, Nonterminal, Step, Steps, VisibleNames, names_are_at_dots, number,
+};
 use ig_text::{Sequence, Word, Words};
 use std::alloc::{AllocError, Global};
 
@@ -99,7 +101,7 @@ fn forms_along(
 {
     let mut rows = Sequence::new(alloc);
     for (dot, step) in steps.iter().enumerate() {
-        let Some(visible) = names.at(dot_number(dot)?) else {
+        let Some(visible) = names.at(number(dot)?) else {
             return Ok(rows);
         };
         let row = forms_of_step(alloc, step, visible)?;
@@ -153,14 +155,4 @@ fn forms_at(dots: &Dots, dot: u32) -> Option<&[Form]>
 {
     let forms = dots.forms.as_slice().get(dot as usize)?;
     Some(forms.as_slice())
-}
-
-/// The number of a dot, in 32 bits.
-fn dot_number(dot: usize) -> Result<u32, AllocError>
-    ensures { IfOk result (λ n. n ≡ dot) }
-{
-    match u32::try_from(dot) {
-        Ok(number) => Ok(number),
-        Err(_) => Err(AllocError),
-    }
 }

@@ -8,13 +8,13 @@ use Rattle.ig_steps.proofs.names.forms_along.Goals as goal
 
 pub returns-in_default : goal.returns-in_default
 returns-in_default c =
-    forms_stop c.args.names.now (map step_of c.args.steps.now) c.loop-dot.dot c.in_ok-dot_number.field-0 c.loop-dot.rows c.in_ok-dot_number.ensures
+    forms_stop c.args.names.now (map step_of c.args.steps.now) c.loop-dot.dot c.in_ok-number.field-0 c.loop-dot.rows c.in_ok-number.ensures.number
     c.in_default.ensures c.loop-dot.invariant
 
 pub loop-dot-preserved : goal.loop-dot-preserved
 loop-dot-preserved c =
-    forms_pushed c.args.names.now (map step_of c.args.steps.now) c.loop-dot.dot c.in_ok-dot_number.field-0 c.loop-dot.rows c.push_row.new.rows
-    c.in_ok-row.row c.in-Some.visible.now (step_of c.index-steps-dot.result) c.in_ok-dot_number.ensures c.in-Some.ensures
+    forms_pushed c.args.names.now (map step_of c.args.steps.now) c.loop-dot.dot c.in_ok-number.field-0 c.loop-dot.rows c.push_row.new.rows
+    c.in_ok-row.row c.in-Some.visible.now (step_of c.index-steps-dot.result) c.in_ok-number.ensures.number c.in-Some.ensures
     (slice_get-map step_of c.args.steps.now c.loop-dot.dot ∙
     ap (option_map step_of) (slice_get_read c.args.steps.now _ c.loop-dot.dot c.index-steps-dot.result refl c.loop-dot-test.true
     c.index-steps-dot.is))
