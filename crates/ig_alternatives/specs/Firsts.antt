@@ -1,5 +1,5 @@
--- The first that isn't free, in lists that are joined. What the checks of symbols, of alternatives and of declarations all use stands here with
--- its proofs; nothing of this file has to be believed.
+-- The first that isn't free, in lists that are joined. What the checks of symbols, of alternatives and of declarations
+-- all use stands here with its proofs; nothing of this file has to be believed.
 use Rattle.std.proofs.Common.{◌≡◌, ℕ, zero, suc, ◌<◌, ◌+◌, List, [], ◌∷◌, ◌++◌, length, refl, subst, arith, Some}
 use Rattle.std.specs.Prelude.{All, slice_get}
 use Rattle.std.proofs.lemmas.List.Elements.{All-head, All-tail}

@@ -20,9 +20,10 @@ use std::alloc::Global;
 /// The first fault in the alternatives of the declaration: `Ok` where no condition holds in any of
 /// them.
 ///
-/// `Broken` comes exactly where a condition holds somewhere. Its place is the first, by alternative,
-/// then by symbol in preorder, the alternative itself before its symbols; its cause is the first of
-/// those that hold there, in the order of `ScopeCause`. `Memory` comes where memory is wanting.
+/// `Broken` comes exactly where a condition holds somewhere. Its place has the number of the
+/// declaration, and is the first, by alternative, then by symbol in preorder, the alternative
+/// itself before its symbols; its cause is the first of those that hold there, in the order of
+/// `ScopeCause`. `Memory` comes where memory is wanting.
 pub fn check_alternatives(alloc: Global, numbered: &Numbered) -> Result<(), ScopeFault>
     ensures { TellsAlternatives numbered.now result }
 {

@@ -2,9 +2,9 @@
 //!
 //! [`check`] looks at the start line, then at each declaration: at its head, and at its
 //! alternatives. Which condition a start line or a head meets first `ig_conditions` tells, and
-//! `ig_alternatives` the first fault in the alternatives of a declaration. `specs/Condition.antt` of
-//! `ig_grammar` defines where each condition holds, and `specs/WellScoped.antt` there which one is
-//! the first.
+//! `ig_alternatives` the first fault in the alternatives of a declaration. `specs/Condition.antt`
+//! of `ig_grammar` defines where each condition holds, and `specs/WellScoped.antt` there which one
+//! is the first.
 #![tactic(auto)]
 
 mod checking;
