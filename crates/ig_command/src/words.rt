@@ -7,6 +7,8 @@ ghost use Rattle.ig_command.specs.Commands.{number_of};
 ghost use Rattle.ig_command.specs.Rows.{may_stand};
 ghost use Rattle.ig_command.specs.Words.{is_value};
 
+use ig_expr::digits_grow;
+
 /// Whether all the words may stand.
 pub(crate) fn all_may_stand(words: &[String]) -> bool
     ensures { result ≡ list_all may_stand (map string_bytes words.now) }
@@ -50,6 +52,7 @@ fn may_be_value(word: &str) -> bool
 pub(crate) fn read_number(digits: &str, least: u64, most: u64) -> Option<u64>
     ensures { result ≡ number_of least most digits.now }
 {
+    digits_grow();
     let mut number = 0;
     for digit in digits.as_bytes() {
         match add_digit(number, *digit, most) {

@@ -4,6 +4,7 @@ use Rattle.std.proofs.lemmas.List.{append_cancel_right, nil_from_length}
 use Rattle.std.proofs.lemmas.Bool.Decides.{nat_tests}
 use Rattle.std.proofs.lemmas.Str.{chars-append, chars-nil, encodes-chars, encodes-append, chars_from_encodes}
 use Rattle.ig_expr.specs.Reading.{spelled}
+use Rattle.ig_expr.specs.Laws.{DigitsGrow}
 use Rattle.std.specs.Map.{lookup}
 use Rattle.ig_syntax.specs.Spelling.{literal_signs, is_one_of, escape}
 use Rattle.ig_tokens.specs.Scanner as scanner
@@ -57,15 +58,11 @@ escape_of special c d r b told bare same there =
     ap (λ z. cond z (Some c) (lookup (λ x. x == c) others)) (sym bare ∙ told)
 
 -- numbers
-pub grows : (cs : List ℕ) (n : ℕ) → n ≤ spelled n cs
-grows [] n = omega arith
-grows (c ∷ cs) n = omega (arith, grows cs (10 * n + (c - 48)))
-
-pub number_over : (n c : ℕ) (text after : List ℕ) (all : ℕ) → text ≡ c ∷ after → 2 ^ 64 ≤ 10 * n + (c - 48) →
-    spelled n text ≡ all → 2 ^ 63 ≤ all
-number_over n c text after all h k e =
+pub number_over : (grow : DigitsGrow) (n c : ℕ) (text after : List ℕ) (all : ℕ) → text ≡ c ∷ after →
+    2 ^ 64 ≤ 10 * n + (c - 48) → spelled n text ≡ all → 2 ^ 63 ≤ all
+number_over grow n c text after all h k e =
     let p : spelled n text ≡ spelled (10 * n + (c - 48)) after = rw h refl in
-    omega (arith, grows after (10 * n + (c - 48)))
+    omega (arith, grow after (10 * n + (c - 48)))
 
 -- the first digit alone
 pub first_digit : (text digits after : List ℕ) (c : ℕ) → Begins text c after → IsUtf8 digits → text ≡ digits ++ after →

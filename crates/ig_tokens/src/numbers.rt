@@ -10,6 +10,7 @@ ghost use Rattle.ig_tokens.specs.Steps.{Begins, Gives};
 use crate::characters::{self, Run};
 use crate::step::Step;
 use crate::token::Token;
+use ig_expr::digits_grow;
 
 /// What a number is whose first digit is `c`, where `after` stands behind that.
 pub(crate) fn numeral<'a>(text: &'a str, c: char, after: &'a str) -> Step<'a>
@@ -41,6 +42,7 @@ pub fn number_of(digits: &str) -> Option<i64>
     ensures { MatchOption result (2 ^ 63 ≤ spelled 0 (chars digits.now))
         (λ n. n ≡ pos (spelled 0 (chars digits.now))) }
 {
+    digits_grow();
     let mut number: u64 = 0;
     let mut rest = digits;
     while let Some((c, after)) = characters::first(rest) {
