@@ -1,5 +1,5 @@
 -- What holds at a symbol of each form.
-use Rattle.std.proofs.Common.{◌≡◌, ◌≢◌, ℕ, zero, suc, ◌<◌, ◌≤◌, List, [], ◌∷◌, length, get_or, map, Option, Some, None, refl, sym, ◌∙◌, ap, subst, arith}
+use Rattle.std.proofs.Common.{◌≡◌, ◌≢◌, ℕ, zero, suc, ◌≤◌, List, [], ◌∷◌, length, map, Option, Some, None, refl, sym, ◌∙◌, ap, subst, arith}
 use Rattle.std.specs.Prelude.{Contains, slice_get}
 use Rattle.ig_expr.specs.Expression.{Expression}
 use Rattle.ig_expr.specs.declared.kind.Kind.TheVariants as kind
@@ -16,20 +16,13 @@ use Rattle.ig_grammar.specs.declared.declaration.Param.{Param}
 use Rattle.ig_grammar.specs.declared.declaration.Decl.{Decl}
 use Rattle.ig_conditions.specs.Causes.{Tells, NoneHolds}
 use Rattle.ig_text.proofs.Options.{not_none, one_value}
-use Rattle.ig_text.proofs.Lists.{none_in_nil, it_is_in, at_from_contains}
+use Rattle.ig_text.proofs.Lists.{none_in_nil, it_is_in, at_from_contains, contains_one}
 use Rattle.ig_conditions.specs.Symbols.{HasUnknown, HasUnkinded, IsMismatched, TellsMark}
 use Rattle.ig_conditions.specs.declared.cause.ScopeCause.{ScopeCause}
 use Rattle.ig_conditions.specs.declared.cause.ScopeCause.TheVariants.{MarkInLexical}
 
-only : (x e : Expression) → Contains (x ∷ []) e → x ≡ e
-only x e m = go m.0 m.1 m.2
-  where
-    go : (k : ℕ) → k < length (x ∷ []) → get_or (x ∷ []) k e ≡ e → x ≡ e
-    go zero l p = p
-    go (suc k) l p = let f : ⊥ = omega arith in absurd f
-
 known_only : (v : Visible) (x : Expression) → (NamesUnknown v x → ⊥) → HasUnknown v (x ∷ []) → ⊥
-known_only v x n h = n (subst (NamesUnknown v) (sym (only x h.0 h.1)) h.2)
+known_only v x n h = n (subst (NamesUnknown v) (contains_one x h.0 h.1) h.2)
 
 pub mismatch_same : (v : Visible) {es fs : List Expression} {ps qs : List Param} → es ≡ fs → ps ≡ qs → IsMismatched v es ps → IsMismatched v fs qs
 mismatch_same v {es} {fs} {ps} {qs} e p h = subst (IsMismatched v fs) p (subst (λ z. IsMismatched v z ps) e h)
@@ -138,7 +131,7 @@ module _ (decls : List Decl) (within : DeclKind) (v : Visible) where
 
   pub guard_free : (e : Expression) → (NamesUnknown v e → ⊥) → kind_at v e ≡ Some kind.Bool → NoneHolds (SymbolMeets decls within v (Guard e))
   guard_free e n k c (unknown_variable y d m u) = known_only v e n (d, m, u)
-  guard_free e n k c (no_kind y d m u) = let s = ap (kind_at v) (only e d m) in let t = u.1 in cc
+  guard_free e n k c (no_kind y d m u) = let s = ap (kind_at v) (contains_one e d m) in let t = u.1 in cc
   guard_free e n k c (guard_kind d l) = l k
 
   pub let_unknown : (name : List ℕ) (e : Expression) → NamesUnknown v e → IsLeast (SymbolMeets decls within v (Let name e)) condition.UnknownVariable
@@ -171,7 +164,7 @@ module _ (decls : List Decl) (within : DeclKind) (v : Visible) where
       NoneHolds (SymbolMeets decls within v (Let name e))
   let_free name e n s k c (unknown_variable y d m u) = known_only v e n (d, m, u)
   let_free name e n s k c (duplicate_let m d p) = s p
-  let_free name e n s k c (no_kind y d m u) = k (ap (kind_at v) (only e d m) ∙ u.1)
+  let_free name e n s k c (no_kind y d m u) = k (ap (kind_at v) (sym (contains_one e d m)) ∙ u.1)
 
   pub entry_unknown : (bs : List Binding) (x : Symbol) → HasUnknown v (map (λ b. b.value) bs) → IsLeast (SymbolMeets decls within v (Entry bs x)) condition.UnknownVariable
   entry_unknown bs x n = record { holds = unknown_variable (Entry bs x) n.0 n.1 n.2; least = λ other h. go other h; first_case = λ other p e. omega arith }
