@@ -3,7 +3,6 @@ use Rattle.std.specs.Prelude.{◌≡◌, ◌≢◌, ℕ, Bool, true, false, List
 use Rattle.std.specs.List.{list_any}
 use Rattle.ig_grammar.specs.Name.{is_name}
 use Rattle.ig_grammar.specs.Visible.{names, parameters}
-use Rattle.ig_grammar.specs.Condition.{Condition, TooMany, HeadMeets}
 use Rattle.ig_grammar.specs.declared.declaration.Assoc.TheVariants.{Free}
 use Rattle.ig_grammar.specs.declared.declaration.DeclKind.{DeclKind}
 use Rattle.ig_grammar.specs.declared.declaration.DeclKind.TheVariants.{Layout}
@@ -31,11 +30,3 @@ HasRepeated params =
 -- some level has an associativity
 abbrev pub HaveAssociativity : List Level → Type 0
 HaveAssociativity levels = (level : Level) × Contains levels level × (level.assoc ≢ Free)
-
--- a limit that is passed at a head
-abbrev pub IsLimit : Condition → Type 0
-IsLimit (TooMany many) = Unit {0}
-IsLimit c = ⊥
-
-abbrev pub LimitMeets : List Decl → ℕ → Decl → Condition → Type 0
-LimitMeets decls before decl c = IsLimit c × HeadMeets decls before decl c

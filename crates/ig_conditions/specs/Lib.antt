@@ -1,4 +1,5 @@
 pub mod Causes
 pub mod Heads
+pub mod AtHeads
 pub mod Symbols
 pub mod Room

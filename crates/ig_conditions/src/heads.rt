@@ -1,17 +1,15 @@
 //! What holds at the head of a declaration.
 
-ghost use Rattle.std.specs.Prelude.{◌≡◌, ◌<◌, ◌↔◌, [], IsTrue, IfOk, Contains, Some, length};
-ghost use Rattle.std.specs.Prelude.{take, slice_get};
-ghost use Rattle.ig_grammar.specs.Names.{names};
-ghost use Rattle.ig_grammar.specs.Condition.{HeadMeets, IsNotPlain};
+ghost use Rattle.std.specs.Prelude.{◌≡◌, ◌<◌, ◌↔◌, [], IsTrue, IfOk, length};
 ghost use Rattle.ig_conditions.specs.Causes.{Tells};
-ghost use Rattle.ig_conditions.specs.Heads.{HasRepeated, HaveAssociativity, LimitMeets};
-ghost use Rattle.ig_conditions.specs.Heads.{count_names, have_layout};
+ghost use Rattle.ig_conditions.specs.Heads.{HasRepeated, HaveAssociativity};
+ghost use Rattle.ig_conditions.specs.AtHeads.{HeadHas, IsDeclared, IsUnplain, IsUnplainLayout};
+ghost use Rattle.ig_conditions.specs.AtHeads.{PassesLimit};
 
 use crate::cause::{Many, ScopeCause};
+use crate::head::Head;
 use crate::names::count_named;
-use ig_declarations::Declarations;
-use ig_grammar::{Assoc, Decl, DeclKind, Level, Param, is_name};
+use ig_grammar::{Assoc, DeclKind, Level, Param, is_name};
 use indexmap::IndexSet;
 use std::alloc::{AllocError, Global};
 
@@ -24,29 +22,10 @@ const MOST_PARAMETERS: usize = 16;
 /// The levels that a layout declaration may have.
 const MOST_LEVELS: usize = 1;
 
-/// A declaration where it stands, with what stands before it.
-#[derive(Clone, Copy)]
-pub struct Head<'d, 'g> {
-    /// The declarations of the grammar.
-    pub declarations: &'d Declarations<'g>,
-    /// The one that stands there.
-    pub decl: &'g Decl,
-    /// How many declarations stand before it.
-    pub before: usize,
-    /// How many of these have names of the notation.
-    pub named: usize,
-    /// Whether one of them is a layout declaration.
-    pub has_layout: bool,
-    ghost there: { slice_get declarations.now before ≡ Some decl.now },
-    ghost count: { named ≡ count_names (take before declarations.now) },
-    ghost layout: { has_layout ≡ have_layout (take before declarations.now) },
-}
-
 /// Of the conditions that hold at the head the one of the least number; `None` exactly where none
 /// holds there. Refused for want of memory alone.
 pub fn head_cause(alloc: Global, head: &Head) -> Result<Option<ScopeCause>, AllocError>
-    ensures { IfOk result
-        (Tells (HeadMeets head.now.declarations.now head.now.before head.now.decl.now)) }
+    ensures { IfOk result (Tells (HeadHas head.now)) }
 {
     if is_declared(head) {
         return Ok(Some(ScopeCause::DuplicateName));
@@ -62,8 +41,7 @@ pub fn head_cause(alloc: Global, head: &Head) -> Result<Option<ScopeCause>, Allo
 
 /// Whether an earlier declaration has this name.
 fn is_declared(head: &Head) -> bool
-    ensures { IsTrue result
-        ↔ Contains (names (take head.now.before head.now.declarations.now)) head.now.decl.now.name }
+    ensures { IsTrue result ↔ IsDeclared head.now }
 {
     match head.declarations.place_of(&head.decl.name) {
         Some(place) => place < head.before,
@@ -73,8 +51,7 @@ fn is_declared(head: &Head) -> bool
 
 /// Whether the declaration is a layout declaration that isn't plain.
 fn is_unplain_layout(head: &Head) -> bool
-    ensures { IsTrue result ↔ ((head.now.decl.now.kind ≡ DeclKind.Layout)
-        × IsNotPlain head.now.declarations.now head.now.before head.now.decl.now) }
+    ensures { IsTrue result ↔ IsUnplainLayout head.now }
 {
     match head.decl.kind {
         DeclKind::Layout => is_not_plain(head),
@@ -87,8 +64,7 @@ fn is_unplain_layout(head: &Head) -> bool
 /// Whether a layout declaration isn't plain: it has parameters, more than one level or an
 /// associativity, or there is an earlier one.
 fn is_not_plain(head: &Head) -> bool
-    ensures { IsTrue result
-        ↔ IsNotPlain head.now.declarations.now head.now.before head.now.decl.now }
+    ensures { IsTrue result ↔ IsUnplain head.now }
 {
     if head.has_layout {
         return true;
@@ -105,7 +81,7 @@ fn is_not_plain(head: &Head) -> bool
 
 /// Whether there are more levels than a layout declaration may have.
 fn are_many(levels: &[Level]) -> bool
-    ensures { IsTrue result ↔ (1 < length levels.now) }
+    ensures { IsTrue result ↔ (MOST_LEVELS < length levels.now) }
 {
     levels.len() > MOST_LEVELS
 }
@@ -124,8 +100,7 @@ fn have_associativity(levels: &[Level]) -> bool
 
 /// The limit that is passed at the head of a declaration.
 fn passed_limit(head: &Head) -> Option<ScopeCause>
-    ensures { Tells
-        (LimitMeets head.now.declarations.now head.now.before head.now.decl.now) result }
+    ensures { Tells (PassesLimit head.now) result }
 {
     if !is_name(&head.decl.name) {
         return None;

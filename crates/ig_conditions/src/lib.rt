@@ -9,6 +9,7 @@
 
 mod cause;
 mod expressions;
+mod head;
 mod heads;
 mod names;
 mod room;
@@ -16,7 +17,8 @@ mod starts;
 mod symbols;
 
 pub use cause::{Many, ScopeCause};
-pub use heads::{Head, head_cause};
+pub use head::Head;
+pub use heads::head_cause;
 pub use names::count_named;
 pub use room::room_of;
 pub use starts::start_cause;
