@@ -1,5 +1,5 @@
 -- The entries of live items, made from their ways.
-use Rattle.std.proofs.Common.{◌≡◌, ◌↔◌, ◌⊎◌, inl, inr, ℕ, zero, suc, ◌+◌, ◌<◌, ◌≤◌, List, [], ◌∷◌, ◌++◌, Some, Less, length, map, drop, get_or, slice_get, Contains, IsPermutation, IsSorted, refl, sym, ap, ◌∙◌, subst, arith}
+use Rattle.std.proofs.Common.{◌≡◌, ◌↔◌, inl, inr, ℕ, suc, ◌+◌, ◌<◌, ◌≤◌, List, [], ◌∷◌, ◌++◌, Some, Less, length, map, drop, get_or, slice_get, Contains, IsPermutation, IsSorted, refl, sym, ap, ◌∙◌, subst, arith}
 use Rattle.std.specs.List.{dedup, AllAdjacentBelow}
 use Rattle.std.specs.List.Sorted.{IsStrictlySortedBy}
 use Rattle.std.specs.Ordering.{nat_cmp, eq_by_cmp}
@@ -16,7 +16,7 @@ use Rattle.std.proofs.lemmas.Map.Lookups.{exact_unsigned}
 use Rattle.std.proofs.lemmas.Map.Made.{IsDistinct-from_AllPairs, is_member-Decides}
 use Rattle.std.proofs.lemmas.Map.Steps.{length-le_from_distinct_below}
 use Rattle.std.proofs.lemmas.Option.{same_Some, slice_get-get_or, slice_get_within, get_or_from_slice_get}
-use Rattle.ig_text.proofs.Lists.{at_from_contains, contains_from_at, mapped_in, unmapped_in, contains_later}
+use Rattle.ig_text.proofs.Lists.{contains_from_at, mapped_in, unmapped_in, contains_later, in_rest}
 use Rattle.ig_text.proofs.Once.{once_members}
 use Rattle.ig_text.proofs.Orders.{below_or_at}
 use Rattle.ig_text.proofs.Rising.{one_sorted}
@@ -124,14 +124,6 @@ once_rising entries shown is rising = record {
 pub record AreGathered (s : Sources) (further : List FurtherWay) (place : ℕ) (es : List Entry) : Type 0 where
   pub members : (e : Entry) → Contains es e ↔ ((more : FurtherWay) × Contains (drop place further) more × (e ≡ further_entry s more))
 
-head_or_rest : {X : Type 0} (x : X) (xs : List X) (y : X) → Contains (x ∷ xs) y → (y ≡ x) ⊎ Contains xs y
-head_or_rest x xs y c =
-    let (k, at) = at_from_contains (x ∷ xs) y c in by k at
-  where
-    by : (k : ℕ) → slice_get (x ∷ xs) k ≡ Some y → (y ≡ x) ⊎ Contains xs y
-    by zero at = inl (sym (same_Some x y at))
-    by (suc k) at = inr (contains_from_at xs k y at)
-
 module _ (s : Sources) (further : List FurtherWay) where
   pub gathered_next : (place : ℕ) (d : FurtherWay) (es more : List Entry) → place < length further →
       more ≡ es ++ further_entry s (get_or further place d) ∷ [] →
@@ -144,10 +136,10 @@ module _ (s : Sources) (further : List FurtherWay) where
             (h.0, subst (λ (v : List FurtherWay). Contains v h.0) (sym split) (contains_later here rest h.0 h.1), h.2)
         | inr same ↦ (here, subst (λ (v : List FurtherWay). Contains v here) (sym split) (contains_from_at (here ∷ rest) 0 here refl), sym same)
       ],
-      λ h. subst (λ (v : List Entry). Contains v e) (sym is) (elim (head_or_rest here rest h.0
+      λ h. subst (λ (v : List Entry). Contains v e) (sym is) (elim (in_rest here rest h.0
           (subst (λ (v : List FurtherWay). Contains v h.0) split h.1)) [
             | inl same ↦
-                let f : e ≡ new = h.2 ∙ ap (further_entry s) same in
+                let f : e ≡ new = h.2 ∙ ap (further_entry s) (sym same) in
                 subst (Contains (es ++ new ∷ [])) (sym f) (Contains-push es new)
             | inr old ↦ Contains-append_left es (new ∷ []) e ((so_far.members e).1 (h.0, old, h.2))
           ]),

@@ -12,6 +12,7 @@ use Rattle.std.proofs.lemmas.Bool.Decides.{nat_tests}
 use Rattle.std.proofs.lemmas.Map.Lookups.{exact_unsigned}
 use Rattle.ig_text.proofs.Options.{then_assoc, then_nothing}
 use Rattle.ig_text.proofs.Rising.{rises}
+use Rattle.ig_text.proofs.Sorted.{less_number}
 use Rattle.ig_expr.specs.ValueOrder.{value_cmp, values_cmp}
 use Rattle.ig_expr.specs.declared.value.Value.{Value}
 use Rattle.ig_item.specs.Items.{Item}
@@ -32,10 +33,7 @@ decides ordering.Greater p q same = refl
 pub passed : (a b : Ordering) → a ≡ ordering.Equal → ordering_then a b ≡ b
 passed a b e = ap (λ (o : Ordering). ordering_then o b) e
 
--- the three answers on numbers
-pub lower : (a b : ℕ) → a < b → nat_cmp a b ≡ ordering.Less
-lower a b h = grind (arith, nat_tests)
-
+-- the other two answers on numbers
 pub higher : (a b : ℕ) → b < a → nat_cmp a b ≡ ordering.Greater
 higher a b h = grind (arith, nat_tests)
 
@@ -49,7 +47,7 @@ places_cmp {X = X} cmp total xs i j x y sorted at_x at_y =
     elim (cases_order i j) [
       | inl e ↦
           let same : x ≡ y = cc in tied i j e ∙ sym (tied_itself total x) ∙ ap (cmp x) same
-      | inr (inl lt) ↦ lower i j lt ∙ sym (rises cmp xs i j x y sorted at_x at_y lt)
+      | inr (inl lt) ↦ less_number i j lt ∙ sym (rises cmp xs i j x y sorted at_x at_y lt)
       | inr (inr lt) ↦
           higher i j lt ∙ sym (ap ordering_reverse (rises cmp xs j i y x sorted at_y at_x lt)) ∙
           sym (total.antisymm x y)
@@ -105,7 +103,7 @@ values_append (u ∷ us) vs ws = passed (value_cmp u u) _ (tied_itself value_tot
 -- the order of cursors is that of lists of numbers
 pub less_cmp : {cs ds : List ℕ} → Less cs ds → slice_cmp nat_cmp cs ds ≡ ordering.Less
 less_cmp (order.shorter j ds) = refl
-less_cmp (order.here i j cs ds less) = ap (λ (o : Ordering). ordering_then o (slice_cmp nat_cmp cs ds)) (lower i j less)
+less_cmp (order.here i j cs ds less) = ap (λ (o : Ordering). ordering_then o (slice_cmp nat_cmp cs ds)) (less_number i j less)
 less_cmp (order.later i j cs ds same less) = passed (nat_cmp i j) (slice_cmp nat_cmp cs ds) (tied i j same) ∙ less_cmp less
 
 -- and the other way round

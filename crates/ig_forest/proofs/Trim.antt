@@ -11,6 +11,7 @@ use Rattle.ig_text.specs.declared.pattern.Pattern.TheVariants.{Literal, OneOf}
 use Rattle.ig_text.proofs.Lists.{at_from_contains, contains_from_at}
 use Rattle.ig_text.proofs.Pairwise.{key_at, partner, same_length}
 use Rattle.ig_text.proofs.Rising.{same_members, one_sorted, stands_before}
+use Rattle.ig_text.proofs.Sorted.{less_number}
 use Rattle.ig_expr.specs.declared.value.Value.{Value}
 use Rattle.ig_item.specs.Items.{Item, past}
 use Rattle.ig_item.specs.declared.core_grammar.Nonterminal.{Nonterminal}
@@ -27,7 +28,6 @@ use Rattle.ig_forest.specs.declared.entry.Entry.{Entry}
 use Rattle.ig_forest.specs.declared.entry.Entry.TheVariants.{Begin}
 use Rattle.ig_forest.proofs.TotalOrders.{value_total, item_total, entry_total}
 use Rattle.ig_forest.proofs.Steps.{given_dot}
-use Rattle.ig_forest.proofs.CursorOrders.{lower}
 
 -- a match goes onward
 onward : (text : List ℕ) (pattern : Pattern) (i j : ℕ) → Matches text pattern i j → i ≤ j
@@ -49,11 +49,11 @@ tied_or_lower a b h = grind arith
 -- an item is below those behind it
 below_past : (x : Item) (bound : List Value) (j : ℕ) → x.position ≤ j → item_cmp x (past x bound j) ≡ Less
 below_past x bound j h =
-    let dots = then_lower (nat_cmp x.dot (suc x.dot)) (values_cmp x.env (past x bound j).env) (lower x.dot (suc x.dot) (omega arith)) in
+    let dots = then_lower (nat_cmp x.dot (suc x.dot)) (values_cmp x.env (past x bound j).env) (less_number x.dot (suc x.dot) (omega arith)) in
     let rest = then_tied _ _ (tied x.instance.nonterminal) (then_tied _ _ (tied_itself (lists_total value_total) x.instance.values) (then_tied _ _ (tied x.alternative) dots)) in
     then_tied _ _ (tied x.instance.start)
     (elim (tied_or_lower x.position j h) [
-      | inl lt ↦ then_lower _ _ (lower x.position j lt)
+      | inl lt ↦ then_lower _ _ (less_number x.position j lt)
       | inr e ↦ then_tied _ _ (subst (λ (z : ℕ). nat_cmp x.position z ≡ Equal) e (tied x.position)) rest
     ])
 
