@@ -1,6 +1,6 @@
 -- What the rules say at each step.
 use Rattle.std.proofs.Common.{◌≡◌, ℕ, ◌<◌, List, [], ◌∷◌, Some, Option, length, slice_get, refl, sym, ap, ◌∙◌, subst, subst₂}
-use Rattle.std.proofs.lemmas.Option.{slice_get-get_or, same_Some}
+use Rattle.std.proofs.lemmas.Option.{slice_get-get_or}
 use Rattle.ig_text.specs.declared.pattern.Pattern.{Pattern}
 use Rattle.ig_text.specs.Pattern.{Matches}
 use Rattle.ig_text.proofs.Rising.{one_place}
@@ -8,11 +8,10 @@ use Rattle.ig_text.proofs.Equal.{same_listed}
 use Rattle.ig_expr.specs.Expression.{Expression}
 use Rattle.ig_expr.specs.declared.value.Value.{Value}
 use Rattle.ig_expr.specs.declared.value.Value.TheVariants.{Bool}
-use Rattle.ig_item.specs.Step.{Step, Test, Bind, Term, Call}
-use Rattle.ig_item.specs.Core.{IsAlternative}
+use Rattle.ig_item.specs.Step.{Test, Bind, Term, Call}
 use Rattle.ig_item.specs.Items.{Item, Reachable, StandsBefore, HasValue, MatchesNone, past, span_of, IsComplete}
 use Rattle.ig_item.specs.declared.core_grammar.Nonterminal.{Nonterminal}
-use Rattle.ig_item.specs.declared.core_grammar.CoreAlt.{CoreAlt}
+use Rattle.ig_item.specs.Laws.{StandsBeforeOne}
 use Rattle.ig_item.specs.Gives as rules
 use Rattle.ig_item.specs.Gives.{NodeKey, Taken, Completes, nothing, leaf, tree}
 use Rattle.ig_live.specs.Live.{Gives}
@@ -24,60 +23,45 @@ use Rattle.ig_forest.proofs.Uniqueness.{same_key}
 use Rattle.ig_forest.proofs.CodeOrders.{list_total}
 use Rattle.std.specs.List.Sorted.{IsStrictlySortedBy}
 
-pub same_alternative : (core : List Nonterminal) (n a : ℕ) (nt mt : Nonterminal) (alt other : CoreAlt) → IsAlternative core n a nt alt →
-    IsAlternative core n a mt other → (nt ≡ mt) × (alt ≡ other)
-same_alternative core n a nt mt alt other p q =
-    let e : nt ≡ mt = same_Some nt mt (sym p.there ∙ q.there) in
-    (e, same_Some alt other (sym p.has ∙ ap (λ (z : Nonterminal). Rattle.ig_item.specs.Core.numbered z.alternatives a) e ∙ q.has))
-
-pub same_step : (core : List Nonterminal) (it : Item) (ns ms : List (List ℕ)) (s t : Step) → StandsBefore core it ns s →
-    StandsBefore core it ms t → (s ≡ t) × (ns ≡ ms)
-same_step core it ns ms s t p q =
-    let e = same_alternative core it.instance.nonterminal it.alternative p.nonterminal q.nonterminal p.alternative q.alternative p.has q.has in (
-      same_Some s t (sym p.next ∙ ap (λ (z : CoreAlt). slice_get z.steps it.dot) e.1 ∙ q.next),
-      p.visible ∙ ap (λ (z : Nonterminal). Rattle.ig_item.specs.Visible.names_at z p.alternative it.dot) e.0 ∙
-          ap (λ (z : CoreAlt). Rattle.ig_item.specs.Visible.names_at q.nonterminal z it.dot) e.1 ∙ sym q.visible,
-    )
-
 abbrev pub complete_from_last : (core : List Nonterminal) (lists : List (List Value)) (row : ItemRow) → StandsLast core row → IsComplete core (item_by lists row)
 complete_from_last core lists row s = record { nonterminal = s.nonterminal; alternative = s.alternative; has = s.has; last = s.last }
 
 abbrev pub last_from_complete : (core : List Nonterminal) (lists : List (List Value)) (row : ItemRow) → IsComplete core (item_by lists row) → StandsLast core row
 last_from_complete core lists row s = record { nonterminal = s.nonterminal; alternative = s.alternative; has = s.has; last = s.last }
 
-module _ (core : List Nonterminal) (text : List ℕ) where
+module _ (core : List Nonterminal) (text : List ℕ) (before_one : StandsBeforeOne) where
   pub by_test : {prev x : Item} {taken : Taken} → Gives core text prev taken x → (names : List (List ℕ)) (e : Expression) →
       StandsBefore core prev names (Test e) →
       (taken ≡ nothing) × HasValue text prev names e (Bool Rattle.std.specs.Prelude.true) × (x ≡ past prev [] prev.position)
   by_test (rules.test prev ns f x r before holds is) names e stands =
-      let s = same_step core prev ns names (Test f) (Test e) before stands in
-      let t = s.0 in
+      let s = before_one core prev ns names (Test f) (Test e) before stands in
+      let t = s.1 in
       let fe : f ≡ e = cc in (
         refl,
-        subst₂ (λ (z : List (List ℕ)) (w : Expression). HasValue text prev z w (Bool Rattle.std.specs.Prelude.true)) s.1 fe holds,
+        subst₂ (λ (z : List (List ℕ)) (w : Expression). HasValue text prev z w (Bool Rattle.std.specs.Prelude.true)) s.0 fe holds,
         is,
       )
   by_test (rules.bind prev ns name f v x r before has is) names e stands =
-      let s = (same_step core prev ns names (Bind name f) (Test e) before stands).0 in cc
+      let s = (before_one core prev ns names (Bind name f) (Test e) before stands).1 in cc
   by_test (rules.terminal prev ns what label excluded j taken x r before matches free t is) names e stands =
-      let s = (same_step core prev ns names (Term what label excluded) (Test e) before stands).0 in cc
+      let s = (before_one core prev ns names (Term what label excluded) (Test e) before stands).1 in cc
   by_test (rules.return prev done label excluded key x r d calls c free is) names e stands =
-      let s = (same_step core prev calls.names names (Call key.instance.nonterminal calls.arguments label excluded) (Test e) calls.before stands).0 in cc
+      let s = (before_one core prev calls.names names (Call key.instance.nonterminal calls.arguments label excluded) (Test e) calls.before stands).1 in cc
 
   pub by_bind : {prev x : Item} {taken : Taken} → Gives core text prev taken x → (names : List (List ℕ)) (name : List ℕ) (e : Expression) →
       StandsBefore core prev names (Bind name e) →
       (taken ≡ nothing) × (v : Value) × HasValue text prev names e v × (x ≡ past prev (v ∷ []) prev.position)
   by_bind (rules.test prev ns f x r before holds is) names name e stands =
-      let s = (same_step core prev ns names (Test f) (Bind name e) before stands).0 in cc
+      let s = (before_one core prev ns names (Test f) (Bind name e) before stands).1 in cc
   by_bind (rules.bind prev ns other f v x r before has is) names name e stands =
-      let s = same_step core prev ns names (Bind other f) (Bind name e) before stands in
-      let t = s.0 in
+      let s = before_one core prev ns names (Bind other f) (Bind name e) before stands in
+      let t = s.1 in
       let fe : f ≡ e = cc in
-      (refl, v, subst₂ (λ (z : List (List ℕ)) (w : Expression). HasValue text prev z w v) s.1 fe has, is)
+      (refl, v, subst₂ (λ (z : List (List ℕ)) (w : Expression). HasValue text prev z w v) s.0 fe has, is)
   by_bind (rules.terminal prev ns what label excluded j taken x r before matches free t is) names name e stands =
-      let s = (same_step core prev ns names (Term what label excluded) (Bind name e) before stands).0 in cc
+      let s = (before_one core prev ns names (Term what label excluded) (Bind name e) before stands).1 in cc
   by_bind (rules.return prev done label excluded key x r d calls c free is) names name e stands =
-      let s = (same_step core prev calls.names names (Call key.instance.nonterminal calls.arguments label excluded) (Bind name e) calls.before stands).0 in cc
+      let s = (before_one core prev calls.names names (Call key.instance.nonterminal calls.arguments label excluded) (Bind name e) calls.before stands).1 in cc
 
   pub record ByTerm (prev : Item) (taken : Taken) (x : Item) (what : Pattern) (label : Option (List ℕ)) (excluded : List Pattern) : Type 0 where
     pub end : ℕ
@@ -89,11 +73,11 @@ module _ (core : List Nonterminal) (text : List ℕ) where
   pub by_term : {prev x : Item} {taken : Taken} → Gives core text prev taken x → (names : List (List ℕ)) (what : Pattern) (label : Option (List ℕ))
       (excluded : List Pattern) → StandsBefore core prev names (Term what label excluded) → ByTerm prev taken x what label excluded
   by_term (rules.test prev ns f x r before holds is) names what label excluded stands =
-      let s = (same_step core prev ns names (Test f) (Term what label excluded) before stands).0 in cc
+      let s = (before_one core prev ns names (Test f) (Term what label excluded) before stands).1 in cc
   by_term (rules.bind prev ns other f v x r before has is) names what label excluded stands =
-      let s = (same_step core prev ns names (Bind other f) (Term what label excluded) before stands).0 in cc
+      let s = (before_one core prev ns names (Bind other f) (Term what label excluded) before stands).1 in cc
   by_term (rules.terminal prev ns w l ex j taken x r before matches free t is) names what label excluded stands =
-      let s = (same_step core prev ns names (Term w l ex) (Term what label excluded) before stands).0 in
+      let s = (before_one core prev ns names (Term w l ex) (Term what label excluded) before stands).1 in
       let we : w ≡ what = cc in
       let le : l ≡ label = cc in
       let xe : ex ≡ excluded = cc in
@@ -105,7 +89,7 @@ module _ (core : List Nonterminal) (text : List ℕ) where
         item = is ∙ ap (λ (z : Option (List ℕ)). past prev (span_of z prev.position j) j) le;
       }
   by_term (rules.return prev done l ex key x r d calls c free is) names what label excluded stands =
-      let s = (same_step core prev calls.names names (Call key.instance.nonterminal calls.arguments l ex) (Term what label excluded) calls.before stands).0 in cc
+      let s = (before_one core prev calls.names names (Call key.instance.nonterminal calls.arguments l ex) (Term what label excluded) calls.before stands).1 in cc
 
   pub record ByCall (prev : Item) (taken : Taken) (x : Item) (names : List (List ℕ)) (callee : ℕ) (arguments : List Expression) (label : Option (List ℕ)) (excluded : List Pattern) : Type 0 where
     pub key : NodeKey
@@ -123,14 +107,14 @@ module _ (core : List Nonterminal) (text : List ℕ) where
       (label : Option (List ℕ)) (excluded : List Pattern) → StandsBefore core prev names (Call callee arguments label excluded) →
       ByCall prev taken x names callee arguments label excluded
   by_call (rules.test prev ns f x r before holds is) names callee arguments label excluded stands =
-      let s = (same_step core prev ns names (Test f) (Call callee arguments label excluded) before stands).0 in cc
+      let s = (before_one core prev ns names (Test f) (Call callee arguments label excluded) before stands).1 in cc
   by_call (rules.bind prev ns other f v x r before has is) names callee arguments label excluded stands =
-      let s = (same_step core prev ns names (Bind other f) (Call callee arguments label excluded) before stands).0 in cc
+      let s = (before_one core prev ns names (Bind other f) (Call callee arguments label excluded) before stands).1 in cc
   by_call (rules.terminal prev ns w l ex j taken x r before matches free t is) names callee arguments label excluded stands =
-      let s = (same_step core prev ns names (Term w l ex) (Call callee arguments label excluded) before stands).0 in cc
+      let s = (before_one core prev ns names (Term w l ex) (Call callee arguments label excluded) before stands).1 in cc
   by_call (rules.return prev done l ex key x r d calls c free is) names callee arguments label excluded stands =
-      let b = same_step core prev calls.names names (Call key.instance.nonterminal calls.arguments l ex) (Call callee arguments label excluded) calls.before stands in
-      let s = b.0 in
+      let b = before_one core prev calls.names names (Call key.instance.nonterminal calls.arguments l ex) (Call callee arguments label excluded) calls.before stands in
+      let s = b.1 in
       let ne : key.instance.nonterminal ≡ callee = cc in
       let ae : calls.arguments ≡ arguments = cc in
       let le : l ≡ label = cc in
@@ -141,7 +125,7 @@ module _ (core : List Nonterminal) (text : List ℕ) where
         reached = d;
         completes = c;
         nonterminal = ne;
-        values = subst₂ (λ (z : List (List ℕ)) (w : List Expression). Rattle.ig_item.specs.Items.HaveValues text prev z w key.instance.values) b.1 ae calls.values;
+        values = subst₂ (λ (z : List (List ℕ)) (w : List Expression). Rattle.ig_item.specs.Items.HaveValues text prev z w key.instance.values) b.0 ae calls.values;
         here = calls.here;
         free = subst (λ (z : List Pattern). MatchesNone text z prev.position key.end) xe free;
         takes = refl;

@@ -8,7 +8,7 @@ use Rattle.ig_text.proofs.Pairwise.{same_length, each_mapped, each_right}
 use Rattle.ig_text.proofs.Rising.{one_place}
 use Rattle.ig_text.specs.Pairwise.{Each}
 use Rattle.ig_expr.specs.declared.value.Value.{Value}
-use Rattle.ig_item.specs.Laws.{EnvironmentsFit}
+use Rattle.ig_item.specs.Laws.{EnvironmentsFit, StandsBeforeOne}
 use Rattle.ig_item.specs.WellKinded.{IsWellKinded, NoneTwice}
 use Rattle.ig_item.specs.Items.{Item, Reachable}
 use Rattle.ig_item.specs.Gives.{NodeKey}
@@ -250,7 +250,7 @@ module _ (l : LiveItems) (are : AreLiveItems l) where
           with_nodes).order at_i at_j;
     }
 
-    pub entry_sources : AreSources S
+    pub entry_sources : StandsBeforeOne → AreSources S
     entry_sources = are_sources core text S items placed keys of_run
 
     -- the number of the root

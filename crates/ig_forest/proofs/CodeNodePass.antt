@@ -16,6 +16,7 @@ use Rattle.ig_text.specs.declared.tag.Tag.{Tag}
 use Rattle.ig_text.proofs.Lists.{at_from_contains, get_within, contains_from_at, mapped_in, unmapped_in, place_cases, place_last, left_at}
 use Rattle.ig_text.proofs.Rising.{rises}
 use Rattle.ig_item.specs.Core.{alternative_at, numbered}
+use Rattle.ig_item.specs.Laws.{AlternativesAreOne}
 use Rattle.ig_item.specs.declared.core_grammar.CoreAlt.{CoreAlt}
 use Rattle.ig_item.specs.declared.core_grammar.Nonterminal.{Nonterminal}
 use Rattle.ig_item.specs.declared.items.Item.{Item}
@@ -34,7 +35,6 @@ use Rattle.ig_live.specs.declared.mark.Mark.{Mark}
 use Rattle.ig_live.specs.declared.mark.Mark.TheVariants.{Complete}
 use Rattle.ig_live.specs.declared.rows.ItemRow.{ItemRow}
 use Rattle.ig_forest.specs.declared.node_rows.NodeRow.{NodeRow}
-use Rattle.ig_forest.proofs.CodeGives.{same_alternative}
 use Rattle.ig_text.proofs.Sorted.{less_number, strict_none, strict_push}
 use Rattle.ig_forest.proofs.CodeLiveNumbers.{marked_within, number_total}
 use Rattle.ig_forest.proofs.CodeOrders.{node_row_exact, node_row_total}
@@ -82,12 +82,12 @@ all_below nodes node order upto never n c =
     ]
 
 -- a tag is told by the row
-one_tag : (core : List Nonterminal) (row : ItemRow) (a b : Tag) → IsTagged core row a → IsTagged core row b → a ≡ b
-one_tag core row a b p q =
+one_tag : AlternativesAreOne → (core : List Nonterminal) (row : ItemRow) (a b : Tag) → IsTagged core row a → IsTagged core row b → a ≡ b
+one_tag alternatives_one core row a b p q =
     let e =
-    same_alternative core row.nonterminal row.alternative p.last.nonterminal q.last.nonterminal p.last.alternative q.last.alternative
+    alternatives_one core row.nonterminal row.alternative p.last.nonterminal q.last.nonterminal p.last.alternative q.last.alternative
     p.last.has q.last.has in
-    p.tagged ∙ ap (λ (z : CoreAlt). z.tag) e.1 ∙ sym q.tagged
+    p.tagged ∙ ap (λ (z : CoreAlt). z.tag) e.alternatives ∙ sym q.tagged
 
 -- the tag that the core grammar gives
 pub tag_there : (core : List Nonterminal) (row : ItemRow) (r : Option Tag) → StandsLast core row →
@@ -143,9 +143,9 @@ module _ (core : List Nonterminal) (rows : List ItemRow) (row : ItemRow) where
     order = has.order;
   }
 
-  choices_grow : (n : NodeRow) (cs : List Choice) (tag : Tag) → node_of row ≡ n → IsTagged core row tag → HasChoices choice_item_cmp core rows n cs →
+  choices_grow : AlternativesAreOne → (n : NodeRow) (cs : List Choice) (tag : Tag) → node_of row ≡ n → IsTagged core row tag → HasChoices choice_item_cmp core rows n cs →
       HasChoices choice_item_cmp core More n (cs ++ record { tag = tag; item = length rows } ∷ [])
-  choices_grow n cs tag is tagged has =
+  choices_grow alternatives_one n cs tag is tagged has =
       let new_choice : Choice = record { tag = tag; item = length rows } in
       record {
         members = λ c. (
@@ -156,7 +156,7 @@ module _ (core : List Nonterminal) (rows : List ItemRow) (row : ItemRow) where
           λ h. elim (choice_cases n c h) [
             | inl old ↦ Contains-append_left cs (new_choice ∷ []) c ((has.members c).1 old)
             | inr new ↦
-                let t : c.tag ≡ tag = one_tag core row c.tag tag new.2 tagged in
+                let t : c.tag ≡ tag = one_tag alternatives_one core row c.tag tag new.2 tagged in
                 let e : c ≡ new_choice = (λ i. record { tag = t i; item = new.0 i }) in
                 subst (Contains (cs ++ new_choice ∷ [])) (sym e) (Contains-push cs new_choice)
           ],
@@ -242,7 +242,7 @@ module _ (core : List Nonterminal) (rows : List ItemRow) (row : ItemRow) where
       })
 
   -- it is complete, and its node is the last one now
-  module _ (table : List StoredNode) (numbers : List ℕ) (tag : Tag) (tagged : IsTagged core row tag)
+  module _ (alternatives_one : AlternativesAreOne) (table : List StoredNode) (numbers : List ℕ) (tag : Tag) (tagged : IsTagged core row tag)
       (are : AreNodesWith choice_item_cmp core rows table numbers) where
     Grown : List StoredNode → List Choice → List StoredNode
     Grown init cs = init ++ record { row = node_of row; alternatives = cs ++ record { tag = tag; item = length rows } ∷ [] } ∷ []
@@ -255,7 +255,7 @@ module _ (core : List Nonterminal) (rows : List ItemRow) (row : ItemRow) where
         elim (Contains-push_cases init (record { row = node_of row; alternatives = cs ++ record { tag = tag; item = length rows } ∷ [] }) n c) [
           | inl old ↦ choices_stay n.row n.alternatives (λ e last. other n old (sym e)) (has n old)
           | inr same ↦
-              subst (λ (z : StoredNode). HasChoices choice_item_cmp core More z.row z.alternatives) same (choices_grow (node_of row) cs tag refl tagged here)
+              subst (λ (z : StoredNode). HasChoices choice_item_cmp core More z.row z.alternatives) same (choices_grow alternatives_one (node_of row) cs tag refl tagged here)
         ]
 
     grown : (init : List StoredNode) (cs : List Choice) (after : List StoredNode) (more : List ℕ) (v : ℕ) → after ≡ Grown init cs →
@@ -460,13 +460,13 @@ module _ (items : List Item) (keys : List InstanceKey) (places : List ℕ) (mark
         never (same_Some (get_or marks (get_or order place d) m) Complete
         (sym (slice_get-get_or marks (get_or order place d) m here_within) ∙ (complete (get_or order place d)).1 (is_live_here, last)))) is before)
 
-    pub item_added : (row : ItemRow) (table opened after : List StoredNode) (numbers more : List ℕ) (tag : Tag) (v : ℕ) →
+    pub item_added : AlternativesAreOne → (row : ItemRow) (table opened after : List StoredNode) (numbers more : List ℕ) (tag : Tag) (v : ℕ) →
         row ≡ row_of items keys places (get_or order place d) → IsTagged core row tag → Opens (node_of row) table opened →
         after ≡ with_choice opened (record { tag = tag; item = place }) → more ≡ numbers ++ v ∷ [] → v ≡ length after - 1 →
         NodesUpTo core items keys places order place table numbers → NodesUpTo core items keys places order (place + 1) after more
-    item_added row table opened after numbers more tag v row_is tagged opens is more_is v_is before =
+    item_added alternatives_one row table opened after numbers more tag v row_is tagged opens is more_is v_is before =
         subst (λ (z : List ItemRow). AreNodesWith choice_item_cmp core z after more) (sym (map_more (row_of items keys places) order place d within))
-        (step_adds core (rows_of items keys places (take place order)) (row_of items keys places (get_or order place d)) table numbers tag
+        (step_adds core (rows_of items keys places (take place order)) (row_of items keys places (get_or order place d)) alternatives_one table numbers tag
         (subst (λ (z : ItemRow). IsTagged core z tag) row_is tagged) before opened after more place v (rows_below place d within)
         (sym (rows_long place (omega (arith, within)))) (subst (λ (z : ItemRow). Opens (node_of z) table opened) row_is opens) is more_is v_is)
 

@@ -7,6 +7,7 @@ use Rattle.ig_text.proofs.Lists.{at_from_contains, get_within}
 use Rattle.ig_item.specs.WellKinded.{NoneTwice}
 use Rattle.ig_item.specs.Items.{Item, Reachable}
 use Rattle.ig_item.specs.Gives.{NodeKey, Taken, Completes, nothing, leaf, tree}
+use Rattle.ig_item.specs.Laws.{StandsBeforeOne}
 use Rattle.ig_item.specs.Ways as ways
 use Rattle.ig_item.specs.Ways.{AreWays, WayTo, IsWay, Says, IsFirstEnd, CameBy, found}
 use Rattle.ig_item.specs.declared.core_grammar.Nonterminal.{Nonterminal}
@@ -167,11 +168,11 @@ module _ (core : List Nonterminal) (text : List ℕ) (s : Sources) (items placed
       same_Some i j (sym n.at ∙ ap (slice_get s.order.now) places ∙ m.at)
 
   -- two ways from one previous item are one
-  one_came : (position : ℕ) (x prev other : Item) (v w : Way) (taken took : Taken) → IsLive core text x →
+  one_came : StandsBeforeOne → (position : ℕ) (x prev other : Item) (v w : Way) (taken took : Taken) → IsLive core text x →
       Says core Known items x.position v prev taken →
       Gives core text prev taken x → Says core Known items x.position w other took → Gives core text other took x →
       previous (entry_by s position v) ≡ previous (entry_by s position w) → v ≡ w
-  one_came position x prev other v w taken took l says gives says_too gives_too e =
+  one_came before_one position x prev other v w taken took l says gives says_too gives_too e =
       let f = from x.position position v prev taken says in
       let g = from x.position position w other took says_too in
       let n = numbered f.number prev f.at (live.previous x prev taken l gives) in
@@ -180,18 +181,18 @@ module _ (core : List Nonterminal) (text : List ℕ) (s : Sources) (items placed
       let items_same : prev ≡ other = same_Some prev other (sym f.at ∙ ap (slice_get items) numbers ∙ g.at) in
       let says_here = subst (λ (z : Item). Says core Known items x.position w z took) (sym items_same) says_too in
       let gives_here = subst (λ (z : Item). Gives core text z took x) (sym items_same) gives_too in
-      same_says x.position v w prev taken took says says_here (gives_one core text gives gives_here)
+      same_says x.position v w prev taken took says says_here (gives_one core text before_one gives gives_here)
 
   never_first : (x prev : Item) (taken : Taken) → x.dot ≡ 0 → Gives core text prev taken x → ⊥
   never_first x prev taken dot gives = let d = given_dot core text gives in omega (arith, dot, d)
 
-  one_way : (position : ℕ) (x : Item) (v w : Way) → IsLive core text x → IsWay core text Known items x v → IsWay core text Known items x w →
+  one_way : StandsBeforeOne → (position : ℕ) (x : Item) (v w : Way) → IsLive core text x → IsWay core text Known items x v → IsWay core text Known items x w →
       previous (entry_by s position v) ≡ previous (entry_by s position w) → v ≡ w
-  one_way position x _ _ l (ways.begin dot) (ways.begin too) e = refl
-  one_way position x _ _ l (ways.begin dot) (ways.comes w prev taken says gives) e = absurd (never_first x prev taken dot gives)
-  one_way position x _ _ l (ways.comes v prev taken says gives) (ways.begin dot) e = absurd (never_first x prev taken dot gives)
-  one_way position x _ _ l (ways.comes v prev taken says gives) (ways.comes w other took says_too gives_too) e =
-      one_came position x prev other v w taken took l says gives says_too gives_too e
+  one_way before_one position x _ _ l (ways.begin dot) (ways.begin too) e = refl
+  one_way before_one position x _ _ l (ways.begin dot) (ways.comes w prev taken says gives) e = absurd (never_first x prev taken dot gives)
+  one_way before_one position x _ _ l (ways.comes v prev taken says gives) (ways.begin dot) e = absurd (never_first x prev taken dot gives)
+  one_way before_one position x _ _ l (ways.comes v prev taken says gives) (ways.comes w other took says_too gives_too) e =
+      one_came before_one position x prev other v w taken took l says gives says_too gives_too e
 
   -- a number of the order is that of a live item
   record LiveAt (k : ℕ) : Type 0 where
@@ -206,15 +207,15 @@ module _ (core : List Nonterminal) (text : List ℕ) (s : Sources) (items placed
       let (x, at) = get_within items k (let i = t.item in omega (arith, i, a)) in
       record { item = x; at = at; live = (are.members k x at).0 c }
 
-  pub are_sources : AreSources s
-  are_sources = record {
+  pub are_sources : StandsBeforeOne → AreSources s
+  are_sources before_one = record {
     there = are.there;
     found = λ k c. let t = (are.there k c).item in let a = are.raw_long in let b = are.ways.ways.number in omega (arith, t, a, b);
     fit = λ k w c to. let l = live_at k c in fits_way l.item w l.live (are.ways.ways.sound k l.item w l.at to);
     one = λ k position v w c to_v to_w e.
         let l = live_at k c in
         ap (entry_by s position)
-        (one_way position l.item v w l.live (are.ways.ways.sound k l.item v l.at to_v) (are.ways.ways.sound k l.item w l.at to_w) e);
+        (one_way before_one position l.item v w l.live (are.ways.ways.sound k l.item v l.at to_v) (are.ways.ways.sound k l.item w l.at to_w) e);
   }
 
   -- the number of a previous item is its place

@@ -17,6 +17,7 @@ use Rattle.ig_text.proofs.Rising.{rises}
 use Rattle.ig_item.specs.Core.{IsAlternative}
 use Rattle.ig_item.specs.Gives.{NodeKey}
 use Rattle.ig_item.specs.Items.{Item}
+use Rattle.ig_item.specs.Laws.{AlternativesAreOne}
 use Rattle.ig_item.specs.declared.core_grammar.CoreAlt.{CoreAlt}
 use Rattle.ig_item.specs.declared.core_grammar.Nonterminal.{Nonterminal}
 use Rattle.ig_forest.specs.Forest as forest
@@ -29,7 +30,6 @@ use Rattle.ig_forest.specs.Unfold as ways
 use Rattle.ig_forest.specs.Unfold.{OfNode, OfItem, noted}
 use Rattle.ig_forest.specs.declared.entry.Choice.{Choice}
 use Rattle.ig_forest.specs.declared.entry.Entry.{Entry}
-use Rattle.ig_forest.proofs.CodeGives.{same_alternative}
 use Rattle.ig_forest.proofs.CursorOrders.{tied}
 use Rattle.ig_forest.proofs.TotalOrders.{choice_total, entry_total}
 
@@ -63,7 +63,7 @@ noted_below (suc zero) i n within most = All-nil (λ m. m < n)
 noted_below (suc (suc many)) i n within most =
     All-cons (λ m. m < n) i [] (omega (arith, within, most)) (All-nil (λ m. m < n))
 
-module _ (core : List Nonterminal) (text : List ℕ) (f : Forest) (is : IsReduced core text f) where
+module _ (alternatives_one : AlternativesAreOne) (core : List Nonterminal) (text : List ℕ) (f : Forest) (is : IsReduced core text f) where
   size : length is.items ≡ length f.items
   size = same_length is.item_nodes
 
@@ -76,9 +76,9 @@ module _ (core : List Nonterminal) (text : List ℕ) (f : Forest) (is : IsReduce
       let has : IsAlternative core q.item.instance.nonterminal q.item.alternative first.nonterminal first.alternative =
       subst (λ (z : Item). IsAlternative core z.instance.nonterminal z.alternative first.nonterminal first.alternative) items first.has in
       let one =
-      same_alternative core q.item.instance.nonterminal q.item.alternative first.nonterminal second.nonterminal first.alternative
+      alternatives_one core q.item.instance.nonterminal q.item.alternative first.nonterminal second.nonterminal first.alternative
       second.alternative has second.has in
-      let tag : a.tag ≡ b.tag = p.tagged ∙ ap (λ (z : CoreAlt). z.tag) one.1 ∙ sym q.tagged in
+      let tag : a.tag ≡ b.tag = p.tagged ∙ ap (λ (z : CoreAlt). z.tag) one.alternatives ∙ sym q.tagged in
       λ i. record { tag = tag i; item = same i }
 
   choices_few : (v : ℕ) (node : forest.Node) → slice_get f.nodes v ≡ Some node → length node.alternatives ≤ length f.items
@@ -143,7 +143,7 @@ module _ (core : List Nonterminal) (text : List ℕ) (f : Forest) (is : IsReduce
         joined _ (ps ++ bs) cs c (taken_below k i it _ at among)
         (joined ps bs (ps ++ bs) refl (item_below of_prev) (node_below of_node))
 
-pub cursors_are_short : (f : Forest) → length f.items < 4294967296 → CursorsAreShort f
-cursors_are_short f small core text is d cs t unfolds =
-    let below = node_below core text f is unfolds in
+pub cursors_are_short : AlternativesAreOne → (f : Forest) → length f.items < 4294967296 → CursorsAreShort f
+cursors_are_short alternatives_one f small core text is d cs t unfolds =
+    let below = node_below alternatives_one core text f is unfolds in
     λ k e within. let b = below k e within in omega (arith, b, small)

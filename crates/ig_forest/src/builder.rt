@@ -9,7 +9,7 @@ use crate::item_nodes::{Sources, numbers_of};
 use crate::laws::reduced_forest_is_trim;
 use crate::nodes::{Nodes, nodes_of};
 use ig_expr::Value;
-use ig_item::{Core, EnvironmentTable, Recorded, environments_fit};
+use ig_item::{Core, EnvironmentTable, Recorded, environments_fit, stands_before_one};
 use ig_live::{Found, Links, Mark, lists_of, marks_of, order_of, places_of};
 use ig_text::{Copied, Text, Word, Words};
 use std::alloc::{AllocError, Global};
@@ -87,6 +87,7 @@ impl<'a, 'v> LiveItems<'a, 'v> {
     {
         reduced_forest_is_trim();
         environments_fit();
+        stands_before_one();
         let nonterminals = self.core.nonterminals();
         let Nodes { table, numbers } = nodes_of(
             alloc,

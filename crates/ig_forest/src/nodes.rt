@@ -12,7 +12,7 @@ ghost use Rattle.ig_forest.specs.Orders.{choice_cmp};
 
 use crate::entry::Choice;
 use crate::node_rows::{NodeRow, NodeRows};
-use ig_item::Core;
+use ig_item::{Core, alternatives_are_one};
 use ig_live::{Found, ItemRow, Mark};
 use ig_text::Tag;
 use std::alloc::{AllocError, Global};
@@ -80,6 +80,7 @@ fn add_item(
         found.now.items.now found.now.keys.now found.now.places.now order.now (place + 1)
         nodes.new.table nodes.new.numbers.items) }
 {
+    alternatives_are_one();
     let number = order[place];
     if !is_complete(marks[number as usize]) {
         nodes.numbers.push(0)?;

@@ -4,6 +4,7 @@ ghost use Rattle.ig_forest.specs.TreeLaws.{CursorsAreShort, TagsNameNonterminals
 
 use crate::forest::Forest;
 use crate::laws::reduced_forest_unfolds_to_core_trees;
+use ig_item::alternatives_are_one;
 
 /// In each tree to which the reduced forest of a well-kinded core grammar unfolds, the tag of a
 /// declaration's alternative has the number of a nonterminal of that grammar. This law computes
@@ -19,5 +20,6 @@ pub fn tags_name_nonterminals()
 pub fn cursors_are_short(forest: &Forest)
     ensures { CursorsAreShort forest.now }
 {
+    alternatives_are_one();
     let _ = forest.items();
 }

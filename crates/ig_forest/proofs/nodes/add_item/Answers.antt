@@ -57,7 +57,7 @@ last_number-last-requires-clause-few c =
 pub returns : goal.returns
 returns c =
     item_added c.args.found.now.items.now c.args.found.now.keys.now c.args.found.now.places.now c.args.marks.now c.args.order.now c.requires.order
-    c.args.core.now c.requires.complete c.args.place _ c.requires.place c.row-row.result c.args.nodes.now.table c.add_node.new.table
+    c.args.core.now c.requires.complete c.args.place _ c.requires.place c.alternatives_are_one.ensures c.row-row.result c.args.nodes.now.table c.add_node.new.table
     c.push_choice.new.self _ c.push-2.new.self.items c.tag_of-tag.result c.last_number-last.result c.row-row.ensures c.tag_of-tag.ensures
     (subst (λ (z : NodeRow). Opens z c.args.nodes.now.table c.add_node.new.table) c.node_of.ensures c.in_ok-add_node.ensures)
     (c.in_ok-push_choice.ensures ∙ ap (with_choice c.add_node.new.table) c.choice_at.ensures) c.in_ok-push-2.ensures.items c.last_number-last.ensures c.requires.before

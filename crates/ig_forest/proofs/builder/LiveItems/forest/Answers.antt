@@ -18,7 +18,7 @@ item_nodes-requires c =
     entry_sources c.args.self.now c.requires.live c.as_slice.result c.as_slice-2.result c.in_ok-places.places.items
     c.in_ok-table.field-0.numbers.items
     c.as_slice.ensures.value c.as_slice-2.ensures.value c.in_ok-places.ensures.long c.in_ok-places.ensures.numbers c.in_ok-table.field-0.table
-    c.in_ok-table.ensures
+    c.in_ok-table.ensures c.stands_before_one.ensures
 
 pub node-root-requires-clause-item : goal.node-root-requires-clause-item
 node-root-requires-clause-item c =
