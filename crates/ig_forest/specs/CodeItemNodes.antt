@@ -6,7 +6,8 @@ use Rattle.ig_item.specs.declared.ways.Way.{Way}
 use Rattle.ig_item.specs.declared.ways.Way.TheVariants as way
 use Rattle.ig_item.specs.declared.ways.FurtherWay.{FurtherWay}
 use Rattle.ig_forest.specs.Orders.{entry_cmp, previous}
-use Rattle.ig_live.specs.Rows.{IsThere, item_at, row_of}
+use Rattle.ig_live.specs.Founds.{IsThereIn, row_in}
+use Rattle.ig_live.specs.Rows.{item_at}
 use Rattle.ig_forest.specs.CodeParts.{StoredItem}
 use Rattle.ig_forest.specs.declared.entry.Entry.{Entry}
 use Rattle.ig_forest.specs.declared.entry.Entry.TheVariants.{Begin, Pass, Take}
@@ -52,7 +53,7 @@ module _ (s : Sources) where
 
   -- what the ways to live items name is there, and two ways from one previous item have one entry
   pub record AreSources : Type 0 where
-    pub there : (k : ℕ) → Contains s.order.now k → IsThere s.found.items.now s.found.keys.now s.found.places.now k
+    pub there : (k : ℕ) → Contains s.order.now k → IsThereIn s.found k
     pub found : (k : ℕ) → Contains s.order.now k → k < length s.links.now.ways.firsts
     pub fit : (k : ℕ) (way : Way) → Contains s.order.now k → WayTo s.links.now.ways k way → WayFits way
     pub one : (k position : ℕ) (v w : Way) → Contains s.order.now k → WayTo s.links.now.ways k v → WayTo s.links.now.ways k w →
@@ -66,7 +67,7 @@ module _ (s : Sources) where
 
   -- the item of that number with its entries
   pub record IsStoredItem (k : ℕ) (stored : StoredItem) : Type 0 where
-    pub row : stored.row ≡ row_of s.found.items.now s.found.keys.now s.found.places.now k
+    pub row : stored.row ≡ row_in s.found k
     pub entries : AreEntriesOf k stored.entries
 
   -- the item of that number was added

@@ -8,7 +8,7 @@ use Rattle.ig_item.specs.Tables.{Tables, AreTables, HaveValues, instance_by, ite
 use Rattle.ig_item.specs.Ways.{AreWays}
 use Rattle.ig_live.specs.Lists.{AreLists, ArePlaces}
 use Rattle.ig_live.specs.LiveOrder.{AreLiveInOrder}
-use Rattle.ig_live.specs.Rows.{number_cmp}
+use Rattle.ig_live.specs.Founds.{number_cmp_in}
 use Rattle.ig_live.specs.Marks.{AreMarks}
 use Rattle.ig_forest.specs.declared.builder.LiveItems.{LiveItems}
 use Rattle.ig_live.specs.declared.found.Found.{Found}
@@ -39,4 +39,4 @@ pub record AreLiveItems (l : LiveItems) : Type 0 where
   pub ways : AreWays l.core.now l.text.now (items_in l) l.links.now.ways
   pub found : AreFound l.links.now.tables (lists_in l) l.found
   pub marks : AreMarks l.core.now l.text.now (items_in l) l.marks.now
-  pub order : AreLiveInOrder l.marks.now (number_cmp l.found.items.now l.found.keys.now l.found.places.now) l.order.now
+  pub order : AreLiveInOrder l.marks.now (number_cmp_in l.found) l.order.now

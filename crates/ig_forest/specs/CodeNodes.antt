@@ -10,6 +10,7 @@ use Rattle.ig_live.specs.Marks.{is_live}
 use Rattle.ig_live.specs.Rows.{row_of}
 use Rattle.ig_forest.specs.CodeNodeRows.{rows_in, StoredNode}
 use Rattle.ig_forest.specs.declared.entry.Choice.{Choice}
+use Rattle.ig_live.specs.declared.found.Found.{Found}
 use Rattle.ig_live.specs.declared.mark.Mark.{Mark}
 use Rattle.ig_live.specs.declared.mark.Mark.TheVariants.{Complete}
 use Rattle.ig_live.specs.declared.rows.ItemRow.{ItemRow}
@@ -24,6 +25,13 @@ MarkComplete core items keys places marks =
 -- the rows of the items of these numbers
 abbrev pub rows_of : List Item → List InstanceKey → List ℕ → List ℕ → List ItemRow
 rows_of items keys places order = map (row_of items keys places) order
+
+-- the same, said of the tables of a run
+abbrev pub MarkCompleteIn : List Nonterminal → Found → List Mark → Type 0
+MarkCompleteIn core found = MarkComplete core found.items.now found.keys.now found.places.now
+
+abbrev pub rows_at : Found → List ℕ → List ItemRow
+rows_at found = rows_of found.items.now found.keys.now found.places.now
 
 -- the row of the last node
 abbrev pub EndsWith : List StoredNode → NodeRow → Type 0
@@ -54,3 +62,6 @@ pub record AreNodesWith (R : Choice → Choice → Ordering) (core : List Nonter
 abbrev pub NodesUpTo : List Nonterminal → List Item → List InstanceKey → List ℕ → List ℕ → ℕ → List StoredNode → List ℕ → Type 0
 NodesUpTo core items keys places order count =
     AreNodesWith choice_item_cmp core (rows_of items keys places (take count order))
+
+abbrev pub NodesUpToIn : List Nonterminal → Found → List ℕ → ℕ → List StoredNode → List ℕ → Type 0
+NodesUpToIn core found = NodesUpTo core found.items.now found.keys.now found.places.now

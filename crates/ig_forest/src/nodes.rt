@@ -1,12 +1,12 @@
 //! The nodes of a forest, read off its complete items in order.
-ghost use Rattle.std.specs.Prelude.{◌≡◌, ◌<◌, ◌+◌, ◌-◌, ℕ, false, IfOk, OnOk, IsTrue, length};
+ghost use Rattle.std.specs.Prelude.{◌≡◌, ◌<◌, ◌+◌, ◌-◌, false, IfOk, OnOk, IsTrue, length};
 ghost use Rattle.ig_item.specs.Limits.{numbers_end};
 ghost use Rattle.ig_live.specs.declared.mark.Mark.TheVariants.{Complete};
 ghost use Rattle.ig_forest.specs.CodeDone.{IsTagged, StandsLast};
 ghost use Rattle.ig_live.specs.LiveOrder.{AreLiveInOrder};
-ghost use Rattle.ig_live.specs.Rows.{IsThere, number_cmp};
-ghost use Rattle.ig_forest.specs.CodeNodes.{AreNodesWith, EndsWith, MarkComplete, NodesUpTo, Opens};
-ghost use Rattle.ig_forest.specs.CodeNodes.{rows_of};
+ghost use Rattle.ig_live.specs.Founds.{AreThereIn, number_cmp_in};
+ghost use Rattle.ig_forest.specs.CodeNodes.{AreNodesWith, EndsWith, MarkCompleteIn, NodesUpToIn};
+ghost use Rattle.ig_forest.specs.CodeNodes.{Opens, rows_at};
 ghost use Rattle.ig_forest.specs.CodeTables.{node_of};
 ghost use Rattle.ig_forest.specs.Orders.{choice_cmp};
 
@@ -34,14 +34,11 @@ pub(crate) fn nodes_of(
     order: &[u32],
 ) -> Result<Nodes, AllocError>
     requires few { length marks.now < numbers_end }
-    requires there { (k : ℕ) → k < length marks.now →
-        IsThere found.now.items.now found.now.keys.now found.now.places.now k }
-    requires complete { MarkComplete core.now
-        found.now.items.now found.now.keys.now found.now.places.now marks.now }
-    requires order { AreLiveInOrder marks.now
-        (number_cmp found.now.items.now found.now.keys.now found.now.places.now) order.now }
+    requires there { AreThereIn found.now (length marks.now) }
+    requires complete { MarkCompleteIn core.now found.now marks.now }
+    requires order { AreLiveInOrder marks.now (number_cmp_in found.now) order.now }
     ensures { IfOk result (λ nodes. AreNodesWith choice_cmp core.now
-        (rows_of found.now.items.now found.now.keys.now found.now.places.now order.now)
+        (rows_at found.now order.now)
         nodes.table nodes.numbers.items) }
 {
     let numbers = Vec::with_capacity(alloc, order.len())?;
@@ -66,18 +63,13 @@ fn add_item(
     place: usize,
 ) -> Result<(), AllocError>
     requires few { length marks.now < numbers_end }
-    requires there { (k : ℕ) → k < length marks.now →
-        IsThere found.now.items.now found.now.keys.now found.now.places.now k }
-    requires complete { MarkComplete core.now
-        found.now.items.now found.now.keys.now found.now.places.now marks.now }
-    requires order { AreLiveInOrder marks.now
-        (number_cmp found.now.items.now found.now.keys.now found.now.places.now) order.now }
+    requires there { AreThereIn found.now (length marks.now) }
+    requires complete { MarkCompleteIn core.now found.now marks.now }
+    requires order { AreLiveInOrder marks.now (number_cmp_in found.now) order.now }
     requires place { place < length order.now }
-    requires before { NodesUpTo core.now
-        found.now.items.now found.now.keys.now found.now.places.now order.now place
+    requires before { NodesUpToIn core.now found.now order.now place
         nodes.old.table nodes.old.numbers.items }
-    ensures { OnOk result (NodesUpTo core.now
-        found.now.items.now found.now.keys.now found.now.places.now order.now (place + 1)
+    ensures { OnOk result (NodesUpToIn core.now found.now order.now (place + 1)
         nodes.new.table nodes.new.numbers.items) }
 {
     alternatives_are_one();
