@@ -1,3 +1,4 @@
+-- What one function promises the next; who reads the theorems need not read this file.
 -- Complete items as rows, and the nodes to which they belong with their alternatives.
 use Rattle.std.specs.Prelude.{◌≡◌, ◌↔◌, List, length, Contains, Some, slice_get}
 use Rattle.std.specs.Ordering.{nat_cmp}

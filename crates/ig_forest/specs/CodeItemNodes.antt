@@ -1,3 +1,4 @@
+-- What one function promises the next; who reads the theorems need not read this file.
 -- The entries of live items, made from their ways.
 use Rattle.std.specs.Prelude.{◌≡◌, ◌↔◌, ℕ, ◌<◌, List, ◌∷◌, [], ◌++◌, length, Contains, Some, slice_get, slice_index}
 use Rattle.std.specs.List.Sorted.{IsStrictlySortedBy}

@@ -1,3 +1,4 @@
+-- What one function promises the next; who reads the theorems need not read this file.
 -- What the builder knows of the live items of what was recorded.
 use Rattle.std.specs.Prelude.{◌≡◌, List, map}
 use Rattle.ig_expr.specs.declared.value.Value.{Value}

@@ -1,3 +1,4 @@
+-- What one function promises the next; who reads the theorems need not read this file.
 -- Nodes whose alternatives stand side by side in one list, each up to those of the next one.
 use Rattle.std.specs.Prelude.{◌≡◌, ◌≤◌, ℕ, zero, suc, List, map, [], ◌∷◌, ◌++◌, length, slice_range}
 use Rattle.std.specs.List.Sorted.{IsPermutation, IsSorted}

@@ -1,3 +1,4 @@
+-- What one function promises the next; who reads the theorems need not read this file.
 -- The nodes that are read off the complete items in order.
 use Rattle.std.specs.Prelude.{◌≡◌, ◌↔◌, ℕ, ◌-◌, ◌≤◌, List, [], ◌∷◌, ◌++◌, map, take, length, Contains, true, Some, slice_get}
 use Rattle.std.specs.declared.cmp.Ordering.{Ordering}

@@ -1,3 +1,4 @@
+-- What one function promises the next; who reads the theorems need not read this file.
 -- Item nodes whose entries stand side by side in one list.
 use Rattle.std.specs.Prelude.{◌≤◌, List, length, Contains, slice_range}
 use Rattle.ig_forest.specs.declared.entry.Entry.{Entry}

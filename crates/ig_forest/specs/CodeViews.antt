@@ -1,3 +1,4 @@
+-- What one function promises the next; who reads the theorems need not read this file.
 -- What the views of a forest show.
 use Rattle.ig_forest.specs.Forest as parts
 use Rattle.ig_forest.specs.declared.forest.Node as view
