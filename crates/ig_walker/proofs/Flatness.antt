@@ -3,6 +3,7 @@ use Rattle.std.proofs.Common.{◌≡◌, ℕ, List, [], ◌∷◌, ◌++◌, Som
 use Rattle.std.proofs.lemmas.Option.{same_Some}
 use Rattle.ig_text.specs.declared.tag.Tag.{Tag}
 use Rattle.ig_text.specs.Tree.{Tree, Trees, Leaf, Node, none, more}
+use Rattle.ig_text.proofs.Equal.{same_first, same_rest}
 use Rattle.ig_forest.specs.Flat.{count, flat, flats}
 use Rattle.ig_forest.specs.declared.tree.Part.{Part}
 
@@ -11,12 +12,6 @@ leaf_part i j = record { tag = None; span = record { begin = i; end = j }; child
 
 abbrev node_part : Tag → ℕ → ℕ → ℕ → Part
 node_part tag i j n = record { tag = Some tag; span = record { begin = i; end = j }; children = n }
-
-first_same : (p q : Part) (ps qs : List Part) → p ∷ ps ≡ q ∷ qs → p ≡ q
-first_same p q ps qs e = cc
-
-rest_same : (p q : Part) (ps qs : List Part) → p ∷ ps ≡ q ∷ qs → ps ≡ qs
-rest_same p q ps qs e = cc
 
 kinds_differ : (tag : Tag) (i j k l n : ℕ) → leaf_part i j ≡ node_part tag k l n → ⊥
 kinds_differ tag i j k l n e = let p = ap (λ (z : Part). z.tag) e in cc
@@ -36,15 +31,15 @@ node_same a b i j k l m n ts us e same =
 mutual
   pub ahead : (t u : Tree) (xs ys : List Part) → flat t ++ xs ≡ flat u ++ ys → (t ≡ u) × (xs ≡ ys)
   ahead (Leaf i j) (Leaf k l) xs ys e =
-      (leaf_same i j k l (first_same (leaf_part i j) (leaf_part k l) xs ys e), rest_same (leaf_part i j) (leaf_part k l) xs ys e)
+      (leaf_same i j k l (same_first (leaf_part i j) (leaf_part k l) xs ys e), same_rest (leaf_part i j) (leaf_part k l) xs ys e)
   ahead (Leaf i j) (Node tag k l us) xs ys e =
-      absurd (kinds_differ tag i j k l (count us) (first_same (leaf_part i j) (node_part tag k l (count us)) xs (flats us ++ ys) e))
+      absurd (kinds_differ tag i j k l (count us) (same_first (leaf_part i j) (node_part tag k l (count us)) xs (flats us ++ ys) e))
   ahead (Node tag i j ts) (Leaf k l) xs ys e =
-      absurd (kinds_differ tag k l i j (count ts) (sym (first_same (node_part tag i j (count ts)) (leaf_part k l) (flats ts ++ xs) ys e)))
+      absurd (kinds_differ tag k l i j (count ts) (sym (same_first (node_part tag i j (count ts)) (leaf_part k l) (flats ts ++ xs) ys e)))
   ahead (Node a i j ts) (Node b k l us) xs ys e =
-      let p = first_same (node_part a i j (count ts)) (node_part b k l (count us)) (flats ts ++ xs) (flats us ++ ys) e in
+      let p = same_first (node_part a i j (count ts)) (node_part b k l (count us)) (flats ts ++ xs) (flats us ++ ys) e in
       let r = all_ahead ts us xs ys (ap (λ (z : Part). z.children) p)
-      (rest_same (node_part a i j (count ts)) (node_part b k l (count us)) (flats ts ++ xs) (flats us ++ ys) e) in
+      (same_rest (node_part a i j (count ts)) (node_part b k l (count us)) (flats ts ++ xs) (flats us ++ ys) e) in
       (node_same a b i j k l (count ts) (count us) ts us p r.0, r.1)
 
   all_ahead : (ts us : Trees) (xs ys : List Part) → count ts ≡ count us → flats ts ++ xs ≡ flats us ++ ys → (ts ≡ us) × (xs ≡ ys)
