@@ -15,7 +15,8 @@ use Rattle.ig_forest.specs.declared.entry.Entry.TheVariants.{Begin, Pass, Take}
 use Rattle.ig_forest.specs.declared.entry.Child.TheVariants as child
 use Rattle.ig_walker.specs.Walks.{Walk, Leads, cursor, Before, Opens, Passed, Least, Next, Last}
 use Rattle.ig_walker.specs.Walks as w
-use Rattle.ig_walker.specs.Options.{alternatives_of, entries_of, behind_choice, behind_entry, options}
+use Rattle.ig_heights.specs.Table.{choices_in, entries_in}
+use Rattle.ig_walker.specs.Options.{behind_choice, behind_entry, options}
 use Rattle.ig_forest.specs.Flat.{flat}
 use Rattle.ig_walker.specs.Written.{emits}
 use Rattle.ig_forest.specs.declared.tree.Part.{Part}
@@ -63,8 +64,8 @@ module _ (f : Forest) where
   leaf_first span gs ds (of_leaf _ _ _ others) = others
 
   by_node : (v d : ℕ) (gs part : List Goal) (i : ℕ) (cs : List ℕ) (node : Option forest.Node) → slice_get f.nodes v ≡ node →
-      slice_get (map (behind_choice d) (alternatives_of node)) i ≡ Some part → Pending (part ++ gs) cs →
-      Pending (Node v (suc d) ∷ gs) (noted (length (map (behind_choice d) (alternatives_of node))) i ++ cs)
+      slice_get (map (behind_choice d) (choices_in node)) i ≡ Some part → Pending (part ++ gs) cs →
+      Pending (Node v (suc d) ∷ gs) (noted (length (map (behind_choice d) (choices_in node))) i ++ cs)
   by_node v d gs part i cs None e has p = cc
   by_node v d gs part i cs (Some node) e has p =
       let m = unmapped_at (behind_choice d) node.alternatives i part has in
@@ -100,8 +101,8 @@ module _ (f : Forest) where
       (ap (λ (z : List ℕ). many ++ z) (h.whole ∙ ap (λ (z : List ℕ). h.bs ++ z) s.whole ∙ sym (append_assoc h.bs s.bs s.cs)) ∙ sym (append_assoc many (h.bs ++ s.bs) s.cs))
 
   by_item_of : (k d : ℕ) (gs part : List Goal) (i : ℕ) (cs : List ℕ) (it : Option ItemNode) → slice_get f.items k ≡ it →
-      slice_get (map (behind_entry d) (entries_of it)) i ≡ Some part → Pending (part ++ gs) cs →
-      Pending (Item k d ∷ gs) (noted (length (map (behind_entry d) (entries_of it))) i ++ cs)
+      slice_get (map (behind_entry d) (entries_in it)) i ≡ Some part → Pending (part ++ gs) cs →
+      Pending (Item k d ∷ gs) (noted (length (map (behind_entry d) (entries_in it))) i ++ cs)
   by_item_of k d gs part i cs None e has p = cc
   by_item_of k d gs part i cs (Some it) e has p =
       let m = unmapped_at (behind_entry d) it.entries i part has in

@@ -14,7 +14,8 @@ use Rattle.ig_forest.specs.declared.entry.Entry.TheVariants.{Begin, Pass, Take}
 use Rattle.ig_forest.specs.declared.entry.Child.TheVariants as child
 use Rattle.ig_walker.specs.Walks.{Walk, Leads, cursor, Before, Opens, Passed, Least, Next, Last}
 use Rattle.ig_walker.specs.Walks as w
-use Rattle.ig_walker.specs.Options.{alternatives_of, entries_of, behind_choice, behind_entry, options}
+use Rattle.ig_heights.specs.Table.{choices_in, entries_in}
+use Rattle.ig_walker.specs.Options.{behind_choice, behind_entry, options}
 use Rattle.ig_forest.specs.Flat.{count, flat, flats}
 use Rattle.ig_walker.specs.Written.{bumped, bump_last, by_entry, by_choice, opened, written, emits}
 use Rattle.ig_forest.specs.declared.tree.Part.{Part}
@@ -84,20 +85,20 @@ module _ (f : Forest) where
     pub writes : (ps : List Part) (q : Part) → emits f (ps ++ q ∷ []) vs ≡ (ps ++ bumped (count ts) q ∷ []) ++ flats ts
 
   entry_here : (k i : ℕ) (it : ItemNode) (e : Entry) → slice_get f.items k ≡ Some it → slice_get it.entries i ≡ Some e →
-      slice_get (entries_of (slice_get f.items k)) i ≡ Some e
-  entry_here k i it e has at = ap (λ (z : Option ItemNode). slice_get (entries_of z) i) has ∙ at
+      slice_get (entries_in (slice_get f.items k)) i ≡ Some e
+  entry_here k i it e has at = ap (λ (z : Option ItemNode). slice_get (entries_in z) i) has ∙ at
 
   -- the number of options of an item
   pub entries_many : (k d : ℕ) (it : ItemNode) → slice_get f.items k ≡ Some it → length (opts (Item k d)) ≡ length it.entries
   entries_many k d it has =
-      length-map (entries_of (slice_get f.items k)) (behind_entry d)
-      ∙ ap (λ (z : Option ItemNode). length (entries_of z)) has
+      length-map (entries_in (slice_get f.items k)) (behind_entry d)
+      ∙ ap (λ (z : Option ItemNode). length (entries_in z)) has
 
   pub alternatives_many : (v d : ℕ) (node : forest.Node) → slice_get f.nodes v ≡ Some node →
       length (opts (Node v (suc d))) ≡ length node.alternatives
   alternatives_many v d node has =
-      length-map (alternatives_of (slice_get f.nodes v)) (behind_choice d)
-      ∙ ap (λ (z : Option forest.Node). length (alternatives_of z)) has
+      length-map (choices_in (slice_get f.nodes v)) (behind_choice d)
+      ∙ ap (λ (z : Option forest.Node). length (choices_in z)) has
 
   -- a visit of an item by an entry, and what is behind it
   by_item : (k d i : ℕ) (it : ItemNode) (e : Entry) (vs : Visits) (bs cs : List ℕ) → slice_get f.items k ≡ Some it →
@@ -106,7 +107,7 @@ module _ (f : Forest) where
       Walk opts (Item k d ∷ []) (record { goal = Item k d; choice = i } ∷ vs) × (cursor opts (record { goal = Item k d; choice = i } ∷ vs) ≡ cs)
   by_item k d i it e vs bs cs has at walk told is = (
     w.step (Item k d) [] (behind_entry d e) i vs
-        (mapped_at (behind_entry d) (entries_of (slice_get f.items k)) i e (entry_here k i it e has at))
+        (mapped_at (behind_entry d) (entries_in (slice_get f.items k)) i e (entry_here k i it e has at))
         (subst (λ (z : List Goal). Walk opts z vs) (sym (append-nil (behind_entry d e))) walk),
     ap₂ (λ (n : ℕ) (z : List ℕ). noted n i ++ z) (entries_many k d it has) told ∙ sym is,
   )
@@ -115,13 +116,13 @@ module _ (f : Forest) where
     pub node_walk : {v d : ℕ} {cs : List ℕ} {t : Tree} → OfNode f v d cs t → NodeWalk v d cs t
     node_walk (trees.choose v d i node choice bs cs ts t has at item is whole) =
         let h = item_walk item in
-        let here : slice_get (alternatives_of (slice_get f.nodes v)) i ≡ Some choice =
-        ap (λ (z : Option forest.Node). slice_get (alternatives_of z) i) has ∙ at in
+        let here : slice_get (choices_in (slice_get f.nodes v)) i ≡ Some choice =
+        ap (λ (z : Option forest.Node). slice_get (choices_in z) i) has ∙ at in
         record {
           vs = record { goal = Node v (suc d); choice = i } ∷ h.vs;
           walk =
               w.step (Node v (suc d)) [] (behind_choice d choice) i h.vs
-              (mapped_at (behind_choice d) (alternatives_of (slice_get f.nodes v)) i choice here) h.walk;
+              (mapped_at (behind_choice d) (choices_in (slice_get f.nodes v)) i choice here) h.walk;
           told = ap₂ (λ (n : ℕ) (z : List ℕ). noted n i ++ z) (alternatives_many v d node has) h.told ∙ sym is;
           writes = λ ps.
               ap (λ (z : Option forest.Node). emits f (by_choice z i ps) h.vs) has

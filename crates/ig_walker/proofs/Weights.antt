@@ -8,7 +8,8 @@ use Rattle.ig_forest.specs.Unfold.{IsTrim}
 use Rattle.ig_forest.specs.declared.entry.Entry.{Entry}
 use Rattle.ig_forest.specs.declared.entry.Entry.TheVariants.{Begin, Pass, Take}
 use Rattle.ig_forest.specs.declared.entry.Child.TheVariants as child
-use Rattle.ig_walker.specs.Options.{alternatives_of, entries_of, behind_choice, behind_entry, options}
+use Rattle.ig_heights.specs.Table.{choices_in, entries_in}
+use Rattle.ig_walker.specs.Options.{behind_choice, behind_entry, options}
 use Rattle.ig_walker.specs.declared.goal.Goal.{Goal}
 use Rattle.ig_walker.specs.declared.goal.Goal.TheVariants.{Node, Item, Leaf}
 
@@ -69,14 +70,14 @@ module _ (f : Forest) (good : IsTrim f) where
       let p = good.onward k it (Take prev (child.Node v)) has (contains_from_at it.entries i (Take prev (child.Node v)) at) in two_lower many (Item k d) (Item prev d) (Node v d) (omega (arith, p)) (omega arith)
 
   item_lower : (k d i : ℕ) (part : List Goal) (it : Option ItemNode) → slice_get f.items k ≡ it →
-      slice_get (map (behind_entry d) (entries_of it)) i ≡ Some part → weight many part < pow3 (level many (Item k d))
+      slice_get (map (behind_entry d) (entries_in it)) i ≡ Some part → weight many part < pow3 (level many (Item k d))
   item_lower k d i part None e has = cc
   item_lower k d i part (Some it) e has =
       let m = unmapped_at (behind_entry d) it.entries i part has in
       subst (λ (z : List Goal). weight many z < pow3 (level many (Item k d))) m.2 (entry_lower d k i it m.0 e m.1)
 
   node_lower : (v d i : ℕ) (part : List Goal) (node : Option forest.Node) → slice_get f.nodes v ≡ node →
-      slice_get (map (behind_choice d) (alternatives_of node)) i ≡ Some part → weight many part < pow3 (level many (Node v (suc d)))
+      slice_get (map (behind_choice d) (choices_in node)) i ≡ Some part → weight many part < pow3 (level many (Node v (suc d)))
   node_lower v d i part None e has = cc
   node_lower v d i part (Some node) e has =
       let m = unmapped_at (behind_choice d) node.alternatives i part has in

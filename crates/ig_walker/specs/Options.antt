@@ -1,21 +1,13 @@
 -- The options of a goal: an option is the list of goals that are visited next.
-use Rattle.std.specs.Prelude.{ℕ, zero, suc, List, [], ◌∷◌, Option, Some, None, slice_get, map}
-use Rattle.ig_forest.specs.Forest as forest
-use Rattle.ig_forest.specs.Forest.{Forest, ItemNode}
+use Rattle.std.specs.Prelude.{ℕ, zero, suc, List, [], ◌∷◌, slice_get, map}
+use Rattle.ig_forest.specs.Forest.{Forest}
 use Rattle.ig_forest.specs.declared.entry.Choice.{Choice}
 use Rattle.ig_forest.specs.declared.entry.Entry.{Entry}
 use Rattle.ig_forest.specs.declared.entry.Entry.TheVariants.{Begin, Pass, Take}
 use Rattle.ig_forest.specs.declared.entry.Child.TheVariants as child
+use Rattle.ig_heights.specs.Table.{choices_in, entries_in}
 use Rattle.ig_walker.specs.declared.goal.Goal.{Goal}
 use Rattle.ig_walker.specs.declared.goal.Goal.TheVariants.{Node, Item, Leaf}
-
-abbrev pub alternatives_of : Option forest.Node → List Choice
-alternatives_of None = []
-alternatives_of (Some node) = node.alternatives
-
-abbrev pub entries_of : Option ItemNode → List Entry
-entries_of None = []
-entries_of (Some it) = it.entries
 
 -- behind an alternative is its item, with the depth that is left for its trees
 abbrev pub behind_choice : ℕ → Choice → List Goal
@@ -32,8 +24,8 @@ module _ (f : Forest) where
   -- the alternatives of a node, the entries of an item, and the one option of a leaf
   abbrev pub options : Goal → List (List Goal)
   options (Node v zero) = []
-  options (Node v (suc d)) = map (behind_choice d) (alternatives_of (slice_get f.nodes v))
-  options (Item k d) = map (behind_entry d) (entries_of (slice_get f.items k))
+  options (Node v (suc d)) = map (behind_choice d) (choices_in (slice_get f.nodes v))
+  options (Item k d) = map (behind_entry d) (entries_in (slice_get f.items k))
   options (Leaf span) = [] ∷ []
 
   -- the trees of the root, to a depth

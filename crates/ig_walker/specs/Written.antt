@@ -6,7 +6,7 @@ use Rattle.ig_forest.specs.Forest.{Forest}
 use Rattle.ig_forest.specs.declared.entry.Choice.{Choice}
 use Rattle.ig_forest.specs.declared.entry.Entry.{Entry}
 use Rattle.ig_forest.specs.declared.entry.Entry.TheVariants.{Begin, Pass, Take}
-use Rattle.ig_walker.specs.Options.{entries_of}
+use Rattle.ig_heights.specs.Table.{entries_in}
 use Rattle.ig_walker.specs.declared.goal.Goal.{Goal}
 use Rattle.ig_walker.specs.declared.goal.Goal.TheVariants.{Node, Item, Leaf}
 use Rattle.ig_walker.specs.declared.goal.Visit.{Visit}
@@ -42,7 +42,7 @@ module _ (f : Forest) where
   -- the parts behind a visit
   abbrev pub written : Goal → ℕ → List Part → List Part
   written (Node v d) i ps = by_choice (slice_get f.nodes v) i ps
-  written (Item k d) i ps = by_entry (slice_get (entries_of (slice_get f.items k)) i) ps
+  written (Item k d) i ps = by_entry (slice_get (entries_in (slice_get f.items k)) i) ps
   written (Leaf span) i ps = ps ++ record { tag = None; span = span; children = 0 } ∷ []
 
   abbrev pub emits : List Part → List Visit → List Part

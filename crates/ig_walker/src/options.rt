@@ -2,7 +2,8 @@
 ghost use Rattle.std.specs.Prelude.{◌≡◌, ◌↔◌, [], ◌∷◌, IsTrue, MatchOption};
 ghost use Rattle.std.specs.Prelude.{length, map, option_map, slice_get};
 ghost use Rattle.ig_walker.specs.Behind.{listed};
-ghost use Rattle.ig_walker.specs.Options.{alternatives_of, behind_choice, behind_entry, entries_of};
+ghost use Rattle.ig_heights.specs.Table.{choices_in, entries_in};
+ghost use Rattle.ig_walker.specs.Options.{behind_choice, behind_entry};
 ghost use Rattle.ig_walker.specs.Options.{options};
 ghost use Rattle.ig_walker.specs.States.{FirstOption, LeadsOn, LeadsNowhere};
 ghost use Rattle.ig_walker.specs.Walks.{Opens, Passed};
@@ -14,7 +15,7 @@ use ig_forest::{Child, Choice, Entry};
 
 /// The alternatives of a node; none where it isn't there.
 pub fn alternatives_of<'f>(forest: &Measured<'f>, node: u32) -> &'f [Choice]
-    ensures { result.now ≡ alternatives_of (slice_get forest.now.nodes node) }
+    ensures { result.now ≡ choices_in (slice_get forest.now.nodes node) }
 {
     match forest.node(node) {
         Some(found) => found.alternatives,
@@ -24,7 +25,7 @@ pub fn alternatives_of<'f>(forest: &Measured<'f>, node: u32) -> &'f [Choice]
 
 /// The entries of an item node; none where it isn't there.
 pub fn entries_of<'f>(forest: &Measured<'f>, item: u32) -> &'f [Entry]
-    ensures { result.now ≡ entries_of (slice_get forest.now.items item) }
+    ensures { result.now ≡ entries_in (slice_get forest.now.items item) }
 {
     match forest.item(item) {
         Some(found) => found.entries,
