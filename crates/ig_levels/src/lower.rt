@@ -1,6 +1,6 @@
 //! A grammar without levels.
-ghost use Rattle.std.specs.Prelude.{◌≡◌, ◌+◌, ◌-◌, ◌<◌, ◌++◌, map, true};
-ghost use Rattle.std.specs.Prelude.{IfOk, OnOk};
+ghost use Rattle.std.specs.Prelude.{◌≡◌, ◌+◌, ◌-◌, ◌^◌, ◌<◌, ◌≤◌, ◌++◌, map, true};
+ghost use Rattle.std.specs.Prelude.{IfOk, OnErr, OnOk};
 ghost use Rattle.ig_grammar.specs.Numbering.{by_level};
 ghost use Rattle.ig_grammar.specs.View.{symbol_of};
 ghost use Rattle.ig_rewrite.specs.Added.{left_name, right_name};
@@ -155,11 +155,12 @@ fn levels_from(levels: usize, index: usize) -> usize
     levels - index
 }
 
-/// The number of the level at this index of so many levels: the last one has the number 1. A number
-/// that 32 bits don't hold is refused as want of memory.
+/// The number of the level at this index of so many levels: the last one has the number 1. Refused,
+/// as want of memory, exactly where 32 bits don't hold it.
 fn level_number(levels: usize, index: usize) -> Result<u32, AllocError>
     requires { index < levels }
-    ensures { IfOk result (λ n. n ≡ levels - index) }
+    ensures number { IfOk result (λ n. n ≡ levels - index) }
+    ensures refused { OnErr result (2 ^ 32 ≤ levels - index) }
 {
     u32::try_from(levels_from(levels, index)).map_err(|_| AllocError)
 }
