@@ -23,7 +23,7 @@ add-returns-in_ok-successor-in-Opt t c =
     c.in_ok-push_option-in-Opt.ensures c.add-in-Opt.ensures
     (option_adds c.args.of.now c.args.variables.now c.args.k c.args.symbol.now c.in_ok-successor-in-Opt.field-0
     c.in-Opt.inner (symbol_of c.as_symbol-in-Opt.result.now) c.in-Opt.is
-    c.in_ok-successor-in-Opt.ensures c.as_symbol-in-Opt.ensures)
+    c.in_ok-successor-in-Opt.ensures.number c.as_symbol-in-Opt.ensures)
 
 pub add-returns-in_ok-successor-in-Star : goal.add-returns-in_ok-successor-in-Star
 add-returns-in_ok-successor-in-Star t c =
@@ -31,7 +31,7 @@ add-returns-in_ok-successor-in-Star t c =
     c.in_ok-push_star-in-Star.ensures c.add-in-Star.ensures
     (star_adds c.args.of.now c.args.variables.now c.args.k c.args.symbol.now c.in_ok-successor-in-Star.field-0
     c.in-Star.inner (symbol_of c.as_symbol-in-Star.result.now) c.in-Star.is
-    c.in_ok-successor-in-Star.ensures c.as_symbol-in-Star.ensures)
+    c.in_ok-successor-in-Star.ensures.number c.as_symbol-in-Star.ensures)
 
 pub add-returns-in_ok-successor-in-Plus : goal.add-returns-in_ok-successor-in-Plus
 add-returns-in_ok-successor-in-Plus t c =
@@ -39,7 +39,7 @@ add-returns-in_ok-successor-in-Plus t c =
     c.in_ok-push_plus-in-Plus.ensures c.add-in-Plus.ensures
     (plus_adds c.args.of.now c.args.variables.now c.args.k c.args.symbol.now c.in_ok-successor-in-Plus.field-0
     c.in-Plus.inner (symbol_of c.as_symbol-in-Plus.result.now) c.in-Plus.is
-    c.in_ok-successor-in-Plus.ensures c.as_symbol-in-Plus.ensures)
+    c.in_ok-successor-in-Plus.ensures.number c.as_symbol-in-Plus.ensures)
 
 pub add-returns-in_ok-successor-in-SepStar : goal.add-returns-in_ok-successor-in-SepStar
 add-returns-in_ok-successor-in-SepStar t c =
@@ -47,11 +47,11 @@ add-returns-in_ok-successor-in-SepStar t c =
     c.in_ok-push_sep_star-in-SepStar.ensures c.add_separated.ensures
     (sep_star_adds c.args.of.now c.args.variables.now c.args.k c.args.symbol.now c.in_ok-successor-in-SepStar.field-0
     c.in-SepStar.item c.in-SepStar.separator c.in-SepStar.is
-    c.in_ok-successor-in-SepStar.ensures)
+    c.in_ok-successor-in-SepStar.ensures.number)
 
 pub add-returns-in_ok-successor-in-Group : goal.add-returns-in_ok-successor-in-Group
 add-returns-in_ok-successor-in-Group t c =
     on_ok_then c.add_alternatives.result c.args.all.now c.push_group.new.all c.add_alternatives.new.all _ _ _
     c.in_ok-push_group-in-Group.ensures c.add_alternatives.ensures
     (group_adds c.args.of.now c.args.variables.now c.args.k c.args.symbol.now c.in_ok-successor-in-Group.field-0
-    c.in-Group.choices (c.groups_are_gathered.ensures _) c.in-Group.is c.in_ok-successor-in-Group.ensures)
+    c.in-Group.choices (c.groups_are_gathered.ensures _) c.in-Group.is c.in_ok-successor-in-Group.ensures.number)

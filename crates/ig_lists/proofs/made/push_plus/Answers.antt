@@ -12,7 +12,7 @@ returns c =
     let of = c.args.of.now in
     let v = c.args.variables.now in
     let name = added_name of c.args.k in
-    let one = c.in_ok-one.ensures ∙ (λ i. new of v (c.in_ok-inside.ensures i) (c.as_symbol.ensures i)) in
+    let one = c.in_ok-one.ensures ∙ (λ i. new of v (c.in_ok-inside.ensures.number i) (c.as_symbol.ensures i)) in
     let list = c.in_ok-more.ensures ∙ (λ i. Call name (arguments [] (c.in_ok-params.ensures i)) ∷ []) in
     let more = c.in_ok-push_copies.ensures ∙ (λ i. list i ++ one i) in
     subst (λ m. OnOk c.push_two.result (Grows c.args.all.now c.push_two.new.all (m ∷ [])))

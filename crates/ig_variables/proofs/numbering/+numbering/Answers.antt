@@ -15,7 +15,7 @@ count_alternatives-count_symbols-requires t c =
     c.loop-alternative-test.true c.alternative-item.is in
     omega arith
 
-pub count-returns-in_ok-count_alternatives-in-Group : goal.count-returns-in_ok-count_alternatives-in-Group
-count-returns-in_ok-count_alternatives-in-Group t c =
+pub count-returns-in_ok-count_alternatives-in-Group-clause-number : goal.count-returns-in_ok-count_alternatives-in-Group-clause-number
+count-returns-in_ok-count_alternatives-in-Group-clause-number t c =
     rw c.in-Group.is (subst (λ z. IfOk c.successor-in-Group.result (λ n. n ≡ suc z))
-    (c.in_ok-count_alternatives-in-Group.ensures ∙ sym (c.groups_are_gathered.ensures _).counted) c.successor-in-Group.ensures)
+    (c.in_ok-count_alternatives-in-Group.ensures.number ∙ sym (c.groups_are_gathered.ensures _).counted) c.successor-in-Group.ensures.number)
