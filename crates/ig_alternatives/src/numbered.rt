@@ -1,6 +1,6 @@
 //! A declaration with its number, and what is the same for all of its alternatives.
 
-ghost use Rattle.std.specs.Prelude.{◌≡◌};
+ghost use Rattle.std.specs.Prelude.{◌≡◌, ◌<◌, ◌-◌, Some, slice_get};
 ghost use Rattle.ig_alternatives.specs.Places.{HaveNumberedAlternatives, HaveNumberedSymbols};
 ghost use Rattle.ig_conditions.specs.Room.{HasFewParameters, room_of};
 
@@ -18,6 +18,8 @@ pub struct Numbered<'d, 'g> {
     pub number: u32,
     /// How many labels and lets each alternative may have; `None` where they aren't counted.
     pub room: Option<usize>,
+    ghost counted: { 0 < number },
+    ghost there: { slice_get declarations.now (number - 1) ≡ Some decl.now },
     ghost few: { HasFewParameters decl.now },
     ghost left: { room ≡ room_of decl.now },
     ghost alternatives: { HaveNumberedAlternatives decl.now },

@@ -5,6 +5,7 @@ use Rattle.ig_grammar.specs.WellScoped.{IsLeast, IsFirst, IsWellScoped, Declarat
 use Rattle.ig_grammar.specs.declared.declaration.Decl.{Decl}
 use Rattle.ig_grammar.specs.declared.grammar.Grammar.{Grammar}
 use Rattle.ig_conditions.specs.Causes.{condition_of, NoneHolds}
+use Rattle.ig_conditions.specs.declared.head.Head.{Head}
 use Rattle.ig_alternatives.specs.declared.fault.ScopeFault.{ScopeFault}
 use Rattle.ig_alternatives.specs.declared.fault.ScopeFault.TheVariants.{Broken, Memory}
 
@@ -20,6 +21,10 @@ module _ (decls : List Decl) (decl : Decl) where
   TellsDeclaration index (Err (Broken cause place)) =
       (place.decl ≡ index + 1) × FirstPair (DeclarationHas decls index decl) place.alt place.symbol (condition_of cause)
   TellsDeclaration index (Err Memory) = Unit {0}
+
+-- the same of a declaration where it stands
+abbrev pub TellsHead : Head → {T : Type 0} → Result T ScopeFault → Type 0
+TellsHead head = TellsDeclaration head.declarations.now head.decl.now head.before
 
 -- no condition holds in the first declarations, so many
 abbrev pub AreFree : List Decl → ℕ → Type 0

@@ -6,8 +6,7 @@ ghost use Rattle.ig_grammar.specs.Checked.{rules};
 ghost use Rattle.ig_conditions.specs.Heads.{is_layout};
 ghost use Rattle.ig_alternatives.specs.Places.{HaveNumberedAlternatives, HaveNumberedSymbols};
 ghost use Rattle.ig_scope.specs.Places.{AreNumbered};
-ghost use Rattle.ig_scope.specs.Told.{TellsDeclaration, TellsDeclarations};
-ghost use Rattle.ig_scope.specs.Told.{TellsFault, TellsGrammar};
+ghost use Rattle.ig_scope.specs.Told.{TellsHead, TellsDeclarations, TellsFault, TellsGrammar};
 
 use ig_alternatives::{Numbered, ScopeFault, check_alternatives};
 use ig_conditions::{Head, head_cause, room_of, start_cause};
@@ -95,8 +94,7 @@ fn check_declaration(alloc: Global, head: &Head) -> Result<(), ScopeFault>
     requires number { head.now.before + 1 < counts_bound }
     requires alternatives { HaveNumberedAlternatives head.now.decl.now }
     requires symbols { HaveNumberedSymbols head.now.decl.now }
-    ensures { TellsDeclaration
-        head.now.declarations.now head.now.decl.now head.now.before result }
+    ensures { TellsHead head.now result }
 {
     let number = head.before as u32 + 1;
     if let Some(cause) = head_cause(alloc, head)? {
