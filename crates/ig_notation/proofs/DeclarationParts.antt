@@ -20,10 +20,10 @@ use Rattle.ig_rules.specs.Machine.{Want, before, run, go, step, chosen, after_ki
 use Rattle.ig_rules.specs.Reading.{Goes}
 use Rattle.ig_readers.specs.declared.fault.RuleFault.{RuleFault}
 use Rattle.ig_readers.specs.declared.fault.RuleFault.TheVariants.{Unexpected, Memory}
-use Rattle.ig_readers.specs.Readers.{Stands, Takes, Misses, at_end, at_token, MissesAt, StopsAt, Runs, Finds, Closed, Front}
+use Rattle.ig_readers.specs.Readers.{Stands, Takes, Misses, at_end, at_token, MissesAt, StopsAt, Runs, Finds, Closed, Front, After}
 use Rattle.ig_notation.specs.Parts.{FailsAt, ReadsHeading, ReadsParameter, ReadsFirst}
 use Rattle.ig_readers.specs.Lists.{one_more, the_last, snoc}
-use Rattle.ig_readers.specs.Steps.{passed, missed, some_there, stop_first, stop_past, stop_token, by_token, by_itself, in_turn, nothing, ReadsToken, the_token, the_sign, After, sign_then, then_sign}
+use Rattle.ig_readers.specs.Steps.{passed, missed, some_there, stop_first, stop_past, stop_token, by_token, by_itself, in_turn, nothing, ReadsToken, the_token, the_sign, sign_then, then_sign}
 
 -- kinds
 kind_row : (t : Token) (k : Kind) → IsKind t k → after_kind t ≡ Some []

@@ -1,5 +1,5 @@
 -- The parts of the rules, put together of what is read one behind the other: what stands around symbols.
-use Rattle.std.proofs.Common.{◌≡◌, ℕ, ◌+◌, ◌≤◌, List, [], ◌∷◌, ◌++◌, length, drop, refl, sym, ap, ◌∙◌, subst, Bool, false}
+use Rattle.std.proofs.Common.{◌≡◌, ◌≢◌, ℕ, ◌+◌, ◌≤◌, List, [], ◌∷◌, ◌++◌, length, drop, refl, sym, ap, ◌∙◌, subst, Bool, false}
 use Rattle.std.specs.Prelude.{Option, Some, None, is_some, ◌&&◌, if◌then◌else◌}
 use Rattle.ig_text.specs.declared.pattern.Pattern.{Pattern}
 use Rattle.ig_expr.specs.Expression.{Expression}
@@ -14,16 +14,17 @@ use Rattle.ig_rules.specs.Machine as want
 use Rattle.ig_rules.specs.Machine.{Want, after, before, run, after_symbol, after_atom, arguments_wants}
 use Rattle.ig_rules.specs.Reading.{Goes}
 use Rattle.ig_readers.specs.declared.fault.RuleFault.{RuleFault}
+use Rattle.ig_readers.specs.declared.fault.RuleFault.TheVariants.{Unexpected, Memory}
 use Rattle.ig_readers.specs.declared.repetitions.Repetition.{Repetition}
 use Rattle.ig_readers.specs.declared.repetitions.Repetition.TheVariants as repetitions
 use Rattle.ig_readers.specs.declared.repetitions.ListSign.{ListSign}
 use Rattle.ig_readers.specs.declared.repetitions.ListSign.TheVariants as lists
-use Rattle.ig_readers.specs.Readers.{Stands, Takes, Misses, at_end, at_token, StopsAt, Runs, Behind, Closed}
+use Rattle.ig_readers.specs.Readers.{Stands, Takes, Misses, at_end, at_token, MissesAt, StopsAt, Runs, Behind, Closed, After}
 use Rattle.ig_readers.specs.Repetitions.{repetition_token, repeated_of, list_token, separated_of}
-use Rattle.ig_parts.specs.declared.parts.Mark.{Mark}
+use Rattle.ig_parts.specs.declared.parts.BlockMark.{BlockMark}
 use Rattle.ig_parts.specs.Parts.{marked_of, is_opening, IsPlain, ReadsRepetition, symbol_with, ReadsFiltered, ReadsAtomEnd, ReadsGroupEnd, ReadsClosing, ReadsListEnd, terminal_of}
 use Rattle.ig_parts.specs.Parts as parts
-use Rattle.ig_readers.specs.Steps.{taken, passed, stop_later, stop_first, stop_past, by_token, by_itself, in_turn, nothing, ReadsToken, the_token, alike_at, rows_alike, rows_same, relay, reread, After, token_then, sign_then}
+use Rattle.ig_readers.specs.Steps.{taken, passed, stop_later, stop_first, stop_past, by_token, by_itself, in_turn, nothing, ReadsToken, the_token, alike_at, rows_alike, rows_same, relay, reread, token_then, sign_then}
 
 -- guards and lets
 pub guard : (T : List Token) (i j k : ℕ) (e : Expression) → Takes Open T i j →
@@ -98,7 +99,7 @@ pub marked_first : (T : List Token) (i : ℕ) (t : Token) → Stands T i t → a
 marked_first T i t h e = rows_same want.symbol want.marked t T i refl e h
 
 -- marks
-pub with_mark : (m k : Mark) (x y : Symbol) → m ≡ k → y ≡ x → marked_of k y ≡ marked_of m x
+pub with_mark : (m k : BlockMark) (x y : Symbol) → m ≡ k → y ≡ x → marked_of k y ≡ marked_of m x
 with_mark m k x y e f = ap (marked_of k) f ∙ sym (ap (λ z. marked_of z x) e)
 
 pub post_first : (T : List Token) (i : ℕ) (t : Token) → Stands T i t → after want.marked t ≡ after want.post t → Runs (want.marked ∷ []) (want.post ∷ []) T i i
@@ -161,6 +162,9 @@ closing T i j s c h =
     (sign_then ReadsToken want.close_brace CloseBrace (want.list_sign ∷ []) [] T i j (j + 1) (list_token s) refl c
     (the_token want.list_sign (list_token s) T j h (list_row s)))
     (λ from r v. v.is ∙ ap (λ z. CloseBrace ∷ z) v.part)
+
+pub takes_no_memory : (w : Want) (T : List Token) (i : ℕ) (e : RuleFault) → MissesAt w T i e → e ≢ Memory
+takes_no_memory w T i e m = λ f. let z : Unexpected i ≡ Memory = sym m.is_fault ∙ f in cc
 
 pub list_of : (s : ListSign) (x sep a b y : Symbol) → a ≡ x → b ≡ sep → y ≡ separated_of s a b → y ≡ separated_of s x sep
 list_of s x sep a b y d e f = f ∙ ap (λ z. separated_of s z b) d ∙ ap (separated_of s x) e

@@ -10,13 +10,12 @@ use Rattle.ig_syntax.specs.Rules.{ReadsSign, ReadsFilters, filtered}
 use Rattle.ig_rules.specs.Machine as want
 use Rattle.ig_readers.specs.declared.repetitions.Repetition.{Repetition}
 use Rattle.ig_readers.specs.declared.repetitions.ListSign.{ListSign}
-use Rattle.ig_readers.specs.Readers.{Stands, Runs}
+use Rattle.ig_readers.specs.Readers.{Stands, Runs, After}
 use Rattle.ig_readers.specs.Repetitions.{repetition_token, repeated_of, list_token, separated_of}
-use Rattle.ig_readers.specs.Steps.{After}
 use Rattle.ig_parts.specs.declared.parts.Beginning.{Beginning}
 use Rattle.ig_parts.specs.declared.parts.Beginning.TheVariants as beginnings
-use Rattle.ig_parts.specs.declared.parts.Mark.{Mark}
-use Rattle.ig_parts.specs.declared.parts.Mark.TheVariants as marks
+use Rattle.ig_parts.specs.declared.parts.BlockMark.{BlockMark}
+use Rattle.ig_parts.specs.declared.parts.BlockMark.TheVariants as marks
 use Rattle.ig_parts.specs.declared.parts.Opening.{Opening}
 use Rattle.ig_parts.specs.declared.parts.Opening.TheVariants as openings
 
@@ -33,12 +32,12 @@ Begins (beginnings.Label name) tokens i = IsLabel (chars name.now) tokens i
 Begins beginnings.Marked tokens i = Runs (want.symbol ∷ []) (want.marked ∷ []) tokens i i
 
 -- the token that a mark is, and the symbol with it
-abbrev pub mark_token : Mark → Token
+abbrev pub mark_token : BlockMark → Token
 mark_token marks.Offside = token.Offside
 mark_token marks.Ignore = token.Ignore
 mark_token marks.Align = token.Align
 
-abbrev pub marked_of : Mark → tree.Symbol → tree.Symbol
+abbrev pub marked_of : BlockMark → tree.Symbol → tree.Symbol
 marked_of marks.Offside x = tree.Offside x
 marked_of marks.Ignore x = tree.Ignore x
 marked_of marks.Align x = tree.Align x

@@ -12,6 +12,6 @@
 mod parts;
 
 pub use parts::{
-    Beginning, Mark, Opening, beginning_at, begins_symbol, labelled, mark_at, marked, opening_at,
-    read_group_end, read_guard, read_let, read_list_end, read_plain,
+    Beginning, BlockMark, Opening, beginning_at, begins_symbol, labelled, mark_at, marked,
+    opening_at, read_group_end, read_guard, read_let, read_list_end, read_plain,
 };

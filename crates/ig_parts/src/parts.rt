@@ -2,8 +2,8 @@
 //! stands around them. Each function that reads does so from the token of number `at`, and returns
 //! what it read with the number of the first token behind it.
 
-ghost use Rattle.std.specs.Prelude.{◌≡◌, ◌≤◌, ◌<◌, [], ◌∷◌, length, true, false, is_some, IfOk};
-ghost use Rattle.std.specs.Prelude.{IfErr, Option, MatchOption, chars};
+ghost use Rattle.std.specs.Prelude.{◌≡◌, ◌≢◌, ◌≤◌, ◌<◌, [], ◌∷◌, length, true, false, is_some};
+ghost use Rattle.std.specs.Prelude.{IfOk, IfErr, Option, MatchOption, chars};
 ghost use Rattle.ig_tokens.specs.View.{token_of};
 ghost use Rattle.ig_syntax.specs.Token as spec;
 ghost use Rattle.ig_grammar.specs.Symbol as tree;
@@ -46,9 +46,10 @@ pub enum Beginning<'a> {
     Marked,
 }
 
-/// The marks that stand before symbols.
+/// A mark before a symbol, by which it is a block, is left out of the blocks around it, or is a
+/// list with its items in one column.
 #[derive(Clone, Copy)]
-pub enum Mark {
+pub enum BlockMark {
     /// `offside`
     Offside,
     /// `ignore`
@@ -173,14 +174,14 @@ pub fn read_let(alloc: Global, tokens: &Tokens, at: usize) -> Result<(Symbol, us
 }
 
 /// The mark that stands there; `None` exactly where none does.
-pub fn mark_at(tokens: &Tokens, at: usize) -> Option<Mark>
+pub fn mark_at(tokens: &Tokens, at: usize) -> Option<BlockMark>
     ensures { MatchOption result (Runs (want.marked ∷ []) (want.post ∷ []) tokens.now at at)
         (λ m. Stands tokens.now at (mark_token m)) }
 {
     match tokens.get(at)? {
-        Token::Offside => Some(Mark::Offside),
-        Token::Ignore => Some(Mark::Ignore),
-        Token::Align => Some(Mark::Align),
+        Token::Offside => Some(BlockMark::Offside),
+        Token::Ignore => Some(BlockMark::Ignore),
+        Token::Align => Some(BlockMark::Align),
         _ => None,
     }
 }
@@ -189,7 +190,7 @@ pub fn mark_at(tokens: &Tokens, at: usize) -> Option<Mark>
 /// alone.
 pub fn marked(
     alloc: Global,
-    mark: Mark,
+    mark: BlockMark,
     symbol: Symbol,
     end: usize,
 ) -> Result<(Symbol, usize), RuleFault>
@@ -199,9 +200,9 @@ pub fn marked(
 {
     let symbol = Inner::new(alloc, symbol)?;
     match mark {
-        Mark::Offside => Ok((Symbol::Offside(symbol), end)),
-        Mark::Ignore => Ok((Symbol::Ignore(symbol), end)),
-        Mark::Align => Ok((Symbol::Align(symbol), end)),
+        BlockMark::Offside => Ok((Symbol::Offside(symbol), end)),
+        BlockMark::Ignore => Ok((Symbol::Ignore(symbol), end)),
+        BlockMark::Align => Ok((Symbol::Align(symbol), end)),
     }
 }
 
@@ -404,6 +405,7 @@ fn read_closing(tokens: &Tokens, at: usize) -> Result<(ListSign, usize), RuleFau
     ensures ok { IfOk result (λ r. Goes SpecListSign ReadsClosing (want.close_brace ∷
         want.list_sign ∷ []) [] tokens.now at r.1 r.0) }
     ensures err { IfErr result (StopsAt (want.close_brace ∷ want.list_sign ∷ []) tokens.now at) }
+    ensures unexpected { IfErr result (λ e. e ≢ RuleFault.Memory) }
 {
     let behind = read_sign(tokens, at, Sign::CloseBrace)?;
     let sign = read_list_sign(tokens, behind)?;

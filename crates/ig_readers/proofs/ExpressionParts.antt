@@ -16,10 +16,10 @@ use Rattle.ig_readers.specs.declared.fault.RuleFault.{RuleFault}
 use Rattle.ig_readers.specs.declared.expressions.Named.{Named}
 use Rattle.ig_readers.specs.declared.expressions.Named.TheVariants as named
 use Rattle.ig_limits.specs.Limits.{NumberFits, number_bound}
-use Rattle.ig_readers.specs.Readers.{Stands, Takes, Misses, at_end, at_token, StopsAt, Runs, Finds, Closed, Front, IsNamed, named_wants, ReadsNamed}
+use Rattle.ig_readers.specs.Readers.{Stands, Takes, Misses, at_end, at_token, StopsAt, Runs, Finds, Closed, Front, IsNamed, named_wants, ReadsNamed, After}
 use Rattle.ig_readers.proofs.Names.{named_rows}
 use Rattle.ig_readers.specs.Lists.{one_more, the_last}
-use Rattle.ig_readers.specs.Steps.{stop_past, stop_token, by_token, by_itself, in_turn, ReadsToken, the_sign, rows_alike, and_none, relay, reread, After, token_then, sign_then, then_sign, each_there}
+use Rattle.ig_readers.specs.Steps.{stop_past, stop_token, by_token, by_itself, in_turn, ReadsToken, the_sign, rows_alike, and_none, relay, reread, token_then, sign_then, then_sign, each_there}
 
 -- an operator is what may stand behind a term
 operates : (t : Token) (o : Op) → IsOperator t o → after_operator_rest t ≡ Some (want.term ∷ [])

@@ -69,6 +69,12 @@ pub record Finds (P : Token → Type 0) (tokens : List Token) (i : ℕ) : Type 0
 abbrev pub Behind : {V : Type 0} → Token → (List Token → List Token → V → Type 0) → List Token → List Token → V → Type 0
 Behind t reads from rest value = reads (t ∷ from) rest value
 
+-- a token, and a part behind it
+pub record After {V : Type 0} (t : Token) (reads : List Token → List Token → V → Type 0) (from rest : List Token) (value : V) : Type 0 where
+  pub middle : List Token
+  pub is : from ≡ t ∷ middle
+  pub part : reads middle rest value
+
 -- a part, and the `)` behind it
 abbrev pub Closed : {V : Type 0} → (List Token → List Token → V → Type 0) → List Token → List Token → V → Type 0
 Closed reads from rest value = reads from (Close ∷ rest) value

@@ -10,7 +10,7 @@ use Rattle.ig_rules.specs.Machine.{Want, may_lack, all_may_lack, after, before, 
 use Rattle.ig_rules.specs.Reading.{Goes}
 use Rattle.ig_readers.specs.declared.fault.RuleFault.{RuleFault}
 use Rattle.ig_readers.specs.declared.fault.RuleFault.TheVariants.{Unexpected, Memory}
-use Rattle.ig_readers.specs.Readers.{Stands, Takes, Misses, at_end, at_token, MissesAt, EndsAt, StopsAt, Runs, Finds, Behind}
+use Rattle.ig_readers.specs.Readers.{Stands, Takes, Misses, at_end, at_token, MissesAt, EndsAt, StopsAt, Runs, Finds, Behind, After}
 
 -- one number farther
 pub further : (t u : Token) (T : List Token) (i : ℕ) → drop i T ≡ t ∷ drop (i + 1) T → drop (suc i) (u ∷ T) ≡ t ∷ drop (suc i + 1) (u ∷ T)
@@ -279,11 +279,6 @@ pub reread : {V W : Type 0} (P : List Token → List Token → V → Type 0) (Q 
 reread P Q a p T i j v x g reads = otherwise P Q a a p p T i j v x (the_same a T i) (the_same p T j) g reads
 
 -- a part behind a token, and one before it
-pub record After {V : Type 0} (t : Token) (R : List Token → List Token → V → Type 0) (from rest : List Token) (value : V) : Type 0 where
-  pub middle : List Token
-  pub is : from ≡ t ∷ middle
-  pub part : R middle rest value
-
 pub token_then : {V : Type 0} (R : List Token → List Token → V → Type 0) (w : Want) (t : Token) (a p : List Want) (T : List Token) (i k : ℕ) (v : V) →
     after w t ≡ Some [] → Stands T i t → Goes V R a p T (i + 1) k v → Goes V (After t R) (w ∷ a) p T i k v
 token_then R w t a p T i k v e h g =

@@ -14,13 +14,13 @@ use Rattle.ig_rules.specs.Reading.{Goes}
 use Rattle.ig_readers.specs.declared.fault.RuleFault.{RuleFault}
 use Rattle.ig_readers.specs.declared.repetitions.ListSign.{ListSign}
 use Rattle.ig_readers.specs.declared.repetitions.ListSign.TheVariants as lists
-use Rattle.ig_readers.specs.Readers.{Stands, Misses, StopsAt, Runs, Finds, Behind, Front}
+use Rattle.ig_readers.specs.Readers.{Stands, Misses, StopsAt, Runs, Finds, Behind, Front, After}
 use Rattle.ig_readers.specs.Repetitions.{list_token, separated_of}
-use Rattle.ig_parts.specs.declared.parts.Mark.{Mark}
-use Rattle.ig_parts.specs.declared.parts.Mark.TheVariants as marks
+use Rattle.ig_parts.specs.declared.parts.BlockMark.{BlockMark}
+use Rattle.ig_parts.specs.declared.parts.BlockMark.TheVariants as marks
 use Rattle.ig_parts.specs.Parts.{IsLabel, mark_token, marked_of, ReadsGroupEnd, ReadsListEnd}
 use Rattle.ig_readers.specs.Lists.{one_more, the_last, finish, snoc}
-use Rattle.ig_readers.specs.Steps.{passed, joined, in_row, stop_later, stop_first, stop_token, stop_past, runs_of, by_token, in_turn, otherwise, the_same, alike_at, reread, After, row_more}
+use Rattle.ig_readers.specs.Steps.{passed, joined, in_row, stop_later, stop_first, stop_token, stop_past, runs_of, by_token, in_turn, otherwise, the_same, alike_at, reread, row_more}
 
 -- alternatives
 abbrev pub ReadsAlt : List Token → List Token → Alt → Type 0
@@ -134,17 +134,17 @@ labelled_stops T i n e l s =
     (stop_token want.name_rest (want.marked ∷ []) Colon T (i + 1) e l.colon refl (subst (λ z. StopsAt (want.marked ∷ []) T z e) k s))
 
 -- marks
-pub mark_row : (m : Mark) → after want.marked (mark_token m) ≡ Some (want.post ∷ [])
+pub mark_row : (m : BlockMark) → after want.marked (mark_token m) ≡ Some (want.post ∷ [])
 mark_row marks.Offside = refl
 mark_row marks.Ignore = refl
 mark_row marks.Align = refl
 
-mark_read : (m : Mark) (s r : List Token) (x : Symbol) → ReadsPost s r x → ReadsMarked (mark_token m ∷ s) r (marked_of m x)
+mark_read : (m : BlockMark) (s r : List Token) (x : Symbol) → ReadsPost s r x → ReadsMarked (mark_token m ∷ s) r (marked_of m x)
 mark_read marks.Offside s r x h = rule.offside s r x h
 mark_read marks.Ignore s r x h = rule.ignore s r x h
 mark_read marks.Align s r x h = rule.align s r x h
 
-pub marked : (T : List Token) (i j k : ℕ) (m : Mark) (x y : Symbol) → Stands T i (mark_token m) → Goes Symbol ReadsPost (want.post ∷ []) [] T (i + 1) j x →
+pub marked : (T : List Token) (i j k : ℕ) (m : BlockMark) (x y : Symbol) → Stands T i (mark_token m) → Goes Symbol ReadsPost (want.post ∷ []) [] T (i + 1) j x →
     y ≡ marked_of m x → k ≡ j → Goes Symbol ReadsMarked (want.marked ∷ []) [] T i k y
 marked T i j k m x y h g e f =
     at_once (Goes Symbol ReadsMarked (want.marked ∷ []) [] T i) j k (marked_of m x) y f e

@@ -1,4 +1,4 @@
-use Rattle.ig_parts.specs.declared.parts.Mark.TheVariants as marks
+use Rattle.ig_parts.specs.declared.parts.BlockMark.TheVariants as marks
 use Rattle.ig_parts.proofs.Around.{with_mark}
 use Rattle.ig_parts.proofs.parts.marked.Goals as goal
 
