@@ -1,5 +1,5 @@
 -- Tests that decide what derivations ask of a text: values, parameters, matches, columns and filters.
-use Rattle.std.proofs.Common.{◌≡◌, ◌∙◌, ℕ, ◌+◌, ◌-◌, ◌<◌, take, drop, length-take, length-drop, Bool, true, false, List, [], ◌∷◌, length, refl, sym, ap, subst, arith, Option, Some, None, inl, ltb}
+use Rattle.std.proofs.Common.{◌≡◌, ◌∙◌, ℕ, ◌+◌, ◌<◌, Bool, true, false, List, [], ◌∷◌, refl, sym, ap, subst, Option, Some, None, inl, ltb}
 use Rattle.std.specs.Prelude.{◌⊎◌, ◌&&◌, ◌||◌, ◌==◌, not, All, Contains, option_map, slice_index_or}
 use Rattle.std.specs.Bool.{Decides}
 use Rattle.std.proofs.lemmas.Bool.Decides.{Decides-and, Decides-or, Decides-eqb, Decides-ltb, Decides-like, Decides-by_and, Decides-not}
@@ -7,14 +7,13 @@ use Rattle.std.proofs.lemmas.List.Elements.{Contains-get_or}
 use Rattle.ig_text.specs.Lines.{column_of}
 use Rattle.ig_text.specs.Pattern.{Matches}
 use Rattle.ig_text.specs.declared.pattern.Pattern.{Pattern}
-use Rattle.ig_text.specs.declared.pattern.Pattern.TheVariants as pattern
 use Rattle.ig_text.proofs.Options.{mapped}
 use Rattle.ig_expr.specs.Expression.{Expression}
 use Rattle.ig_expr.specs.Evaluation.{value_of}
 use Rattle.ig_expr.specs.Matching.{width, matches_at, matches_before}
 use Rattle.ig_expr.specs.declared.value.Value.{Value}
 use Rattle.ig_expr.specs.declared.value.Value.TheVariants as value
-use Rattle.ig_expr.specs.Laws.{MatchesAreDecided}
+use Rattle.ig_examples.specs.Matches.{MatchesAreKnown}
 use Rattle.ig_meaning.specs.Environment.{Environment, names, values, HaveValues, no_values, next_value, AreBound, no_parameters, next_parameter}
 use Rattle.ig_meaning.specs.Blocks.{IsOffside, AreAligned}
 use Rattle.ig_meaning.specs.Filtering.{Passes, PassesAll}
@@ -81,27 +80,18 @@ truth_is (value.Bool b) e = ap value.Bool e
 truth_is (value.Int n) e = absurd (cc)
 truth_is (value.Span s) e = absurd (cc)
 
--- a match is as long as its pattern
-match_width : (text : List ℕ) (pattern : Pattern) (i j : ℕ) → Matches text pattern i j → j ≡ i + width pattern
-match_width text (pattern.Literal word) i j s =
-    let len : length (take (j - i) (drop i text)) ≡ length word = ap length s.letters in
-    let onward = s.onward in
-    let within = s.within in
-    omega (arith, len, length-take (j - i) (drop i text), length-drop i text)
-match_width text (pattern.OneOf class) i j m = m.next
-
 -- where a match of the pattern that begins at i ends
 abbrev pub ends_of : List ℕ → Pattern → ℕ → List ℕ
 ends_of text pattern i = given (matches_at text pattern i) (λ _. (i + width pattern) ∷ [])
 
-pub ends_match : (decided : MatchesAreDecided) (text : List ℕ) (pattern : Pattern) (i : ℕ) → OfEach (Matches text pattern i) (ends_of text pattern i)
-ends_match decided text pattern i = each_given (Matches text pattern i) (matches_at text pattern i) (λ _. (i + width pattern) ∷ []) (λ h.
-    let m = (decided text pattern i).begins.0 h in
-    (subst (Matches text pattern i) (match_width text pattern i m.0 m.1) m.1, tt))
+pub ends_match : (known : MatchesAreKnown) (text : List ℕ) (pattern : Pattern) (i : ℕ) → OfEach (Matches text pattern i) (ends_of text pattern i)
+ends_match known text pattern i = each_given (Matches text pattern i) (matches_at text pattern i) (λ _. (i + width pattern) ∷ []) (λ h.
+    let m = (known.decided text pattern i).begins.0 h in
+    (subst (Matches text pattern i) (known.width text pattern i m.0 m.1) m.1, tt))
 
-pub matches_end : (decided : MatchesAreDecided) (text : List ℕ) (pattern : Pattern) (i e : ℕ) → Matches text pattern i e → IsAmong (ends_of text pattern i) e
-matches_end decided text pattern i e m =
-    among_given (matches_at text pattern i) (λ _. (i + width pattern) ∷ []) e ((decided text pattern i).begins.1 (e, m)) (inl (sym (match_width text pattern i e m)))
+pub matches_end : (known : MatchesAreKnown) (text : List ℕ) (pattern : Pattern) (i e : ℕ) → Matches text pattern i e → IsAmong (ends_of text pattern i) e
+matches_end known text pattern i e m =
+    among_given (matches_at text pattern i) (λ _. (i + width pattern) ∷ []) e ((known.decided text pattern i).begins.1 (e, m)) (inl (sym (known.width text pattern i e m)))
 
 -- whether all members pass the test
 abbrev pub all_pass : {A : Type 0} → (A → Bool) → List A → Bool
@@ -113,27 +103,27 @@ passes text i e (NotFollowed pattern) = not (matches_at text pattern e)
 passes text i e (NotPreceded pattern) = not (matches_before text pattern i)
 passes text i e (Not pattern) = not (matches_at text pattern i && (e == i + width pattern))
 
-covers_all : (decided : MatchesAreDecided) (text : List ℕ) (pattern : Pattern) (i e : ℕ) →
+covers_all : (known : MatchesAreKnown) (text : List ℕ) (pattern : Pattern) (i e : ℕ) →
     Decides (matches_at text pattern i && (e == i + width pattern)) (Matches text pattern i e)
-covers_all decided text pattern i e =
+covers_all known text pattern i e =
     Decides-like (matches_at text pattern i && (e == i + width pattern))
-    (λ h. subst (Matches text pattern i) (match_width text pattern i h.0.0 h.0.1 ∙ sym h.1) h.0.1)
-    (λ m. ((e, m), match_width text pattern i e m))
-    (Decides-and (matches_at text pattern i) (e == i + width pattern) (decided text pattern i).begins (Decides-eqb e (i + width pattern)))
+    (λ h. subst (Matches text pattern i) (known.width text pattern i h.0.0 h.0.1 ∙ sym h.1) h.0.1)
+    (λ m. ((e, m), known.width text pattern i e m))
+    (Decides-and (matches_at text pattern i) (e == i + width pattern) (known.decided text pattern i).begins (Decides-eqb e (i + width pattern)))
 
-passes_decides : (decided : MatchesAreDecided) (text : List ℕ) (i e : ℕ) (f : Filter) → Decides (passes text i e f) (Passes text i e f)
-passes_decides decided text i e (NotFollowed pattern) = (decided text pattern e).not_begins
-passes_decides decided text i e (NotPreceded pattern) = (decided text pattern i).not_ends
-passes_decides decided text i e (Not pattern) =
-    Decides-not (matches_at text pattern i && (e == i + width pattern)) (covers_all decided text pattern i e)
+passes_decides : (known : MatchesAreKnown) (text : List ℕ) (i e : ℕ) (f : Filter) → Decides (passes text i e f) (Passes text i e f)
+passes_decides known text i e (NotFollowed pattern) = (known.decided text pattern e).not_begins
+passes_decides known text i e (NotPreceded pattern) = (known.decided text pattern i).not_ends
+passes_decides known text i e (Not pattern) =
+    Decides-not (matches_at text pattern i && (e == i + width pattern)) (covers_all known text pattern i e)
 
 abbrev pub passes_all : List ℕ → ℕ → ℕ → List Filter → Bool
 passes_all text i e filters = all_pass (passes text i e) filters
 
-pub passes_all_decides : (decided : MatchesAreDecided) (text : List ℕ) (i e : ℕ) (filters : List Filter) →
+pub passes_all_decides : (known : MatchesAreKnown) (text : List ℕ) (i e : ℕ) (filters : List Filter) →
     Decides (passes_all text i e filters) (PassesAll text i e filters)
-passes_all_decides decided text i e filters =
-    Decides-by_and (passes text i e) (Passes text i e) (all_pass (passes text i e)) (passes_decides decided text i e) refl (λ _ _. refl) filters
+passes_all_decides known text i e filters =
+    Decides-by_and (passes text i e) (Passes text i e) (all_pass (passes text i e)) (passes_decides known text i e) refl (λ _ _. refl) filters
 
 all_contained : {A : Type 0} (P : A → Type 0) (xs : List A) → All P xs → (x : A) → Contains xs x → P x
 all_contained P xs all x c = subst P c.2 (all c.0 x c.1)

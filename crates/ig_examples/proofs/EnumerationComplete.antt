@@ -15,7 +15,7 @@ use Rattle.ig_text.specs.Words.{is_word}
 use Rattle.ig_text.proofs.Trees.{joined_height}
 use Rattle.ig_expr.specs.declared.value.Value.{Value}
 use Rattle.ig_expr.specs.declared.value.Value.TheVariants as value
-use Rattle.ig_expr.specs.Laws.{MatchesAreDecided}
+use Rattle.ig_examples.specs.Matches.{MatchesAreKnown}
 use Rattle.ig_grammar.specs.Symbol.{Symbol, Call, Star, Plus, SepPlus, Group, Filtered}
 use Rattle.ig_grammar.specs.Symbol.{Symbols, no_symbols, next_symbol, Alternatives, no_alternatives, next_alternative, gathered, listed}
 use Rattle.ig_meaning.specs.Environment.{Environment, names, values, HaveValues}
@@ -43,7 +43,7 @@ lowered : (P : ℕ → Type 0) (k n : ℕ) → k < n → ((m : ℕ) → k < suc 
 lowered P k zero low each = absurd (omega (arith, low))
 lowered P k (suc m) low each = each m low
 
-module _ (decided : MatchesAreDecided) (g : Grammar) (shapes : List Shape) (text : List ℕ) where
+module _ (known : MatchesAreKnown) (g : Grammar) (shapes : List Shape) (text : List ℕ) where
   abbrev outcome : ℕ → ℕ → Trees → Environment → List ℕ → Outcome
   outcome e j ts after starts = record { own = e; end = j; trees = ts; after = after; starts = starts }
 
@@ -118,7 +118,7 @@ module _ (decided : MatchesAreDecided) (g : Grammar) (shapes : List Shape) (text
       Matches text p i e → TrailFound n c e j us → ts ≡ more (Leaf i e) us → starts ≡ exposed c i →
       IsAmong (all.matched g shapes text (before g shapes text n) c p env i) (outcome e j ts env starts)
   matched_found n c p env i e j us ts starts m found trees exposes =
-      among_each _ (ends_of text p i) e _ (matches_end decided text p i e m) (token_found n c env i e j (Leaf i e) us ts starts found trees exposes)
+      among_each _ (ends_of text p i) e _ (matches_end known text p i e m) (token_found n c env i e j (Leaf i e) us ts starts found trees exposes)
 
   other_called : (n : ℕ) (c kind : DeclKind) (env : Environment) (i e : ℕ) (t : Tree) (ks : List ℕ) → kind ≢ Lexical →
       IsAmong (all.called g shapes text (before g shapes text n) c i env kind e t ks) (outcome e e (one t) env ks)
@@ -223,7 +223,7 @@ module _ (decided : MatchesAreDecided) (g : Grammar) (shapes : List Shape) (text
         (among_given (are_aligned text items) _ _ ((are_aligned_decides text items).1 column) (inl refl))
     derived_found (filtered c x filters env after i e j ts starts inner passed) n low =
         among_each _ (all.derived g shapes text (before g shapes text n) c x env i) (outcome e j ts after starts) _ (derived_found inner n low)
-        (among_given (passes_all text i e filters) _ _ ((passes_all_decides decided text i e filters).1 passed) (inl refl))
+        (among_given (passes_all text i e filters) _ _ ((passes_all_decides known text i e filters).1 passed) (inl refl))
     derived_found (sequence c xs env after i j ts starts inner) n low =
         among_map all.of_covering _ (record { end = j; trees = ts; after = after; starts = starts }) (subst (λ zs. CoveringFound n c zs env i j ts after starts) (gathered_listed xs) (covered_found inner n low))
     derived_found (entry c bindings x vs env inside after i e j ts starts have renewed inner) n low =
@@ -265,7 +265,7 @@ module _ (decided : MatchesAreDecided) (g : Grammar) (shapes : List Shape) (text
     items_found (bare c x env i j t starts items list) n low = bare_found n c x env i j t starts items list (list_found list n (omega (arith, low)))
     items_found (with_filters c x filters env after i e j ts starts items inner passed) n low =
         among_each _ (all.items g shapes text (before g shapes text n) c x env i) (record { own = e; end = j; trees = ts; after = after; starts = starts; items = items }) _ (items_found inner n low)
-        (among_given (passes_all text i e filters) _ _ ((passes_all_decides decided text i e filters).1 passed) (inl refl))
+        (among_given (passes_all text i e filters) _ _ ((passes_all_decides known text i e filters).1 passed) (inl refl))
 
     pub instance_of : {name : List ℕ} {vs : List Value} {kind : DeclKind} {i e : ℕ} {t : Tree} {starts : List ℕ} →
         Instance g shapes text name vs kind i e t starts → (n : ℕ) → height t < suc n →

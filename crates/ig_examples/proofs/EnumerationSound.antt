@@ -12,7 +12,7 @@ use Rattle.ig_expr.specs.Evaluation.{value_of}
 use Rattle.ig_text.specs.Words.{is_word}
 use Rattle.ig_text.proofs.Trees.{joined_height}
 use Rattle.ig_expr.specs.declared.value.Value.{Value}
-use Rattle.ig_expr.specs.Laws.{MatchesAreDecided}
+use Rattle.ig_examples.specs.Matches.{MatchesAreKnown}
 use Rattle.ig_grammar.specs.Symbol.{Symbol, Literal, OneOf, Call, Label, Guard, Let, Opt, Star, Plus, SepStar, SepPlus, Group, Offside, Ignore, Align, Filtered, Seq, Entry}
 use Rattle.ig_grammar.specs.Symbol.{Symbols, no_symbols, next_symbol, Alternatives, no_alternatives, next_alternative, gathered, listed}
 use Rattle.ig_meaning.specs.Environment.{Environment, names, values, replaced, HaveValues}
@@ -84,7 +84,7 @@ module _ (g : Grammar) (shapes : List Shape) (text : List ℕ) where
     pub derived : (c : DeclKind) (x : Symbol) (env : Environment) (i : ℕ) → OfEach (IsOutcome n c x env i) (lower.derived c x env i)
     pub lists : (c : DeclKind) (x : Symbol) (env : Environment) (i : ℕ) → OfEach (IsListing n c x env i) (lower.lists c x env i)
 
-module _ (decided : MatchesAreDecided) (g : Grammar) (shapes : List Shape) (text : List ℕ) (n : ℕ) (lower : Lower) (sound : IsSound g shapes text n lower) where
+module _ (known : MatchesAreKnown) (g : Grammar) (shapes : List Shape) (text : List ℕ) (n : ℕ) (lower : Lower) (sound : IsSound g shapes text n lower) where
   abbrev InstancedHere : List ℕ → List Value → ℕ → Instanced → Type 0
   InstancedHere = IsInstanced g shapes text (suc n)
 
@@ -132,14 +132,14 @@ module _ (decided : MatchesAreDecided) (g : Grammar) (shapes : List Shape) (text
   of_literal : (c : DeclKind) (word : List ℕ) (env : Environment) (i : ℕ) →
       OfEach (OutcomeHere c (Literal word) env i) (all.derived g shapes text lower c (Literal word) env i)
   of_literal c word env i =
-      each_of_each (Matches text (pattern.Literal word) i) (OutcomeHere c (Literal word) env i) _ (ends_of text (pattern.Literal word) i) (ends_match decided text (pattern.Literal word) i) (λ e m.
+      each_of_each (Matches text (pattern.Literal word) i) (OutcomeHere c (Literal word) env i) _ (ends_of text (pattern.Literal word) i) (ends_match known text (pattern.Literal word) i) (λ e m.
       each_map (IsTrailing g shapes text (suc n) c e) (OutcomeHere c (Literal word) env i) _ (all.trails g shapes text lower c e) (trails c e) (λ r t.
       (literal c word env i e r.end r.trees (more (Leaf i e) r.trees) (exposed c i) m t.0 refl refl, omega (arith, t.1))))
 
   of_class : (c : DeclKind) (class : Class) (env : Environment) (i : ℕ) →
       OfEach (OutcomeHere c (OneOf class) env i) (all.derived g shapes text lower c (OneOf class) env i)
   of_class c class env i =
-      each_of_each (Matches text (pattern.OneOf class) i) (OutcomeHere c (OneOf class) env i) _ (ends_of text (pattern.OneOf class) i) (ends_match decided text (pattern.OneOf class) i) (λ e m.
+      each_of_each (Matches text (pattern.OneOf class) i) (OutcomeHere c (OneOf class) env i) _ (ends_of text (pattern.OneOf class) i) (ends_match known text (pattern.OneOf class) i) (λ e m.
       each_map (IsTrailing g shapes text (suc n) c e) (OutcomeHere c (OneOf class) env i) _ (all.trails g shapes text lower c e) (trails c e) (λ r t.
       (one_of c class env i e r.end r.trees (more (Leaf i e) r.trees) (exposed c i) m t.0 refl refl, omega (arith, t.1))))
 
@@ -248,7 +248,7 @@ module _ (decided : MatchesAreDecided) (g : Grammar) (shapes : List Shape) (text
   items c (Filtered x filters) env i =
       each_of_each (IsItemised g shapes text (suc n) c x env i) (IsItemised g shapes text (suc n) c (Filtered x filters) env i) _ (all.items g shapes text lower c x env i) (items c x env i) (λ o d.
       each_given (IsItemised g shapes text (suc n) c (Filtered x filters) env i) (passes_all text i o.own filters) _ (λ passed.
-      ((with_filters c x filters env o.after i o.own o.end o.trees o.starts o.items d.0 ((passes_all_decides decided text i o.own filters).0 passed), d.1), tt)))
+      ((with_filters c x filters env o.after i o.own o.end o.trees o.starts o.items d.0 ((passes_all_decides known text i o.own filters).0 passed), d.1), tt)))
   items c x env i = of_bare c x env i
 
   of_listing : (c : DeclKind) (x : Symbol) (env : Environment) (i : ℕ) →
@@ -308,7 +308,7 @@ module _ (decided : MatchesAreDecided) (g : Grammar) (shapes : List Shape) (text
   of_filtered x filters has c env i =
       each_of_each (OutcomeHere c x env i) (OutcomeHere c (Filtered x filters) env i) _ (all.derived g shapes text lower c x env i) (has c env i) (λ o d.
       each_given (OutcomeHere c (Filtered x filters) env i) (passes_all text i o.own filters) _ (λ passed.
-      ((filtered c x filters env o.after i o.own o.end o.trees o.starts d.0 ((passes_all_decides decided text i o.own filters).0 passed), d.1), tt)))
+      ((filtered c x filters env o.after i o.own o.end o.trees o.starts d.0 ((passes_all_decides known text i o.own filters).0 passed), d.1), tt)))
 
   of_sequence : (xs : Symbols) → HasSymbols xs → HasSymbol (Seq xs)
   of_sequence xs has c env i =
@@ -352,13 +352,13 @@ module _ (decided : MatchesAreDecided) (g : Grammar) (shapes : List Shape) (text
     derived (Seq xs) c env i = of_sequence xs (covered xs) c env i
     derived (Entry bindings x) c env i = of_entry bindings x (derived x) c env i
 
-module _ (decided : MatchesAreDecided) (g : Grammar) (shapes : List Shape) (text : List ℕ) where
+module _ (known : MatchesAreKnown) (g : Grammar) (shapes : List Shape) (text : List ℕ) where
   pub sound_before : (n : ℕ) → IsSound g shapes text n (before g shapes text n)
   sound_before zero = record { room = λ r. absurd (cc); covered = λ c xs env i. tt; derived = λ c x env i. tt; lists = λ c x env i. tt }
   sound_before (suc n) =
       record {
         room = λ r. omega arith;
-        covered = λ c xs. covered decided g shapes text n (before g shapes text n) (sound_before n) xs c;
-        derived = λ c x. derived decided g shapes text n (before g shapes text n) (sound_before n) x c;
-        lists = lists decided g shapes text n (before g shapes text n) (sound_before n);
+        covered = λ c xs. covered known g shapes text n (before g shapes text n) (sound_before n) xs c;
+        derived = λ c x. derived known g shapes text n (before g shapes text n) (sound_before n) x c;
+        lists = lists known g shapes text n (before g shapes text n) (sound_before n);
       }

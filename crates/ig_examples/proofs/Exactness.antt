@@ -4,7 +4,7 @@ use Rattle.std.specs.Prelude.{◌==◌, flat_map}
 use Rattle.std.proofs.lemmas.Bool.Decides.{Decides-eqb}
 use Rattle.ig_text.specs.declared.tag.Tag.TheVariants.{Root}
 use Rattle.ig_text.specs.Tree.{Tree, Trees, Node, height, greatest_height}
-use Rattle.ig_expr.specs.Laws.{MatchesAreDecided}
+use Rattle.ig_examples.specs.Matches.{MatchesAreKnown}
 use Rattle.ig_grammar.specs.Symbol.{Symbol, gathered}
 use Rattle.ig_meaning.specs.Environment.{Environment}
 use Rattle.ig_grammar.specs.Numbering.{as_written}
@@ -51,7 +51,7 @@ module _ (g : Grammar) (shapes : List Shape) (text : List ℕ) (kind : DeclKind)
   abbrev IsLow : ℕ → Tree → Type 0
   IsLow most t = Permitted g shapes text t × (height t ≤ most)
 
-  module _ (decided : MatchesAreDecided) (root : IsOnlyRoot g shapes kind symbols) where
+  module _ (known : MatchesAreKnown) (root : IsOnlyRoot g shapes kind symbols) where
     permitted : (n : ℕ) (r : Covering) → IsCovering g shapes text (suc n) kind (gathered symbols) [] 0 r →
         r.end ≡ length text → Clean g (whole_tree r.trees) → IsLow (suc n) (whole_tree r.trees)
     permitted n r covering end clean =
@@ -73,7 +73,7 @@ module _ (g : Grammar) (shapes : List Shape) (text : List ℕ) (kind : DeclKind)
     are_permitted : (most : ℕ) → OfEach (IsLow most) (trees_up_to most)
     are_permitted zero = tt
     are_permitted (suc n) =
-        each_of_each (IsCovering g shapes text (suc n) kind (gathered symbols) [] 0) (IsLow (suc n)) whole_trees (all.covered g shapes text (before g shapes text n) kind (gathered symbols) [] 0) (covered decided g shapes text n (before g shapes text n) (sound_before decided g shapes text n) (gathered symbols) kind [] 0) (λ r covering.
+        each_of_each (IsCovering g shapes text (suc n) kind (gathered symbols) [] 0) (IsLow (suc n)) whole_trees (all.covered g shapes text (before g shapes text n) kind (gathered symbols) [] 0) (covered known g shapes text n (before g shapes text n) (sound_before known g shapes text n) (gathered symbols) kind [] 0) (λ r covering.
         each_given (IsLow (suc n)) (r.end == length text) _ (λ end.
         each_given (IsLow (suc n)) (is_clean g (whole_tree r.trees)) _ (λ clean.
         (permitted n r covering ((Decides-eqb r.end (length text)).0 end) (clean_by g (whole_tree r.trees) clean), tt))))
@@ -85,7 +85,7 @@ module _ (g : Grammar) (shapes : List Shape) (text : List ℕ) (kind : DeclKind)
     covered_is_found (suc n) ts after ks low covers clean =
         let r : Covering = record { end = length text; trees = ts; after = after; starts = ks } in
         let lower : greatest_height ts < suc n = omega (arith, low) in
-        among_each whole_trees (all.covered g shapes text (before g shapes text n) kind (gathered symbols) [] 0) r (whole_tree ts) (covered_found decided g shapes text covers n lower)
+        among_each whole_trees (all.covered g shapes text (before g shapes text n) kind (gathered symbols) [] 0) r (whole_tree ts) (covered_found known g shapes text covers n lower)
         (among_given (length text == length text) _ (whole_tree ts) ((Decides-eqb (length text) (length text)).1 refl) (among_given (is_clean g (whole_tree ts)) _ (whole_tree ts) (by_clean g (whole_tree ts) clean) (inl refl)))
 
     is_found : (most : ℕ) (t : Tree) → IsLow most t → IsAmong (trees_up_to most) t
@@ -106,7 +106,7 @@ module _ (g : Grammar) (shapes : List Shape) (text : List ℕ) (kind : DeclKind)
 abbrev pub written_trees : Grammar → List ℕ → List ℕ → ℕ → List Tree
 written_trees g start text most = trees_up_to g (as_written g) text Syntax (written_symbols g start) most
 
-pub by_computing : (decided : MatchesAreDecided) (g : Grammar) (start : List ℕ) → g.start ≡ Some start → (text : List ℕ) (most : ℕ) (trees : List Tree) →
+pub by_computing : (known : MatchesAreKnown) (g : Grammar) (start : List ℕ) → g.start ≡ Some start → (text : List ℕ) (most : ℕ) (trees : List Tree) →
     written_trees g start text most ≡ trees → Permits g text most trees
-by_computing decided g start starts text most trees computed =
-    exactly g (as_written g) text Syntax (written_symbols g start) decided (written_root g start starts) most trees computed
+by_computing known g start starts text most trees computed =
+    exactly g (as_written g) text Syntax (written_symbols g start) known (written_root g start starts) most trees computed

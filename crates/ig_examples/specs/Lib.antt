@@ -11,3 +11,4 @@ pub mod Columns
 pub mod Bindings
 pub mod Levels
 pub mod Passes
+pub mod Matches

@@ -7,6 +7,7 @@
 ghost use Rattle.ig_examples.specs.Blocks.{DeclarationsAreBlocks, NestedBlocksAreAsked};
 ghost use Rattle.ig_examples.specs.Blocks.{GreaterColumnsCount, TokensUnderBlocksAreSeen};
 ghost use Rattle.ig_examples.specs.Data.{NamesAreCompared, LettersAreCounted};
+ghost use Rattle.ig_examples.specs.Matches.{MatchesAreKnown};
 ghost use Rattle.ig_examples.specs.Keyword.{KeywordsAreExcluded};
 ghost use Rattle.ig_examples.specs.Nullable.{EmptyPairsArePermitted};
 ghost use Rattle.ig_examples.specs.Nullable.{HiddenLeftRecursionIsPermitted};
@@ -26,14 +27,22 @@ ghost use Rattle.ig_examples.specs.Columns.{BlocksSeeAllTokens};
 ghost use Rattle.ig_examples.specs.Passes.{SequencesStandInPlace, EntriesBindInside};
 ghost use Rattle.ig_examples.specs.Passes.{RootsAreReadByTheirKind, ShapesGiveTags};
 
-use ig_expr::matches_are_decided;
+use ig_expr::{matches_are_decided, matches_have_their_width};
+
+/// Where matches are is decided, and a match is as long as its pattern says.
+fn matches_are_known()
+    ensures { MatchesAreKnown }
+{
+    matches_are_decided();
+    matches_have_their_width();
+}
 
 /// With `start S; syntax S = S S | "a" | ;` the empty text has one tree of height 2 and one of
 /// height 3.
 pub fn empty_pairs_are_permitted()
     ensures { EmptyPairsArePermitted }
 {
-    matches_are_decided();
+    matches_are_known();
 }
 
 /// With `start S; syntax S = B S "x" | "y"; syntax B = ;` the text `yxx` has one tree, and `xy` has
@@ -41,7 +50,7 @@ pub fn empty_pairs_are_permitted()
 pub fn hidden_left_recursion_is_permitted()
     ensures { HiddenLeftRecursionIsPermitted }
 {
-    matches_are_decided();
+    matches_are_known();
 }
 
 /// With `start E; syntax E = [0-9] > left E "*" E > left E "+" E | E "-" E;` the one tree of
@@ -49,7 +58,7 @@ pub fn hidden_left_recursion_is_permitted()
 pub fn levels_bind()
     ensures { LevelsBind }
 {
-    matches_are_decided();
+    matches_are_known();
 }
 
 /// With `start E; syntax E = [a-c] > left E "*" E > left E "+" E > "-" E;` the sign takes `b+c` in
@@ -58,7 +67,7 @@ pub fn levels_bind()
 pub fn spines_are_whole()
     ensures { SpinesAreWhole }
 {
-    matches_are_decided();
+    matches_are_known();
 }
 
 /// With `start E; syntax E = [a-c] > nonassoc E "<" E;` the text `a<b` has one tree, and `a<b<c`
@@ -66,7 +75,7 @@ pub fn spines_are_whole()
 pub fn comparisons_stand_alone()
     ensures { ComparisonsStandAlone }
 {
-    matches_are_decided();
+    matches_are_known();
 }
 
 /// With `start El; syntax El = "<" n: Name ">" El* "</" m: Name ">" when (same(n, m));` and names
@@ -74,7 +83,7 @@ pub fn comparisons_stand_alone()
 pub fn names_are_compared()
     ensures { NamesAreCompared }
 {
-    matches_are_decided();
+    matches_are_known();
 }
 
 /// With `start S; syntax S = "{" n: Num "}" Body(number(n));`, numbers of digits and
@@ -83,7 +92,7 @@ pub fn names_are_compared()
 pub fn letters_are_counted()
     ensures { LettersAreCounted }
 {
-    matches_are_decided();
+    matches_are_known();
 }
 
 /// With `start P; syntax P = align (offside Decl)*; syntax Decl = Id "=" Id+;`, identifiers and
@@ -92,7 +101,7 @@ pub fn letters_are_counted()
 pub fn declarations_are_blocks()
     ensures { DeclarationsAreBlocks }
 {
-    matches_are_decided();
+    matches_are_known();
 }
 
 /// With `start S; syntax S = offside B; syntax B = offside Id offside N; syntax N = | "!";`,
@@ -101,7 +110,7 @@ pub fn declarations_are_blocks()
 pub fn nested_blocks_are_asked()
     ensures { NestedBlocksAreAsked }
 {
-    matches_are_decided();
+    matches_are_known();
 }
 
 /// With `start S; syntax S = offside ("a" offside (ignore "b" offside (ignore "c" "d")));` and
@@ -110,7 +119,7 @@ pub fn nested_blocks_are_asked()
 pub fn greater_columns_count()
     ensures { GreaterColumnsCount }
 {
-    matches_are_decided();
+    matches_are_known();
 }
 
 /// With `start S; syntax S = offside ("a" offside "b" "c");` and layout the `b` and the `c` stand
@@ -118,7 +127,7 @@ pub fn greater_columns_count()
 pub fn tokens_under_blocks_are_seen()
     ensures { TokensUnderBlocksAreSeen }
 {
-    matches_are_decided();
+    matches_are_known();
 }
 
 /// With `start S; syntax S = Id; lexical Id = [a-z]+ !>> [a-z] \ "if";` the text `iff` has one
@@ -126,14 +135,14 @@ pub fn tokens_under_blocks_are_seen()
 pub fn keywords_are_excluded()
     ensures { KeywordsAreExcluded }
 {
-    matches_are_decided();
+    matches_are_known();
 }
 
 /// With `start E; syntax E = [a-c] > right E "^" E;` the one tree of `a^b^c` groups to the right.
 pub fn operators_group_to_the_right()
     ensures { OperatorsGroupToTheRight }
 {
-    matches_are_decided();
+    matches_are_known();
 }
 
 /// With `start E; syntax E = "a" > left l: E "+" when (size(l) > 0) r: E let n = (size(r));` the
@@ -141,21 +150,21 @@ pub fn operators_group_to_the_right()
 pub fn labelled_calls_are_operands()
     ensures { LabelledCallsAreOperands }
 {
-    matches_are_decided();
+    matches_are_known();
 }
 
 /// With `start E; syntax E = "a" > left E "+" E !>> "!";` the text `a+a+a` has two trees.
 pub fn filtered_calls_are_no_operands()
     ensures { FilteredCallsAreNoOperands }
 {
-    matches_are_decided();
+    matches_are_known();
 }
 
 /// With `start E; syntax E = "a" | "(" E ")" > left E "+" E;` the text `(a+a+a)` has one tree.
 pub fn brackets_are_clean()
     ensures { BracketsAreClean }
 {
-    matches_are_decided();
+    matches_are_known();
 }
 
 /// With `start S; syntax S = E(0); syntax E(n: int) = "a" > left E(0) "+" E(0) > when (n == 0)
@@ -163,7 +172,7 @@ pub fn brackets_are_clean()
 pub fn single_calls_are_no_operands()
     ensures { SingleCallsAreNoOperands }
 {
-    matches_are_decided();
+    matches_are_known();
 }
 
 /// With `start S; syntax S = "a" let k = (here) B(here) when (k == 2);`, `syntax B(n: int) = when
@@ -171,21 +180,21 @@ pub fn single_calls_are_no_operands()
 pub fn lets_stand_behind_layout()
     ensures { LetsStandBehindLayout }
 {
-    matches_are_decided();
+    matches_are_known();
 }
 
 /// With `start S; syntax S = (x: "aa") x: "a" when (size(x) == 1);` the text `aaa` has one tree.
 pub fn groups_keep_their_bindings()
     ensures { GroupsKeepTheirBindings }
 {
-    matches_are_decided();
+    matches_are_known();
 }
 
 /// With `start S; syntax S = when ((1 div 0) == 1);` the empty text has no tree up to height 8.
 pub fn guards_want_a_value()
     ensures { GuardsWantAValue }
 {
-    matches_are_decided();
+    matches_are_known();
 }
 
 /// With `start S; syntax S = "a" "b"? "c";` and layout the texts `a b c` and `ac` have one tree
@@ -193,7 +202,7 @@ pub fn guards_want_a_value()
 pub fn options_have_layout()
     ensures { OptionsHaveLayout }
 {
-    matches_are_decided();
+    matches_are_known();
 }
 
 /// With `start S; syntax S = offside ("a" "\n" W "b"); layout W = "-"?;` the `-` of `a\n-b` is the
@@ -201,21 +210,21 @@ pub fn options_have_layout()
 pub fn calls_of_layout_are_no_tokens()
     ensures { CallsOfLayoutAreNoTokens }
 {
-    matches_are_decided();
+    matches_are_known();
 }
 
 /// With `start L; lexical L = "a"; layout W = [ ]*;` the text ` a ` has one tree.
 pub fn lexical_starts_have_layout()
     ensures { LexicalStartsHaveLayout }
 {
-    matches_are_decided();
+    matches_are_known();
 }
 
 /// With `start W; syntax S = "a"; layout W = [ ]*;` a blank has two trees.
 pub fn layout_may_start()
     ensures { LayoutMayStart }
 {
-    matches_are_decided();
+    matches_are_known();
 }
 
 /// With `start S; syntax S = x: "a" y: ("b") when (size(x) == 1) when (size(y) == 2);` and layout
@@ -223,7 +232,7 @@ pub fn layout_may_start()
 pub fn labels_bind_own_ends()
     ensures { LabelsBindOwnEnds }
 {
-    matches_are_decided();
+    matches_are_known();
 }
 
 /// With `start S; syntax S = "a" !>> "b" "b";` and layout the text `a b` has one tree, and with
@@ -231,7 +240,7 @@ pub fn labels_bind_own_ends()
 pub fn filters_are_asked_at_own_ends()
     ensures { FiltersAreAskedAtOwnEnds }
 {
-    matches_are_decided();
+    matches_are_known();
 }
 
 /// With `start S; syntax S = A "b" !<< "a"; syntax A = "a" | "c";` the text `cb` has one tree, and
@@ -239,14 +248,14 @@ pub fn filters_are_asked_at_own_ends()
 pub fn filters_look_back()
     ensures { FiltersLookBack }
 {
-    matches_are_decided();
+    matches_are_known();
 }
 
 /// With `start S; syntax S = [^a];` the text `b` has one tree, and `a` has none up to height 12.
 pub fn negated_classes_exclude()
     ensures { NegatedClassesExclude }
 {
-    matches_are_decided();
+    matches_are_known();
 }
 
 /// With `start P; syntax P = align {A ","}*; lexical A = [a-z];` and layout the texts `a\n ,\nb`
@@ -254,7 +263,7 @@ pub fn negated_classes_exclude()
 pub fn separators_are_free()
     ensures { SeparatorsAreFree }
 {
-    matches_are_decided();
+    matches_are_known();
 }
 
 /// With `start S; syntax S = align ("a" "\n")* !>> "a" ("a" "\n")*;` the text `a\na\n` has one
@@ -262,7 +271,7 @@ pub fn separators_are_free()
 pub fn aligned_lists_have_filters()
     ensures { AlignedListsHaveFilters }
 {
-    matches_are_decided();
+    matches_are_known();
 }
 
 /// With `start S; syntax S = offside X;` and layout, where X is `("x" "y"?)`, `("x" align A+)`,
@@ -271,7 +280,7 @@ pub fn aligned_lists_have_filters()
 pub fn blocks_see_all_tokens()
     ensures { BlocksSeeAllTokens }
 {
-    matches_are_decided();
+    matches_are_known();
 }
 
 /// What a sequence binds is seen behind it, and a label round one, which no pass writes, binds all
@@ -279,7 +288,7 @@ pub fn blocks_see_all_tokens()
 pub fn sequences_stand_in_place()
     ensures { SequencesStandInPlace }
 {
-    matches_are_decided();
+    matches_are_known();
 }
 
 /// The bindings of an entry are evaluated before any of them counts, and count inside it alone: up
@@ -287,7 +296,7 @@ pub fn sequences_stand_in_place()
 pub fn entries_bind_inside()
     ensures { EntriesBindInside }
 {
-    matches_are_decided();
+    matches_are_known();
 }
 
 /// A declaration that stands for the root has layout between its tokens exactly where it is a
@@ -295,7 +304,7 @@ pub fn entries_bind_inside()
 pub fn roots_are_read_by_their_kind()
     ensures { RootsAreReadByTheirKind }
 {
-    matches_are_decided();
+    matches_are_known();
 }
 
 /// A declaration that stands for an option, a list or a group gives the tags of that form: in two
@@ -303,5 +312,5 @@ pub fn roots_are_read_by_their_kind()
 pub fn shapes_give_tags()
     ensures { ShapesGiveTags }
 {
-    matches_are_decided();
+    matches_are_known();
 }

@@ -2,4 +2,4 @@ use Rattle.ig_examples.proofs.Rows.{empty_pairs_are_permitted}
 use Rattle.ig_examples.proofs.empty_pairs_are_permitted.Goals as goal
 
 pub returns : goal.returns
-returns c = empty_pairs_are_permitted c.matches_are_decided.ensures
+returns c = empty_pairs_are_permitted c.matches_are_known.ensures

@@ -2,4 +2,4 @@ use Rattle.ig_examples.proofs.Rows.{levels_bind}
 use Rattle.ig_examples.proofs.levels_bind.Goals as goal
 
 pub returns : goal.returns
-returns c = levels_bind c.matches_are_decided.ensures
+returns c = levels_bind c.matches_are_known.ensures
