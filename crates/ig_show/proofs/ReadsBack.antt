@@ -12,6 +12,7 @@ use Rattle.ig_expr.specs.declared.kind.Kind.{Kind}
 use Rattle.ig_expr.specs.declared.kind.Kind.TheVariants as kind
 use Rattle.ig_syntax.specs.Token.{Token, Name, Head, Comma, Close, CloseBrace, Bar, Greater, Equals, Semicolon}
 use Rattle.ig_syntax.specs.Token as sign
+use Rattle.ig_grammar.specs.Regular.{pattern_of}
 use Rattle.ig_grammar.specs.Symbol.{Symbol, Symbols, no_symbols, next_symbol, Alternatives, no_alternatives, next_alternative}
 use Rattle.ig_grammar.specs.Symbol as tree
 use Rattle.ig_grammar.specs.Alternative.{gathered_alternatives}
@@ -28,7 +29,7 @@ use Rattle.ig_syntax.specs.Rules as rules
 use Rattle.ig_syntax.specs.Rules.{IsOperator, IsFunction, ReadsTerm, ReadsExpression, ReadsArguments, IsPattern, IsFilter, ReadsFilters, ReadsSign, IsSeparated, filtered, ReadsSymbol, ReadsMarked, ReadsPost, ReadsAtom, ReadsAlternatives, ReadsAlternative, ReadsAssociativity, ReadsLevel, ReadsLevels, IsKind, ReadsParameters, IsDeclKind, ReadsDeclaration, ReadsDeclarations, FollowsRules}
 use Rattle.ig_spelling.specs.Pieces.{Piece, blank, line_end, token, tokens}
 use Rattle.ig_spelling.specs.Signs.{associativity_pieces, operator_token, function_name, pattern_token}
-use Rattle.ig_show.specs.CanonicalText.{expression_pieces, part_pieces, separated, joined, comma, call_pieces, filter_sign, filter_pattern, filter_pieces, symbol_pieces, alternative_pieces, further_symbols, alternatives_pieces, further_alternatives, level_pieces, levels_pieces, parameter_pieces, kind_token, head_pieces, declaration_pieces, declaration_token, tokens_of}
+use Rattle.ig_show.specs.CanonicalText.{expression_pieces, part_pieces, separated, joined, comma, call_pieces, filter_sign, filter_pieces, symbol_pieces, alternative_pieces, further_symbols, alternatives_pieces, further_alternatives, level_pieces, levels_pieces, parameter_pieces, kind_token, head_pieces, declaration_pieces, declaration_token, tokens_of}
 
 is_operator : (o : Op) → IsOperator (operator_token o) o
 is_operator op.Add = rules.addition
@@ -123,7 +124,7 @@ is_pattern : (p : Pattern) → IsPattern (pattern_token p) p
 is_pattern (patterns.Literal word) = rules.literal_pattern word
 is_pattern (patterns.OneOf class) = rules.class_pattern class
 
-is_filter : (f : Filter) → IsFilter (filter_sign f) (filter_pattern f) f
+is_filter : (f : Filter) → IsFilter (filter_sign f) (pattern_of f) f
 is_filter (filters.NotFollowed p) = rules.not_followed p
 is_filter (filters.NotPreceded p) = rules.not_preceded p
 is_filter (filters.Not p) = rules.excluded p
@@ -132,7 +133,7 @@ filters_read : (fs : List Filter) (ps : List Piece) →
     ReadsFilters (tokens (separated (blank ∷ []) filter_pieces fs ps)) (tokens ps) fs
 filters_read [] ps = rules.no_filter (tokens ps)
 filters_read (f ∷ fs) ps =
-    rules.next_filter _ _ (filter_pattern f) f _ _ fs (is_filter f) (is_pattern (filter_pattern f)) (filters_read fs ps)
+    rules.next_filter _ _ (pattern_of f) f _ _ fs (is_filter f) (is_pattern (pattern_of f)) (filters_read fs ps)
 
 -- an atom and its sign
 record IsSigned (x y : Symbol) (ps : List Piece) : Type 0 where

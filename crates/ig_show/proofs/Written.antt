@@ -9,6 +9,7 @@ use Rattle.ig_expr.specs.declared.kind.Kind.{Kind}
 use Rattle.ig_expr.specs.declared.kind.Kind.TheVariants as kind
 use Rattle.ig_syntax.specs.Token.{Token, Name, Head, Semicolon, Equals, Bar, Greater, Colon, Comma, Open, Close, CloseBrace, Question}
 use Rattle.ig_syntax.specs.Token as sign
+use Rattle.ig_grammar.specs.Regular.{pattern_of}
 use Rattle.ig_grammar.specs.Symbol.{Symbol, Symbols, Alternatives}
 use Rattle.ig_grammar.specs.Alternative.{gathered_alternatives}
 use Rattle.ig_grammar.specs.declared.filter.Filter.{Filter}
@@ -23,7 +24,7 @@ use Rattle.ig_syntax.specs.Rules as rules
 use Rattle.ig_syntax.specs.Rules.{IsFunction, ReadsTerm, ReadsExpression, ReadsArguments, IsPattern, IsFilter, ReadsFilters, ReadsSign, IsSeparated, filtered, ReadsSymbol, ReadsMarked, ReadsPost, ReadsAtom, ReadsAlternatives, ReadsAlternative, ReadsAssociativity, ReadsLevel, ReadsLevels, ReadsParameters, IsDeclKind, ReadsDeclaration, ReadsDeclarations, FollowsRules}
 use Rattle.ig_spelling.specs.Pieces.{Piece, blank, line_end, token, tokens}
 use Rattle.ig_spelling.specs.Signs.{associativity_pieces, has_operator, operator_token, function_name, pattern_token}
-use Rattle.ig_show.specs.CanonicalText.{expression_pieces, part_pieces, as_part, separated, joined, comma, call_pieces, filter_sign, filter_pattern, filter_pieces, symbol_pieces, alternative_pieces, further_symbols, alternatives_pieces, further_alternatives, level_pieces, levels_pieces, parameter_pieces, kind_token, declaration_pieces, declaration_token, tokens_of}
+use Rattle.ig_show.specs.CanonicalText.{expression_pieces, part_pieces, as_part, separated, joined, comma, call_pieces, filter_sign, filter_pieces, symbol_pieces, alternative_pieces, further_symbols, alternatives_pieces, further_alternatives, level_pieces, levels_pieces, parameter_pieces, kind_token, declaration_pieces, declaration_token, tokens_of}
 use Rattle.ig_spelling.specs.Laws.{IsSpelled, FixedTokensAreSpelled}
 use Rattle.ig_show.proofs.ReadsBack.{arguments_behind, alternatives_behind, levels_behind, parameters_behind, head_to, same_tokens}
 
@@ -146,7 +147,7 @@ module _ (fixed : FixedTokensAreSpelled) where
   filter_spelled (filters.NotPreceded p) = fixed sign.NotPrecededBy refl
   filter_spelled (filters.Not p) = fixed sign.Backslash refl
 
-  filter_pattern_spelled : {g t : Token} {p : Pattern} {f : Filter} → IsFilter g p f → IsPattern t p → IsSpelled t → IsSpelled (pattern_token (filter_pattern f))
+  filter_pattern_spelled : {g t : Token} {p : Pattern} {f : Filter} → IsFilter g p f → IsPattern t p → IsSpelled t → IsSpelled (pattern_token (pattern_of f))
   filter_pattern_spelled (rules.not_followed p) j h = pattern_spelled j h
   filter_pattern_spelled (rules.not_preceded p) j h = pattern_spelled j h
   filter_pattern_spelled (rules.excluded p) j h = pattern_spelled j h

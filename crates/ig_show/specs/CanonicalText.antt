@@ -11,6 +11,7 @@ use Rattle.ig_grammar.specs.Symbol.{Symbol, Symbols, no_symbols, next_symbol, Al
 use Rattle.ig_grammar.specs.Symbol as tree
 use Rattle.ig_grammar.specs.Alternative.{gathered_alternatives}
 use Rattle.ig_grammar.specs.Binding.{Binding}
+use Rattle.ig_grammar.specs.Regular.{pattern_of}
 use Rattle.ig_grammar.specs.declared.filter.Filter.{Filter}
 use Rattle.ig_grammar.specs.declared.filter.Filter.TheVariants as filters
 use Rattle.ig_grammar.specs.declared.declaration.Param.{Param}
@@ -79,14 +80,9 @@ filter_sign (filters.NotFollowed p) = sign.NotFollowedBy
 filter_sign (filters.NotPreceded p) = sign.NotPrecededBy
 filter_sign (filters.Not p) = sign.Backslash
 
-abbrev pub filter_pattern : Filter → Pattern
-filter_pattern (filters.NotFollowed p) = p
-filter_pattern (filters.NotPreceded p) = p
-filter_pattern (filters.Not p) = p
-
 -- before each filter a space; the sign, a space and the pattern
 abbrev pub filter_pieces : Filter → List Piece → List Piece
-filter_pieces f ps = token (filter_sign f) ∷ blank ∷ token (pattern_token (filter_pattern f)) ∷ ps
+filter_pieces f ps = token (filter_sign f) ∷ blank ∷ token (pattern_token (pattern_of f)) ∷ ps
 
 -- `when (e)` and `let x = (e)`
 abbrev pub guard_pieces : Expression → List Piece → List Piece

@@ -4,6 +4,7 @@ ghost use Rattle.std.specs.Prelude.{◌≡◌, ◌∷◌, [], OnOk, map, chars, 
 ghost use Rattle.ig_grammar.specs.Symbol.{gathered};
 ghost use Rattle.ig_grammar.specs.Alternative.{gathered_alternatives};
 ghost use Rattle.ig_grammar.specs.Binding.{binding_of};
+ghost use Rattle.ig_grammar.specs.Regular.{pattern_of};
 ghost use Rattle.ig_grammar.specs.View.{symbol_of};
 ghost use Rattle.ig_expr.specs.View.{expression_of};
 ghost use Rattle.ig_spelling.specs.Pieces.{token, blank};
@@ -11,7 +12,7 @@ ghost use Rattle.ig_spelling.specs.Writing.{Adds};
 ghost use Rattle.ig_show.specs.CanonicalText.{symbol_pieces, alternative_pieces};
 ghost use Rattle.ig_show.specs.CanonicalText.{alternatives_pieces, filter_pieces, separated};
 ghost use Rattle.ig_show.specs.CanonicalText.{guard_pieces, let_pieces, bindings_pieces};
-ghost use Rattle.ig_show.specs.CanonicalText.{filter_pattern, filter_sign};
+ghost use Rattle.ig_show.specs.CanonicalText.{filter_sign};
 ghost use Rattle.ig_syntax.specs.Token.{Colon, Name, OpenBrace};
 ghost use Rattle.ig_show.specs.Writing.{AddsBefore, AddsBehind};
 
@@ -79,7 +80,7 @@ fn push_filter_sign(out: &mut String, filter: &Filter) -> Result<(), AllocError>
 
 /// The pattern of a filter.
 fn filter_pattern(filter: &Filter) -> &Pattern
-    ensures { result.now ≡ filter_pattern filter.now }
+    ensures { result.now ≡ pattern_of filter.now }
 {
     match filter {
         Filter::NotFollowed(pattern) => pattern,
