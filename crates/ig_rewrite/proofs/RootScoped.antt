@@ -1,6 +1,7 @@
 -- A well-scoped grammar stays well scoped where its root is written as a declaration.
-use Rattle.std.proofs.Common.{◌≡◌, ◌∙◌, ℕ, zero, suc, ◌<◌, List, [], ◌∷◌, ◌++◌, Option, Some, None, true, false, refl, sym, ap, subst, arith, length, take, inl, inr}
+use Rattle.std.proofs.Common.{◌≡◌, ◌∙◌, ℕ, zero, suc, ◌<◌, List, [], ◌∷◌, ◌++◌, Option, Some, None, true, false, refl, sym, ap, subst, arith, length, inl, inr}
 use Rattle.std.specs.Prelude.{◌≢◌, ◌⊎◌, Contains, slice_get, count_by}
+use Rattle.std.proofs.Math.Seq.{take-length}
 use Rattle.std.proofs.lemmas.Option.{slice_get_within}
 use Rattle.std.proofs.lemmas.List.{take-append-le}
 use Rattle.ig_text.proofs.Lists.{place_cases}
@@ -57,10 +58,6 @@ call_fine decls kind v name d apart e p c (meets.unknown_variable _ f m u) = let
 call_fine decls kind v name d apart e p c (meets.no_kind _ f m k) = let l = m.1 in absurd (omega (arith, l))
 call_fine decls kind v name d apart e p c (meets.argument_kind _ _ callee k f q found a b differs) = cc
 call_fine decls kind v name d apart e p c (meets.syntax_in_lexical _ _ callee i found s) = apart i
-
-take_all : {X : Type 0} (xs : List X) → take (length xs) xs ≡ xs
-take_all [] = refl
-take_all (x ∷ xs) = ap (λ zs. x ∷ zs) (take_all xs)
 
 no_parameters : (ps : List Param) → (ps ≢ [] → ⊥) → ps ≡ []
 no_parameters [] f = refl
@@ -128,7 +125,7 @@ module _ (g : Grammar) (scoped : IsWellScoped g) (fresh : IsFresh g root_name) w
 
   head_root : (c : Condition) → HeadMeets h.decls (length g.decls) r c → ⊥
   head_root c (meets.duplicate_name m) =
-      fresh (subst (λ ds. Contains (names ds) root_name) (take-append-le (length g.decls) g.decls (r ∷ []) (omega arith) ∙ take_all g.decls) m)
+      fresh (subst (λ ds. Contains (names ds) root_name) (take-append-le (length g.decls) g.decls (r ∷ []) (omega arith) ∙ take-length g.decls) m)
   head_root c (meets.duplicate_parameter k p e m) = cc
   head_root c (meets.layout_not_plain k n) = cc
   head_root c (meets.too_many_nonterminals n e) = let f : true ≡ false = sym n ∙ root_is_no_name in cc
