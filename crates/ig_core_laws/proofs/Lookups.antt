@@ -1,11 +1,9 @@
--- Members of lists, and the first declaration of a name.
-use Rattle.std.proofs.Common.{◌≡◌, ◌∙◌, ℕ, zero, suc, List, [], ◌∷◌, Option, Some, None, Bool, true, false, refl, ap, inl, inr}
-use Rattle.std.specs.Prelude.{◌⊎◌, slice_get, Contains, if◌then◌else◌}
+-- The first declaration of a name.
+use Rattle.std.proofs.Common.{◌≡◌, ◌∙◌, ℕ, suc, List, [], ◌∷◌, Option, Some, None, Bool, true, false, refl, ap, inl, inr}
+use Rattle.std.specs.Prelude.{◌⊎◌, slice_get, if◌then◌else◌}
 use Rattle.std.specs.Cmp.Lexicographic.{bytes_decides}
-use Rattle.std.proofs.lemmas.Option.{same_Some}
 use Rattle.ig_text.specs.Words.{is_word}
 use Rattle.ig_text.proofs.Positions.{beside-cons}
-use Rattle.ig_text.proofs.Lists.{at_from_contains}
 use Rattle.ig_grammar.specs.Condition.{declaration_of}
 use Rattle.ig_grammar.specs.Names.{names}
 use Rattle.ig_grammar.specs.declared.declaration.Decl.{Decl}
@@ -40,11 +38,3 @@ declared_named ds name = go (first ds)
         (declaration_of ds name ≡ None) ⊎ ((k : ℕ) × (d : Decl) × (declaration_of ds name ≡ Some d) × (slice_get ds k ≡ Some d) × (d.name ≡ name))
     go (inl e) = inl (declaration_first ds name ∙ e)
     go (inr h) = inr (h.0, h.1, declaration_first ds name ∙ h.2, h.3, h.4)
-
--- a list of one has no other member
-pub only_member : {X : Type 0} (x y : X) → Contains (x ∷ []) y → x ≡ y
-only_member x y here = let at = at_from_contains (x ∷ []) y here in first at.0 at.1
-  where
-    first : (k : ℕ) → slice_get (x ∷ []) k ≡ Some y → x ≡ y
-    first zero e = same_Some x y e
-    first (suc k) e = cc

@@ -21,8 +21,7 @@ use Rattle.ig_rewrite.specs.Rooted.{rooted, with_root, root_declaration, has_roo
 use Rattle.ig_rewrite.specs.Sound.{IsSound, IsUnmarked}
 use Rattle.ig_levels_laws.specs.Levels.{Pair, Place, no_pair, pair_at, pair_arguments, with_pair, in_symbols, in_alternatives, is_test, has_left, has_right, lowered, test_of, place_in, lowered_alternative, one_level, lowered_declaration, names_levelled, LevelsOf}
 use Rattle.ig_blocks_laws.specs.Laws.{PlainIsUnmarked}
-use Rattle.ig_text.proofs.Lists.{contains_first, contains_later, unmapped_in}
-use Rattle.ig_core_laws.proofs.Lookups.{only_member}
+use Rattle.ig_text.proofs.Lists.{contains_first, contains_later, contains_one, unmapped_in}
 
 none_among : {X : Type 0} (x : X) → Contains {X = X} [] x → ⊥
 none_among x here = absurd (omega (arith, here.1))
@@ -135,7 +134,7 @@ module _ (law : RegularityByForm) where
 
   one_is : (levels : List Level) (alts : List Alt) (level : Level) → Contains (one_level levels alts) level → level.alts ≡ alts
   one_is [] alts level here = absurd (none_among level here)
-  one_is (l ∷ levels) alts level here = sym (ap (λ (z : Level). z.alts) (only_member _ level here))
+  one_is (l ∷ levels) alts level here = ap (λ (z : Level). z.alts) (contains_one _ level here)
 
   declaration_kept : (levelled : List ℕ → Bool) (decl : Decl) →
       ((level : Level) → Contains decl.levels level → AlternativesHaveNoMark (gathered_alternatives level.alts)) →
@@ -173,8 +172,8 @@ was_plain c decl here plain = go (has_root c.shapes) here
     go false here =
         ⊎_elim (λ h. h)
         (λ h.
-        let same = only_member (root_declaration Syntax c.grammar) decl h in
-        let e : Syntax ≡ Plain = ap (λ (d : Decl). d.kind) same ∙ plain in
+        let same = contains_one (root_declaration Syntax c.grammar) decl h in
+        let e : Syntax ≡ Plain = ap (λ (d : Decl). d.kind) (sym same) ∙ plain in
         cc)
         (Contains-append_cases c.grammar.decls (root_declaration Syntax c.grammar ∷ []) decl here)
 
