@@ -3,12 +3,13 @@ use Rattle.std.proofs.Common.{◌≡◌, ◌∙◌, Bool, true, false, List, [],
 use Rattle.std.specs.Prelude.{All}
 use Rattle.std.proofs.lemmas.List.{append-nil}
 use Rattle.ig_grammar.specs.Binding.{Binding}
-use Rattle.ig_grammar.specs.Regular.{MayHaveLabel, MayHaveMark, MayHaveFilters, MayHaveSign, MayBeSeparated, MayHaveEntry, IsPlaced}
+use Rattle.ig_grammar.specs.Regular.{MayHaveLabel, MayHaveFilters, MayHaveSign, MayBeSeparated, MayHaveEntry, IsPlaced}
 use Rattle.ig_grammar.specs.Subterms.{subterms, bound_names, names_bound_by}
 use Rattle.ig_grammar.specs.Symbol.{Symbol, Literal, OneOf, Call, Label, Guard, Let, Opt, Star, Plus, SepStar, SepPlus, Group, Offside, Ignore, Align, Filtered, Seq, Entry}
 use Rattle.ig_grammar.specs.Symbol.{Symbols, no_symbols, next_symbol, gathered}
 use Rattle.ig_grammar.specs.declared.declaration.DeclKind.{DeclKind}
 use Rattle.ig_grammar.specs.declared.declaration.DeclKind.TheVariants.{Syntax, Lexical, Layout, Plain}
+use Rattle.ig_rewrite.specs.Forms.{label_of_marked, sign_of_filtered, separated_of_label}
 use Rattle.ig_blocks_laws.specs.Setting.{Setting, Pair, lacking, carried, opened, cleared, opened_by, cleared_by, inner, pair_bindings, column_bindings, guards, column_guards, wrapped, entered}
 use Rattle.ig_blocks_laws.specs.Body.{call_tests, tests_of, body_of, sequence_of}
 use Rattle.ig_blocks_laws.proofs.Parts.{own_part, inner_parts}
@@ -20,20 +21,6 @@ entered_label (b ∷ bs) y h = tt
 entered_filters : (bs : List Binding) (y : Symbol) → MayHaveFilters y → MayHaveFilters (entered bs y)
 entered_filters [] y h = h
 entered_filters (b ∷ bs) y h = tt
-
-mark_label : (x : Symbol) → MayHaveMark x → MayHaveLabel x
-mark_label (Offside x) h = absurd h
-mark_label (Ignore x) h = absurd h
-mark_label (Align x) h = absurd h
-mark_label x h = h
-
-filters_sign : (y : Symbol) → MayHaveFilters y → MayHaveSign y
-filters_sign (Seq xs) h = tt
-filters_sign y h = h
-
-label_separated : (y : Symbol) → MayHaveLabel y → MayBeSeparated y
-label_separated (Seq xs) h = tt
-label_separated y h = h
 
 module _ (s : Setting) where
   pub label_form : (x : Symbol) (al : Bool) (p : Pair) → All IsPlaced (subterms x) → MayHaveLabel x → MayHaveLabel (body_of s al p x)
@@ -50,11 +37,11 @@ module _ (s : Setting) where
   label_form (SepPlus x separator) al p all h = entered_label (pair_bindings s p ++ column_bindings s al) _ tt
   label_form (Group choices) al p all h = entered_label (pair_bindings s p ++ column_bindings s false) _ tt
   label_form (Offside x) al p all h =
-      let own = own_part IsPlaced (Offside x) all in label_form x al (opened_by s p) (inner_parts IsPlaced (Offside x) all) (mark_label x own.1)
+      let own = own_part IsPlaced (Offside x) all in label_form x al (opened_by s p) (inner_parts IsPlaced (Offside x) all) (label_of_marked x own.1)
   label_form (Ignore x) al p all h =
-      let own = own_part IsPlaced (Ignore x) all in label_form x al (cleared_by p) (inner_parts IsPlaced (Ignore x) all) (mark_label x own.1)
+      let own = own_part IsPlaced (Ignore x) all in label_form x al (cleared_by p) (inner_parts IsPlaced (Ignore x) all) (label_of_marked x own.1)
   label_form (Align x) al p all h =
-      let own = own_part IsPlaced (Align x) all in label_form x true p (inner_parts IsPlaced (Align x) all) (mark_label x own.1)
+      let own = own_part IsPlaced (Align x) all in label_form x true p (inner_parts IsPlaced (Align x) all) (label_of_marked x own.1)
   label_form (Filtered x filters) al p all h = tt
   label_form (Seq xs) al p all h = absurd h
   label_form (Entry bindings x) al p all h = tt
@@ -74,11 +61,11 @@ module _ (s : Setting) where
 
   pub sign_form : (x : Symbol) (al : Bool) (p : Pair) → MayHaveSign x → MayHaveSign (body_of s al p x)
   sign_form (Seq xs) al p h = tt
-  sign_form x al p h = filters_sign (body_of s al p x) (filters_form x al p h)
+  sign_form x al p h = sign_of_filtered (body_of s al p x) (filters_form x al p h)
 
   pub separated_form : (x : Symbol) (al : Bool) (p : Pair) → All IsPlaced (subterms x) → MayBeSeparated x → MayBeSeparated (body_of s al p x)
   separated_form (Seq xs) al p all h = tt
-  separated_form x al p all h = label_separated (body_of s al p x) (label_form x al p all h)
+  separated_form x al p all h = separated_of_label (body_of s al p x) (label_form x al p all h)
 
   no_bindings : (p : Pair) → pair_bindings s (inner p) ++ column_bindings s false ≡ []
   no_bindings lacking = refl

@@ -11,10 +11,11 @@ use Rattle.ig_grammar.specs.declared.declaration.DeclKind.{DeclKind}
 use Rattle.ig_grammar.specs.declared.declaration.DeclKind.TheVariants.{Lexical, Layout}
 use Rattle.ig_grammar.specs.declared.grammar.Grammar.{Grammar}
 use Rattle.ig_grammar.specs.declared.place.Shape.{Shape}
-use Rattle.ig_meaning.specs.Annotated.{bound_between, HasParts, Bind, Binds, BindApart, Within, Behind}
+use Rattle.ig_meaning.specs.Annotated.{HasParts, Bind, Binds, BindApart, Within, Behind}
 use Rattle.ig_meaning.specs.Annotated as a
 use Rattle.ig_meaning.specs.Derivation.{span_value}
-use Rattle.ig_meaning.specs.Environment.{Environment, HaveValues, AreBound, replaced, values}
+use Rattle.ig_meaning.specs.Environment.{Environment, HaveValues, AreBound, replaced}
+use Rattle.ig_rewrite.specs.Grown.{bound_alike}
 use Rattle.ig_blocks_laws.specs.Allowed.{IsBefore, outer_column}
 use Rattle.ig_blocks_laws.specs.Setting as setting
 use Rattle.ig_blocks_laws.specs.Setting.{Setting, Pair, m_of, f_of, opened_by, cleared_by, pair_bindings, column_bindings, guards, column_guards, extra_by, pair_by, wrapped}
@@ -30,14 +31,6 @@ use Rattle.ig_blocks_laws.proofs.Forth.{pair_steady, read_values, extra_had, no_
 use Rattle.ig_blocks_laws.proofs.Ordered.{IsOrdered, AllOrdered, ordered_parts, within_spans, binds_spans}
 use Rattle.ig_blocks_laws.proofs.Wholes as wholes
 use Rattle.ig_blocks_laws.proofs.Wholes.{Part, Parts, Boxed, Listed, parts_to, boxed, unmarked, listed_form, listed_box}
-
-values_behind : (env grown : Environment) → bound_between env (env ++ grown) ≡ values grown
-values_behind [] grown = refl
-values_behind (pair ∷ env) grown = values_behind env grown
-
--- where environments grow alike, the values that were bound are the same
-bound_alike : (env after other grown : Environment) → after ≡ env ++ grown → bound_between env after ≡ bound_between other (other ++ grown)
-bound_alike env after other grown same = ap (bound_between env) same ∙ values_behind env grown ∙ sym (values_behind other grown)
 
 join_none : (ts : Trees) → join ts none ≡ ts
 join_none none = refl
