@@ -1,6 +1,6 @@
 -- What the proofs speak of: environments at names, symbols that may be lowered, and what the lowered grammar declares.
 use Rattle.std.specs.Prelude.{◌≡◌, ◌≢◌, ℕ, Bool, true, false, ◌||◌, List, [], ◌∷◌, ◌++◌, Option, Some, None}
-use Rattle.std.specs.Prelude.{slice_get, length, ◌≤◌, ◌<◌, ◌^◌}
+use Rattle.std.specs.Prelude.{is_some, slice_get, length, ◌≤◌, ◌<◌, ◌^◌}
 use Rattle.ig_ebnf_laws.specs.Lists.{Element, Made, added, added_symbols, new_symbols, new_declaration, all_added}
 use Rattle.ig_ebnf_laws.specs.Lists.{count_levels}
 use Rattle.ig_expr.specs.Names.{look_up}
@@ -30,10 +30,6 @@ use Rattle.ig_text.specs.Words.{is_word}
 abbrev pub has : Visible → List ℕ → Bool
 has [] n = false
 has (pair ∷ v) n = is_word pair.0 n || has v n
-
-abbrev pub is_some : {X : Type 0} → Option X → Bool
-is_some None = false
-is_some (Some x) = true
 
 -- the value of the name in the environment
 abbrev pub find : Environment → List ℕ → Option Value

@@ -3,9 +3,9 @@ use Rattle.std.proofs.Common.{◌≡◌, ℕ, Bool, true, false, List, [], ◌�
 use Rattle.std.proofs.Common.{Some, None}
 use Rattle.std.proofs.lemmas.Bool.{or_left, or_right}
 use Rattle.std.proofs.Math.Bool.{or-false, or_assoc}
-use Rattle.std.specs.Prelude.{◌||◌}
+use Rattle.std.specs.Prelude.{◌||◌, is_some}
 use Rattle.std.specs.Cmp.Lexicographic.{bytes_decides}
-use Rattle.ig_ebnf_laws.proofs.Definitions.{has, is_some, find, Binds, Agree, BindingsFit}
+use Rattle.ig_ebnf_laws.proofs.Definitions.{has, find, Binds, Agree, BindingsFit}
 use Rattle.ig_ebnf_laws.proofs.Environments.{find_cons, valued, same_value}
 use Rattle.ig_ebnf_laws.proofs.Environments.{is_found, Holds}
 use Rattle.ig_ebnf_laws.specs.Lists.{argument, arguments}

@@ -3,13 +3,13 @@ use Rattle.std.proofs.Common.{◌≡◌, ℕ, Bool, true, false, List, [], ◌�
 use Rattle.std.proofs.Common.{cond, Option, Some, None}
 use Rattle.std.proofs.lemmas.Bool.{or_parts, or_left, or_right, and_parts, and_from}
 use Rattle.std.proofs.Math.Bool.{or-false, or_assoc, and-false}
-use Rattle.std.specs.Prelude.{◌||◌, ◌&&◌, not, option_and_then}
+use Rattle.std.specs.Prelude.{◌||◌, ◌&&◌, not, is_some, option_and_then}
 use Rattle.std.specs.Cmp.Lexicographic.{bytes_decides}
 use Rattle.std.specs.Option.{option_or}
 use Rattle.ig_text.proofs.Positions.{beside-cons}
 use Rattle.ig_text.proofs.Characters.{itself}
 use Rattle.ig_text.proofs.Fallbacks.{or_none, or_cond, some_cond}
-use Rattle.ig_ebnf_laws.proofs.Definitions.{has, is_some, find, Binds, Agree, Keeps}
+use Rattle.ig_ebnf_laws.proofs.Definitions.{has, find, Binds, Agree, Keeps}
 use Rattle.ig_ebnf_laws.specs.Lists.{keep, params_for, params_of, arguments}
 use Rattle.ig_expr.specs.Blocks.{outer, inside}
 use Rattle.ig_expr.specs.Evaluation.{value_of, with_two}

@@ -14,35 +14,16 @@ use Rattle.ig_ebnf_laws.proofs.ClearSymbols.{Clear, SymbolsClear}
 use Rattle.ig_ebnf_laws.specs.Lists.{Element, elements, all_elements, count}
 use Rattle.ig_expr.specs.declared.kind.Kind.{Kind}
 use Rattle.ig_expr.specs.declared.kind.Kind.TheVariants.{Span}
-use Rattle.ig_grammar.specs.Regular.{MayHaveLabel, MayHaveFilters}
+use Rattle.ig_grammar.specs.Regular.{MayHaveLabel}
 use Rattle.ig_grammar.specs.Symbol.{Symbol, Literal, OneOf, Call, Label, Guard, Let, Opt, Star, Plus, SepStar}
 use Rattle.ig_grammar.specs.Symbol.{SepPlus, Group, Offside, Ignore, Align}
 use Rattle.ig_grammar.specs.Symbol.{Filtered, Seq, Entry, Symbols, no_symbols, next_symbol}
 use Rattle.ig_grammar.specs.Visible.{Visible, binds, all_bind, bound, kind_at, inside, inside_sequence, at}
 use Rattle.ig_grammar.specs.declared.declaration.DeclKind.{DeclKind}
 use Rattle.ig_grammar.specs.declared.grammar.Grammar.{Grammar}
+use Rattle.ig_rewrite.specs.Forms.{label_of_filtered}
 use Rattle.ig_text.specs.Words.{is_word}
 use Rattle.ig_text.proofs.Characters.{differs}
-
-filters_label : (x : Symbol) → MayHaveFilters x → MayHaveLabel x
-filters_label (Literal w) h = tt
-filters_label (OneOf w) h = tt
-filters_label (Call m es) h = tt
-filters_label (Label m x) h = absurd h
-filters_label (Guard e) h = absurd h
-filters_label (Let m e) h = absurd h
-filters_label (Opt x) h = tt
-filters_label (Star x) h = tt
-filters_label (Plus x) h = tt
-filters_label (SepStar x s) h = tt
-filters_label (SepPlus x s) h = tt
-filters_label (Group ys) h = tt
-filters_label (Offside x) h = absurd h
-filters_label (Ignore x) h = absurd h
-filters_label (Align x) h = absurd h
-filters_label (Filtered x fs) h = absurd h
-filters_label (Seq xs) h = absurd h
-filters_label (Entry bs x) h = tt
 
 unlabelled : (x : Symbol) (v : Visible) → MayHaveLabel x → Clear x → binds v x ≡ []
 unlabelled (Literal w) v h clear = refl
@@ -60,7 +41,7 @@ unlabelled (Group ys) v h clear = refl
 unlabelled (Offside x) v h clear = absurd clear
 unlabelled (Ignore x) v h clear = absurd clear
 unlabelled (Align x) v h clear = absurd clear
-unlabelled (Filtered x fs) v h clear = unlabelled x v (filters_label x clear.0) clear.2
+unlabelled (Filtered x fs) v h clear = unlabelled x v (label_of_filtered x clear.0) clear.2
 unlabelled (Seq xs) v h clear = absurd h
 unlabelled (Entry bs x) v h clear = refl
 
@@ -126,7 +107,7 @@ module _ (g : Grammar) (k : DeclKind) where
     source_calm (Ignore x) v m d calm all clear = absurd clear
     source_calm (Align x) v m d calm all clear = absurd clear
     source_calm (Filtered x fs) v m d calm all clear =
-        ((d, calm, all, tt), same_distinct v (binds v x) d (unlabelled x v (filters_label x clear.0) clear.2))
+        ((d, calm, all, tt), same_distinct v (binds v x) d (unlabelled x v (label_of_filtered x clear.0) clear.2))
     source_calm (Seq xs) v m d calm all clear = all_source_calm xs v m d all clear
     source_calm (Entry bs x) v m d calm all clear = ((d, calm, all, tt), same_distinct v [] d refl)
 

@@ -1,9 +1,8 @@
 -- What is annotated in the source is annotated without lists, with the same values.
-use Rattle.std.proofs.Common.{◌≡◌, ℕ, suc, ◌+◌, Bool, true, List, [], ◌∷◌, ◌++◌, map, length, drop, refl, sym, ◌∙◌, ap}
+use Rattle.std.proofs.Common.{◌≡◌, ℕ, suc, ◌+◌, Bool, true, List, [], ◌∷◌, ◌++◌, map, refl, sym, ◌∙◌, ap}
 use Rattle.std.proofs.Common.{subst, Some, None}
 use Rattle.std.specs.Prelude.{◌&&◌, not}
-use Rattle.std.proofs.Math.Seq.{drop-append_seam}
-use Rattle.std.proofs.lemmas.List.{append-nil, append_assoc, map-append, length-map}
+use Rattle.std.proofs.lemmas.List.{append-nil, append_assoc, map-append}
 use Rattle.std.proofs.lemmas.Bool.{or_left, or_right, and_parts, and_from}
 use Rattle.ig_ebnf_laws.proofs.AddedInstances.{alternative_at, form_call}
 use Rattle.ig_ebnf_laws.proofs.Definitions.{has, find, Binds as Shows, Agree, Keeps, Quiet, Proper, SymbolsProper, AllDeclared}
@@ -34,6 +33,7 @@ use Rattle.ig_meaning.specs.Annotated.{bound_between, Bind, Binds, BindApart, Wi
 use Rattle.ig_meaning.specs.Derivation.{span_value}
 use Rattle.ig_meaning.specs.Environment.{Environment, values}
 use Rattle.ig_rewrite.specs.Added.{added_name}
+use Rattle.ig_rewrite.specs.Grown.{values_behind}
 use Rattle.ig_rewrite.specs.Needs.{needs, symbols_need, bindings_use, is_bound}
 
 -- lists of trees, joined
@@ -44,13 +44,6 @@ join_assoc (more t ts) us vs = ap (more t) (join_assoc ts us vs)
 join_none : (ts : Trees) → join ts none ≡ ts
 join_none none = refl
 join_none (more t ts) = ap (more t) (join_none ts)
-
--- the values behind an environment, in the one that grew from it
-values_behind : (env behind : Environment) → bound_between env (env ++ behind) ≡ values behind
-values_behind env behind =
-    (λ k. drop (sym (length-map env (λ pair. pair.1)) k) (values (env ++ behind))) ∙
-    ap (drop (length (values env))) (map-append (λ pair. pair.1) env behind) ∙
-    drop-append_seam (values env) (values behind)
 
 -- both environments grow by the same
 pub record Grown (env env' after left : Environment) : Type 0 where

@@ -1,12 +1,12 @@
 -- Kinds of what is visible in the source, and in an added declaration.
 use Rattle.std.proofs.Common.{◌≡◌, ◌⊎◌, inl, inr, ℕ, Bool, true, false, List, [], ◌∷◌, ◌++◌}
 use Rattle.std.proofs.Common.{refl, sym, ◌∙◌, ap, cond, Option, Some, None, arith}
-use Rattle.std.specs.Prelude.{◌||◌, ◌&&◌, not, Contains}
+use Rattle.std.specs.Prelude.{◌||◌, ◌&&◌, not, is_some, Contains}
 use Rattle.std.specs.Cmp.Lexicographic.{bytes_decides}
 use Rattle.std.specs.Option.{option_or}
 use Rattle.std.proofs.lemmas.List.Elements.{Contains-append_cases}
 use Rattle.std.proofs.lemmas.Bool.{or_left, or_right, and_parts}
-use Rattle.ig_ebnf_laws.proofs.Definitions.{has, is_some}
+use Rattle.ig_ebnf_laws.proofs.Definitions.{has}
 use Rattle.ig_ebnf_laws.proofs.Environments.{look_up_next, has_append, has_params}
 use Rattle.ig_ebnf_laws.specs.Lists.{keep, params_for, arguments}
 use Rattle.ig_expr.specs.Expression.{Expression, Integer, Truth, Here, Variable, Not, Negative, Binary, Of, Same}
