@@ -1,7 +1,8 @@
 //! The items at the position of a run that stand behind calls, by a table of hashes that is emptied
 //! without a cost. Only these can be found once more.
-ghost use Rattle.std.specs.Prelude.{◌≡◌, ◌<◌, ◌+◌, [], ◌∷◌, ◌++◌};
+ghost use Rattle.std.specs.Prelude.{◌≡◌, ◌<◌, ◌≤◌, ◌+◌, [], ◌∷◌, ◌++◌};
 ghost use Rattle.std.specs.Prelude.{ℕ, IfNone, IfOk, IfSome, OnErr, OnOk, Contains};
+ghost use Rattle.ig_item.specs.Limits.{numbers_end};
 ghost use Rattle.ig_tables.specs.Returned.{bucket_of, entry};
 
 use ig_item::Item;
@@ -192,9 +193,11 @@ fn bucket_of(item: Item, mask: u32) -> usize
     (hash & u64::from(mask)) as usize
 }
 
-/// The place + 1 behind so many cells, counted on from the base.
+/// The place + 1 behind so many cells, counted on from the base. Refused, as want of memory,
+/// exactly where 32 bits don't hold it.
 fn place_behind(base: u32, cells: usize) -> Result<u32, AllocError>
-    ensures { IfOk result (λ place. place ≡ base + cells + 1) }
+    ensures place { IfOk result (λ p. p ≡ base + cells + 1) }
+    ensures refused { OnErr result (numbers_end ≤ base + cells + 1) }
 {
     let Ok(cells) = u32::try_from(cells) else {
         return Err(AllocError);

@@ -8,4 +8,4 @@ invariant_of-self-2 c =
     subst (λ z. AreChained c.self.inside.mask c.self.inside.base (set c.self.inside.heads.items z c.in_ok-place.place) c.push.new.self.items) (sym c.bucket_of-at.ensures)
     (added_by c.self.inside.mask c.self.inside.base c.self.inside.heads.items c.self.inside.cells.items c.push.new.self.items c.args.item c.args.number c.index-next.result.now c.in_ok-place.place c.self.invariant
     (subst (λ z. c.index-next.result.now ≡ slice_index_or c.self.inside.heads.items z c.index-next.result.now) c.bucket_of-at.ensures c.index-next.ensures)
-    c.in_ok-push.ensures.items (omega (arith, c.in_ok-place.ensures, c.len.ensures)))
+    c.in_ok-push.ensures.items (omega (arith, c.in_ok-place.ensures.place, c.len.ensures)))
