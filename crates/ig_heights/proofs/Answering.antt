@@ -52,10 +52,10 @@ module _ (f : Forest) (l : Table) (rules : IsLeastTable f l) (hs : List ℕ) (le
       let s = item_small f l rules hs least trim live k (omega (arith, less, is)) in omega (arith, e, s, few)
 
   pub nodes_there : (n : ℕ) → n ≡ length f.nodes → 0 + n ≤ length hs
-  nodes_there n is = let a = least.long in let b = rules.parts in let g = rules.ground in omega (arith, is, a, b, g)
+  nodes_there n is = let a = least.long in let b = rules.parts in let g = rules.bottom in omega (arith, is, a, b, g)
 
   pub items_there : (n m : ℕ) → m ≡ length f.nodes → n ≡ length f.items → m + n ≤ length hs
-  items_there n m many is = let a = least.long in let b = rules.parts in let g = rules.ground in omega (arith, is, many, a, b, g)
+  items_there n m many is = let a = least.long in let b = rules.parts in let g = rules.bottom in omega (arith, is, many, a, b, g)
 
   module _ (t : Table) (whole : IsWholeTable l t) (ws : List ℕ) (wide : AreLeast t ws) where
     pub heights_are : (nodes items : List ℕ) (n m i root : ℕ) (b : Bool) → n ≡ length f.nodes → m ≡ length f.nodes → i ≡ length f.items →

@@ -15,7 +15,7 @@ use Rattle.ig_forest.specs.declared.entry.Child.{Child}
 use Rattle.ig_forest.specs.declared.entry.Child.TheVariants as child
 use Rattle.ig_heights.specs.Heights.{HasHigher, IsCyclic, HasNoHigher}
 use Rattle.ig_heights.specs.Rules.{rise, height_at, need, AreLeast}
-use Rattle.ig_heights.specs.Table.{ground_of, entry_rule, choice_rule, IsRuleOf, IsLeastTable, Chain, IsSource, NeedsAll, IsWholeTable}
+use Rattle.ig_heights.specs.Table.{bottom_of, entry_rule, choice_rule, IsRuleOf, IsLeastTable, Chain, IsSource, NeedsAll, IsWholeTable}
 use Rattle.ig_heights.specs.Table as table
 use Rattle.ig_heights.specs.declared.rule.Rule.{Rule}
 use Rattle.ig_heights.specs.declared.rule.Table.{Table}
@@ -26,11 +26,11 @@ module _ (f : Forest) (l t : Table) (rules : IsLeastTable f l) (whole : IsWholeT
   nodes_is : t.nodes ≡ length f.nodes
   nodes_is = whole.nodes ∙ rules.nodes
 
-  ground_is : t.ground ≡ ground_of f
-  ground_is = whole.ground ∙ rules.ground
+  bottom_is : t.bottom ≡ bottom_of f
+  bottom_is = whole.bottom ∙ rules.bottom
 
-  ground_none : height_at hs (ground_of f) ≡ 0
-  ground_none = ap (height_at hs) (sym ground_is) ∙ least.ground
+  bottom_none : height_at hs (bottom_of f) ≡ 0
+  bottom_none = ap (height_at hs) (sym bottom_is) ∙ least.bottom
 
   -- the one rule of a part gives it its height
   rule_given : (r : Rule) → Contains t.rules.items r → height_at hs r.target ≤ t.nodes →
@@ -45,7 +45,7 @@ module _ (f : Forest) (l t : Table) (rules : IsLeastTable f l) (whole : IsWholeT
             let n = ap (need t.nodes hs) is in let g = given.needs in omega (arith, n, g)
       ]
 
-  chain_low : {c : ℕ} {ps : List ℕ} → Chain t.rules.items t.ground c ps → height_at hs c ≤ t.nodes → (p : ℕ) → Contains ps p →
+  chain_low : {c : ℕ} {ps : List ℕ} → Chain t.rules.items t.bottom c ps → height_at hs c ≤ t.nodes → (p : ℕ) → Contains ps p →
       height_at hs p + rise t.nodes c ≤ height_at hs c
   chain_low (table.empty c is) known p among = let less = among.1 in absurd (omega (arith, less))
   chain_low (table.link c last part others rule chain) known p among =
@@ -65,8 +65,8 @@ module _ (f : Forest) (l t : Table) (rules : IsLeastTable f l) (whole : IsWholeT
       let c = o.among in let less = c.1 in
       record { part = o.part; among = (suc c.0, omega (arith, less), c.2); none = o.none }
 
-  chain_open : {c : ℕ} {ps : List ℕ} → Chain t.rules.items t.ground c ps → t.nodes < height_at hs c → Open ps
-  chain_open (table.empty c is) none = let h = ap (height_at hs) is in let g = least.ground in absurd (omega (arith, none, h, g))
+  chain_open : {c : ℕ} {ps : List ℕ} → Chain t.rules.items t.bottom c ps → t.nodes < height_at hs c → Open ps
+  chain_open (table.empty c is) none = let h = ap (height_at hs) is in let g = least.bottom in absurd (omega (arith, none, h, g))
   chain_open (table.link c last part others rule chain) none =
       elim (le_or_lt (height_at hs part) t.nodes) [
         | inr open_part ↦ record { part = part; among = (zero, omega arith, refl); none = open_part }
@@ -83,25 +83,25 @@ module _ (f : Forest) (l t : Table) (rules : IsLeastTable f l) (whole : IsWholeT
   abbrev of_item : ℕ → ℕ
   of_item k = height_at hs (length f.nodes + k)
 
-  node_needs : (v : ℕ) → v < length f.nodes → NeedsAll t.rules.items t.ground v (IsSource l.rules.items v)
-  node_needs v inside = let g = rules.ground in whole.needs v (omega (arith, inside, g))
+  node_needs : (v : ℕ) → v < length f.nodes → NeedsAll t.rules.items t.bottom v (IsSource l.rules.items v)
+  node_needs v inside = let g = rules.bottom in whole.needs v (omega (arith, inside, g))
 
   item_needs : (k : ℕ) → k < length f.items →
-      NeedsAll t.rules.items t.ground (length f.nodes + k) (IsSource l.rules.items (length f.nodes + k))
-  item_needs k inside = let g = rules.ground in whole.needs (length f.nodes + k) (omega (arith, inside, g))
+      NeedsAll t.rules.items t.bottom (length f.nodes + k) (IsSource l.rules.items (length f.nodes + k))
+  item_needs k inside = let g = rules.bottom in whole.needs (length f.nodes + k) (omega (arith, inside, g))
 
-  entry_target : (k : ℕ) (e : Entry) → (entry_rule (length f.nodes) (ground_of f) k e).target ≡ length f.nodes + k
+  entry_target : (k : ℕ) (e : Entry) → (entry_rule (length f.nodes) (bottom_of f) k e).target ≡ length f.nodes + k
   entry_target k Begin = refl
   entry_target k (Pass prev) = refl
   entry_target k (Take prev (child.Leaf span)) = refl
   entry_target k (Take prev (child.Node v)) = refl
 
   entry_source : (k i p : ℕ) (it : ItemNode) (e : Entry) → slice_get f.items k ≡ Some it → slice_get it.entries i ≡ Some e →
-      (p ≡ (entry_rule (length f.nodes) (ground_of f) k e).left) ⊎ (p ≡ (entry_rule (length f.nodes) (ground_of f) k e).right) →
+      (p ≡ (entry_rule (length f.nodes) (bottom_of f) k e).left) ⊎ (p ≡ (entry_rule (length f.nodes) (bottom_of f) k e).right) →
       IsSource l.rules.items (length f.nodes + k) p
   entry_source k i p it e has among is =
       record {
-        rule = entry_rule (length f.nodes) (ground_of f) k e;
+        rule = entry_rule (length f.nodes) (bottom_of f) k e;
         among = rules.whole _ (table.entry k it e (slice_get_within f.items k it has) has (contains_from_at it.entries i e among) refl);
         target = entry_target k e;
         is = is;
@@ -121,7 +121,7 @@ module _ (f : Forest) (l t : Table) (rules : IsLeastTable f l) (whole : IsWholeT
         let n = node_needs v inside in let m = nodes_is in
         let source : IsSource l.rules.items v (length f.nodes + choice.item) =
         record {
-          rule = choice_rule (length f.nodes) (ground_of f) v choice;
+          rule = choice_rule (length f.nodes) (bottom_of f) v choice;
           among = rules.whole _ (table.choice v node choice inside has (contains_from_at node.alternatives i choice among) refl);
           target = refl;
           is = inl refl;
@@ -158,16 +158,16 @@ module _ (f : Forest) (l t : Table) (rules : IsLeastTable f l) (whole : IsWholeT
     by_child : (prev v : ℕ) → length f.nodes < of_node v → Leads (Take prev (child.Node v))
 
   leads_by : (k p : ℕ) (e : Entry) → length f.nodes < height_at hs p →
-      (p ≡ (entry_rule (length f.nodes) (ground_of f) k e).left) ⊎ (p ≡ (entry_rule (length f.nodes) (ground_of f) k e).right) →
+      (p ≡ (entry_rule (length f.nodes) (bottom_of f) k e).left) ⊎ (p ≡ (entry_rule (length f.nodes) (bottom_of f) k e).right) →
       Leads e
-  leads_by k p Begin none (inl e) = let h = ap (height_at hs) e in let g = ground_none in absurd (omega (arith, none, h, g))
-  leads_by k p Begin none (inr e) = let h = ap (height_at hs) e in let g = ground_none in absurd (omega (arith, none, h, g))
+  leads_by k p Begin none (inl e) = let h = ap (height_at hs) e in let g = bottom_none in absurd (omega (arith, none, h, g))
+  leads_by k p Begin none (inr e) = let h = ap (height_at hs) e in let g = bottom_none in absurd (omega (arith, none, h, g))
   leads_by k p (Pass prev) none (inl e) = let h = ap (height_at hs) e in by_pass prev (omega (arith, none, h))
-  leads_by k p (Pass prev) none (inr e) = let h = ap (height_at hs) e in let g = ground_none in absurd (omega (arith, none, h, g))
+  leads_by k p (Pass prev) none (inr e) = let h = ap (height_at hs) e in let g = bottom_none in absurd (omega (arith, none, h, g))
   leads_by k p (Take prev (child.Leaf span)) none (inl e) =
       let h = ap (height_at hs) e in by_take prev (child.Leaf span) (omega (arith, none, h))
   leads_by k p (Take prev (child.Leaf span)) none (inr e) =
-      let h = ap (height_at hs) e in let g = ground_none in absurd (omega (arith, none, h, g))
+      let h = ap (height_at hs) e in let g = bottom_none in absurd (omega (arith, none, h, g))
   leads_by k p (Take prev (child.Node v)) none (inl e) =
       let h = ap (height_at hs) e in by_take prev (child.Node v) (omega (arith, none, h))
   leads_by k p (Take prev (child.Node v)) none (inr e) = let h = ap (height_at hs) e in by_child prev v (omega (arith, none, h))
@@ -217,7 +217,7 @@ module _ (f : Forest) (l t : Table) (rules : IsLeastTable f l) (whole : IsWholeT
         among = among;
         none = elim (source_at p rule _ is source) [
           | inl e ↦ let h = ap (height_at hs) e in omega (arith, none, h)
-          | inr e ↦ let h = ap (height_at hs) e in let g = ground_none in absurd (omega (arith, none, h, g))
+          | inr e ↦ let h = ap (height_at hs) e in let g = bottom_none in absurd (omega (arith, none, h, g))
         ];
       }
 
@@ -226,7 +226,7 @@ module _ (f : Forest) (l t : Table) (rules : IsLeastTable f l) (whole : IsWholeT
       let n = item_needs k inside in let m = nodes_is in
       let o = chain_open n.chain (omega (arith, none, m)) in let high = o.none in
       elim (n.only o.part o.among) [
-        | inl e ↦ let h = ap (height_at hs) e in let g = least.ground in absurd (omega (arith, h, g, high))
+        | inl e ↦ let h = ap (height_at hs) e in let g = least.bottom in absurd (omega (arith, h, g, high))
         | inr s ↦ item_by k o.part s.rule (rules.sound s.rule s.among) s.target s.is (omega (arith, high, m))
       ]
 
@@ -235,7 +235,7 @@ module _ (f : Forest) (l t : Table) (rules : IsLeastTable f l) (whole : IsWholeT
       let n = node_needs v inside in let m = nodes_is in
       let o = chain_open n.chain (omega (arith, none, m)) in let high = o.none in
       elim (n.only o.part o.among) [
-        | inl e ↦ let h = ap (height_at hs) e in let g = least.ground in absurd (omega (arith, h, g, high))
+        | inl e ↦ let h = ap (height_at hs) e in let g = least.bottom in absurd (omega (arith, h, g, high))
         | inr s ↦ node_by v o.part s.rule (rules.sound s.rule s.among) s.target inside s.is (omega (arith, high, m))
       ]
 

@@ -13,7 +13,7 @@ use Rattle.ig_forest.specs.declared.entry.Entry.TheVariants.{Begin, Pass, Take}
 use Rattle.ig_forest.specs.declared.entry.Child.TheVariants as child
 use Rattle.ig_heights.specs.Heights.{IsLeastOfNode, IsLeastOfItem}
 use Rattle.ig_heights.specs.Rules.{rise, height_at, need, AreLeast}
-use Rattle.ig_heights.specs.Table.{ground_of, entry_rule, choice_rule, IsRuleOf, IsLeastTable}
+use Rattle.ig_heights.specs.Table.{bottom_of, entry_rule, choice_rule, IsRuleOf, IsLeastTable}
 use Rattle.ig_heights.specs.Table as table
 use Rattle.ig_heights.specs.declared.rule.Rule.{Rule}
 use Rattle.ig_heights.specs.declared.rule.Table.{Table}
@@ -34,24 +34,24 @@ module _ (f : Forest) (t : Table) (rules : IsLeastTable f t) (hs : List ℕ) (le
   needs (Take prev (child.Leaf span)) = of_item prev
   needs (Take prev (child.Node v)) = max (of_item prev) (of_node v)
 
-  ground_none : height_at hs (ground_of f) ≡ 0
-  ground_none = ap (height_at hs) (sym rules.ground) ∙ least.ground
+  bottom_none : height_at hs (bottom_of f) ≡ 0
+  bottom_none = ap (height_at hs) (sym rules.bottom) ∙ least.bottom
 
   no_rise : (k : ℕ) → rise t.nodes (length f.nodes + k) ≡ 0
   no_rise k = let n = rules.nodes in rise_none t.nodes (length f.nodes + k) (omega (arith, n))
 
   entry_among : (k i : ℕ) (it : ItemNode) (e : Entry) → slice_get f.items k ≡ Some it → slice_get it.entries i ≡ Some e →
-      Contains t.rules.items (entry_rule (length f.nodes) (ground_of f) k e)
+      Contains t.rules.items (entry_rule (length f.nodes) (bottom_of f) k e)
   entry_among k i it e has among =
       rules.whole _ (table.entry k it e (slice_get_within f.items k it has) has (contains_from_at it.entries i e among) refl)
 
-  entry_needs : (k : ℕ) (e : Entry) → need t.nodes hs (entry_rule (length f.nodes) (ground_of f) k e) ≡ needs e
-  entry_needs k Begin = let g = ground_none in let r = no_rise k in omega (arith, g, r)
-  entry_needs k (Pass prev) = let g = ground_none in let r = no_rise k in omega (arith, g, r)
-  entry_needs k (Take prev (child.Leaf span)) = let g = ground_none in let r = no_rise k in omega (arith, g, r)
-  entry_needs k (Take prev (child.Node v)) = let g = ground_none in let r = no_rise k in omega (arith, g, r)
+  entry_needs : (k : ℕ) (e : Entry) → need t.nodes hs (entry_rule (length f.nodes) (bottom_of f) k e) ≡ needs e
+  entry_needs k Begin = let g = bottom_none in let r = no_rise k in omega (arith, g, r)
+  entry_needs k (Pass prev) = let g = bottom_none in let r = no_rise k in omega (arith, g, r)
+  entry_needs k (Take prev (child.Leaf span)) = let g = bottom_none in let r = no_rise k in omega (arith, g, r)
+  entry_needs k (Take prev (child.Node v)) = let g = bottom_none in let r = no_rise k in omega (arith, g, r)
 
-  entry_target : (k : ℕ) (e : Entry) → (entry_rule (length f.nodes) (ground_of f) k e).target ≡ length f.nodes + k
+  entry_target : (k : ℕ) (e : Entry) → (entry_rule (length f.nodes) (bottom_of f) k e).target ≡ length f.nodes + k
   entry_target k Begin = refl
   entry_target k (Pass prev) = refl
   entry_target k (Take prev (child.Leaf span)) = refl
@@ -66,26 +66,26 @@ module _ (f : Forest) (t : Table) (rules : IsLeastTable f t) (hs : List ℕ) (le
   entry_made : (k i : ℕ) (it : ItemNode) (e : Entry) → slice_get f.items k ≡ Some it → slice_get it.entries i ≡ Some e →
       needs e ≤ length f.nodes → of_item k ≤ length f.nodes
   entry_made k i it e has among low =
-      let rule : Rule = entry_rule (length f.nodes) (ground_of f) k e in
+      let rule : Rule = entry_rule (length f.nodes) (bottom_of f) k e in
       let n = entry_needs k e in let m = rules.nodes in
       let h = least.made rule (entry_among k i it e has among) (omega (arith, n, low, m)) (omega (arith, n, low, m)) in
       let s = ap (height_at hs) (entry_target k e) in omega (arith, h, s, m)
 
   choice_among : (v i : ℕ) (node : forest.Node) (c : Choice) → slice_get f.nodes v ≡ Some node →
-      slice_get node.alternatives i ≡ Some c → Contains t.rules.items (choice_rule (length f.nodes) (ground_of f) v c)
+      slice_get node.alternatives i ≡ Some c → Contains t.rules.items (choice_rule (length f.nodes) (bottom_of f) v c)
   choice_among v i node c has among =
       rules.whole _ (table.choice v node c (slice_get_within f.nodes v node has) has (contains_from_at node.alternatives i c among) refl)
 
   choice_obeyed : (v i : ℕ) (node : forest.Node) (c : Choice) → slice_get f.nodes v ≡ Some node →
       slice_get node.alternatives i ≡ Some c → of_node v ≤ suc (of_item c.item)
   choice_obeyed v i node c has among =
-      let o = least.obeyed _ (choice_among v i node c has among) in let g = ground_none in let r = rise_low t.nodes v in
+      let o = least.obeyed _ (choice_among v i node c has among) in let g = bottom_none in let r = rise_low t.nodes v in
       omega (arith, o, g, r)
 
   choice_made : (v i : ℕ) (node : forest.Node) (c : Choice) → slice_get f.nodes v ≡ Some node →
       slice_get node.alternatives i ≡ Some c → of_item c.item ≤ length f.nodes → of_node v ≤ length f.nodes
   choice_made v i node c has among low =
-      let g = ground_none in let m = rules.nodes in
+      let g = bottom_none in let m = rules.nodes in
       let h = least.made _ (choice_among v i node c has among) (omega (arith, low, m)) (omega (arith, g)) in omega (arith, h, m)
 
   mutual
@@ -151,13 +151,13 @@ module _ (f : Forest) (t : Table) (rules : IsLeastTable f t) (hs : List ℕ) (le
       let a = ap (λ (z : Rule). z.target) is in let b = entry_target j e in absurd (omega (arith, a, b, target, inside))
   choice_by v rule (table.choice u node c less has among is) target inside low =
       let same : u ≡ v = (let a = ap (λ (z : Rule). z.target) is in omega (arith, a, target)) in
-      let n = ap (need t.nodes hs) is in let g = ground_none in let m = rules.nodes in
+      let n = ap (need t.nodes hs) is in let g = bottom_none in let m = rules.nodes in
       let r = rise_one t.nodes u (omega (arith, less, m)) in
       record { node = node; c = c; has = ap (slice_get f.nodes) (sym same) ∙ has; among = among; low = omega (arith, n, g, r, low) }
 
   item_given : (k : ℕ) → k < length f.items → of_item k ≤ length f.nodes → ByEntry k
   item_given k inside known =
-      let m = rules.nodes in let g = rules.ground in let p = t.there in
+      let m = rules.nodes in let g = rules.bottom in let p = t.there in
       elim (least.given (length f.nodes + k) (omega (arith, inside, g, p)) (omega (arith, known, m))) [
         | inl e ↦ absurd (omega (arith, e, g, inside))
         | inr given ↦ entry_by k given.rule (rules.sound given.rule given.among) given.target given.needs
@@ -165,7 +165,7 @@ module _ (f : Forest) (t : Table) (rules : IsLeastTable f t) (hs : List ℕ) (le
 
   node_given : (v : ℕ) → v < length f.nodes → of_node v ≤ length f.nodes → ByChoice v
   node_given v inside known =
-      let m = rules.nodes in let g = rules.ground in let p = t.there in
+      let m = rules.nodes in let g = rules.bottom in let p = t.there in
       elim (least.given v (omega (arith, inside, g, p)) (omega (arith, known, m))) [
         | inl e ↦ absurd (omega (arith, e, g, inside))
         | inr given ↦ choice_by v given.rule (rules.sound given.rule given.among) given.target inside given.needs

@@ -25,14 +25,14 @@ at_push (z ∷ xs) y zero x e = inl e
 at_push (z ∷ xs) y (suc k) x e =
     elim (at_push xs y k x e) [ inl old ↦ inl old | inr new ↦ inr (ap suc new.0, new.1) ]
 
-chain_more : (rules more : List Rule) → ((r : Rule) → Contains rules r → Contains more r) → {ground c : ℕ} {ps : List ℕ} →
-    Chain rules ground c ps → Chain more ground c ps
+chain_more : (rules more : List Rule) → ((r : Rule) → Contains rules r → Contains more r) → {bottom c : ℕ} {ps : List ℕ} →
+    Chain rules bottom c ps → Chain more bottom c ps
 chain_more rules more all (table.empty c is) = table.empty c is
 chain_more rules more all (table.link c last part others rule chain) =
     table.link c last part others (all _ rule) (chain_more rules more all chain)
 
 -- one link more
-module _ (ground end part : ℕ) (before after : List Rule) (new : ℕ) (l : Links ground end part before after new) where
+module _ (bottom end part : ℕ) (before after : List Rule) (new : ℕ) (l : Links bottom end part before after new) where
   abbrev one : Rule
   one = record { target = new; left = end; right = part }
 
@@ -52,17 +52,17 @@ module _ (ground end part : ℕ) (before after : List Rule) (new : ℕ) (l : Lin
   pub link_long : length after ≡ suc (length before)
   link_long = ap length l.after_is ∙ long_push before one
 
-  pub link_targets : ((k : ℕ) (r : Rule) → slice_get before k ≡ Some r → r.target ≡ suc ground + k) → (k : ℕ) (r : Rule) →
-      slice_get after k ≡ Some r → r.target ≡ suc ground + k
+  pub link_targets : ((k : ℕ) (r : Rule) → slice_get before k ≡ Some r → r.target ≡ suc bottom + k) → (k : ℕ) (r : Rule) →
+      slice_get after k ≡ Some r → r.target ≡ suc bottom + k
   link_targets old k r e =
       elim (link_at k r e) [
         | inl o ↦ old k r o
         | inr n ↦ let t = ap (λ (z : Rule). z.target) n.1 in let w = l.new_is in let p = n.0 in omega (arith, t, w, p)
       ]
 
-  pub link_fits : ((r : Rule) → Contains before r → (r.left < suc ground + length before) × (r.right ≤ ground)) →
-      end < suc ground + length before → part ≤ ground → (r : Rule) → Contains after r →
-      (r.left < suc ground + length after) × (r.right ≤ ground)
+  pub link_fits : ((r : Rule) → Contains before r → (r.left < suc bottom + length before) × (r.right ≤ bottom)) →
+      end < suc bottom + length before → part ≤ bottom → (r : Rule) → Contains after r →
+      (r.left < suc bottom + length after) × (r.right ≤ bottom)
   link_fits old end_low part_low r c =
       let n = link_long in
       elim (link_cases r c) [
@@ -72,9 +72,9 @@ module _ (ground end part : ℕ) (before after : List Rule) (new : ℕ) (l : Lin
             (omega (arith, a, end_low, n), omega (arith, b, part_low))
       ]
 
-module _ (ground : ℕ) (rules more : List Rule) (rule : Rule) (only : (r : Rule) → Contains more r → Contains rules r ⊎ (r ≡ rule))
-    (all : (r : Rule) → Contains rules r → Contains more r) (here : Contains more rule) (left_low : rule.left ≤ ground)
-    (right_low : rule.right ≤ ground) where
+module _ (bottom : ℕ) (rules more : List Rule) (rule : Rule) (only : (r : Rule) → Contains more r → Contains rules r ⊎ (r ≡ rule))
+    (all : (r : Rule) → Contains rules r → Contains more r) (here : Contains more rule) (left_low : rule.left ≤ bottom)
+    (right_low : rule.right ≤ bottom) where
   source_more : (q p : ℕ) → IsSource rules q p → IsSource more q p
   source_more q p s = record { rule = s.rule; among = all s.rule s.among; target = s.target; is = s.is }
 
@@ -93,7 +93,7 @@ module _ (ground : ℕ) (rules more : List Rule) (rule : Rule) (only : (r : Rule
 
   -- a chain that isn't the target's
   others_need : (links longer : List Rule) (c q : ℕ) → ((r : Rule) → Contains links r → Contains longer r) → (q ≡ rule.target → ⊥) →
-      NeedsAll links ground c (IsSource rules q) → NeedsAll longer ground c (IsSource more q)
+      NeedsAll links bottom c (IsSource rules q) → NeedsAll longer bottom c (IsSource more q)
   others_need links longer c q kept other n =
       record {
         needs = n.needs;
@@ -102,11 +102,11 @@ module _ (ground : ℕ) (rules more : List Rule) (rule : Rule) (only : (r : Rule
         only = λ p among. elim (n.only p among) [ inl e ↦ inl e | inr s ↦ inr (source_more q p s) ];
       }
 
-  pub links_next : (links longer : List Rule) (last ends : List ℕ) → AreLinks ground rules links last →
-      Linked ground rule links last longer ends → AreLinks ground more longer ends
+  pub links_next : (links longer : List Rule) (last ends : List ℕ) → AreLinks bottom rules links last →
+      Linked bottom rule links last longer ends → AreLinks bottom more longer ends
   links_next links longer last ends are (table.skip high same_links same_last) =
-      subst (λ (z : List Rule). AreLinks ground more z ends) (sym same_links)
-      (subst (λ (z : List ℕ). AreLinks ground more links z) (sym same_last)
+      subst (λ (z : List Rule). AreLinks bottom more z ends) (sym same_links)
+      (subst (λ (z : List ℕ). AreLinks bottom more links z) (sym same_last)
       (record {
         long = are.long;
         targets = are.targets;
@@ -118,26 +118,26 @@ module _ (ground : ℕ) (rules more : List Rule) (rule : Rule) (only : (r : Rule
       record {
         long = ap length is ∙ length-set last rule.target new ∙ are.long;
         targets =
-            link_targets ground middle rule.right half longer new second
-            (link_targets ground (get_or last rule.target 0) rule.left links half middle first are.targets);
+            link_targets bottom middle rule.right half longer new second
+            (link_targets bottom (get_or last rule.target 0) rule.left links half middle first are.targets);
         fits =
-            link_fits ground middle rule.right half longer new second
-            (link_fits ground (get_or last rule.target 0) rule.left links half middle first are.fits (are.ends rule.target low) left_low)
+            link_fits bottom middle rule.right half longer new second
+            (link_fits bottom (get_or last rule.target 0) rule.left links half middle first are.fits (are.ends rule.target low) left_low)
             (let w = first.new_is in let n = long_half in omega (arith, w, n)) right_low;
         ends = ends_now;
         needs = needs_now;
       }
     where
       long_half : length half ≡ suc (length links)
-      long_half = link_long ground (get_or last rule.target 0) rule.left links half middle first
+      long_half = link_long bottom (get_or last rule.target 0) rule.left links half middle first
 
       long_longer : length longer ≡ suc (length half)
-      long_longer = link_long ground middle rule.right half longer new second
+      long_longer = link_long bottom middle rule.right half longer new second
 
       kept : (r : Rule) → Contains links r → Contains longer r
       kept r c =
-          link_more ground middle rule.right half longer new second r
-          (link_more ground (get_or last rule.target 0) rule.left links half middle first r c)
+          link_more bottom middle rule.right half longer new second r
+          (link_more bottom (get_or last rule.target 0) rule.left links half middle first r c)
 
       within : rule.target < length last
       within = let l = are.long in omega (arith, l, low)
@@ -148,7 +148,7 @@ module _ (ground : ℕ) (rules more : List Rule) (rule : Rule) (only : (r : Rule
       at_other : (q : ℕ) → (q ≡ rule.target → ⊥) → get_or ends q 0 ≡ get_or last q 0
       at_other q d = ap (λ (z : List ℕ). get_or z q 0) is ∙ set_there last rule.target q new 0 d
 
-      ends_now : (q : ℕ) → q < ground → get_or ends q 0 < suc ground + length longer
+      ends_now : (q : ℕ) → q < bottom → get_or ends q 0 < suc bottom + length longer
       ends_now q inside =
           let a = long_half in let b = long_longer in
           elim (cases_eq q rule.target) [
@@ -156,18 +156,18 @@ module _ (ground : ℕ) (rules more : List Rule) (rule : Rule) (only : (r : Rule
             | inr d ↦ let h = at_other q d in let w = are.ends q inside in omega (arith, a, b, h, w)
           ]
 
-      old : NeedsAll links ground (get_or last rule.target 0) (IsSource rules rule.target)
+      old : NeedsAll links bottom (get_or last rule.target 0) (IsSource rules rule.target)
       old = are.needs rule.target low
 
-      target_needs : NeedsAll longer ground new (IsSource more rule.target)
+      target_needs : NeedsAll longer bottom new (IsSource more rule.target)
       target_needs =
           record {
             needs = rule.right ∷ rule.left ∷ old.needs;
             chain =
-                table.link new middle rule.right (rule.left ∷ old.needs) (link_here ground middle rule.right half longer new second)
+                table.link new middle rule.right (rule.left ∷ old.needs) (link_here bottom middle rule.right half longer new second)
                 (table.link middle (get_or last rule.target 0) rule.left old.needs
-                (link_more ground middle rule.right half longer new second _
-                (link_here ground (get_or last rule.target 0) rule.left links half middle first))
+                (link_more bottom middle rule.right half longer new second _
+                (link_here bottom (get_or last rule.target 0) rule.left links half middle first))
                 (chain_more links longer kept old.chain));
             all = all_now;
             only = only_now;
@@ -186,7 +186,7 @@ module _ (ground : ℕ) (rules more : List Rule) (rule : Rule) (only : (r : Rule
                 ]
               ]
 
-          only_now : (p : ℕ) → Contains (rule.right ∷ rule.left ∷ old.needs) p → (p ≡ ground) ⊎ IsSource more rule.target p
+          only_now : (p : ℕ) → Contains (rule.right ∷ rule.left ∷ old.needs) p → (p ≡ bottom) ⊎ IsSource more rule.target p
           only_now p c =
               elim (in_rest rule.right (rule.left ∷ old.needs) p c) [
                 | inl e ↦ inr (record { rule = rule; among = here; target = refl; is = inr (sym e) })
@@ -196,23 +196,23 @@ module _ (ground : ℕ) (rules more : List Rule) (rule : Rule) (only : (r : Rule
                 ]
               ]
 
-      needs_now : (q : ℕ) → q < ground → NeedsAll longer ground (get_or ends q 0) (IsSource more q)
+      needs_now : (q : ℕ) → q < bottom → NeedsAll longer bottom (get_or ends q 0) (IsSource more q)
       needs_now q inside =
           elim (cases_eq q rule.target) [
             | inl e ↦
-                subst (λ (n : ℕ). NeedsAll longer ground n (IsSource more q)) (sym (at_target q e))
-                (subst (λ (n : ℕ). NeedsAll longer ground new (IsSource more n)) (sym e) target_needs)
+                subst (λ (n : ℕ). NeedsAll longer bottom n (IsSource more q)) (sym (at_target q e))
+                (subst (λ (n : ℕ). NeedsAll longer bottom new (IsSource more n)) (sym e) target_needs)
             | inr d ↦
-                subst (λ (n : ℕ). NeedsAll longer ground n (IsSource more q)) (sym (at_other q d))
+                subst (λ (n : ℕ). NeedsAll longer bottom n (IsSource more q)) (sym (at_other q d))
                 (others_need links longer (get_or last q 0) q kept d (are.needs q inside))
           ]
 
-pub links_none : (ground : ℕ) (rules links : List Rule) (last : List ℕ) → links ≡ [] → last ≡ replicate ground ground →
-    AreLinks ground (take 0 rules) links last
-links_none ground rules links last none is =
-    subst (λ (z : List Rule). AreLinks ground (take 0 rules) z last) (sym none)
+pub links_none : (bottom : ℕ) (rules links : List Rule) (last : List ℕ) → links ≡ [] → last ≡ replicate bottom bottom →
+    AreLinks bottom (take 0 rules) links last
+links_none bottom rules links last none is =
+    subst (λ (z : List Rule). AreLinks bottom (take 0 rules) z last) (sym none)
     (record {
-      long = ap length is ∙ length-replicate ground ground;
+      long = ap length is ∙ length-replicate bottom bottom;
       targets = λ j r e. absurd (no_link j r e);
       fits = λ r c. absurd (none_in_nil r c);
       ends = λ q low. let e = at_first q low in omega (arith, e);
@@ -224,35 +224,35 @@ links_none ground rules links last none is =
       };
     })
   where
-    at_first : (q : ℕ) → q < ground → get_or last q 0 ≡ ground
-    at_first q low = ap (λ (z : List ℕ). get_or z q 0) is ∙ get_or-replicate ground q ground 0 low
+    at_first : (q : ℕ) → q < bottom → get_or last q 0 ≡ bottom
+    at_first q low = ap (λ (z : List ℕ). get_or z q 0) is ∙ get_or-replicate bottom q bottom 0 low
 
     no_link : (j : ℕ) (r : Rule) → slice_get no_links j ≡ Some r → ⊥
     no_link j r e = cc
 
-module _ (t : Table) (parts : t.parts ≡ suc t.ground) (rs : List Rule) (same : rs ≡ t.rules.items) where
+module _ (t : Table) (parts : t.parts ≡ suc t.bottom) (rs : List Rule) (same : rs ≡ t.rules.items) where
   pub links_step : (i : ℕ) (d : Rule) (links longer : List Rule) (last ends : List ℕ) → i < length rs →
-      AreLinks t.ground (take i t.rules.items) links last → Linked t.ground (get_or rs i d) links last longer ends →
-      AreLinks t.ground (take (i + 1) t.rules.items) longer ends
+      AreLinks t.bottom (take i t.rules.items) links last → Linked t.bottom (get_or rs i d) links last longer ends →
+      AreLinks t.bottom (take (i + 1) t.rules.items) longer ends
   links_step i d links longer last ends less are linked =
       let f = t.fit (get_or rs i d) (subst (λ (z : List Rule). Contains z (get_or rs i d)) same (i, less, read_at rs i d less)) in
       let a = f.left in let b = f.right in
-      subst (λ (z : List Rule). AreLinks t.ground (take (i + 1) z) longer ends) same
-      (links_next t.ground (take i rs) (take (i + 1) rs) (get_or rs i d) (taken_only rs i d less) (taken_all rs i d less) (taken_here rs i d less)
+      subst (λ (z : List Rule). AreLinks t.bottom (take (i + 1) z) longer ends) same
+      (links_next t.bottom (take i rs) (take (i + 1) rs) (get_or rs i d) (taken_only rs i d less) (taken_all rs i d less) (taken_here rs i d less)
       (omega (arith, a, parts)) (omega (arith, b, parts)) links longer last ends
-      (subst (λ (z : List Rule). AreLinks t.ground (take i z) links last) (sym same) are) linked)
+      (subst (λ (z : List Rule). AreLinks t.bottom (take i z) links last) (sym same) are) linked)
 
-  pub links_all : (n : ℕ) (links : List Rule) (last : List ℕ) → length rs ≤ n → AreLinks t.ground (take n t.rules.items) links last →
-      AreLinks t.ground t.rules.items links last
+  pub links_all : (n : ℕ) (links : List Rule) (last : List ℕ) → length rs ≤ n → AreLinks t.bottom (take n t.rules.items) links last →
+      AreLinks t.bottom t.rules.items links last
   links_all n links last past are =
       let l = ap length same in
-      subst (λ (z : List Rule). AreLinks t.ground z links last) (take_all n t.rules.items (omega (arith, past, l))) are
+      subst (λ (z : List Rule). AreLinks t.bottom z links last) (take_all n t.rules.items (omega (arith, past, l))) are
 
-module _ (ground : ℕ) (links : List Rule) (last : List ℕ) where
+module _ (bottom : ℕ) (links : List Rule) (last : List ℕ) where
   abbrev final : ℕ → Rule
-  final q = record { target = q; left = get_or last q 0; right = ground }
+  final q = record { target = q; left = get_or last q 0; right = bottom }
 
-  pub lasts_none : AreLasts ground links links last 0
+  pub lasts_none : AreLasts bottom links links last 0
   lasts_none =
       record {
         long = omega arith;
@@ -261,8 +261,8 @@ module _ (ground : ℕ) (links : List Rule) (last : List ℕ) where
         here = λ q low. absurd (omega (arith, low));
       }
 
-  pub lasts_next : (whole more : List Rule) (q m : ℕ) → m ≡ q + 1 → AreLasts ground links whole last q → more ≡ whole ++ final q ∷ [] →
-      AreLasts ground links more last m
+  pub lasts_next : (whole more : List Rule) (q m : ℕ) → m ≡ q + 1 → AreLasts bottom links whole last q → more ≡ whole ++ final q ∷ [] →
+      AreLasts bottom links more last m
   lasts_next whole more q m next are is =
       record {
         long = (let l = are.long in let n = ap length is ∙ long_push whole (final q) in omega (arith, l, n, next));
@@ -272,7 +272,7 @@ module _ (ground : ℕ) (links : List Rule) (last : List ℕ) where
       }
     where
       lasts_now : (j : ℕ) (r : Rule) → slice_get more j ≡ Some r →
-          slice_get links j ≡ Some r ⊎ ((p : ℕ) × (j ≡ length links + p) × (p < m) × (r ≡ record { target = p; left = get_or last p 0; right = ground }))
+          slice_get links j ≡ Some r ⊎ ((p : ℕ) × (j ≡ length links + p) × (p < m) × (r ≡ record { target = p; left = get_or last p 0; right = bottom }))
       lasts_now j r e =
           elim (at_push whole (final q) j r (ap (λ (z : List Rule). slice_get z j) (sym is) ∙ e)) [
             | inl old ↦ elim (are.lasts j r old) [
@@ -282,7 +282,7 @@ module _ (ground : ℕ) (links : List Rule) (last : List ℕ) where
             | inr new ↦ let l = are.long in let n = new.0 in inr (q, omega (arith, l, n), omega (arith, next), new.1)
           ]
 
-      here_now : (p : ℕ) → p < m → Contains more (record { target = p; left = get_or last p 0; right = ground })
+      here_now : (p : ℕ) → p < m → Contains more (record { target = p; left = get_or last p 0; right = bottom })
       here_now p low =
           elim (cases_eq p q) [
             | inl e ↦ subst (λ (n : ℕ). Contains more (final n)) (sym e) (subst (λ (z : List Rule). Contains z (final q)) (sym is) (Contains-push whole (final q)))
@@ -294,11 +294,11 @@ module _ (ground : ℕ) (links : List Rule) (last : List ℕ) where
           below d = elim (le_or_lt q p) [ inr less ↦ less | inl past ↦ absurd (d (omega (arith, past, low, next))) ]
 
 -- the whole table
-module _ (l : Table) (links : List Rule) (last : List ℕ) (are : AreLinks l.ground l.rules.items links last) (rs : List Rule)
-    (lasts : AreLasts l.ground links rs last (length last)) where
+module _ (l : Table) (links : List Rule) (last : List ℕ) (are : AreLinks l.bottom l.rules.items links last) (rs : List Rule)
+    (lasts : AreLasts l.bottom links rs last (length last)) where
   data Kind (j : ℕ) (r : Rule) : Type 0 where
-    a_link : slice_get links j ≡ Some r → r.target ≡ suc l.ground + j → Kind j r
-    a_last : (q : ℕ) → j ≡ length links + q → q < l.ground → r ≡ record { target = q; left = get_or last q 0; right = l.ground } → Kind j r
+    a_link : slice_get links j ≡ Some r → r.target ≡ suc l.bottom + j → Kind j r
+    a_last : (q : ℕ) → j ≡ length links + q → q < l.bottom → r ≡ record { target = q; left = get_or last q 0; right = l.bottom } → Kind j r
 
   kind : (j : ℕ) (r : Rule) → slice_get rs j ≡ Some r → Kind j r
   kind j r e =
@@ -317,9 +317,9 @@ module _ (l : Table) (links : List Rule) (last : List ℕ) (are : AreLinks l.gro
       let t = ap (λ (z : Rule). z.target) is in let u = ap (λ (z : Rule). z.target) are_same in
       omega (arith, t, u, e, at_i, at_j)
 
-  no_ground : (j : ℕ) (r : Rule) → Kind j r → r.target ≡ l.ground → ⊥
-  no_ground j r (a_link at_j a) e = omega (arith, a, e)
-  no_ground j r (a_last q at_j low is) e = let t = ap (λ (z : Rule). z.target) is in omega (arith, t, e, low)
+  no_bottom : (j : ℕ) (r : Rule) → Kind j r → r.target ≡ l.bottom → ⊥
+  no_bottom j r (a_link at_j a) e = omega (arith, a, e)
+  no_bottom j r (a_last q at_j low is) e = let t = ap (λ (z : Rule). z.target) is in omega (arith, t, e, low)
 
   distinct : (i j : ℕ) (r s : Rule) → slice_get rs i ≡ Some r → slice_get rs j ≡ Some s → r.target ≡ s.target → i ≡ j
   distinct i j r s at_i at_j e = distinct_by i j r s (kind i r at_i) (kind j s at_j) e
@@ -327,7 +327,7 @@ module _ (l : Table) (links : List Rule) (last : List ℕ) (are : AreLinks l.gro
   index_within : (j : ℕ) (r : Rule) → slice_get links j ≡ Some r → j < length links
   index_within j r e = slice_get_within links j r e
 
-  kind_fits : (parts j : ℕ) (r : Rule) → parts ≡ suc l.ground + length links → Kind j r → FitsRule parts r
+  kind_fits : (parts j : ℕ) (r : Rule) → parts ≡ suc l.bottom + length links → Kind j r → FitsRule parts r
   kind_fits parts j r many (a_link at_j a) =
       let f = are.fits r (contains_from_at links j r at_j) in let x = f.0 in let y = f.1 in let w = index_within j r at_j in
       record { target = omega (arith, a, w, many); left = omega (arith, x, many); right = omega (arith, y, many) }
@@ -338,34 +338,34 @@ module _ (l : Table) (links : List Rule) (last : List ℕ) (are : AreLinks l.gro
   kind_among : (r : Rule) → Contains rs r → (j : ℕ) × Kind j r
   kind_among r among = let x = at_from_contains rs r among in (x.0, kind x.0 r x.1)
 
-  pub all_fit : (parts : ℕ) → parts ≡ suc l.ground + length links → FitAll parts rs
+  pub all_fit : (parts : ℕ) → parts ≡ suc l.bottom + length links → FitAll parts rs
   all_fit parts many r among = let k = kind_among r among in kind_fits parts k.0 r many k.1
 
-  none_free : (r : Rule) → Contains rs r → r.target ≡ l.ground → ⊥
-  none_free r among e = let k = kind_among r among in no_ground k.0 r k.1 e
+  none_free : (r : Rule) → Contains rs r → r.target ≡ l.bottom → ⊥
+  none_free r among e = let k = kind_among r among in no_bottom k.0 r k.1 e
 
   more : (r : Rule) → Contains links r → Contains rs r
   more r c = let a = at_from_contains links r c in contains_from_at rs a.0 r (lasts.before a.0 r a.1)
 
-  needs_all : (q : ℕ) → q < l.ground → NeedsAll rs l.ground q (IsSource l.rules.items q)
+  needs_all : (q : ℕ) → q < l.bottom → NeedsAll rs l.bottom q (IsSource l.rules.items q)
   needs_all q low =
       let n = are.needs q low in let long = are.long in
       record {
-        needs = l.ground ∷ n.needs;
-        chain = table.link q (get_or last q 0) l.ground n.needs (lasts.here q (omega (arith, low, long))) (chain_more links rs more n.chain);
+        needs = l.bottom ∷ n.needs;
+        chain = table.link q (get_or last q 0) l.bottom n.needs (lasts.here q (omega (arith, low, long))) (chain_more links rs more n.chain);
         all = λ p s. let c = n.all p s in let less = c.1 in (suc c.0, omega (arith, less), c.2);
-        only = λ p c. elim (in_rest l.ground n.needs p c) [ inl e ↦ inl (sym e) | inr o ↦ n.only p o ];
+        only = λ p c. elim (in_rest l.bottom n.needs p c) [ inl e ↦ inl (sym e) | inr o ↦ n.only p o ];
       }
 
-pub table_whole : (l t : Table) (links : List Rule) (last : List ℕ) → AreLinks l.ground l.rules.items links last →
-    AreLasts l.ground links t.rules.items last (length last) → t.nodes ≡ l.nodes → t.ground ≡ l.ground → IsWholeTable l t
-table_whole l t links last are lasts nodes ground =
+pub table_whole : (l t : Table) (links : List Rule) (last : List ℕ) → AreLinks l.bottom l.rules.items links last →
+    AreLasts l.bottom links t.rules.items last (length last) → t.nodes ≡ l.nodes → t.bottom ≡ l.bottom → IsWholeTable l t
+table_whole l t links last are lasts nodes bottom =
     record {
       nodes = nodes;
-      ground = ground;
+      bottom = bottom;
       distinct = distinct l links last are t.rules.items lasts;
-      none_free = λ r among e. none_free l links last are t.rules.items lasts r among (e ∙ ground);
+      none_free = λ r among e. none_free l links last are t.rules.items lasts r among (e ∙ bottom);
       needs = λ q low.
-          subst (λ (n : ℕ). NeedsAll t.rules.items n q (IsSource l.rules.items q)) (sym ground)
+          subst (λ (n : ℕ). NeedsAll t.rules.items n q (IsSource l.rules.items q)) (sym bottom)
           (needs_all l links last are t.rules.items lasts q low);
     }

@@ -11,7 +11,7 @@ use Rattle.ig_forest.specs.declared.entry.Entry.{Entry}
 use Rattle.ig_forest.specs.declared.entry.Entry.TheVariants.{Begin, Pass, Take}
 use Rattle.ig_forest.specs.declared.entry.Child.TheVariants as child
 use Rattle.ig_heights.specs.Fits.{FitsRule, FitAll}
-use Rattle.ig_heights.specs.Table.{ground_of, entry_rule, choice_rule, choices_in, entries_in, choices_at, entries_at, IsRuleOf, IsRuleBy, IsLeastTable, Adds}
+use Rattle.ig_heights.specs.Table.{bottom_of, entry_rule, choice_rule, choices_in, entries_in, choices_at, entries_at, IsRuleOf, IsRuleBy, IsLeastTable, Adds}
 use Rattle.ig_heights.specs.Table as table
 use Rattle.ig_heights.specs.declared.rule.Rule.{Rule}
 use Rattle.ig_heights.specs.declared.rule.Table.{Table}
@@ -74,16 +74,16 @@ module _ (f : Forest) where
       never r (table.entry k it e less has among is) = omega (arith, less)
       never r (table.choice v node c less has among is) = omega (arith, less)
 
-  pub nodes_next : (a b c : List Rule) (v nodes ground : ℕ) → v < length f.nodes → nodes ≡ length f.nodes → ground ≡ ground_of f →
-      Adds a b (IsRuleOf f v 0) → Adds b c (IsRuleBy (choice_rule nodes ground v) (choices_at f v)) → Adds a c (IsRuleOf f (v + 1) 0)
-  nodes_next a b c v nodes ground inside many base ab bc =
-      adds_then a b c (IsRuleOf f v 0) (IsRuleBy (choice_rule nodes ground v) (choices_at f v)) (IsRuleOf f (v + 1) 0) ab bc
+  pub nodes_next : (a b c : List Rule) (v nodes bottom : ℕ) → v < length f.nodes → nodes ≡ length f.nodes → bottom ≡ bottom_of f →
+      Adds a b (IsRuleOf f v 0) → Adds b c (IsRuleBy (choice_rule nodes bottom v) (choices_at f v)) → Adds a c (IsRuleOf f (v + 1) 0)
+  nodes_next a b c v nodes bottom inside many base ab bc =
+      adds_then a b c (IsRuleOf f v 0) (IsRuleBy (choice_rule nodes bottom v) (choices_at f v)) (IsRuleOf f (v + 1) 0) ab bc
       part left right
     where
-      make_is : (c : Choice) → choice_rule nodes ground v c ≡ choice_rule (length f.nodes) (ground_of f) v c
-      make_is c = ap (λ (n : ℕ). choice_rule n ground v c) many ∙ ap (λ (n : ℕ). choice_rule (length f.nodes) n v c) base
+      make_is : (c : Choice) → choice_rule nodes bottom v c ≡ choice_rule (length f.nodes) (bottom_of f) v c
+      make_is c = ap (λ (n : ℕ). choice_rule n bottom v c) many ∙ ap (λ (n : ℕ). choice_rule (length f.nodes) n v c) base
 
-      part : (r : Rule) → IsRuleOf f (v + 1) 0 r → IsRuleOf f v 0 r ⊎ IsRuleBy (choice_rule nodes ground v) (choices_at f v) r
+      part : (r : Rule) → IsRuleOf f (v + 1) 0 r → IsRuleOf f v 0 r ⊎ IsRuleBy (choice_rule nodes bottom v) (choices_at f v) r
       part r (table.entry k it e less has among is) = absurd (omega (arith, less))
       part r (table.choice u node c less has among is) =
           elim (le_or_lt v u) [
@@ -94,7 +94,7 @@ module _ (f : Forest) where
                 inr (record {
                   one = c;
                   among = subst (λ (z : List Choice). Contains z c) (sym at_v) among;
-                  is = is ∙ ap (λ (n : ℕ). choice_rule (length f.nodes) (ground_of f) n c) same ∙ sym (make_is c);
+                  is = is ∙ ap (λ (n : ℕ). choice_rule (length f.nodes) (bottom_of f) n c) same ∙ sym (make_is c);
                 })
           ]
 
@@ -102,22 +102,22 @@ module _ (f : Forest) where
       left r (table.entry k it e less has among is) = absurd (omega (arith, less))
       left r (table.choice u node c less has among is) = table.choice u node c (omega (arith, less)) has among is
 
-      right : (r : Rule) → IsRuleBy (choice_rule nodes ground v) (choices_at f v) r → IsRuleOf f (v + 1) 0 r
+      right : (r : Rule) → IsRuleBy (choice_rule nodes bottom v) (choices_at f v) r → IsRuleOf f (v + 1) 0 r
       right r p =
           let n = get_within f.nodes v inside in
           table.choice v n.0 p.one (omega arith) n.1 (subst (λ (z : List Choice). Contains z p.one) (ap choices_in n.1) p.among)
           (p.is ∙ make_is p.one)
 
-  pub items_next : (a b c : List Rule) (k nodes ground : ℕ) → k < length f.items → nodes ≡ length f.nodes → ground ≡ ground_of f →
-      Adds a b (IsRuleOf f 0 k) → Adds b c (IsRuleBy (entry_rule nodes ground k) (entries_at f k)) → Adds a c (IsRuleOf f 0 (k + 1))
-  items_next a b c k nodes ground inside many base ab bc =
-      adds_then a b c (IsRuleOf f 0 k) (IsRuleBy (entry_rule nodes ground k) (entries_at f k)) (IsRuleOf f 0 (k + 1)) ab bc
+  pub items_next : (a b c : List Rule) (k nodes bottom : ℕ) → k < length f.items → nodes ≡ length f.nodes → bottom ≡ bottom_of f →
+      Adds a b (IsRuleOf f 0 k) → Adds b c (IsRuleBy (entry_rule nodes bottom k) (entries_at f k)) → Adds a c (IsRuleOf f 0 (k + 1))
+  items_next a b c k nodes bottom inside many base ab bc =
+      adds_then a b c (IsRuleOf f 0 k) (IsRuleBy (entry_rule nodes bottom k) (entries_at f k)) (IsRuleOf f 0 (k + 1)) ab bc
       part left right
     where
-      make_is : (e : Entry) → entry_rule nodes ground k e ≡ entry_rule (length f.nodes) (ground_of f) k e
-      make_is e = ap (λ (n : ℕ). entry_rule n ground k e) many ∙ ap (λ (n : ℕ). entry_rule (length f.nodes) n k e) base
+      make_is : (e : Entry) → entry_rule nodes bottom k e ≡ entry_rule (length f.nodes) (bottom_of f) k e
+      make_is e = ap (λ (n : ℕ). entry_rule n bottom k e) many ∙ ap (λ (n : ℕ). entry_rule (length f.nodes) n k e) base
 
-      part : (r : Rule) → IsRuleOf f 0 (k + 1) r → IsRuleOf f 0 k r ⊎ IsRuleBy (entry_rule nodes ground k) (entries_at f k) r
+      part : (r : Rule) → IsRuleOf f 0 (k + 1) r → IsRuleOf f 0 k r ⊎ IsRuleBy (entry_rule nodes bottom k) (entries_at f k) r
       part r (table.choice u node c less has among is) = absurd (omega (arith, less))
       part r (table.entry j it e less has among is) =
           elim (le_or_lt k j) [
@@ -128,7 +128,7 @@ module _ (f : Forest) where
                 inr (record {
                   one = e;
                   among = subst (λ (z : List Entry). Contains z e) (sym at_k) among;
-                  is = is ∙ ap (λ (n : ℕ). entry_rule (length f.nodes) (ground_of f) n e) same ∙ sym (make_is e);
+                  is = is ∙ ap (λ (n : ℕ). entry_rule (length f.nodes) (bottom_of f) n e) same ∙ sym (make_is e);
                 })
           ]
 
@@ -136,7 +136,7 @@ module _ (f : Forest) where
       left r (table.choice u node c less has among is) = absurd (omega (arith, less))
       left r (table.entry j it e less has among is) = table.entry j it e (omega (arith, less)) has among is
 
-      right : (r : Rule) → IsRuleBy (entry_rule nodes ground k) (entries_at f k) r → IsRuleOf f 0 (k + 1) r
+      right : (r : Rule) → IsRuleBy (entry_rule nodes bottom k) (entries_at f k) r → IsRuleOf f 0 (k + 1) r
       right r p =
           let n = get_within f.items k inside in
           table.entry k n.0 p.one (omega arith) n.1 (subst (λ (z : List Entry). Contains z p.one) (ap entries_in n.1) p.among)
@@ -158,7 +158,7 @@ module _ (f : Forest) where
     prev_there dot prev p = slice_get_within f.items prev p.it p.there
 
     entry_fits : (k : ℕ) (it : ItemNode) (e : Entry) → k < length f.items → slice_get f.items k ≡ Some it → Contains it.entries e →
-        FitsRule (suc (ground_of f)) (entry_rule (length f.nodes) (ground_of f) k e)
+        FitsRule (suc (bottom_of f)) (entry_rule (length f.nodes) (bottom_of f) k e)
     entry_fits k it Begin less has among = record { target = omega (arith, less); left = omega arith; right = omega arith }
     entry_fits k it (Pass prev) less has among =
         let p = prev_there it.dot prev (good.entries k it (Pass prev) has among) in
@@ -171,12 +171,12 @@ module _ (f : Forest) where
         let p = prev_there it.dot prev g.0 in let v_there = g.1 in
         record { target = omega (arith, less); left = omega (arith, p); right = omega (arith, v_there) }
 
-    rule_fits : (r : Rule) → IsRuleOf f (length f.nodes) (length f.items) r → FitsRule (suc (ground_of f)) r
+    rule_fits : (r : Rule) → IsRuleOf f (length f.nodes) (length f.items) r → FitsRule (suc (bottom_of f)) r
     rule_fits r (table.entry k it e less has among is) =
-        subst (FitsRule (suc (ground_of f))) (sym is) (entry_fits k it e less has among)
+        subst (FitsRule (suc (bottom_of f))) (sym is) (entry_fits k it e less has among)
     rule_fits r (table.choice v node c less has among is) =
         let i = good.alternatives v node c has among in
-        subst (FitsRule (suc (ground_of f))) (sym is)
+        subst (FitsRule (suc (bottom_of f))) (sym is)
         (record { target = omega (arith, less); left = omega (arith, i); right = omega arith })
 
     widen_nodes : (r : Rule) → IsRuleOf f (length f.nodes) 0 r → IsRuleOf f (length f.nodes) (length f.items) r
@@ -207,14 +207,14 @@ module _ (f : Forest) where
       all_there : (r : Rule) → IsRuleOf f (length f.nodes) (length f.items) r → Contains rs r
       all_there r p = elim (parted r p) [ inl q ↦ (second r).1 (inl ((first r).1 (inr q))) | inr q ↦ (second r).1 (inr q) ]
 
-      pub all_fit : (parts : ℕ) → parts ≡ suc (ground_of f) → FitAll parts rs
+      pub all_fit : (parts : ℕ) → parts ≡ suc (bottom_of f) → FitAll parts rs
       all_fit parts is r c = subst (λ (n : ℕ). FitsRule n r) (sym is) (rule_fits r (all_sound r c))
 
-    pub table_least : (t : Table) (a b : List Rule) → t.nodes ≡ length f.nodes → t.ground ≡ ground_of f → t.parts ≡ suc t.ground →
+    pub table_least : (t : Table) (a b : List Rule) → t.nodes ≡ length f.nodes → t.bottom ≡ bottom_of f → t.parts ≡ suc t.bottom →
         a ≡ [] → Adds a b (IsRuleOf f (length f.nodes) 0) → Adds b t.rules.items (IsRuleOf f 0 (length f.items)) → IsLeastTable f t
-    table_least t a b nodes ground parts none first second = record {
+    table_least t a b nodes bottom parts none first second = record {
       nodes = nodes;
-      ground = ground;
+      bottom = bottom;
       parts = parts;
       sound = all_sound a b t.rules.items none first second;
       whole = all_there a b t.rules.items none first second;

@@ -21,21 +21,21 @@ none_some : {n : ℕ} → None ≡ Some n → ⊥
 none_some e = cc
 
 module _ (t : Table) where
-  -- at the beginning the ground alone has a height
-  module _ (hs : List ℕ) (is : hs ≡ set (replicate t.parts (suc t.nodes)) t.ground 0) where
-    within : t.ground < length (replicate t.parts (suc t.nodes))
+  -- at the beginning the bottom alone has a height
+  module _ (hs : List ℕ) (is : hs ≡ set (replicate t.parts (suc t.nodes)) t.bottom 0) where
+    within : t.bottom < length (replicate t.parts (suc t.nodes))
     within = let l = length-replicate t.parts (suc t.nodes) in let g = t.there in omega (arith, l, g)
 
-    at_ground : height_at hs t.ground ≡ 0
-    at_ground = ap (λ (z : List ℕ). height_at z t.ground) is ∙ get_or-set_same (replicate t.parts (suc t.nodes)) t.ground 0 0 within
+    at_bottom : height_at hs t.bottom ≡ 0
+    at_bottom = ap (λ (z : List ℕ). height_at z t.bottom) is ∙ get_or-set_same (replicate t.parts (suc t.nodes)) t.bottom 0 0 within
 
-    elsewhere : (p : ℕ) → (p ≡ t.ground → ⊥) → p < t.parts → height_at hs p ≡ suc t.nodes
+    elsewhere : (p : ℕ) → (p ≡ t.bottom → ⊥) → p < t.parts → height_at hs p ≡ suc t.nodes
     elsewhere p other inside =
-        ap (λ (z : List ℕ). height_at z p) is ∙ set_there (replicate t.parts (suc t.nodes)) t.ground p 0 0 other
+        ap (λ (z : List ℕ). height_at z p) is ∙ set_there (replicate t.parts (suc t.nodes)) t.bottom p 0 0 other
         ∙ get_or-replicate t.parts p (suc t.nodes) 0 inside
 
     long_first : length hs ≡ t.parts
-    long_first = ap length is ∙ length-set (replicate t.parts (suc t.nodes)) t.ground 0 ∙ length-replicate t.parts (suc t.nodes)
+    long_first = ap length is ∙ length-set (replicate t.parts (suc t.nodes)) t.bottom 0 ∙ length-replicate t.parts (suc t.nodes)
 
     beyond : (hs : List ℕ) (p : ℕ) → length hs ≤ p → height_at hs p ≡ 0
     beyond [] zero past = refl
@@ -43,16 +43,16 @@ module _ (t : Table) where
     beyond (x ∷ hs) zero past = absurd (omega (arith, past))
     beyond (x ∷ hs) (suc p) past = beyond hs p (omega (arith, past))
 
-    -- the ground, a part without height, or none of the parts
+    -- the bottom, a part without height, or none of the parts
     data Kind (p : ℕ) : Type 0 where
-      is_ground : p ≡ t.ground → height_at hs p ≡ 0 → Kind p
+      is_bottom : p ≡ t.bottom → height_at hs p ≡ 0 → Kind p
       is_blank : height_at hs p ≡ suc t.nodes → Kind p
       is_absent : t.parts ≤ p → height_at hs p ≡ 0 → Kind p
 
     kind : (p : ℕ) → Kind p
     kind p =
-        elim (cases_eq p t.ground) [
-          | inl e ↦ is_ground e (ap (height_at hs) e ∙ at_ground)
+        elim (cases_eq p t.bottom) [
+          | inl e ↦ is_bottom e (ap (height_at hs) e ∙ at_bottom)
           | inr d ↦ elim (le_or_lt t.parts p) [
             | inl past ↦ let l = long_first in is_absent past (beyond hs p (omega (arith, past, l)))
             | inr inside ↦ is_blank (elsewhere p d inside)
@@ -60,11 +60,11 @@ module _ (t : Table) where
         ]
 
     obeyed_first : (r : Rule) → Contains t.rules.items r →
-        (height_at hs r.target ≤ need t.nodes hs r) ⊎ Waits (t.ground ∷ []) [] [] r
+        (height_at hs r.target ≤ need t.nodes hs r) ⊎ Waits (t.bottom ∷ []) [] [] r
     obeyed_first r c = elim (kind r.left) [
-      | is_ground e h ↦ inr (work.left_current (zero, omega arith, sym e))
+      | is_bottom e h ↦ inr (work.left_current (zero, omega arith, sym e))
       | is_blank h ↦ elim (kind r.target) [
-        | is_ground e g ↦ inl (omega (arith, g))
+        | is_bottom e g ↦ inl (omega (arith, g))
         | is_blank g ↦ inl (omega (arith, g, h))
         | is_absent past g ↦ inl (omega (arith, g))
       ]
@@ -72,30 +72,30 @@ module _ (t : Table) where
     ]
 
     low_first : (p : ℕ) → height_at hs p ≤ t.nodes → height_at hs p ≡ 0
-    low_first p low = elim (kind p) [ is_ground e h ↦ h | is_blank h ↦ absurd (omega (arith, h, low)) | is_absent past h ↦ h ]
+    low_first p low = elim (kind p) [ is_bottom e h ↦ h | is_blank h ↦ absurd (omega (arith, h, low)) | is_absent past h ↦ h ]
 
-    pub begins : IsWork t hs (t.ground ∷ []) [] 0 []
+    pub begins : IsWork t hs (t.bottom ∷ []) [] 0 []
     begins =
         record {
           long = long_first;
-          bounded = λ p. elim (kind p) [ is_ground e h ↦ omega (arith, h) | is_blank h ↦ omega (arith, h) | is_absent past h ↦ omega (arith, h) ];
-          ground = at_ground;
+          bounded = λ p. elim (kind p) [ is_bottom e h ↦ omega (arith, h) | is_blank h ↦ omega (arith, h) | is_absent past h ↦ omega (arith, h) ];
+          bottom = at_bottom;
           given = λ p inside low. elim (kind p) [
-            | is_ground e h ↦ inl e
+            | is_bottom e h ↦ inl e
             | is_blank h ↦ absurd (omega (arith, h, low))
             | is_absent past h ↦ absurd (omega (arith, past, inside))
           ];
           obeyed = obeyed_first;
           low = λ p low. let e = low_first p low in omega (arith, e);
           ahead = λ p low high. let e = low_first p low in absurd (omega (arith, e, high));
-          in_round = λ p c. in_ground p c;
+          in_round = λ p c. in_bottom p c;
           in_next = λ p c. absurd (none_in_nil p c);
           room = (let u = unset_low t.nodes t.nodes hs in omega (arith, u));
         }
       where
-        in_ground : (p : ℕ) → Contains (t.ground ∷ []) p → (p < t.parts) × (height_at hs p ≡ 0)
-        in_ground p (zero, within, same) = let g = t.there in (omega (arith, g, same), ap (height_at hs) (sym same) ∙ at_ground)
-        in_ground p (suc k, within, same) = absurd (omega (arith, within))
+        in_bottom : (p : ℕ) → Contains (t.bottom ∷ []) p → (p < t.parts) × (height_at hs p ≡ 0)
+        in_bottom p (zero, within, same) = let g = t.there in (omega (arith, g, same), ap (height_at hs) (sym same) ∙ at_bottom)
+        in_bottom p (suc k, within, same) = absurd (omega (arith, within))
 
   -- the next round
   turns : (hs ns : List ℕ) (h : ℕ) → IsWork t hs [] ns h [] → 1 ≤ length ns → IsWork t hs ns [] (suc h) []
@@ -103,7 +103,7 @@ module _ (t : Table) where
       record {
         long = law.long;
         bounded = law.bounded;
-        ground = law.ground;
+        bottom = law.bottom;
         given = law.given;
         obeyed = λ r c. elim (law.obeyed r c) [ inl low ↦ inl low | inr waits ↦ inr (moved r waits) ];
         low = λ p known. let l = law.low p known in omega (arith, l);
@@ -128,7 +128,7 @@ module _ (t : Table) where
       record {
         long = law.long;
         bounded = law.bounded;
-        ground = law.ground;
+        bottom = law.bottom;
         given = law.given;
         obeyed = λ r c. elim (law.obeyed r c) [ inl low ↦ inl low | inr waits ↦ inr (moved r c waits) ];
         low = law.low;
@@ -153,7 +153,7 @@ module _ (t : Table) where
       record {
         long = law.long;
         bounded = law.bounded;
-        ground = law.ground;
+        bottom = law.bottom;
         given = law.given;
         obeyed = obeyed_now;
         made = λ r c left right.
@@ -263,8 +263,8 @@ module _ (t : Table) where
     pub row_code : UseAll t part row
     row_code = subst (UseAll t part) row_is (use_all rows are part)
 
-  pub begun_code : (heights current next : List ℕ) → heights ≡ set (replicate t.parts (suc t.nodes)) t.ground 0 →
-      current ≡ t.ground ∷ [] → next ≡ [] → IsWork t heights current next 0 []
+  pub begun_code : (heights current next : List ℕ) → heights ≡ set (replicate t.parts (suc t.nodes)) t.bottom 0 →
+      current ≡ t.bottom ∷ [] → next ≡ [] → IsWork t heights current next 0 []
   begun_code heights current next heights_are current_is next_is =
       subst (λ (z : List ℕ). IsWork t heights current z 0 []) (sym next_is)
       (subst (λ (z : List ℕ). IsWork t heights z [] 0 []) (sym current_is) (begins heights heights_are))

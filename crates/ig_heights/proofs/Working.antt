@@ -67,7 +67,7 @@ module _ (t : Table) (hs cs ns : List ℕ) (h part : ℕ) (rule : Rule) (rest : 
       record {
         long = law.long;
         bounded = law.bounded;
-        ground = law.ground;
+        bottom = law.bottom;
         given = law.given;
         obeyed = λ r among.
             elim (law.obeyed r among) [
@@ -190,7 +190,7 @@ module _ (t : Table) (hs cs ns : List ℕ) (h part : ℕ) (rule : Rule) (rest : 
           ]
         ]
 
-    given_now : (p : ℕ) → p < t.parts → height_at new p ≤ t.nodes → (p ≡ t.ground) ⊎ IsGiven t.nodes t.rules.items new p
+    given_now : (p : ℕ) → p < t.parts → height_at new p ≤ t.nodes → (p ≡ t.bottom) ⊎ IsGiven t.nodes t.rules.items new p
     given_now p inside known =
         elim (cases_eq p rule.target) [
           | inl e ↦
@@ -250,7 +250,7 @@ module _ (t : Table) (hs cs ns : List ℕ) (h part : ℕ) (rule : Rule) (rest : 
         record {
           long = length-set hs rule.target (h + w) ∙ law.long;
           bounded = λ p. let f = falls p in let b = law.bounded p in omega (arith, f, b);
-          ground = (let g = law.ground in kept t.ground (omega (arith, g)) ∙ g);
+          bottom = (let g = law.bottom in kept t.bottom (omega (arith, g)) ∙ g);
           given = given_now;
           obeyed = obeyed_now;
           low = low_now;

@@ -3,8 +3,8 @@ use Rattle.std.specs.Prelude.{ℕ, ◌<◌, List, Contains}
 use Rattle.ig_heights.specs.declared.rule.Rule.{Rule}
 
 -- more than there are nodes and items, each of which has a number of 32 bits
-abbrev pub ground_end : ℕ
-ground_end = 8589934592
+abbrev pub bottom_end : ℕ
+bottom_end = 8589934592
 
 -- the numbers of a rule are there
 pub record FitsRule (parts : ℕ) (rule : Rule) : Type 0 where

@@ -27,9 +27,9 @@ pub record IsGiven (nodes : ℕ) (rules : List Rule) (heights : List ℕ) (part 
 pub record AreLeast (table : Table) (heights : List ℕ) : Type 0 where
   pub long : length heights ≡ table.parts
   pub bounded : (part : ℕ) → height_at heights part ≤ suc table.nodes
-  pub ground : height_at heights table.ground ≡ 0
+  pub bottom : height_at heights table.bottom ≡ 0
   pub given : (part : ℕ) → part < table.parts → height_at heights part ≤ table.nodes →
-      (part ≡ table.ground) ⊎ IsGiven table.nodes table.rules.items heights part
+      (part ≡ table.bottom) ⊎ IsGiven table.nodes table.rules.items heights part
   pub obeyed : (rule : Rule) → Contains table.rules.items rule →
       height_at heights rule.target ≤ need table.nodes heights rule
   pub made : (rule : Rule) → Contains table.rules.items rule → height_at heights rule.left ≤ table.nodes →

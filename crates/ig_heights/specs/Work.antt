@@ -36,9 +36,9 @@ pub data Waits (current next : List ℕ) (rest : List Rule) (rule : Rule) : Type
 pub record IsWork (table : Table) (heights current next : List ℕ) (height : ℕ) (rest : List Rule) : Type 0 where
   pub long : length heights ≡ table.parts
   pub bounded : (part : ℕ) → height_at heights part ≤ suc table.nodes
-  pub ground : height_at heights table.ground ≡ 0
+  pub bottom : height_at heights table.bottom ≡ 0
   pub given : (part : ℕ) → part < table.parts → height_at heights part ≤ table.nodes →
-      (part ≡ table.ground) ⊎ IsGiven table.nodes table.rules.items heights part
+      (part ≡ table.bottom) ⊎ IsGiven table.nodes table.rules.items heights part
   pub obeyed : (rule : Rule) → Contains table.rules.items rule →
       (height_at heights rule.target ≤ need table.nodes heights rule) ⊎ Waits current next rest rule
   pub low : (part : ℕ) → height_at heights part ≤ table.nodes →

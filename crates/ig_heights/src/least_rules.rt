@@ -2,7 +2,7 @@
 ghost use Rattle.std.specs.Prelude.{◌≡◌, IfOk, OnOk, length};
 ghost use Rattle.ig_heights.specs.Table.{Adds, IsLeastTable, IsRuleBy, IsRuleOf};
 ghost use Rattle.ig_heights.specs.Table.{choice_rule, choices_at, entries_at, entry_rule};
-ghost use Rattle.ig_heights.specs.Table.{ground_of};
+ghost use Rattle.ig_heights.specs.Table.{bottom_of};
 
 use crate::rule::{Rule, Table};
 use ig_forest::{Child, Choice, Entry, Forest};
@@ -14,27 +14,27 @@ pub(crate) fn least_rules(alloc: Global, forest: &Forest) -> Result<Table, Alloc
 {
     let _ = forest.root();
     let nodes = forest.nodes();
-    let ground = nodes as usize + forest.items() as usize;
+    let bottom = nodes as usize + forest.items() as usize;
     let mut rules = Vec::new(alloc);
-    add_nodes(&mut rules, forest, ground)?;
-    add_items(&mut rules, forest, nodes, ground)?;
+    add_nodes(&mut rules, forest, bottom)?;
+    add_items(&mut rules, forest, nodes, bottom)?;
     Ok(Table {
         nodes: nodes as usize,
-        ground,
-        parts: ground + 1,
+        bottom,
+        parts: bottom + 1,
         rules,
     })
 }
 
 /// Adds the rules of all alternatives.
-fn add_nodes(rules: &mut Vec<Rule>, forest: &Forest, ground: usize) -> Result<(), AllocError>
-    requires ground { ground ≡ ground_of forest.now }
+fn add_nodes(rules: &mut Vec<Rule>, forest: &Forest, bottom: usize) -> Result<(), AllocError>
+    requires bottom { bottom ≡ bottom_of forest.now }
     ensures { OnOk result (Adds rules.old.items rules.new.items
         (IsRuleOf forest.now (length forest.now.nodes) 0)) }
 {
     let nodes = forest.nodes();
     for v in 0..nodes {
-        add_node(rules, forest, v, nodes, ground)?;
+        add_node(rules, forest, v, nodes, bottom)?;
     }
     Ok(())
 }
@@ -45,13 +45,13 @@ fn add_node(
     forest: &Forest,
     v: u32,
     nodes: u32,
-    ground: usize,
+    bottom: usize,
 ) -> Result<(), AllocError>
     ensures { OnOk result (Adds rules.old.items rules.new.items
-        (IsRuleBy (choice_rule nodes ground v) (choices_at forest.now v))) }
+        (IsRuleBy (choice_rule nodes bottom v) (choices_at forest.now v))) }
 {
     match forest.node(v) {
-        Some(node) => add_choices(rules, node.alternatives, v, nodes, ground),
+        Some(node) => add_choices(rules, node.alternatives, v, nodes, bottom),
         None => Ok(()),
     }
 }
@@ -62,13 +62,13 @@ fn add_choices(
     choices: &[Choice],
     v: u32,
     nodes: u32,
-    ground: usize,
+    bottom: usize,
 ) -> Result<(), AllocError>
     ensures { OnOk result (Adds rules.old.items rules.new.items
-        (IsRuleBy (choice_rule nodes ground v) choices.now)) }
+        (IsRuleBy (choice_rule nodes bottom v) choices.now)) }
 {
     for choice in choices {
-        rules.push(choice_rule(nodes, ground, v, *choice))?;
+        rules.push(choice_rule(nodes, bottom, v, *choice))?;
     }
     Ok(())
 }
@@ -78,15 +78,15 @@ fn add_items(
     rules: &mut Vec<Rule>,
     forest: &Forest,
     nodes: u32,
-    ground: usize,
+    bottom: usize,
 ) -> Result<(), AllocError>
     requires nodes { nodes ≡ length forest.now.nodes }
-    requires ground { ground ≡ ground_of forest.now }
+    requires bottom { bottom ≡ bottom_of forest.now }
     ensures { OnOk result (Adds rules.old.items rules.new.items
         (IsRuleOf forest.now 0 (length forest.now.items))) }
 {
     for k in 0..forest.items() {
-        add_item(rules, forest, k, nodes, ground)?;
+        add_item(rules, forest, k, nodes, bottom)?;
     }
     Ok(())
 }
@@ -97,13 +97,13 @@ fn add_item(
     forest: &Forest,
     k: u32,
     nodes: u32,
-    ground: usize,
+    bottom: usize,
 ) -> Result<(), AllocError>
     ensures { OnOk result (Adds rules.old.items rules.new.items
-        (IsRuleBy (entry_rule nodes ground k) (entries_at forest.now k))) }
+        (IsRuleBy (entry_rule nodes bottom k) (entries_at forest.now k))) }
 {
     match forest.item(k) {
-        Some(item) => add_entries(rules, item.entries, k, nodes, ground),
+        Some(item) => add_entries(rules, item.entries, k, nodes, bottom),
         None => Ok(()),
     }
 }
@@ -114,44 +114,44 @@ fn add_entries(
     entries: &[Entry],
     k: u32,
     nodes: u32,
-    ground: usize,
+    bottom: usize,
 ) -> Result<(), AllocError>
     ensures { OnOk result (Adds rules.old.items rules.new.items
-        (IsRuleBy (entry_rule nodes ground k) entries.now)) }
+        (IsRuleBy (entry_rule nodes bottom k) entries.now)) }
 {
     for entry in entries {
-        rules.push(entry_rule(nodes, ground, k, *entry))?;
+        rules.push(entry_rule(nodes, bottom, k, *entry))?;
     }
     Ok(())
 }
 
 /// The rule of an alternative.
-fn choice_rule(nodes: u32, ground: usize, v: u32, choice: Choice) -> Rule
-    ensures { result ≡ choice_rule nodes ground v choice }
+fn choice_rule(nodes: u32, bottom: usize, v: u32, choice: Choice) -> Rule
+    ensures { result ≡ choice_rule nodes bottom v choice }
 {
     Rule {
         target: v as usize,
         left: nodes as usize + choice.item as usize,
-        right: ground,
+        right: bottom,
     }
 }
 
 /// The rule of an entry.
-fn entry_rule(nodes: u32, ground: usize, k: u32, entry: Entry) -> Rule
-    ensures { result ≡ entry_rule nodes ground k entry }
+fn entry_rule(nodes: u32, bottom: usize, k: u32, entry: Entry) -> Rule
+    ensures { result ≡ entry_rule nodes bottom k entry }
 {
     let nodes = nodes as usize;
     let target = nodes + k as usize;
     match entry {
         Entry::Begin => Rule {
             target,
-            left: ground,
-            right: ground,
+            left: bottom,
+            right: bottom,
         },
         Entry::Pass { prev } => Rule {
             target,
             left: nodes + prev as usize,
-            right: ground,
+            right: bottom,
         },
         Entry::Take {
             prev,
@@ -159,7 +159,7 @@ fn entry_rule(nodes: u32, ground: usize, k: u32, entry: Entry) -> Rule
         } => Rule {
             target,
             left: nodes + prev as usize,
-            right: ground,
+            right: bottom,
         },
         Entry::Take {
             prev,

@@ -34,14 +34,14 @@ pub(crate) fn least_heights(alloc: Global, table: &Table) -> Result<Vec<usize>, 
     Ok(work.heights)
 }
 
-/// Nothing has a height but the ground.
+/// Nothing has a height but the bottom.
 fn begun(alloc: Global, table: &Table) -> Result<Work, AllocError>
     ensures { IfOk result (λ work. Works table.now work []) }
 {
     let mut heights = vec![in alloc; table.nodes + 1; table.parts]?;
-    heights[table.ground] = 0;
+    heights[table.bottom] = 0;
     let mut current = Vec::new(alloc);
-    current.push(table.ground)?;
+    current.push(table.bottom)?;
     Ok(Work {
         heights,
         current,

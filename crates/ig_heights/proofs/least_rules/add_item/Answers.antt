@@ -7,9 +7,9 @@ use Rattle.ig_heights.proofs.least_rules.add_item.Goals as goal
 pub returns-in-Some : goal.returns-in-Some
 returns-in-Some c =
     subst (λ (z : List Entry). OnOk c.add_entries.result
-    (Adds c.args.rules.now.items c.add_entries.new.rules.items (IsRuleBy (entry_rule c.args.nodes c.args.ground c.args.k) z)))
+    (Adds c.args.rules.now.items c.add_entries.new.rules.items (IsRuleBy (entry_rule c.args.nodes c.args.bottom c.args.k) z)))
     (ap entries_in c.in-Some.ensures) c.add_entries.ensures
 
 pub returns-in-None : goal.returns-in-None
 returns-in-None c =
-    made_nil (entry_rule c.args.nodes c.args.ground c.args.k) (entries_at c.args.forest.now c.args.k) c.args.rules.now.items (ap entries_in c.in-None.ensures)
+    made_nil (entry_rule c.args.nodes c.args.bottom c.args.k) (entries_at c.args.forest.now c.args.k) c.args.rules.now.items (ap entries_in c.in-None.ensures)

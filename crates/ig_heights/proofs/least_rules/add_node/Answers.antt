@@ -7,9 +7,9 @@ use Rattle.ig_heights.proofs.least_rules.add_node.Goals as goal
 pub returns-in-Some : goal.returns-in-Some
 returns-in-Some c =
     subst (λ (z : List Choice). OnOk c.add_choices.result
-    (Adds c.args.rules.now.items c.add_choices.new.rules.items (IsRuleBy (choice_rule c.args.nodes c.args.ground c.args.v) z)))
+    (Adds c.args.rules.now.items c.add_choices.new.rules.items (IsRuleBy (choice_rule c.args.nodes c.args.bottom c.args.v) z)))
     (ap choices_in c.in-Some.ensures) c.add_choices.ensures
 
 pub returns-in-None : goal.returns-in-None
 returns-in-None c =
-    made_nil (choice_rule c.args.nodes c.args.ground c.args.v) (choices_at c.args.forest.now c.args.v) c.args.rules.now.items (ap choices_in c.in-None.ensures)
+    made_nil (choice_rule c.args.nodes c.args.bottom c.args.v) (choices_at c.args.forest.now c.args.v) c.args.rules.now.items (ap choices_in c.in-None.ensures)

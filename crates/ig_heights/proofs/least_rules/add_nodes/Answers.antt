@@ -8,8 +8,8 @@ loop-v-init c = rules_none c.args.forest.now c.args.rules.now.items
 pub loop-v-preserved : goal.loop-v-preserved
 loop-v-preserved c =
     let less = c.loop-v-test.true in let many = c.nodes-nodes.ensures in
-    nodes_next c.args.forest.now c.args.rules.now.items c.loop-v.rules.items c.add_node.new.rules.items c.loop-v.v _ c.args.ground (omega (arith, less, many)) many
-    c.requires.ground c.loop-v.invariant c.in_ok-add_node.ensures
+    nodes_next c.args.forest.now c.args.rules.now.items c.loop-v.rules.items c.add_node.new.rules.items c.loop-v.v _ c.args.bottom (omega (arith, less, many)) many
+    c.requires.bottom c.loop-v.invariant c.in_ok-add_node.ensures
 
 pub returns : goal.returns
 returns c =

@@ -3,11 +3,11 @@ use Rattle.ig_heights.proofs.whole_rules.add_links.Goals as goal
 
 pub loop-rule-init : goal.loop-rule-init
 loop-rule-init c =
-    links_none c.args.least.now.ground c.args.least.now.rules.items c.args.links.now.items c.in_ok-last.last.items c.requires.none
+    links_none c.args.least.now.bottom c.args.least.now.rules.items c.args.links.now.items c.in_ok-last.last.items c.requires.none
     (c.in_ok-last.ensures.items_if_clones_equal (λ y e. e))
 
-pub add_rule-requires-clause-ground : goal.add_rule-requires-clause-ground
-add_rule-requires-clause-ground c = c.args.least.now.small
+pub add_rule-requires-clause-bottom : goal.add_rule-requires-clause-bottom
+add_rule-requires-clause-bottom c = c.args.least.now.small
 
 pub add_rule-requires-clause-last : goal.add_rule-requires-clause-last
 add_rule-requires-clause-last c = c.loop-rule.invariant.long
