@@ -6,8 +6,8 @@
 //! which texts are read and what each fault means. Alternatives and symbols are read by ig_symbols,
 //! what stands inside these by ig_readers, and each function that reads a part promises here what
 //! it does there: that the tokens which it takes read as what it returns by the rules, and that the
-//! machine of ig_rules does the same on every stack; so where it stops, the tokens stop following
-//! the rules.
+//! machine of ig_rules does the same on every stack, or where it stops. On the stack of a whole
+//! grammar that is where the tokens stop following the rules, as `run_stops` of ig_rules says.
 #![tactic(auto)]
 
 mod declarations;
@@ -21,4 +21,4 @@ pub use laws::{
     one_reading, read_grammars_are_regular, read_grammars_are_written, read_names_are_names,
     texts_are_read_or_refused,
 };
-pub use source::read;
+pub use source::{read, read_short};

@@ -15,12 +15,7 @@ use ig_tokens::{Placed, tokenize};
 use std::alloc::Global;
 
 /// The grammar that a text reads as. The first test that fails decides: more than 262,144 bytes are
-/// `TooLarge`; a text that is no sequence of tokens is `Syntax` at the byte at which, after the
-/// separators and tokens before it, neither a separator nor a token begins; a number greater than
-/// 9,223,372,036,854,775,807 is `TooLarge`; more than 64 brackets open at one place are `TooLarge`;
-/// tokens against the rules are `Syntax` at the first byte of the first token such that no sequence
-/// of tokens that follows the rules begins with the tokens up to and including it, and at the
-/// length of the text where there is no such token.
+/// `TooLarge`; the other tests are those of [`read_short`].
 pub fn read(alloc: Global, source: &str) -> Result<Grammar, ReadFault>
     ensures ok { IfOk result (IsRead source.now) }
     ensures fault { IfErr result (IsReadFault source.now) }
@@ -30,6 +25,21 @@ pub fn read(alloc: Global, source: &str) -> Result<Grammar, ReadFault>
             which: Large::Bytes,
         });
     }
+    read_short(alloc, source)
+}
+
+/// The grammar that a text of at most 262,144 bytes reads as. The first test that fails decides: a
+/// text that is no sequence of tokens is `Syntax` at the byte at which, after the separators and
+/// tokens before it, neither a separator nor a token begins; a number greater than
+/// 9,223,372,036,854,775,807 is `TooLarge`; more than 64 brackets open at one place are `TooLarge`;
+/// tokens against the rules are `Syntax` at the first byte of the first token such that no sequence
+/// of tokens that follows the rules begins with the tokens up to and including it, and at the
+/// length of the text where there is no such token.
+pub fn read_short(alloc: Global, source: &str) -> Result<Grammar, ReadFault>
+    requires { length source.now ≤ most_bytes }
+    ensures ok { IfOk result (IsRead source.now) }
+    ensures fault { IfErr result (IsReadFault source.now) }
+{
     let found = tokenize(alloc, source)?;
     let tokens = found.as_slice();
     if let Some(which) = limit_passed(tokens) {

@@ -12,7 +12,7 @@ ghost use Rattle.ig_sources.specs.Sources.{ReadsGrammar};
 use ig_conditions::ScopeCause;
 use ig_endings::{Stop, refuse};
 use ig_grammar::{Checked, Place};
-use ig_notation::{Large, ReadFault, read, read_grammars_are_regular};
+use ig_notation::{Large, ReadFault, read_grammars_are_regular, read_short};
 use ig_refusals::{push_cause, push_numbered};
 use ig_scope::{ScopeFault, check};
 use std::alloc::Global;
@@ -32,7 +32,7 @@ pub(crate) fn read_grammar(alloc: Global, bytes: &[u8]) -> Result<Checked, Stop>
             return Err(refuse_at(alloc, b"not UTF-8 at byte ", error.valid_up_to() as u32));
         }
     };
-    let grammar = match read(alloc, source) {
+    let grammar = match read_short(alloc, source) {
         Ok(grammar) => grammar,
         Err(ReadFault::Syntax { at }) => return Err(refuse_at(alloc, b"syntax at byte ", at)),
         Err(ReadFault::TooLarge { which }) => return Err(too_large(alloc, which)),

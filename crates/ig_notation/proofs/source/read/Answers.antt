@@ -1,28 +1,9 @@
-use Rattle.std.proofs.Common.{sym, subst}
-use Rattle.ig_notation.specs.Outcome.{IsReadFault, too_many_bytes}
-use Rattle.ig_notation.proofs.Outcomes.{short_enough, has_tokens, token_fault, limit_fault, rule_fault, is_read, exits_with}
+use Rattle.ig_notation.specs.Outcome.{too_many_bytes}
+use Rattle.ig_notation.proofs.Outcomes.{short_enough}
 use Rattle.ig_notation.proofs.source.read.Goals as goal
 
 pub returns-then-is_too_long-clause-fault : goal.returns-then-is_too_long-clause-fault
 returns-then-is_too_long-clause-fault c = too_many_bytes (c.is_too_long.ensures.0 c.if-is_too_long.true)
 
-pub returns-in_err-found-clause-fault : goal.returns-in_err-found-clause-fault
-returns-in_err-found-clause-fault c =
-    exits_with _ _ _ c.from_residual.ensures.1 (token_fault _ _ (short_enough _ _ _ c.is_too_long.ensures c.if-is_too_long.false) c.in_err-found.ensures.fault)
-
-pub returns-in-Some-clause-fault : goal.returns-in-Some-clause-fault
-returns-in-Some-clause-fault c =
-    let h = has_tokens _ _ _ (short_enough _ _ _ c.is_too_long.ensures c.if-is_too_long.false) c.in_ok-found.ensures.tokens c.as_slice-tokens.ensures.value in
-    limit_fault _ _ _ h c.in-Some.ensures
-
-pub returns-in-Ok-clause-ok : goal.returns-in-Ok-clause-ok
-returns-in-Ok-clause-ok c =
-    let h = has_tokens _ _ _ (short_enough _ _ _ c.is_too_long.ensures c.if-is_too_long.false) c.in_ok-found.ensures.tokens c.as_slice-tokens.ensures.value in
-    is_read _ _ _ h c.in_default.ensures (rw c.new.ensures at c.in-Ok.ensures.ok)
-
-pub returns-clause-fault : goal.returns-clause-fault
-returns-clause-fault c =
-    let h = has_tokens _ _ _ (short_enough _ _ _ c.is_too_long.ensures c.if-is_too_long.false) c.in_ok-found.ensures.tokens c.as_slice-tokens.ensures.value in
-    subst (IsReadFault c.args.source.now) (sym c.refusal.ensures)
-    (rule_fault _ _ _ h c.in_default.ensures
-    c.run_stops.ensures (rw c.new.ensures at c.in-Err.ensures.err))
+pub read_short-requires : goal.read_short-requires
+read_short-requires c = short_enough _ _ _ c.is_too_long.ensures c.if-is_too_long.false

@@ -1,6 +1,7 @@
 use Rattle.std.proofs.Common.{subst, sym, ◌++◌}
-use Rattle.std.specs.Prelude.{codes, IsUtf8}
+use Rattle.std.specs.Prelude.{◌≤◌, codes, length, IsUtf8}
 use Rattle.std.specs.Fmt.{decimal}
+use Rattle.ig_syntax.specs.Notation.{most_bytes}
 use Rattle.ig_sources.specs.Refusals.{not_utf8}
 use Rattle.ig_sources.proofs.GrammarTexts.{refused_as, written_in, refused_syntax, refused_large, refused_scope}
 use Rattle.ig_sources.proofs.grammar_text.read_grammar.Goals as goal
@@ -10,10 +11,13 @@ returns-in-Err c =
     refused_as c.args.bytes.now (codes "not UTF-8 at byte " ++ decimal c.valid_up_to.result) c.refuse_at.result c.refuse_at.ensures
     (not_utf8 c.valid_up_to.result c.requires c.in-Err.ensures.cases.0 (rw c.valid_up_to.ensures c.in-Err.ensures.cases.1))
 
+pub read_short-requires : goal.read_short-requires
+read_short-requires c = subst (λ z. length z ≤ most_bytes) (sym c.in-Ok.ensures.cases.0) c.requires
+
 pub check-requires : goal.check-requires
 check-requires c =
     let same = c.in-Ok.ensures.cases.0 in
-    (c.read_grammars_are_regular.ensures c.in-Ok.source.now c.in-Ok-read.grammar (subst IsUtf8 (sym same) c.in-Ok.ensures.cases.1) c.in-Ok-read.ensures.ok).0
+    (c.read_grammars_are_regular.ensures c.in-Ok.source.now c.in-Ok-read_short.grammar (subst IsUtf8 (sym same) c.in-Ok.ensures.cases.1) c.in-Ok-read_short.ensures.ok).0
 
 pub returns-in-Err-Syntax : goal.returns-in-Err-Syntax
 returns-in-Err-Syntax c =
@@ -28,11 +32,11 @@ returns-in-Err-TooLarge c =
 
 pub returns-in-Err-Broken : goal.returns-in-Err-Broken
 returns-in-Err-Broken c =
-    refused_scope c.args.bytes.now c.in-Ok.source.now c.in-Ok.ensures.cases.0 c.in-Ok.ensures.cases.1 c.in-Ok-read.grammar
-    c.in-Err-Broken.place c.in-Err-Broken.cause c.not_scoped.result c.not_scoped.ensures c.in-Ok-read.ensures.ok
+    refused_scope c.args.bytes.now c.in-Ok.source.now c.in-Ok.ensures.cases.0 c.in-Ok.ensures.cases.1 c.in-Ok-read_short.grammar
+    c.in-Err-Broken.place c.in-Err-Broken.cause c.not_scoped.result c.not_scoped.ensures c.in-Ok-read_short.ensures.ok
     (rw c.in-Err-Broken.field-0-is at c.in-Err-Broken.ensures.broken)
 
 pub returns-in-Ok-check : goal.returns-in-Ok-check
 returns-in-Ok-check c =
-    written_in c.args.bytes.now c.in-Ok.source.now c.in-Ok.ensures.cases.0 c.in-Ok.ensures.cases.1 c.in-Ok-read.grammar
-    c.in-Ok-check.checked c.in-Ok-read.ensures.ok c.in-Ok-check.ensures.grammar c.in-Ok-check.ensures.shapes c.in-Ok-check.ensures.scoped
+    written_in c.args.bytes.now c.in-Ok.source.now c.in-Ok.ensures.cases.0 c.in-Ok.ensures.cases.1 c.in-Ok-read_short.grammar
+    c.in-Ok-check.checked c.in-Ok-read_short.ensures.ok c.in-Ok-check.ensures.grammar c.in-Ok-check.ensures.shapes c.in-Ok-check.ensures.scoped
