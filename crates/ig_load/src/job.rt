@@ -1,14 +1,17 @@
 //! The whole of a load.
 ghost use Rattle.std.specs.Prelude.{◌≡◌, ◌↔◌, ◌≤◌, length, IfOk, IsTrue};
 ghost use Rattle.ig_core_laws.specs.Lowered.{CoreOf};
+ghost use Rattle.ig_core_laws.specs.Notation.{unchanged};
 ghost use Rattle.ig_item.specs.Tables.{items_of};
 ghost use Rattle.ig_item.specs.WellKinded.{NoneTwice};
 ghost use Rattle.ig_parse.specs.Parses.{AreReachable, IsParsed};
 ghost use Rattle.ig_query.specs.Ambiguity.{IsAmbiguous};
+ghost use Rattle.ig_load_grammar.specs.Grammar.{LoadGrammar};
 ghost use Rattle.ig_load.specs.Summary.{IsSummaryOf, Loads};
 
 use crate::fault::LoadFault;
 use ig_forest::Forest;
+use ig_grammar::Checked;
 use ig_heights::Heights;
 use ig_item::{Items, Recorded};
 use ig_load_grammar::{load_grammar, load_inputs_are_permitted, load_parser};
@@ -19,16 +22,31 @@ use std::alloc::{AllocError, Global};
 
 /// What the forest of the load's grammar and the input of this size and number has, where no more
 /// items than the budget are reachable. The size is the number of operands, from 1 to
-/// [`MOST_OPERANDS`]. `Budget` comes exactly where more items are reachable, if memory doesn't run
-/// out before.
+/// [`MOST_OPERANDS`]; 0 is taken for 1. `Budget` comes exactly where more items are reachable, if
+/// memory doesn't run out before.
 pub fn load(alloc: Global, size: u32, number: u64, budget: u32) -> Result<Summary, LoadFault>
     requires { size ≤ MOST_OPERANDS }
     ensures { Loads size number budget result }
 {
-    load_inputs_are_permitted();
     let grammar = load_grammar(alloc)?;
+    load_under(alloc, &grammar, size, number, budget)
+}
+
+/// The same under that grammar, which is lent, so that no fault behind it has to drop it.
+fn load_under(
+    alloc: Global,
+    grammar: &Checked,
+    size: u32,
+    number: u64,
+    budget: u32,
+) -> Result<Summary, LoadFault>
+    requires own { grammar.now ≡ unchanged LoadGrammar }
+    requires few { size ≤ MOST_OPERANDS }
+    ensures { Loads size number budget result }
+{
+    load_inputs_are_permitted();
     let input = load_input(alloc, size, number)?;
-    let parser = load_parser(alloc, &grammar)?;
+    let parser = load_parser(alloc, grammar)?;
     let recorded = parser.saturate(alloc, &input, budget)?;
     let summary = summarize(alloc, &parser, &recorded)?;
     Ok(summary)

@@ -2,7 +2,7 @@ use Rattle.std.proofs.Common.{sym, subst}
 use Rattle.ig_load.specs.Summary.{IsSummaryOf}
 use Rattle.ig_parse.specs.Parses.{AreReachable, IsParsed}
 use Rattle.ig_load.proofs.Summaries.{parsed, loaded}
-use Rattle.ig_load.proofs.job.load.Goals as goal
+use Rattle.ig_load.proofs.job.load_under.Goals as goal
 
 pub summarize-requires : goal.summarize-requires
 summarize-requires c =
