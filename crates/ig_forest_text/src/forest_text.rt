@@ -3,7 +3,7 @@
 //! its begin, so that numbers go to the output without a copy of their own.
 
 ghost use Rattle.std.specs.Prelude.{◌≡◌, ◌++◌, ◌≤◌, OnOk, encode_utf8_all, codes, length};
-ghost use Rattle.std.specs.Prelude.{IfOk, flat_map};
+ghost use Rattle.std.specs.Prelude.{[], IfOk, flat_map};
 ghost use Rattle.std.specs.Fmt.{decimal};
 ghost use Rattle.ig_text.specs.Lines.{line_end};
 ghost use Rattle.ig_pieces.specs.Listed.{numbered_texts};
@@ -339,6 +339,16 @@ fn sampled_entries(forest: &Forest) -> usize {
     entries.saturating_mul(ITEMS_OF_SAMPLE)
 }
 
+/// An output with so much room, or with none where memory hasn't that much at once: it then grows.
+fn output_of(alloc: Global, room: usize) -> Vec<u8>
+    ensures { result.items ≡ [] }
+{
+    match Vec::with_capacity(alloc, room) {
+        Ok(out) => out,
+        Err(_) => Vec::new(alloc),
+    }
+}
+
 /// The text of a forest, as UTF-8: the numbers of its nodes and items, then a line for each node
 /// and for each of its alternatives, then a line for each item and for each of its entries. Nodes
 /// and items are numbered from 0, and a span is printed as the positions where it begins and ends,
@@ -346,7 +356,7 @@ fn sampled_entries(forest: &Forest) -> usize {
 pub fn show_forest(alloc: Global, forest: &Forest) -> Result<Vec<u8>, AllocError>
     ensures { IfOk result (λ bytes. bytes.items ≡ forest_text forest.now) }
 {
-    let mut out = Vec::with_capacity(alloc, room_for(forest))?;
+    let mut out = output_of(alloc, room_for(forest));
     push_heading(&mut out, forest)?;
     push_nodes(&mut out, forest)?;
     push_items(&mut out, forest)?;
