@@ -1,6 +1,7 @@
 -- Cursors: the order of walks is that of their cursors, and a cursor has one walk.
 use Rattle.std.proofs.Common.{◌≡◌, ℕ, zero, suc, ◌<◌, List, [], ◌∷◌, ◌++◌, length, ◌⊎◌, inl, inr, refl, sym, ap, ap₂, subst, arith}
 use Rattle.std.proofs.lemmas.Bool.{cases_order}
+use Rattle.std.proofs.lemmas.Option.{slice_get_within}
 use Rattle.ig_forest.specs.Unfold.{noted}
 use Rattle.ig_forest.specs.Cursors.{Less}
 use Rattle.ig_forest.specs.Cursors as order
@@ -8,7 +9,7 @@ use Rattle.ig_walker.specs.Walks.{Walk, Leads, cursor, Before, Opens, Passed, Le
 use Rattle.ig_walker.specs.Walks as w
 use Rattle.ig_walker.specs.declared.goal.Goal.{Goal}
 use Rattle.ig_walker.specs.declared.goal.Visit.{Visit}
-use Rattle.ig_walker.proofs.Walking.{at, steps, within, ends_at, same_part}
+use Rattle.ig_walker.proofs.Walking.{at, steps, ends_at, same_part}
 
 pub less_same : {cs ds : List ℕ} → Less cs ds → cs ≡ ds → ⊥
 less_same (order.shorter j ds) e = cc
@@ -79,7 +80,7 @@ module _ (options : Goal → List (List Goal)) where
   choice_at w.done v ws e = cc
   choice_at (w.step g gs part i vs has walk) v ws e =
       let same : at options g i ≡ v = cc in
-      subst (λ (z : Visit). z.choice < length (options z.goal)) same (within options (options g) i part has)
+      subst (λ (z : Visit). z.choice < length (options z.goal)) same (slice_get_within (options g) i part has)
 
   choice_within : {gs : List Goal} (v : Visit) (ws : Visits) → Walk options gs (v ∷ ws) → v.choice < length (options v.goal)
   choice_within v ws walk = choice_at walk v ws refl

@@ -4,6 +4,7 @@ use Rattle.std.proofs.lemmas.Bool.{le-leb, leb-true}
 use Rattle.std.proofs.lemmas.Option.{same_Some}
 use Rattle.std.proofs.Math.Dec.{leb}
 use Rattle.ig_text.specs.declared.text.Span.{Span}
+use Rattle.ig_text.proofs.Booleans.{not_both}
 use Rattle.ig_forest.specs.Forest.{Forest}
 use Rattle.ig_heights.specs.Heights.{Heights, AreHeights}
 use Rattle.ig_heights.specs.Laws.{DepthsAreHeights}
@@ -16,9 +17,6 @@ use Rattle.ig_walker.specs.declared.goal.Behind.TheVariants.{Nothing, Two}
 use Rattle.ig_walker.specs.declared.goal.Goal.{Goal}
 use Rattle.ig_walker.specs.declared.goal.Goal.TheVariants.{Node, Item, Leaf}
 use Rattle.ig_walker.proofs.Openings.{node_fits, node_needs, no_node_opens, item_fits, item_needs, no_item_opens, leaf_opens, nothing_opens, both_open, first_opens, second_opens}
-
-not_both : (b : Bool) → b ≡ false → b ≡ true → ⊥
-not_both b first second = cc
 
 module _ (inside f : Forest) (h : Heights) (shown : inside ≡ f) (inside_are : AreHeights inside h) where
   are : AreHeights f h
@@ -66,10 +64,10 @@ module _ (f : Forest) where
       IsTrue a ↔ Opens (options f) (listed x)
   first_decided x g h a e fails first =
       same_behind a x (Two g h) e
-      (λ holds. absurd (not_both a fails holds), λ opens. first.1 (first_opens f g h opens))
+      (λ holds. absurd (not_both a holds fails), λ opens. first.1 (first_opens f g h opens))
 
   -- the option of that number, whose goals the code holds, leads nowhere
   pub nowhere : (g : Goal) (i : ℕ) (x : Behind) (b : Bool) → Some (listed x) ≡ slice_get (options f g) i → b ≡ false →
       IsTrue b ↔ Opens (options f) (listed x) → LeadsNowhere f g i
   nowhere g i x b there fails decided part has opens =
-      not_both b fails (decided.1 (subst (λ (z : List Goal). Opens (options f) z) (same_Some part (listed x) (sym has ∙ sym there)) opens))
+      not_both b (decided.1 (subst (λ (z : List Goal). Opens (options f) z) (same_Some part (listed x) (sym has ∙ sym there)) opens)) fails

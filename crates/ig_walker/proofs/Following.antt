@@ -1,6 +1,7 @@
 -- Following a cursor from the root.
 use Rattle.std.proofs.Common.{◌≡◌, ℕ, zero, suc, ◌<◌, ◌≤◌, List, [], ◌∷◌, ◌++◌, Some, length, slice_get, reverse, drop, refl, sym, ap, ◌∙◌, subst, arith, append_assoc}
 use Rattle.std.proofs.lemmas.List.{append-nil}
+use Rattle.std.proofs.lemmas.Option.{slice_get_within}
 use Rattle.ig_forest.specs.Forest.{Forest}
 use Rattle.ig_forest.specs.Unfold.{noted, IsTrim}
 use Rattle.ig_walker.specs.Walks.{Walk, Leads, cursor}
@@ -9,11 +10,11 @@ use Rattle.ig_walker.specs.Options.{options}
 use Rattle.ig_walker.specs.States.{LeadsOn, LeadsNowhere, IsAlong, IsWalkOf, IsTold, EndsAtChoice}
 use Rattle.ig_walker.specs.declared.goal.Goal.{Goal}
 use Rattle.ig_walker.specs.declared.goal.Visit.{Visit}
-use Rattle.ig_walker.proofs.Walking.{within, visits, walk_lifts}
 use Rattle.ig_walker.proofs.Unfolding.{cursor_join}
 use Rattle.ig_walker.proofs.Replaying.{takes, along_back, ended_along, left_along}
 use Rattle.ig_walker.proofs.Stacks.{popped}
 use Rattle.ig_walker.proofs.Weights.{weight, visit_lower}
+use Rattle.ig_walker.proofs.Walking.{visits, walk_lifts}
 
 same_choice : (many i j : ℕ) (cs ds : List ℕ) → i < many → (many < 2 → j ≡ 0) → noted many i ++ cs ≡ noted many j ++ ds → i ≡ j
 same_choice zero i j cs ds inside single e = absurd (omega (arith, inside))
@@ -66,7 +67,7 @@ module _ (f : Forest) (root : List Goal) (cs : List ℕ) where
       IsAlong opts root cs → ⊥
   follow_fails vs rest left g gs i h told nowhere a =
       let t = takes opts g gs rest (along vs rest (g ∷ gs) h a) in
-      let same = same_choice (length (opts g)) t.i i t.rest left (within opts (opts g) t.i t.part t.has) told.single (sym t.whole ∙ told.whole) in
+      let same = same_choice (length (opts g)) t.i i t.rest left (slice_get_within (opts g) t.i t.part t.has) told.single (sym t.whole ∙ told.whole) in
       nowhere t.part (subst (λ (z : ℕ). slice_get (opts g) z ≡ Some t.part) same t.has) t.opens
 
   pub follow_leaves : (vs : List Visit) (rest : List ℕ) → Followed f root cs vs rest [] → IsAlong opts root cs → rest ≡ []
@@ -129,9 +130,3 @@ pub drop_some : (cs : List ℕ) (n : ℕ) → n < length cs → drop n cs ≡ []
 drop_some [] n less e = absurd (omega (arith, less))
 drop_some (c ∷ cs) zero less e = cc
 drop_some (c ∷ cs) (suc n) less e = drop_some cs n (omega (arith, less)) e
-
-pub drop_none : (cs : List ℕ) (n : ℕ) → length cs ≤ n → drop n cs ≡ []
-drop_none [] zero less = refl
-drop_none [] (suc n) less = refl
-drop_none (c ∷ cs) zero less = absurd (omega (arith, less))
-drop_none (c ∷ cs) (suc n) less = drop_none cs n (omega (arith, less))

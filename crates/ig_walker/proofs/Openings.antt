@@ -1,5 +1,6 @@
 -- Where walks lead: exactly through the parts whose least height is no greater than the depth that is left.
 use Rattle.std.proofs.Common.{◌≡◌, ℕ, zero, suc, ◌<◌, ◌≤◌, List, [], ◌∷◌, ◌++◌, None, length, slice_get, refl, arith}
+use Rattle.std.proofs.lemmas.Option.{slice_get_within}
 use Rattle.ig_text.specs.declared.text.Span.{Span}
 use Rattle.ig_text.specs.Tree.{Tree, Trees}
 use Rattle.ig_forest.specs.Forest.{Forest}
@@ -12,27 +13,23 @@ use Rattle.ig_walker.specs.Walks as w
 use Rattle.ig_walker.specs.Options.{options}
 use Rattle.ig_walker.specs.declared.goal.Goal.{Goal}
 use Rattle.ig_walker.specs.declared.goal.Goal.TheVariants.{Node, Item, Leaf}
-use Rattle.ig_walker.proofs.Walking.{parted, joined, within}
 use Rattle.ig_walker.proofs.Unfolding.{node_walk, item_walk}
 use Rattle.ig_walker.proofs.Back.{tree_of, item_first, walk_pending}
-
-outside : {X : Type 0} (xs : List X) (n : ℕ) → slice_get xs n ≡ None → length xs ≤ n
-outside [] n e = omega arith
-outside (x ∷ xs) zero e = cc
-outside (x ∷ xs) (suc n) e = let h = outside xs n e in omega (arith, h)
+use Rattle.ig_text.proofs.Lists.{past_end}
+use Rattle.ig_walker.proofs.Walking.{parted, joined}
 
 module _ (f : Forest) where
   abbrev opts : Goal → List (List Goal)
   opts = options f
 
   node_inside : {v d : ℕ} {cs : List ℕ} {t : Tree} → OfNode f v d cs t → v < length f.nodes
-  node_inside (trees.choose v d i node choice bs cs ts t has at item is whole) = within opts f.nodes v node has
+  node_inside (trees.choose v d i node choice bs cs ts t has at item is whole) = slice_get_within f.nodes v node has
 
   item_inside : {k d : ℕ} {cs : List ℕ} {ts : Trees} → OfItem f k d cs ts → k < length f.items
-  item_inside (trees.begin k d i it cs has at is) = within opts f.items k it has
-  item_inside (trees.pass k d i prev it bs cs ts has at item is) = within opts f.items k it has
-  item_inside (trees.leaf k d i prev it span bs cs ts us has at item is whole) = within opts f.items k it has
-  item_inside (trees.node k d i prev v it ps bs cs ts us t has at item kid is whole) = within opts f.items k it has
+  item_inside (trees.begin k d i it cs has at is) = slice_get_within f.items k it has
+  item_inside (trees.pass k d i prev it bs cs ts has at item is) = slice_get_within f.items k it has
+  item_inside (trees.leaf k d i prev it span bs cs ts us has at item is whole) = slice_get_within f.items k it has
+  item_inside (trees.node k d i prev v it ps bs cs ts us t has at item kid is whole) = slice_get_within f.items k it has
 
   item_there : (k d : ℕ) → Opens opts (Item k d ∷ []) → (cs : List ℕ) × (ts : Trees) × OfItem f k d cs ts
   item_there k d o =
@@ -42,13 +39,13 @@ module _ (f : Forest) where
       Opens opts (Node v d ∷ []) → ⊥
   no_node_opens heights v d long e o =
       let h = tree_of f v d o.0 o.1 in
-      let a = node_inside h.here in let b = outside heights v e in omega (arith, a, b, long)
+      let a = node_inside h.here in let b = past_end heights v e in omega (arith, a, b, long)
 
   pub no_item_opens : (heights : List ℕ) (k d : ℕ) → length heights ≡ length f.items → slice_get heights k ≡ None →
       Opens opts (Item k d ∷ []) → ⊥
   no_item_opens heights k d long e o =
       let h = item_there k d o in
-      let a = item_inside h.2 in let b = outside heights k e in omega (arith, a, b, long)
+      let a = item_inside h.2 in let b = past_end heights k e in omega (arith, a, b, long)
 
   pub leaf_opens : (span : Span) → Opens opts (Leaf span ∷ [])
   leaf_opens span = (record { goal = Leaf span; choice = 0 } ∷ [], w.step (Leaf span) [] [] 0 [] refl w.done)

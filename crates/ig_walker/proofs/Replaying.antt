@@ -1,12 +1,13 @@
 -- A cursor is followed from the root: each step keeps 'there is a walk with the rest of the cursor'.
 use Rattle.std.proofs.Common.{◌≡◌, ℕ, zero, suc, ◌<◌, ◌≤◌, List, [], ◌∷◌, ◌++◌, Some, length, slice_get, refl, sym, ap, ◌∙◌, subst, arith, append_assoc}
+use Rattle.std.proofs.lemmas.Option.{slice_get_within}
 use Rattle.ig_forest.specs.Unfold.{noted}
 use Rattle.ig_walker.specs.Walks.{Walk, Leads, cursor, Before, Opens, Passed, Least, Next, Last}
 use Rattle.ig_walker.specs.Walks as w
 use Rattle.ig_walker.specs.States.{IsAlong}
 use Rattle.ig_walker.specs.declared.goal.Goal.{Goal}
 use Rattle.ig_walker.specs.declared.goal.Visit.{Visit}
-use Rattle.ig_walker.proofs.Walking.{steps, within, same_part, opens_front, ends_at}
+use Rattle.ig_walker.proofs.Walking.{steps, same_part, opens_front, ends_at}
 
 pub noted_same : (many i j : ℕ) (cs ds : List ℕ) → i < many → j < many → noted many i ++ cs ≡ noted many j ++ ds → (i ≡ j) × (cs ≡ ds)
 noted_same zero i j cs ds p q e = absurd (omega (arith, p))
@@ -42,7 +43,7 @@ module _ (options : Goal → List (List Goal)) where
       IsAlong options (g ∷ gs) (noted (length (options g)) i ++ rest) → IsAlong options (part ++ gs) rest
   along_step g gs part i rest has a =
       let t = takes g gs _ a in
-      let e = noted_same (length (options g)) i t.i rest t.rest (within options (options g) i part has) (within options (options g) t.i t.part t.has) t.whole in
+      let e = noted_same (length (options g)) i t.i rest t.rest (slice_get_within (options g) i part has) (slice_get_within (options g) t.i t.part t.has) t.whole in
       (t.along.0, same_part options g gs part t.part i t.i t.along.0 has t.has (sym e.0) t.along.1, t.along.2 ∙ sym e.1)
 
   -- a walk from the root with this cursor goes on from the pending goals with its rest
@@ -58,7 +59,7 @@ module _ (options : Goal → List (List Goal)) where
       IsAlong options (g ∷ gs) (noted (length (options g)) i ++ rest) → ⊥
   none_along g gs i end rest inside more passed a =
       let t = takes g gs _ a in
-      let e = noted_same (length (options g)) i t.i rest t.rest inside (within options (options g) t.i t.part t.has) t.whole in
+      let e = noted_same (length (options g)) i t.i rest t.rest inside (slice_get_within (options g) t.i t.part t.has) t.whole in
       let same = e.0 in
       passed t.i t.part (omega (arith, same)) (omega (arith, same, more)) t.has t.opens
 
@@ -78,7 +79,7 @@ module _ (options : Goal → List (List Goal)) where
 
   pub told_along : (g : Goal) (gs : List Goal) (i : ℕ) (cs : List ℕ) → 2 ≤ length (options g) → IsAlong options (g ∷ gs) (i ∷ cs) → i < length (options g)
   told_along g gs i cs more a =
-      let t = takes g gs (i ∷ cs) a in told_inside (length (options g)) i t.i cs t.rest more (within options (options g) t.i t.part t.has) t.whole
+      let t = takes g gs (i ∷ cs) a in told_inside (length (options g)) i t.i cs t.rest more (slice_get_within (options g) t.i t.part t.has) t.whole
 
   -- at the end nothing of the cursor may be left
   pub left_along : (rest : List ℕ) → IsAlong options [] rest → rest ≡ []

@@ -1,6 +1,7 @@
 -- The states of the walker over vectors, whose last element is the top.
 use Rattle.std.proofs.Common.{◌≡◌, ℕ, suc, ◌<◌, List, [], ◌∷◌, ◌++◌, Some, length, slice_get, sym, ap, ◌∙◌, subst, arith, Bool, true, false, reverse}
 use Rattle.std.proofs.lemmas.List.{reverse-append}
+use Rattle.std.proofs.lemmas.Option.{slice_get_within}
 use Rattle.ig_forest.specs.Forest.{Forest}
 use Rattle.ig_forest.specs.Unfold.{IsTrim}
 use Rattle.ig_walker.specs.Walks.{Opens, Passed, Next, Last}
@@ -8,9 +9,9 @@ use Rattle.ig_walker.specs.Options.{options}
 use Rattle.ig_walker.specs.States.{FirstOption, Completes, Completed, Backs, Found, BackTo}
 use Rattle.ig_walker.specs.declared.goal.Goal.{Goal}
 use Rattle.ig_walker.specs.declared.goal.Visit.{Visit}
-use Rattle.ig_walker.proofs.Walking.{Back, steps, opens_front, within}
 use Rattle.ig_walker.proofs.Running.{goes_on, completed, below, goes_back, finds, exhausted}
 use Rattle.ig_walker.proofs.Weights.{weight, visit_lower}
+use Rattle.ig_walker.proofs.Walking.{Back, steps, opens_front}
 
 pub popped : {X : Type 0} (xs ys : List X) (g : X) → xs ≡ ys ++ g ∷ [] → reverse xs ≡ g ∷ reverse ys
 popped xs ys g e = ap (λ (z : List _). reverse z) e ∙ reverse-append ys (g ∷ [])
@@ -39,7 +40,7 @@ module _ (f : Forest) where
   never_code old before xs ys g vs c e passed =
       let o = subst (λ (z : List Goal). Opens opts z) (popped xs ys g e) c.opens in
       let s = steps opts g (reverse ys) o.0 o.1 in
-      passed s.i s.part (omega arith) (within opts (opts g) s.i s.part s.has) s.has (opens_front opts s.part (reverse ys) s.rest s.walk)
+      passed s.i s.part (omega arith) (slice_get_within (opts g) s.i s.part s.has) s.has (opens_front opts s.part (reverse ys) s.rest s.walk)
 
   pub completed_code : (old : List Goal) (before : List Visit) (xs : List Goal) (vs : List Visit) →
       Completes f old before (reverse xs) vs → xs ≡ [] → Completed f old before vs

@@ -1,5 +1,6 @@
 -- The walks of the root: the least one, and the next behind another.
 use Rattle.std.proofs.Common.{◌≡◌, ◌↔◌, ℕ, List, [], ◌∷◌, ◌++◌, Option, Some, None, Bool, true, false, IsTrue, MatchOption, reverse, refl, sym, ap, ◌∙◌, subst}
+use Rattle.ig_text.proofs.Booleans.{not_both}
 use Rattle.ig_forest.specs.Forest.{Forest}
 use Rattle.ig_walker.specs.Options.{options, root_goal}
 use Rattle.ig_walker.specs.States.{Completed, HasWalked, HasNoNext, IsNextWalk}
@@ -29,10 +30,7 @@ module _ (f : Forest) (d : ℕ) where
   pub root_closed : (node : ℕ) (b : Bool) → node ≡ f.root → b ≡ false → IsTrue b ↔ Opens opts (Node node d ∷ []) →
       Opens opts root → ⊥
   root_closed node b is fails decided opens =
-      wrong b fails (decided.1 (subst (λ (n : ℕ). Opens opts (Node n d ∷ [])) (sym is) opens))
-    where
-      wrong : (b : Bool) → b ≡ false → b ≡ true → ⊥
-      wrong b first second = cc
+      not_both b (decided.1 (subst (λ (n : ℕ). Opens opts (Node n d ∷ [])) (sym is) opens)) fails
 
   pub first_opens_code : (node : ℕ) (b : Bool) (xs ys : List Goal) → node ≡ f.root → b ≡ true → IsTrue b ↔ Opens opts (Node node d ∷ []) →
       ys ≡ [] → xs ≡ ys ++ Node node d ∷ [] → Opens opts (reverse xs)

@@ -1,7 +1,7 @@
 -- The laws of walks: order, the least one, the next one, one cursor.
 use Rattle.std.proofs.Common.{◌≡◌, ℕ, zero, suc, ◌<◌, ◌≤◌, List, [], ◌∷◌, ◌++◌, Some, length, slice_get, ◌⊎◌, inl, inr, refl, sym, ap, ap₂, ◌∙◌, subst, arith, append_assoc}
-use Rattle.std.proofs.lemmas.Option.{same_Some}
 use Rattle.std.proofs.lemmas.Bool.{cases_order}
+use Rattle.std.proofs.lemmas.Option.{same_Some, slice_get_within}
 use Rattle.ig_walker.specs.Walks.{Walk, Leads, cursor, Before, Opens, Passed, Least, Next, Last}
 use Rattle.ig_walker.specs.Walks as w
 use Rattle.ig_walker.specs.declared.goal.Goal.{Goal}
@@ -111,11 +111,6 @@ module _ (options : Goal → List (List Goal)) where
   pub last_done : Last options [] []
   last_done us walk before = not_before_none before refl
 
-  pub within : {X : Type 0} (xs : List X) (n : ℕ) (x : X) → slice_get xs n ≡ Some x → n < length xs
-  within [] n x e = cc
-  within (y ∷ xs) zero x e = omega arith
-  within (y ∷ xs) (suc n) x e = let h = within xs n x e in omega (arith, h)
-
   least_of_from : (g : Goal) (gs part : List Goal) (i n : ℕ) (vs : Visits) → slice_get (options g) i ≡ Some part →
       Passed options g n i → Least options (part ++ gs) vs → (ws : Visits) → (s : Steps g gs ws) → n ≤ s.i →
       (ws ≡ at g i ∷ vs) ⊎ Before options (at g i ∷ vs) ws
@@ -199,7 +194,7 @@ module _ (options : Goal → List (List Goal)) where
       Before options (at g i ∷ vs) us → ⊥
   last_back_of g gs part i vs has passed last us s before =
       elim (differs g g i s.i vs s.rest (subst (λ (z : Visits). Before options (at g i ∷ vs) z) s.whole before)) [
-        | now e more ↦ passed s.i s.part (omega (arith, more)) (within (options g) s.i s.part s.has) s.has
+        | now e more ↦ passed s.i s.part (omega (arith, more)) (slice_get_within (options g) s.i s.part s.has) s.has
             (opens_front s.part gs s.rest s.walk)
         | then e f b ↦ last s.rest (same_part g gs part s.part i s.i s.rest has s.has (sym f) s.walk) b
       ]

@@ -1,5 +1,7 @@
 //! The tree of a walk, and its cursor.
-ghost use Rattle.std.specs.Prelude.{◌≡◌, [], ◌++◌, IfOk, OnOk, nat_lt, slice_get, vec_items};
+ghost use Rattle.std.specs.Prelude.{◌≡◌, ◌≤◌, ◌+◌, [], ◌++◌, IfOk, OnErr, OnOk, nat_lt};
+ghost use Rattle.std.specs.Prelude.{slice_get, vec_items};
+ghost use Rattle.ig_text.specs.Limits.{numbers_end};
 ghost use Rattle.ig_forest.specs.Unfold.{noted};
 ghost use Rattle.ig_walker.specs.Options.{options};
 ghost use Rattle.ig_walker.specs.Written.{bump_last, by_choice, by_entry, emits, written};
@@ -12,16 +14,26 @@ use ig_forest::{Cursor, Entry, Part, Tree};
 use ig_text::Sequence;
 use std::alloc::{AllocError, Global};
 
-/// One more child of the last part. Refused also where it has 2 to the power of 32 children.
+/// One more than so many children. Refused, as want of memory, exactly where 32 bits don't hold it.
+fn one_more(children: u32) -> Result<u32, AllocError>
+    ensures number { IfOk result (λ more. more ≡ children + 1) }
+    ensures refused { OnErr result (numbers_end ≤ children + 1) }
+{
+    match children.checked_add(1) {
+        Some(more) => Ok(more),
+        None => Err(AllocError),
+    }
+}
+
+/// One more child of the last part. Refused also where `one_more` refuses the number of its
+/// children.
 fn add_child(parts: &mut Vec<Part>) -> Result<(), AllocError>
     ensures { OnOk result (vec_items parts.new ≡ bump_last (vec_items parts.old)) }
 {
     let Some(part) = parts.pop() else {
         return Ok(());
     };
-    let Some(children) = part.children.checked_add(1) else {
-        return Err(AllocError);
-    };
+    let children = one_more(part.children)?;
     parts.push(Part {
         tag: part.tag,
         span: part.span,

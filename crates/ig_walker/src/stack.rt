@@ -10,13 +10,13 @@ use crate::measured::Measured;
 use crate::options::option_at;
 use std::alloc::AllocError;
 
-/// Notes that the goal was visited by the option of that number. Refused also where the number
-/// hasn't 32 bits.
+/// Notes that the goal was visited by the option of that number. Refused also, as want of memory,
+/// where 32 bits don't hold the number, as `number` of ig_item says.
 pub fn note(visits: &mut Vec<Visit>, goal: Goal, number: usize) -> Result<(), AllocError>
     ensures { OnOk result (vec_items visits.new ≡
         vec_items visits.old ++ record { goal = goal; choice = number } ∷ []) }
 {
-    let choice = u32::try_from(number).map_err(|_| AllocError)?;
+    let choice = ig_item::number(number)?;
     visits.push(Visit { goal, choice })?;
     Ok(())
 }

@@ -1,10 +1,11 @@
 use Rattle.std.proofs.Common.{[], ◌∷◌, refl, vec_items, arith}
+use Rattle.std.proofs.lemmas.List.{drop_all}
 use Rattle.ig_text.proofs.Emptiness.{emptied}
 use Rattle.ig_walker.specs.Behind.{listed}
 use Rattle.ig_walker.specs.Options.{root_goal}
-use Rattle.ig_walker.proofs.Following.{follow_starts, follow_goes_code, follow_ends_code, follow_fails_code, follow_lower_code, follow_left_code, follow_done_code, drop_some, drop_none}
 use Rattle.ig_walker.proofs.Starting.{root_alone}
 use Rattle.ig_walker.proofs.follow.follow.Goals as goal
+use Rattle.ig_walker.proofs.Following.{follow_starts, follow_goes_code, follow_ends_code, follow_fails_code, follow_lower_code, follow_left_code, follow_done_code, drop_some}
 
 pub loop-goal-init : goal.loop-goal-init
 loop-goal-init c =
@@ -48,4 +49,4 @@ returns c =
     follow_done_code c.args.forest.now (root_goal c.args.forest.now c.args.depth ∷ []) c.args.cursor.now (vec_items c.loop-goal.visits) _
     (vec_items c.loop-goal.pending) c.loop-goal.invariant
     (emptied (vec_items c.loop-goal.pending) _ c.loop-goal.pending.ok.0 c.in_default.ensures.cases.0)
-    (drop_none c.args.cursor.now c.loop-goal.place (let h = c.if-place-cursor.false in omega (arith, h)))
+    (drop_all c.loop-goal.place c.args.cursor.now (let h = c.if-place-cursor.false in omega (arith, h)))
