@@ -16,14 +16,14 @@ use Rattle.ig_grammar.specs.declared.declaration.Decl.{Decl}
 use Rattle.ig_grammar.specs.declared.place.Place.{Place}
 use Rattle.ig_alternatives.specs.Binders.{Leaves, binders}
 use Rattle.ig_conditions.specs.Causes.{condition_of}
-use Rattle.ig_grammar.specs.Counts.{counts_bound}
 use Rattle.ig_conditions.specs.Room.{HasFewParameters, room_of}
 use Rattle.ig_alternatives.specs.Told.{FirstIn, here, later, FirstNumber, SymbolFree, SymbolCaught, AlternativeFree, AlternativeCaught}
 use Rattle.ig_alternatives.specs.Told.{StoppedAt, OfAlternative, OfLevel, OfAlternatives}
 use Rattle.ig_alternatives.specs.declared.fault.ScopeFault.{ScopeFault}
 use Rattle.ig_alternatives.specs.declared.fault.ScopeFault.TheVariants.{Broken, Memory}
 use Rattle.ig_alternatives.specs.Firsts.{first_left, first_right, first_there, first_before, free_at}
-use Rattle.ig_alternatives.proofs.Walks.{fault_passed}
+use Rattle.ig_text.specs.Limits.{numbers_end}
+use Rattle.ig_text.proofs.Options.{passed_on}
 
 -- more labels and lets than there is room for
 left_told : (decl : Decl) (a : Alt) (room : ℕ) (r : Option ℕ) → is_name decl.name ≡ true → room + named_parameters decl ≡ most_variables →
@@ -111,22 +111,22 @@ module _ (decls : List Decl) (decl : Decl) where
       IsErrAnd r (λ f. f ≡ fault) → (AlternativeMeets decl a (TooMany Variables) → ⊥) → os ≡ symbols_of decl a →
       StoppedAt decls decl.kind nr alt 0 os fault → OfAlternative decls decl nr alt a r
   alternative_stopped nr alt a os (Broken cause place) r p n e h =
-      subst (OfAlternative decls decl nr alt a) (sym (fault_passed r (Broken cause place) p)) (
+      subst (OfAlternative decls decl nr alt a) (sym (passed_on r (Broken cause place) p)) (
         ap (λ (z : Place). z.decl) h.1,
         ap (λ (z : Place). z.alt) h.1,
         subst (λ k. FirstNumber (AlternativeHas decls decl a) k (condition_of cause))
             (let z : place.symbol ≡ 0 + h.0 + 1 = ap (λ (z : Place). z.symbol) h.1 in let y : suc h.0 ≡ place.symbol = omega arith in y)
             (caught_symbol a h.0 (condition_of cause) n (subst (λ z. FirstIn (SymbolFree decls decl.kind) (SymbolCaught decls decl.kind (condition_of cause)) z h.0) e h.2)),
       )
-  alternative_stopped nr alt a os Memory r p n e h = subst (OfAlternative decls decl nr alt a) (sym (fault_passed r Memory p)) tt
+  alternative_stopped nr alt a os Memory r p n e h = subst (OfAlternative decls decl nr alt a) (sym (passed_on r Memory p)) tt
 
   pub level_stopped : (nr before : ℕ) (alts : List Alt) (i next : ℕ) (a : Alt) (fault : ScopeFault) (r : Result ℕ ScopeFault) → IsErrAnd r (λ f. f ≡ fault) →
       i < length alts → a ≡ get_or alts i a → next ≡ before + i + 1 → All (AlternativeFree decls decl) (take i alts) →
       OfAlternative decls decl nr next a {T = Unit {0}} (Err fault) → OfLevel decls decl nr before alts r
   level_stopped nr before alts i next a (Broken cause place) r p l e n f h =
-      subst (OfLevel decls decl nr before alts) (sym (fault_passed r (Broken cause place) p))
+      subst (OfLevel decls decl nr before alts) (sym (passed_on r (Broken cause place) p))
       (i, h.0, h.1 ∙ n, first_at (AlternativeFree decls decl) (AlternativeCaught decls decl place.symbol (condition_of cause)) alts i a l e f h.2)
-  level_stopped nr before alts i next a Memory r p l e n f h = subst (OfLevel decls decl nr before alts) (sym (fault_passed r Memory p)) tt
+  level_stopped nr before alts i next a Memory r p l e n f h = subst (OfLevel decls decl nr before alts) (sym (passed_on r Memory p)) tt
 
   -- a level behind those before it
   pub levels_step : (nr : ℕ) (done more : List Alt) (before : ℕ) (next : ℕ) → OfLevel decls decl nr 0 done (Ok before) → OfLevel decls decl nr before more (Ok next) →
@@ -138,7 +138,7 @@ module _ (decls : List Decl) (decl : Decl) where
       alternatives decl.levels ≡ (done ++ more) ++ rest → OfLevel decls decl nr 0 done (Ok before) → OfLevel decls decl nr before more (Err fault) →
       OfAlternatives decls decl nr r
   levels_stopped nr done more rest before (Broken cause place) r p e g h =
-      subst (OfAlternatives decls decl nr) (sym (fault_passed r (Broken cause place) p)) (
+      subst (OfAlternatives decls decl nr) (sym (passed_on r (Broken cause place) p)) (
         before + h.0,
         h.1,
         h.2,
@@ -146,7 +146,7 @@ module _ (decls : List Decl) (decl : Decl) where
             (first_left (AlternativeFree decls decl) (AlternativeCaught decls decl place.symbol (condition_of cause)) (done ++ more) rest (before + h.0)
             (first_right (AlternativeFree decls decl) (AlternativeCaught decls decl place.symbol (condition_of cause)) done more h.0 (before + h.0) g.1 h.3 (let a = g.0 in omega arith))),
       )
-  levels_stopped nr done more rest before Memory r p e g h = subst (OfAlternatives decls decl nr) (sym (fault_passed r Memory p)) tt
+  levels_stopped nr done more rest before Memory r p e g h = subst (OfAlternatives decls decl nr) (sym (passed_on r Memory p)) tt
 
 pub record SplitsLevels (all front : List Level) (level : Level) : Type 0 where
   pub rest : List Alt
@@ -175,7 +175,7 @@ more_levels all i level l e =
     flat_map-append (λ (z : Level). z.alts) (take i all) (level ∷ []) ∙ ap (λ z. alternatives (take i all) ++ z) (append-nil level.alts)
 
 pub level_fits : (all front : List Level) (level : Level) (before : ℕ) → SplitsLevels all front level → before ≡ length (alternatives front) →
-    length (alternatives all) < counts_bound → before + length level.alts < counts_bound
+    length (alternatives all) < numbers_end → before + length level.alts < numbers_end
 level_fits all front level before s e l =
     let a : length (alternatives all) ≡ length (alternatives front ++ level.alts) + length s.rest = ap length s.whole ∙ length-append (alternatives front ++ level.alts) s.rest in
     let b = length-append (alternatives front) level.alts in omega arith

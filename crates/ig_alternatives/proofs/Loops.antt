@@ -7,13 +7,14 @@ use Rattle.ig_grammar.specs.Symbol.{gathered}
 use Rattle.ig_grammar.specs.Alternative.{gathered_alternatives}
 use Rattle.ig_grammar.specs.Visible.{Visible, inside_sequence, inside_choices, binds, all_bind}
 use Rattle.ig_grammar.specs.declared.symbol.Alt.{Alt}
-use Rattle.ig_grammar.specs.Counts.{counts_bound}
 use Rattle.ig_alternatives.specs.Places.{HaveNumbers}
 use Rattle.ig_alternatives.specs.Told.{Walked, from}
 use Rattle.ig_alternatives.specs.declared.places.Surroundings.{Surroundings}
 use Rattle.ig_alternatives.specs.declared.fault.ScopeFault.{ScopeFault}
 use Rattle.ig_alternatives.proofs.Sequences.{inside_append, inside_push, all_bind_push, choices_append, choices_push}
-use Rattle.ig_alternatives.proofs.Walks.{walked_then, walked_cut, fault_passed}
+use Rattle.ig_text.specs.Limits.{numbers_end}
+use Rattle.ig_text.proofs.Options.{passed_on}
+use Rattle.ig_alternatives.proofs.Walks.{walked_then, walked_cut}
 
 -- a list in front of a member, the member, and those behind it
 pub record Splits {X : Type 0} (all front : List X) (x : X) : Type 0 where
@@ -62,7 +63,7 @@ module _ (around : Surroundings) (before : ℕ) (v : Visible) where
       Walked around next (from mid x) (binds mid x) mid new (Err fault) →
       Walked around before (inside_sequence v (gathered all)) (all_bind v (gathered all)) v new r
   sequence_stop all front x mid new next fault r p s g h =
-      subst (λ z. Walked around before (inside_sequence v (gathered all)) (all_bind v (gathered all)) v new z) (sym (fault_passed r fault p))
+      subst (λ z. Walked around before (inside_sequence v (gathered all)) (all_bind v (gathered all)) v new z) (sym (passed_on r fault p))
       (subst (λ z. Walked around before z (all_bind v (gathered all)) v new (Err fault))
       (sym (ap (λ z. inside_sequence v (gathered z)) s.whole ∙ inside_append v (front ++ x ∷ []) s.rest))
       (walked_cut around before (inside_sequence v (gathered (front ++ x ∷ []))) _ (all_bind v (gathered (front ++ x ∷ []))) (all_bind v (gathered all)) v new new fault
@@ -73,7 +74,7 @@ module _ (around : Surroundings) (before : ℕ) (v : Visible) where
       HaveNumbers before (inside_sequence v (gathered all)) → HaveNumbers next (from mid x)
   sequence_fits all front x mid next s g l =
       longer (inside_sequence v (gathered all)) (inside_sequence v (gathered front)) (from mid x)
-      (inside_sequence (v ++ all_bind v (gathered (front ++ x ∷ []))) (gathered s.rest)) next counts_bound before
+      (inside_sequence (v ++ all_bind v (gathered (front ++ x ∷ []))) (gathered s.rest)) next numbers_end before
       (ap (λ z. inside_sequence v (gathered z)) s.whole ∙ inside_append v (front ++ x ∷ []) s.rest ∙
       ap (λ z. z ++ inside_sequence (v ++ all_bind v (gathered (front ++ x ∷ []))) (gathered s.rest))
       (inside_push v front x ∙ ap (λ z. inside_sequence v (gathered front) ++ from z x) (sym g.2)))
@@ -96,7 +97,7 @@ module _ (around : Surroundings) (before : ℕ) (v : Visible) where
       Walked around next (inside_sequence mid (gathered x.symbols)) b mid new (Err fault) →
       Walked around before (inside_choices v (gathered_alternatives all)) [] v new r
   choices_stop all front x mid new b next fault r p s g h =
-      subst (λ z. Walked around before (inside_choices v (gathered_alternatives all)) [] v new z) (sym (fault_passed r fault p))
+      subst (λ z. Walked around before (inside_choices v (gathered_alternatives all)) [] v new z) (sym (passed_on r fault p))
       (subst (λ z. Walked around before z [] v new (Err fault))
       (sym (ap (λ z. inside_choices v (gathered_alternatives z)) s.whole ∙ choices_append v (front ++ x ∷ []) s.rest))
       (walked_cut around before (inside_choices v (gathered_alternatives (front ++ x ∷ []))) _ b [] v new new fault
@@ -107,7 +108,7 @@ module _ (around : Surroundings) (before : ℕ) (v : Visible) where
       HaveNumbers before (inside_choices v (gathered_alternatives all)) → HaveNumbers next (inside_sequence mid (gathered x.symbols))
   choices_fits all front x mid next s g l =
       longer (inside_choices v (gathered_alternatives all)) (inside_choices v (gathered_alternatives front)) (inside_sequence mid (gathered x.symbols))
-      (inside_choices v (gathered_alternatives s.rest)) next counts_bound before
+      (inside_choices v (gathered_alternatives s.rest)) next numbers_end before
       (ap (λ z. inside_choices v (gathered_alternatives z)) s.whole ∙ choices_append v (front ++ x ∷ []) s.rest ∙
       ap (λ z. z ++ inside_choices v (gathered_alternatives s.rest))
       (choices_push v front x ∙ ap (λ z. inside_choices v (gathered_alternatives front) ++ inside_sequence z (gathered x.symbols)) (sym (g.2 ∙ append-nil v))))

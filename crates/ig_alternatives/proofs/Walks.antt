@@ -4,6 +4,7 @@ use Rattle.std.specs.Result.{IsErrAnd}
 use Rattle.ig_grammar.specs.Symbol.{Symbol}
 use Rattle.std.proofs.lemmas.List.{append-nil}
 use Rattle.std.proofs.lemmas.List.Elements.{All-append, All-cons, All-nil}
+use Rattle.ig_text.proofs.Options.{passed_on}
 use Rattle.ig_grammar.specs.Visible.{Visible, Occurrence, at, inside, binds}
 use Rattle.ig_grammar.specs.Condition.{SymbolMeets}
 use Rattle.ig_grammar.specs.WellScoped.{IsLeast}
@@ -14,10 +15,6 @@ use Rattle.ig_conditions.specs.declared.cause.ScopeCause.{ScopeCause}
 use Rattle.ig_alternatives.specs.declared.fault.ScopeFault.{ScopeFault}
 use Rattle.ig_alternatives.specs.declared.fault.ScopeFault.TheVariants.{Broken, Memory}
 use Rattle.ig_alternatives.specs.Firsts.{first_left, first_right}
-
-pub fault_passed : {T : Type 0} (r : Result T ScopeFault) (e : ScopeFault) → IsErrAnd r (λ f. f ≡ e) → r ≡ Err e
-fault_passed (Ok n) e h = absurd h
-fault_passed (Err f) e h = ap Err h
 
 take_front : (xs ys : Visible) → take (length xs) (xs ++ ys) ≡ xs
 take_front [] ys = refl
@@ -118,7 +115,7 @@ module _ (around : Surroundings) where
       Walked around (before + 1) os b old mid (Err fault) →
       Walked around before (from old s) (binds old s) old new r
   walked_form_stopped before old mid new s y os others b fault r p e i f h =
-      subst (λ z. Walked around before (from old s) (binds old s) old new z) (sym (fault_passed r fault p))
+      subst (λ z. Walked around before (from old s) (binds old s) old new z) (sym (passed_on r fault p))
       (walked_form before old new s y (os ++ others) (binds old y) (Err fault) e i refl f
       (walked_cut (before + 1) os others b (binds old y) old mid new fault h))
 

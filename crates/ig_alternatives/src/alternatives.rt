@@ -1,10 +1,10 @@
 //! The alternatives of a declaration, up to the first fault.
 
 ghost use Rattle.std.specs.Prelude.{◌≡◌, ◌+◌, ◌<◌, ◌↔◌, IsTrue, OnOk, Contains, length};
+ghost use Rattle.ig_text.specs.Limits.{numbers_end};
 ghost use Rattle.ig_grammar.specs.declared.symbol.Alt.{Alt};
 ghost use Rattle.ig_grammar.specs.Visible.{parameters};
 ghost use Rattle.ig_grammar.specs.Numbering.{alternatives};
-ghost use Rattle.ig_grammar.specs.Counts.{counts_bound};
 ghost use Rattle.ig_alternatives.specs.Binders.{HasTooMany};
 ghost use Rattle.ig_alternatives.specs.Told.{TellsAlternative, TellsLevel, TellsAlternatives};
 
@@ -56,7 +56,7 @@ fn check_level(
     alts: &[Alt],
 ) -> Result<u32, ScopeFault>
     requires visible { variables.old ≡ parameters numbered.now.decl.now.params }
-    requires numbers { before + length alts.now < counts_bound }
+    requires numbers { before + length alts.now < numbers_end }
     requires among { (a : Alt) → Contains alts.now a
         → Contains (alternatives numbered.now.decl.now.levels) a }
     ensures told { TellsLevel numbered.now before alts.now result }

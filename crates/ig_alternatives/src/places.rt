@@ -1,5 +1,5 @@
 ghost use Rattle.std.specs.Prelude.{◌≡◌, ◌+◌, ◌<◌};
-ghost use Rattle.ig_grammar.specs.Counts.{counts_bound};
+ghost use Rattle.ig_text.specs.Limits.{numbers_end};
 ghost use Rattle.ig_alternatives.specs.Told.{fault_at};
 
 use crate::fault::ScopeFault;
@@ -22,7 +22,7 @@ pub(crate) struct Surroundings<'d, 'g> {
 impl Surroundings<'_, '_> {
     /// The fault at the symbol that has so many before it in the alternative.
     pub(crate) fn fault(&self, cause: ScopeCause, before: u32) -> ScopeFault
-        requires { before + 1 < counts_bound }
+        requires { before + 1 < numbers_end }
         ensures { result ≡ fault_at self.now cause before }
     {
         let place = Place {

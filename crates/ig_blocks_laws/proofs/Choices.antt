@@ -3,14 +3,11 @@ use Rattle.std.proofs.Common.{◌≡◌, List, [], ◌∷◌, map, ap, ap₂, re
 use Rattle.ig_grammar.specs.Symbol.{Symbol, Symbols, no_symbols, next_symbol, listed, gathered, next_alternative}
 use Rattle.ig_grammar.specs.Alternative.{gathered_alternatives}
 use Rattle.ig_grammar.specs.declared.symbol.Alt.{Alt}
+use Rattle.ig_grammar.specs.Gathered.{gathered_listed}
 use Rattle.ig_blocks_laws.specs.Setting.{Setting, Pair}
 use Rattle.ig_blocks_laws.specs.Body.{sequence_of, choices_of}
 use Rattle.ig_blocks_laws.specs.Blocks.{symbols_by, alternative_by}
 use Rattle.ig_blocks_laws.specs.Laws.{AllAreGathered}
-
-pub gathered_listed : (xs : Symbols) → gathered (listed xs) ≡ xs
-gathered_listed no_symbols = refl
-gathered_listed (next_symbol x xs) = ap (next_symbol x) (gathered_listed xs)
 
 pub gathered_by : (s : Setting) (p : Pair) (xs : List Symbol) → gathered (symbols_by s p xs) ≡ sequence_of s p (gathered xs)
 gathered_by s p xs = gathered_listed (sequence_of s p (gathered xs))

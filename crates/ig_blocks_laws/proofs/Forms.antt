@@ -9,10 +9,10 @@ use Rattle.ig_grammar.specs.Symbol.{Symbol, Literal, OneOf, Call, Label, Guard, 
 use Rattle.ig_grammar.specs.Symbol.{Symbols, no_symbols, next_symbol, gathered}
 use Rattle.ig_grammar.specs.declared.declaration.DeclKind.{DeclKind}
 use Rattle.ig_grammar.specs.declared.declaration.DeclKind.TheVariants.{Syntax, Lexical, Layout, Plain}
-use Rattle.ig_rewrite.specs.Forms.{label_of_marked, sign_of_filtered, separated_of_label}
 use Rattle.ig_blocks_laws.specs.Setting.{Setting, Pair, lacking, carried, opened, cleared, opened_by, cleared_by, inner, pair_bindings, column_bindings, guards, column_guards, wrapped, entered}
 use Rattle.ig_blocks_laws.specs.Body.{call_tests, tests_of, body_of, sequence_of}
-use Rattle.ig_blocks_laws.proofs.Parts.{own_part, inner_parts}
+use Rattle.ig_grammar.specs.Forms.{label_of_marked, sign_of_filtered, separated_of_label}
+use Rattle.ig_grammar.specs.ByForm.{own_part, inner_parts}
 
 entered_label : (bs : List Binding) (y : Symbol) → MayHaveLabel y → MayHaveLabel (entered bs y)
 entered_label [] y h = h

@@ -3,7 +3,7 @@ use Rattle.std.proofs.Common.{◌≡◌, ◌≢◌, ◌∙◌, ◌≤◌, ℕ, z
 use Rattle.std.specs.Prelude.{◌⊎◌, Contains, slice_get}
 use Rattle.std.proofs.lemmas.List.{append-nil, length-map}
 use Rattle.std.proofs.lemmas.Option.{same_Some}
-use Rattle.ig_text.proofs.Lists.{at_from_contains, contains_from_at, none_in_nil}
+use Rattle.ig_text.proofs.Lists.{at_from_contains, contains_from_at, none_in_nil, unmapped_in}
 use Rattle.ig_grammar.specs.Checked.{CheckedGrammar}
 use Rattle.ig_grammar.specs.Name.{is_name}
 use Rattle.ig_grammar.specs.Names.{AreDistinct}
@@ -30,13 +30,13 @@ use Rattle.ig_blocks_laws.specs.Setting.{Setting, extra_by}
 use Rattle.ig_blocks_laws.specs.Blocks.{setting_of, int_param, level_by, declaration_by, root_by, lowered_declaration, lowered_grammar}
 use Rattle.ig_blocks_laws.proofs.Counting.{sequence_count}
 use Rattle.ig_blocks_laws.proofs.Choices.{gathered_by}
-use Rattle.ig_blocks_laws.proofs.Located.{made_alternative, back_from}
 use Rattle.ig_blocks_laws.proofs.Permitting.{apart, pair_at, levels_are}
 use Rattle.ig_blocks_laws.proofs.Readiness.{one_place}
 use Rattle.ig_blocks_laws.proofs.Rooting.{IsPrepared}
 use Rattle.ig_blocks_laws.proofs.Shaped.{length_lowered}
 use Rattle.ig_blocks_laws.proofs.Taking.{zip_back, kind_kept, name_kept}
 use Rattle.ig_blocks_laws.proofs.Whole.{sound_there}
+use Rattle.ig_blocks_laws.proofs.Located.{made_alternative}
 
 -- the pair as parameters
 extra_name : (b : Bool) (m f : List ℕ) (k : ℕ) (p : Param) → slice_get (extra_by b (int_param m) (int_param f)) k ≡ Some p → (p.name ≡ m) ⊎ (p.name ≡ f)
@@ -136,7 +136,7 @@ module _ (ask : SymbolsAsk) (elsewhere : AsksElsewhere) (found : DeclarationsAre
 
         from : (level : Level) → Contains e.levels level → (before : Level) × Contains d.levels before × (before.assoc ≡ level.assoc)
         from level m =
-            let r = back_from (level_by s (pair_at s sh d)) d.levels level (subst (λ ls. Contains ls level) (levels_are s sh d) m) in
+            let r = unmapped_in (level_by s (pair_at s sh d)) d.levels level (subst (λ ls. Contains ls level) (levels_are s sh d) m) in
             (r.0, r.1, ap (λ (z : Level). z.assoc) r.2)
 
     -- the start stands for the root, and gets no pair

@@ -20,7 +20,6 @@ pub mod Lowers
 pub mod Remaking
 pub mod Taking
 pub mod Around
-pub mod Parts
 pub mod Rooting
 pub mod Marking
 pub mod Suiting

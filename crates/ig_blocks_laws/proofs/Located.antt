@@ -2,22 +2,13 @@
 use Rattle.std.proofs.Common.{◌≡◌, ℕ, zero, suc, List, [], ◌∷◌, map, Some, inl, inr}
 use Rattle.std.specs.Prelude.{◌⊎◌, Contains, slice_get}
 use Rattle.std.proofs.lemmas.List.Elements.{Contains-append_cases}
-use Rattle.ig_text.proofs.Lists.{at_from_contains, contains_from_at, none_in_nil}
 use Rattle.ig_grammar.specs.Numbering.{alternatives}
 use Rattle.ig_grammar.specs.declared.declaration.Level.{Level}
 use Rattle.ig_grammar.specs.declared.symbol.Alt.{Alt}
 use Rattle.ig_blocks_laws.specs.Setting.{Setting, Pair}
 use Rattle.ig_blocks_laws.specs.Blocks.{alternative_by, level_by}
 use Rattle.ig_text.proofs.Lists.{contains_first, contains_later}
-
-pub back_from : {X Y : Type 0} (f : X → Y) (xs : List X) (y : Y) → Contains (map f xs) y → (x : X) × Contains xs x × (f x ≡ y)
-back_from f [] y m = absurd (none_in_nil y m)
-back_from f (x ∷ xs) y m = let k = at_from_contains (f x ∷ map f xs) y m in go k.0 k.1 (λ j e. let r = back_from f xs y (contains_from_at (map f xs) j y e) in (r.0, contains_later x xs r.0 r.1, r.2))
-  where
-    go : (k : ℕ) → slice_get (f x ∷ map f xs) k ≡ Some y → ((j : ℕ) → slice_get (map f xs) j ≡ Some y → (z : _) × Contains (x ∷ xs) z × (f z ≡ y)) →
-        (z : _) × Contains (x ∷ xs) z × (f z ≡ y)
-    go zero e later = (x, contains_first x xs, cc)
-    go (suc j) e later = later j e
+use Rattle.ig_text.proofs.Lists.{at_from_contains, contains_from_at, none_in_nil, unmapped_in}
 
 -- an alternative of lowered levels is made of one of a level
 pub made_alternative : (s : Setting) (p : Pair) (levels : List Level) (b : Alt) → Contains (alternatives (map (level_by s p) levels)) b →
@@ -29,5 +20,5 @@ made_alternative s p (level ∷ levels) b m =
     go : Contains (map (alternative_by s p) level.alts) b ⊎ Contains (alternatives (map (level_by s p) levels)) b →
         (Contains (alternatives (map (level_by s p) levels)) b → (l : Level) × (a : Alt) × Contains levels l × Contains l.alts a × (alternative_by s p a ≡ b)) →
         (l : Level) × (a : Alt) × Contains (level ∷ levels) l × Contains l.alts a × (alternative_by s p a ≡ b)
-    go (inl n) later = let r = back_from (alternative_by s p) level.alts b n in (level, r.0, contains_first level levels, r.1, r.2)
+    go (inl n) later = let r = unmapped_in (alternative_by s p) level.alts b n in (level, r.0, contains_first level levels, r.1, r.2)
     go (inr n) later = let r = later n in (r.0, r.1, contains_later level levels r.0 r.2, r.3, r.4)

@@ -14,15 +14,12 @@ use Rattle.ig_blocks_laws.proofs.Lowered as low
 use Rattle.ig_blocks_laws.proofs.Lowered.{Lowered, Placed, Item, Covered, Choices, IsHanded}
 use Rattle.ig_blocks_laws.specs.Body.{call_tests, tests_of, arguments_of, body_of, sequence_of, choices_of}
 use Rattle.ig_grammar.specs.Condition.{IsListed}
+use Rattle.ig_grammar.specs.Forms.{mark_of_filtered}
 use Rattle.ig_blocks_laws.proofs.Fitting.{IsFit, AreFit, AreFitChoices, Suits}
 
 -- where a symbol can stand: under a pair that is handed down, or where a mark may stand round it
 abbrev CanStand : Pair → Symbol → Type 0
 CanStand p x = IsSteady p ⊎ MayHaveMark x
-
-filters_mark : (x : Symbol) → MayHaveFilters x → MayHaveMark x
-filters_mark (Filtered x filters) h = absurd h
-filters_mark x h = h
 
 steady_inner : (p : Pair) → IsSteady (inner p)
 steady_inner lacking = tt
@@ -198,7 +195,7 @@ module _ (forms : RegularityByForm) (s : Setting) (c : DeclKind) where
     lowers (Align x) p h can well fit = lowers_list x p h fit.0 (inside (Align x) well) fit.1
     lowers (Filtered x filters) p h can well fit =
         low.filtered p x (body_of s false p x) filters (tests_of s p x)
-        (low.placed p x (body_of s false p x) (tests_of s p x) (lowers x p h (inr (filters_mark x (round (Filtered x filters) well))) (inside (Filtered x filters) well) fit))
+        (low.placed p x (body_of s false p x) (tests_of s p x) (lowers x p h (inr (mark_of_filtered x (round (Filtered x filters) well))) (inside (Filtered x filters) well) fit))
     lowers (Seq xs) p h (inl steady) well fit = low.seq p xs (sequence_of s p xs) steady (lowers_sequence xs p h steady (inside (Seq xs) well) fit)
     lowers (Seq xs) p h (inr can) well fit = absurd can
     lowers (Entry bindings x) p h can well fit =

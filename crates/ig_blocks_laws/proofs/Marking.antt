@@ -14,8 +14,8 @@ use Rattle.ig_grammar.specs.declared.declaration.Level.{Level}
 use Rattle.ig_grammar.specs.declared.grammar.Grammar.{Grammar}
 use Rattle.ig_rewrite.specs.Sound.{IsUnmarked}
 use Rattle.ig_blocks_laws.specs.Blocks.{has_block, symbols_have_block, choices_have_block, levels_have_block, is_marked}
-use Rattle.ig_blocks_laws.proofs.Parts.{own_part, inner_parts, parts_of_symbols, parts_of_alternatives, all_parts}
 use Rattle.ig_text.proofs.Lists.{contains_first, contains_later}
+use Rattle.ig_grammar.specs.ByForm.{own_part, inner_parts, symbols_hold, alternatives_hold, holds_from}
 
 -- no block
 abbrev pub IsNoBlock : Symbol → Type 0
@@ -24,26 +24,26 @@ IsNoBlock x = Unit {0}
 
 mutual
   no_block : (x : Symbol) → has_block x ≡ false → All IsNoBlock (subterms x)
-  no_block (Literal word) e = all_parts IsNoBlock (Literal word) tt tt
-  no_block (OneOf class) e = all_parts IsNoBlock (OneOf class) tt tt
-  no_block (Call name arguments) e = all_parts IsNoBlock (Call name arguments) tt tt
-  no_block (Label name x) e = all_parts IsNoBlock (Label name x) tt (no_block x e)
-  no_block (Guard condition) e = all_parts IsNoBlock (Guard condition) tt tt
-  no_block (Let name value) e = all_parts IsNoBlock (Let name value) tt tt
-  no_block (Opt x) e = all_parts IsNoBlock (Opt x) tt (no_block x e)
-  no_block (Star x) e = all_parts IsNoBlock (Star x) tt (no_block x e)
-  no_block (Plus x) e = all_parts IsNoBlock (Plus x) tt (no_block x e)
+  no_block (Literal word) e = holds_from IsNoBlock (Literal word) tt tt
+  no_block (OneOf class) e = holds_from IsNoBlock (OneOf class) tt tt
+  no_block (Call name arguments) e = holds_from IsNoBlock (Call name arguments) tt tt
+  no_block (Label name x) e = holds_from IsNoBlock (Label name x) tt (no_block x e)
+  no_block (Guard condition) e = holds_from IsNoBlock (Guard condition) tt tt
+  no_block (Let name value) e = holds_from IsNoBlock (Let name value) tt tt
+  no_block (Opt x) e = holds_from IsNoBlock (Opt x) tt (no_block x e)
+  no_block (Star x) e = holds_from IsNoBlock (Star x) tt (no_block x e)
+  no_block (Plus x) e = holds_from IsNoBlock (Plus x) tt (no_block x e)
   no_block (SepStar x separator) e =
-      let both = or_parts (has_block x) (has_block separator) e in all_parts IsNoBlock (SepStar x separator) tt (no_block x both.0, no_block separator both.1)
+      let both = or_parts (has_block x) (has_block separator) e in holds_from IsNoBlock (SepStar x separator) tt (no_block x both.0, no_block separator both.1)
   no_block (SepPlus x separator) e =
-      let both = or_parts (has_block x) (has_block separator) e in all_parts IsNoBlock (SepPlus x separator) tt (no_block x both.0, no_block separator both.1)
-  no_block (Group choices) e = all_parts IsNoBlock (Group choices) tt (no_block_in_choices choices e)
+      let both = or_parts (has_block x) (has_block separator) e in holds_from IsNoBlock (SepPlus x separator) tt (no_block x both.0, no_block separator both.1)
+  no_block (Group choices) e = holds_from IsNoBlock (Group choices) tt (no_block_in_choices choices e)
   no_block (Offside x) e = cc
-  no_block (Ignore x) e = all_parts IsNoBlock (Ignore x) tt (no_block x e)
-  no_block (Align x) e = all_parts IsNoBlock (Align x) tt (no_block x e)
-  no_block (Filtered x filters) e = all_parts IsNoBlock (Filtered x filters) tt (no_block x e)
-  no_block (Seq xs) e = all_parts IsNoBlock (Seq xs) tt (no_block_in_symbols xs e)
-  no_block (Entry bindings x) e = all_parts IsNoBlock (Entry bindings x) tt (no_block x e)
+  no_block (Ignore x) e = holds_from IsNoBlock (Ignore x) tt (no_block x e)
+  no_block (Align x) e = holds_from IsNoBlock (Align x) tt (no_block x e)
+  no_block (Filtered x filters) e = holds_from IsNoBlock (Filtered x filters) tt (no_block x e)
+  no_block (Seq xs) e = holds_from IsNoBlock (Seq xs) tt (no_block_in_symbols xs e)
+  no_block (Entry bindings x) e = holds_from IsNoBlock (Entry bindings x) tt (no_block x e)
 
   no_block_in_symbols : (xs : Symbols) → symbols_have_block xs ≡ false → All IsNoBlock (subterms_of_symbols xs)
   no_block_in_symbols no_symbols e = All-nil IsNoBlock
@@ -83,12 +83,12 @@ mutual
   unmarked_symbols : (xs : Symbols) → All IsNoMark (subterms_of_symbols xs) → symbols_have_block xs ≡ false
   unmarked_symbols no_symbols all = refl
   unmarked_symbols (next_symbol x xs) all =
-      let both = parts_of_symbols IsNoMark (next_symbol x xs) all in or_from (has_block x) (symbols_have_block xs) (unmarked x both.0) (unmarked_symbols xs both.1)
+      let both = symbols_hold IsNoMark (next_symbol x xs) all in or_from (has_block x) (symbols_have_block xs) (unmarked x both.0) (unmarked_symbols xs both.1)
 
   unmarked_choices : (xs : Alternatives) → All IsNoMark (subterms_of_alternatives xs) → choices_have_block xs ≡ false
   unmarked_choices no_alternatives all = refl
   unmarked_choices (next_alternative xs others) all =
-      let both = parts_of_alternatives IsNoMark (next_alternative xs others) all in
+      let both = alternatives_hold IsNoMark (next_alternative xs others) all in
       or_from (symbols_have_block xs) (choices_have_block others) (unmarked_symbols xs both.0) (unmarked_choices others both.1)
 
 unmarked_levels : (levels : List Level) →

@@ -1,7 +1,9 @@
 -- A prepared grammar in which a declaration stands for the root is ready.
 use Rattle.std.proofs.Common.{◌≡◌, ◌∙◌, ℕ, suc, List, Some, Bool, true, false, refl, sym, ap, subst, length, map}
 use Rattle.std.specs.Prelude.{◌≢◌, All, Contains, slice_get}
+use Rattle.std.proofs.lemmas.List.Elements.{All-weaker}
 use Rattle.ig_text.proofs.Lists.{at_from_contains, contains_from_at, mapped_at}
+use Rattle.ig_text.proofs.Lists.{all_both}
 use Rattle.ig_grammar.specs.Checked.{CheckedGrammar, IsRoot}
 use Rattle.ig_grammar.specs.Regular.{IsPlaced}
 use Rattle.ig_grammar.specs.Condition.{symbols_of}
@@ -25,7 +27,6 @@ use Rattle.ig_blocks_laws.specs.Blocks.{is_marked, setting_of}
 use Rattle.ig_blocks_laws.proofs.Fitting.{AreFit}
 use Rattle.ig_blocks_laws.proofs.Takes.{AreWritten}
 use Rattle.ig_blocks_laws.proofs.Ready.{IsReady}
-use Rattle.ig_blocks_laws.proofs.Parts.{all_also, all_both, all_always}
 use Rattle.ig_rewrite.specs.Throughout.{PlacedSymbols}
 use Rattle.ig_rewrite.specs.Throughout.{placed_symbols}
 use Rattle.ig_rewrite.specs.EachLevel.{alternative_at, everywhere}
@@ -76,9 +77,9 @@ module _ (found : DeclarationsAreFound) (c : CheckedGrammar) (prepared : IsPrepa
       none x h = tt
 
       go : (marked : Bool) → is_marked g.decls ≡ marked → All (MayBlock found g shapes counted place decl.kind) (subterms_of_symbols (gathered a.alternative.symbols))
-      go true e = all_always (MayBlock found g shapes counted place decl.kind) (every e) (subterms_of_symbols (gathered a.alternative.symbols))
+      go true e = λ k d within. every e _
       go false e =
-          all_also IsNoBlock (MayBlock found g shapes counted place decl.kind) (subterms_of_symbols (gathered a.alternative.symbols)) none
+          All-weaker IsNoBlock (MayBlock found g shapes counted place decl.kind) none (subterms_of_symbols (gathered a.alternative.symbols))
           (everywhere IsNoBlock g (none_blocked g e) b k decl a at numbered)
 
   pub all_lack : (b k : ℕ) (decl : Decl) (a : Levelled) → slice_get g.decls b ≡ Some decl → IsAlternative decl k a →

@@ -50,10 +50,6 @@ alternative_back s p levels k b e =
     (sym (ap (λ z. slice_get z k) (by_level_map s p levels) ∙ slice_get-map (levelled_by s p) (by_level levels) k) ∙ e) in
     (m.0, m.1, sym m.2)
 
-pub listed_gathered : (xs : List Symbol) → listed (gathered xs) ≡ xs
-listed_gathered [] = refl
-listed_gathered (x ∷ xs) = ap (λ z. x ∷ z) (listed_gathered xs)
-
 -- declarations of one name are one
 pub same_decl : (ds : List Decl) → AreDistinct (names ds) → (n k : ℕ) (d e : Decl) → slice_get ds n ≡ Some d → slice_get ds k ≡ Some e → d.name ≡ e.name → d ≡ e
 same_decl ds distinct n k d e a b same =

@@ -25,6 +25,7 @@ use Rattle.ig_blocks_laws.specs.Blocks.{setting_of, symbols_by, alternative_by, 
 use Rattle.ig_blocks_laws.proofs.Located.{made_alternative}
 use Rattle.ig_rewrite.specs.EachLevel.{in_levels}
 use Rattle.ig_text.proofs.Lists.{at_from_contains}
+use Rattle.ig_grammar.specs.Gathered.{listed_gathered}
 use Rattle.ig_blocks_laws.proofs.Rooting.{IsPrepared}
 use Rattle.ig_blocks_laws.proofs.Readiness.{root_of}
 use Rattle.ig_blocks_laws.proofs.Taking.{zip_back}
@@ -73,12 +74,8 @@ module _ (s : Setting) where
   calls_kept (Seq xs) h = each_kept IsCall call_kept xs h
   calls_kept x h = absurd h
 
-  listed_back : (xs : List Symbol) → listed (gathered xs) ≡ xs
-  listed_back [] = refl
-  listed_back (x ∷ xs) = ap (λ z. x ∷ z) (listed_back xs)
-
   pub all_kept : (P : Symbol → Type 0) → ((x : Symbol) → P x → P (written x)) → (xs : List Symbol) → All P xs → All P (symbols_by s lacking xs)
-  all_kept P f xs all = each_kept P f (gathered xs) (subst (All P) (sym (listed_back xs)) all)
+  all_kept P f xs all = each_kept P f (gathered xs) (subst (All P) (sym (listed_gathered xs)) all)
 
 module _ (ask : SymbolsAsk) (elsewhere : AsksElsewhere) (found : DeclarationsAreFound) (c : CheckedGrammar) (prepared : IsPrepared c) where
   abbrev g : Grammar

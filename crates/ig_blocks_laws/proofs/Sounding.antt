@@ -4,6 +4,7 @@ use Rattle.std.specs.Prelude.{All, slice_get}
 use Rattle.std.specs.List.{flat_map}
 use Rattle.std.proofs.lemmas.List.{map-append, append-nil}
 use Rattle.std.proofs.lemmas.List.Elements.{All-nil}
+use Rattle.std.proofs.lemmas.List.Elements.{All-weaker}
 use Rattle.ig_expr.specs.Expression.{Expression, patterns_in}
 use Rattle.ig_expr.specs.declared.kind.Kind.TheVariants.{Span}
 use Rattle.ig_text.specs.Pattern.{HasNoEmptyLiteral}
@@ -25,8 +26,8 @@ use Rattle.ig_blocks_laws.specs.Setting.{Setting, Pair, lacking, carried, opened
 use Rattle.ig_blocks_laws.specs.Body.{tests_of, arguments_of, body_of, sequence_of, choices_of}
 use Rattle.ig_blocks_laws.specs.Blocks.{setting_of, lowered_declarations}
 use Rattle.ig_blocks_laws.proofs.Reading.{AreApart, BindingsRead, IsWritten, Reads}
-use Rattle.ig_blocks_laws.proofs.Parts.{own_part, inner_parts, parts_of_symbols, parts_of_alternatives, all_also}
 use Rattle.ig_text.proofs.Lists.{contains_first}
+use Rattle.ig_grammar.specs.ByForm.{own_part, inner_parts, symbols_hold, alternatives_hold}
 use Rattle.ig_rewrite.specs.Throughout.{Placed, PlacedSymbols, PlacedChoices}
 use Rattle.ig_blocks_laws.proofs.Suiting.{IsGood, LacksAdded, binder_written, read_in, arguments_read, entry_read}
 use Rattle.ig_blocks_laws.proofs.Forms.{label_form, filters_form, sign_form, separated_form, entry_form, tests_are, column_tests_are, wrapped_sign, wrapped_separated, wrapped_bound, bound_kept}
@@ -67,7 +68,7 @@ module _ (elsewhere : AsksElsewhere) (found : DeclarationsAreFound) (g : Grammar
   Info x = LacksAdded s x × IsPlaced x × IsEntered x
 
   all_placed : (x : Symbol) → All Info (subterms x) → All IsPlaced (subterms x)
-  all_placed x all = all_also Info IsPlaced (subterms x) (λ y i. i.1) all
+  all_placed x all = All-weaker Info IsPlaced (λ y i. i.1) (subterms x) all
 
   round_of : (x : Symbol) → All Info (subterms x) → FitsRound x
   round_of x all = let own = own_part Info x all in own.1.1
@@ -323,7 +324,7 @@ module _ (elsewhere : AsksElsewhere) (found : DeclarationsAreFound) (g : Grammar
         PlacedSymbols Sound (sequence_of s p xs) w × (all_bind w (sequence_of s p xs) ≡ all_bind v xs)
     symbols_sound no_symbols p v w sight good all = (tt, refl)
     symbols_sound (next_symbol x xs) p v w sight good all =
-        let parts = parts_of_symbols Info (next_symbol x xs) all in
+        let parts = symbols_hold Info (next_symbol x xs) all in
         let r = sounds x false p v w sight good.0 parts.0 in
         let tests = tests_sound g shapes lowered c w x p sight.pair in
         let same : binds w (wrapped (tests_of s p x) (body_of s false p x)) ≡ binds v x = wrapped_binds g shapes lowered c w (tests_of s p x) (body_of s false p x) tests ∙ r.1 in
@@ -339,6 +340,6 @@ module _ (elsewhere : AsksElsewhere) (found : DeclarationsAreFound) (g : Grammar
         PlacedChoices Sound (choices_of s p xs) w
     choices_sound no_alternatives p v w sight good all = tt
     choices_sound (next_alternative xs others) p v w sight good all =
-        let parts = parts_of_alternatives Info (next_alternative xs others) all in
+        let parts = alternatives_hold Info (next_alternative xs others) all in
         let r = symbols_sound xs p v w sight good.0 parts.0 in
         (r.0, choices_sound others p v w sight good.1 parts.1)

@@ -2,9 +2,9 @@
 use Rattle.std.proofs.Common.{◌≡◌, ◌∙◌, ℕ, zero, suc, ◌<◌, List, [], ◌∷◌, ◌++◌, Option, Some, None, Bool, true, false, refl, sym, ap, subst, arith, length, inl, inr, map, if◌then◌else◌}
 use Rattle.std.specs.Prelude.{◌⊎◌, ◌≢◌, All, Contains, slice_get}
 use Rattle.std.proofs.lemmas.Option.{slice_get_within}
+use Rattle.std.proofs.lemmas.Option.{same_Some}
 use Rattle.std.proofs.lemmas.List.Elements.{Contains-append_left, Contains-append_right}
 use Rattle.std.specs.List.{flat_map}
-use Rattle.std.specs.Cmp.Lexicographic.{bytes_decides}
 use Rattle.ig_text.proofs.Lists.{at_from_contains, get_within, mapped_in}
 use Rattle.ig_text.specs.Words.{is_word}
 use Rattle.ig_expr.specs.Expression.{Expression}
@@ -24,7 +24,7 @@ use Rattle.ig_grammar.specs.declared.place.Shape.{Shape}
 use Rattle.ig_grammar.specs.declared.place.Shape.TheVariants as shape
 use Rattle.ig_rewrite.specs.Asked.{Asks}
 use Rattle.ig_rewrite.specs.Found.{DeclarationsAreFound}
-use Rattle.std.proofs.lemmas.Option.{same_Some}
+use Rattle.std.specs.Cmp.Lexicographic.{bytes_decides}
 use Rattle.ig_rewrite.specs.Rooted.{is_root}
 use Rattle.ig_rewrite.specs.Unbound.{LacksName, own_binders, own_variables}
 use Rattle.ig_blocks_laws.specs.Setting.{Setting}
@@ -32,8 +32,8 @@ use Rattle.ig_blocks_laws.specs.Blocks.{is_marked, kind_called, setting_of}
 use Rattle.ig_blocks_laws.proofs.Reading.{IsWritten, Reads, AllRead, BindingsRead}
 use Rattle.ig_blocks_laws.proofs.Fitting.{IsKnown, IsFit, AreFit, AreFitChoices}
 use Rattle.ig_blocks_laws.proofs.Takes.{AreWritten}
-use Rattle.ig_blocks_laws.proofs.Parts.{own_part, inner_parts, parts_of_symbols, parts_of_alternatives}
 use Rattle.ig_text.proofs.Lists.{contains_first, contains_later}
+use Rattle.ig_grammar.specs.ByForm.{own_part, inner_parts, symbols_hold, alternatives_hold}
 use Rattle.ig_rewrite.specs.Throughout.{Placed, PlacedSymbols, PlacedChoices}
 use Rattle.ig_blocks_laws.proofs.Looking.{if_true, if_false}
 use Rattle.ig_blocks_laws.proofs.Taking.{called_from, root_or_not}
@@ -114,22 +114,6 @@ is_syntax Lexical f h = absurd (f tt)
 is_syntax Layout f h = absurd (f tt)
 is_syntax Plain f h = absurd (h refl)
 
--- the declaration of a name stands somewhere
-module _ (found : DeclarationsAreFound) where
-  pub found_at : (ds : List Decl) (name : List ℕ) (d : Decl) → declaration_of ds name ≡ Some d → (n : ℕ) × (slice_get ds n ≡ Some d) × (d.name ≡ name)
-  found_at [] name d e = let none : declaration_of [] name ≡ None = refl in absurd (cc)
-  found_at (x ∷ ds) name d e = go (is_word x.name name) refl (sym (found.first x ds name) ∙ e) (λ h. found_at ds name d h)
-    where
-      go : (b : Bool) → is_word x.name name ≡ b → (if is_word x.name name then Some x else declaration_of ds name) ≡ Some d →
-          (declaration_of ds name ≡ Some d → (n : ℕ) × (slice_get ds n ≡ Some d) × (d.name ≡ name)) →
-          (n : ℕ) × (slice_get (x ∷ ds) n ≡ Some d) × (d.name ≡ name)
-      go true t f later =
-          let one : Some x ≡ Some d = sym (if_true (is_word x.name name) (Some x) (declaration_of ds name) t) ∙ f in
-          let same : x ≡ d = cc in
-          (0, one, ap (λ (z : Decl). z.name) (sym same) ∙ (bytes_decides x.name name).0 t)
-      go false t f later =
-          let r = later (sym (if_false (is_word x.name name) (Some x) (declaration_of ds name) t) ∙ f) in (suc r.0, r.1, r.2)
-
 -- a symbol that gets what it asks, and that calls no declaration that stands for the root
 pub record IsGood (g : Grammar) (shapes : List Shape) (c : DeclKind) (v : Visible) (x : Symbol) : Type 0 where
   pub asks : Asks g.decls c v x
@@ -154,7 +138,7 @@ module _ (found : DeclarationsAreFound) (g : Grammar) (shapes : List Shape) (cou
   pub called_kind : (c : DeclKind) (v : Visible) (name : List ℕ) (arguments : List Expression) (d : Decl) → IsGood g shapes c v (Call name arguments) →
       declaration_of g.decls name ≡ Some d → kind_called g.decls shapes name ≡ Some d.kind
   called_kind c v name arguments d good e =
-      let at = found_at found g.decls name d e in
+      let at = found.place g.decls name d e in
       let within : at.0 < length g.decls = slice_get_within g.decls at.0 d at.1 in
       let sh = get_within shapes at.0 (omega (arith, within, counted)) in
       subst (λ z. kind_called g.decls shapes z ≡ Some d.kind) at.2 (called_from g.decls shapes place at.0 d sh.0 at.1 sh.1 (plain at.0 at.1 at.2 sh.0 sh.1 (root_or_not sh.0)))
@@ -218,9 +202,9 @@ module _ (found : DeclarationsAreFound) (g : Grammar) (shapes : List Shape) (cou
       pub symbols_fit : (xs : Symbols) (v : Visible) → PlacedSymbols Good xs v → All (Facts c) (subterms_of_symbols xs) → AreFit s c xs
       symbols_fit no_symbols v p all = tt
       symbols_fit (next_symbol x xs) v p all =
-          let r = parts_of_symbols (Facts c) (next_symbol x xs) all in (fits x v p.0 r.0, symbols_fit xs (v ++ binds v x) p.1 r.1)
+          let r = symbols_hold (Facts c) (next_symbol x xs) all in (fits x v p.0 r.0, symbols_fit xs (v ++ binds v x) p.1 r.1)
 
       choices_fit : (xs : Alternatives) (v : Visible) → PlacedChoices Good xs v → All (Facts c) (subterms_of_alternatives xs) → AreFitChoices s c xs
       choices_fit no_alternatives v p all = tt
       choices_fit (next_alternative xs others) v p all =
-          let r = parts_of_alternatives (Facts c) (next_alternative xs others) all in (symbols_fit xs v p.0 r.0, choices_fit others v p.1 r.1)
+          let r = alternatives_hold (Facts c) (next_alternative xs others) all in (symbols_fit xs v p.0 r.0, choices_fit others v p.1 r.1)

@@ -19,6 +19,7 @@ use Rattle.ig_grammar.specs.declared.declaration.Decl.{Decl}
 use Rattle.ig_grammar.specs.declared.grammar.Grammar.{Grammar}
 use Rattle.ig_grammar.specs.declared.place.Shape.{Shape}
 use Rattle.ig_grammar.specs.declared.place.Shape.TheVariants.{Root}
+use Rattle.ig_grammar.specs.Gathered.{listed_gathered}
 use Rattle.ig_blocks_laws.specs.Setting.{Setting, Pair, lacking, pair_for, pair_by}
 use Rattle.ig_blocks_laws.proofs.Reading.{IsSteady}
 use Rattle.ig_blocks_laws.proofs.Lowered.{Covered}
@@ -32,7 +33,7 @@ use Rattle.ig_blocks_laws.proofs.Takes.{TakesRoot}
 use Rattle.ig_blocks_laws.proofs.Looking.{same_word, if_true, if_false}
 use Rattle.ig_blocks_laws.proofs.Lowers.{lowers_sequence}
 use Rattle.ig_blocks_laws.proofs.Forth.{pair_steady}
-use Rattle.ig_blocks_laws.proofs.Remaking.{levelled_by, alternative_forth, alternative_back, listed_gathered, layout_at}
+use Rattle.ig_blocks_laws.proofs.Remaking.{levelled_by, alternative_forth, alternative_back, layout_at}
 
 pub zip_forth : (s : Setting) (shapes : List Shape) (ds : List Decl) (n : ℕ) (shape : Shape) (d : Decl) → slice_get shapes n ≡ Some shape →
     slice_get ds n ≡ Some d → slice_get (lowered_declarations s shapes ds) n ≡ Some (lowered_declaration s shape d)

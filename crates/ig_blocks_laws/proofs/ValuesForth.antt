@@ -5,6 +5,7 @@ use Rattle.ig_text.specs.declared.tag.Tag.{Tag}
 use Rattle.ig_text.specs.Lines.{column_of}
 use Rattle.ig_expr.specs.ValuedTree.{Tree, Trees, Node, none, more, one, join, bare_tree, bare_trees}
 use Rattle.ig_expr.specs.declared.value.Value.{Value}
+use Rattle.ig_expr.specs.JoinedTrees.{join-none}
 use Rattle.ig_grammar.specs.Symbol.{Symbol, Label, Guard, Entry, listed, gathered}
 use Rattle.ig_grammar.specs.Numbering.{tag_of}
 use Rattle.ig_grammar.specs.declared.declaration.DeclKind.{DeclKind}
@@ -31,10 +32,6 @@ use Rattle.ig_blocks_laws.proofs.Forth.{pair_steady, read_values, extra_had, no_
 use Rattle.ig_blocks_laws.proofs.Ordered.{IsOrdered, AllOrdered, ordered_parts, within_spans, binds_spans}
 use Rattle.ig_blocks_laws.proofs.Wholes as wholes
 use Rattle.ig_blocks_laws.proofs.Wholes.{Part, Parts, Boxed, Listed, parts_to, boxed, unmarked, listed_form, listed_box}
-
-join_none : (ts : Trees) → join ts none ≡ ts
-join_none none = refl
-join_none (more t ts) = ap (more t) (join_none ts)
 
 abbrev AreTests : List Symbol → Type 0
 AreTests [] = Unit {0}
@@ -124,7 +121,7 @@ module _ (s : Setting) (apart : AreApart s) (g g2 : Grammar) (shapes shapes2 : L
   -- tests before a symbol
   guarded : (c : DeclKind) (gs : List Symbol) (y : Symbol) (other left : Environment) (i e j : ℕ) (ts : Trees) → AreTests gs →
       Binds g2 shapes2 text c y other i e j ts left → Bind g2 shapes2 text c (listed (gathered (gs ++ y ∷ []))) other i j ts left
-  guarded c [] y other left i e j ts t d = a.next c y [] other left left i e j j ts none ts d (a.nothing c left j) (sym (join_none ts))
+  guarded c [] y other left i e j ts t d = a.next c y [] other left left i e j j ts none ts d (a.nothing c left j) (sym (join-none ts))
   guarded c (Guard condition ∷ gs) y other left i e j ts t d =
       a.next c (Guard condition) (listed (gathered (gs ++ y ∷ []))) other other left i i i j none ts ts
       (a.guard c condition other i) (guarded c gs y other left i e j ts t d) refl

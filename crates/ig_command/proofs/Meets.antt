@@ -8,6 +8,7 @@ use Rattle.ig_text.proofs.Booleans.{rest_true, first_true}
 use Rattle.ig_text.proofs.Options.{mapped}
 use Rattle.clap.specs.Lexer.{usize_max}
 use Rattle.clap.specs.Walk.{Rule, Text, arg_by_id, arg_by_index, arg_by_long}
+use Rattle.ig_text.proofs.Numbers.{itself_tested}
 use Rattle.ig_command.specs.Words.{Parts, Setting, is_equals, is_value, no_parts, parts_of, option_before, with_positional, with_setting}
 use Rattle.ig_command.specs.Commands.{are_among, values_of}
 use Rattle.ig_command.specs.Rows.{is_empty, may_stand}
@@ -187,15 +188,12 @@ filled_order : (u : Uses) (i : ℕ) (ps : List Text) (k : ℕ) (left : List Text
 filled_order u _ _ _ _ (here k left new) = omega arith
 filled_order u _ _ _ _ (there i id ids k left e f) = let h : i + 1 ≤ k = filled_order u (i + 1) ids k left f in omega (arith, h)
 
-itself : (k : ℕ) → (k == k) ≡ true
-itself k = grind arith
-
 below : (i k : ℕ) → i + 1 ≤ k → (i == k) ≡ false
 below i k e = grind arith
 
 filled_place : (u : Uses) (i : ℕ) (ps : List Text) (k : ℕ) (left : List Text) → Filled u i ps k left → place_at i ps k ≡ first left
 filled_place u _ _ _ _ (here k [] new) = refl
-filled_place u _ _ _ _ (here k (id ∷ left) new) = ap (λ b. if b then Some id else place_at (k + 1) left k) (itself k)
+filled_place u _ _ _ _ (here k (id ∷ left) new) = ap (λ b. if b then Some id else place_at (k + 1) left k) (itself_tested k)
 filled_place u _ _ _ _ (there i id ids k left e f) =
     ap (λ b. if b then Some id else place_at (i + 1) ids k) (below i k (filled_order u (i + 1) ids k left f)) ∙
     filled_place u (i + 1) ids k left f

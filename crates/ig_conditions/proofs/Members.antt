@@ -7,9 +7,6 @@ use Rattle.ig_grammar.specs.Binding.{Binding, binding_of}
 use Rattle.std.proofs.lemmas.List.Elements.{All-head, All-tail, All-more}
 use Rattle.std.proofs.lemmas.List.{length-map}
 
-pub refuted : {P : Type 0} (b : Bool) → IsTrue b ↔ P → b ≡ false → P → ⊥
-refuted b h f p = let t = h.1 p in true≢false (sym t ∙ f)
-
 pub member_found : {X Y : Type 0} (f : X → Y) (xs : List X) (i : ℕ) (x : X) → i < length xs → x ≡ get_or xs i x → Contains (map f xs) (f x)
 member_found f [] i x l e = let z : ⊥ = omega arith in absurd z
 member_found f (y ∷ xs) zero x l e = (0, omega arith, ap f (sym e))

@@ -5,7 +5,7 @@ use Rattle.std.specs.List.{list_any}
 use Rattle.std.specs.Cmp.Lexicographic.{bytes_decides}
 use Rattle.std.proofs.lemmas.Bool.Decides.{nat_tests}
 use Rattle.std.proofs.lemmas.List.{take-map, map_more}
-use Rattle.std.proofs.lemmas.Option.{slice_get-get_or}
+use Rattle.std.proofs.lemmas.Option.{slice_get-get_or, slice_get_within}
 use Rattle.std.proofs.lemmas.Bool.{or_right, not-true, not-false}
 use denote.Ref.{Bor}
 use Rattle.indexmap.specs.IndexSet.{insert_key}
@@ -134,13 +134,8 @@ names_more old new ps i x key b l e w h a t n =
 pub none_repeated : (keys : List (Bor (List ℕ))) (ps : List Param) (i : ℕ) → (i < length ps → ⊥) → HasNames keys ps i → IsTrue false ↔ HasRepeated ps
 none_repeated keys ps i l h = (
   (λ t. let z : false ≡ true = t in absurd (true≢false (sym z))),
-  (λ r. absurd (h.apart r.0 r.1 (let w = within ps r.0 r.1 r.2 in omega arith) r.2 r.3)),
+  (λ r. absurd (h.apart r.0 r.1 (let w = slice_get_within ps r.0 r.1 r.2 in omega arith) r.2 r.3)),
 )
-  where
-    within : (ps : List Param) (k : ℕ) (p : Param) → slice_get ps k ≡ Some p → k < length ps
-    within [] k p e = cc
-    within (x ∷ ps) zero p e = omega arith
-    within (x ∷ ps) (suc k) p e = let w = within ps k p e in omega arith
 
 pub none_yet : (keys : List (Bor (List ℕ))) (ps : List Param) → keys ≡ [] → HasNames keys ps 0
 none_yet keys ps e = record {

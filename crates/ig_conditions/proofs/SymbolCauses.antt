@@ -17,6 +17,7 @@ use Rattle.ig_grammar.specs.declared.declaration.Decl.{Decl}
 use Rattle.ig_conditions.specs.Causes.{Tells, NoneHolds}
 use Rattle.ig_text.proofs.Options.{not_none, one_value}
 use Rattle.ig_text.proofs.Lists.{none_in_nil, it_is_in, at_from_contains, contains_one}
+use Rattle.ig_text.proofs.Pairwise.{beside}
 use Rattle.ig_conditions.specs.Symbols.{HasUnknown, HasUnkinded, IsMismatched, TellsMark}
 use Rattle.ig_conditions.specs.declared.cause.ScopeCause.{ScopeCause}
 use Rattle.ig_conditions.specs.declared.cause.ScopeCause.TheVariants.{MarkInLexical}
@@ -240,15 +241,8 @@ module _ (decls : List Decl) (within : DeclKind) (v : Visible) where
     -- an argument that fits has a kind
     fitting : length es ≡ length callee.params → (IsMismatched v es callee.params → ⊥) → (k : ℕ) (e : Expression) → slice_get es k ≡ Some e → kind_at v e ≡ None → ⊥
     fitting a f k e s u =
-        let g = paired es callee.params k e a s in
+        let g = beside es callee.params k e (sym a) s in
         f (record { place = k; argument = e; parameter = g.0; argument_is = s; parameter_is = g.1; differ = λ t. not_none (kind_at v e) g.0.kind u t })
-      where
-        paired : (es : List Expression) (ps : List Param) (k : ℕ) (e : Expression) → length es ≡ length ps → slice_get es k ≡ Some e →
-            (p : Param) × (slice_get ps k ≡ Some p)
-        paired [] ps k e l s = cc
-        paired (x ∷ es) [] k e l s = let z : ⊥ = omega arith in absurd z
-        paired (x ∷ es) (p ∷ ps) zero e l s = (p, refl)
-        paired (x ∷ es) (p ∷ ps) (suc k) e l s = paired es ps k e (omega arith) s
 
     pub call_syntax : length es ≡ length callee.params → (HasUnknown v es → ⊥) → (IsMismatched v es callee.params → ⊥) → IsInLexical within → callee.kind ≡ Syntax →
         IsLeast (SymbolMeets decls within v (Call name es)) condition.SyntaxInLexical

@@ -6,8 +6,8 @@ use Rattle.std.proofs.lemmas.Option.{same_Some, slice_get_within}
 use Rattle.std.proofs.lemmas.List.Elements.{All-nil, All-cons}
 use Rattle.ig_text.specs.declared.tag.Tag.TheVariants as tag
 use Rattle.ig_text.specs.Tree.{Tree, Trees, Node}
-use Rattle.ig_text.proofs.Lists.{contains_from_at, mapped_at}
 use Rattle.ig_text.proofs.Pairwise.{beside}
+use Rattle.ig_text.proofs.Lists.{contains_from_at, mapped_at, only_one}
 use Rattle.ig_grammar.specs.Symbol.{Symbol, Call}
 use Rattle.ig_meaning.specs.Annotated.{Annotates}
 use Rattle.ig_meaning.specs.Environment.{values}
@@ -37,11 +37,11 @@ use Rattle.ig_core_laws.proofs.Scoped.{ready_has_core}
 use Rattle.ig_core_laws.proofs.Premises.{IsCalled, HasCore}
 use Rattle.ig_core_laws.specs.Ready.{IsReady}
 use Rattle.ig_core_laws.proofs.Numbers.{Target, Source, Numbers}
-use Rattle.ig_core_laws.proofs.Places.{kept, Origin, origin, root_cases, RootAt, NoRoot, found, there, nonterminal_at, nonterminal_was, alternative_at, alternative_was, only, with_level, same_tag}
 use Rattle.ig_rewrite.specs.EachLevel.{alternative_at as without_level}
 use Rattle.ig_core_laws.proofs.Forth.{leads}
 use Rattle.ig_core_laws.proofs.Values.{leaves}
 use Rattle.ig_core_laws.proofs.Back.{CoversFrom, covers}
+use Rattle.ig_core_laws.proofs.Places.{kept, Origin, origin, root_cases, RootAt, NoRoot, found, there, nonterminal_at, nonterminal_was, alternative_at, alternative_was, with_level, same_tag}
 
 -- a nonterminal of the core grammar, and its alternative
 pub record AtNumber (number : List ℕ → ℕ) (n k : ℕ) (x : Shaped) (nonterminal : Nonterminal) (made_of : CoreAlt) : Type 0 where
@@ -274,7 +274,7 @@ module _ (g : Grammar) (shapes : List Shape) (text : List ℕ) (has : HasCore g 
   first_alternative = record { alternative = record { symbols = start_symbols g g.start }; level = 1; assoc = Free }
 
   pub written_is : (k : ℕ) (a : Levelled) → IsAlternative (written_root g) k a → a.alternative.symbols ≡ start_calls
-  written_is k a is = ap (λ (z : Levelled). z.alternative.symbols) (sym (only first_alternative is.0 a is.2)) ∙ symbols_are
+  written_is k a is = ap (λ (z : Levelled). z.alternative.symbols) (sym (only_one first_alternative a is.0 is.2)) ∙ symbols_are
 
   pub unrooted_root : root_among g.decls shapes ≡ None → root_of g shapes ≡ written_root g
   unrooted_root none = ap (λ o. unwrap_or o (written_root g)) none

@@ -308,7 +308,3 @@ pub alternative_was : (number : List ℕ → ℕ) (shape : Shape) (n : ℕ) (alt
 alternative_was number shape n alts a made e =
     let from = alternative_from number shape n 1 alts a made e in
     (from.0, from.1, from.2 ∙ ap (λ (j : ℕ). alternative_of number shape n j from.0) (one_more a))
-
-pub only : {X : Type 0} (x : X) (n : ℕ) (y : X) → slice_get (x ∷ []) n ≡ Some y → x ≡ y
-only x zero y e = same_Some x y e
-only x (suc n) y e = cc

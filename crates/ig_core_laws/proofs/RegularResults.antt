@@ -2,13 +2,14 @@
 use Rattle.std.proofs.Common.{ℕ, ◌+◌, ◌*◌, ◌<◌, ◌≤◌, List, [], ◌∷◌, arith}
 use Rattle.std.specs.Prelude.{All}
 use Rattle.std.proofs.lemmas.List.Elements.{All-head, All-tail}
+use Rattle.ig_text.specs.Limits.{numbers_end}
 use Rattle.ig_grammar.specs.Checked.{CheckedGrammar}
 use Rattle.ig_grammar.specs.Laws.{RegularityByForm}
 use Rattle.ig_grammar.specs.Regular.{AlternativesStandWell, OfEachLevel, IsNoMark, IsRegular}
 use Rattle.ig_grammar.specs.Standing.{HasNoMark, SymbolsHaveNoMark}
-use Rattle.ig_grammar.specs.Counts.{HasFewerThan, counts_bound}
 use Rattle.ig_grammar.specs.Symbol.{Symbol, Literal, OneOf, Call, Label, Guard, Let, Filtered, gathered}
 use Rattle.ig_grammar.specs.declared.grammar.Grammar.{Grammar}
+use Rattle.ig_grammar.specs.Counts.{HasFewerThan}
 use Rattle.ig_rewrite.specs.EachLevel.{of_each_level}
 use Rattle.ig_rewrite.specs.Remaining.{IsRemaining, IsTerm, IsExcluding, Remains}
 use Rattle.ig_rewrite.specs.Sound.{IsUnmarked}
@@ -91,8 +92,8 @@ behind_filters = 2 * (behind_layout + 2)
 abbrev behind_lists : ℕ
 behind_lists = 3 * (behind_filters + 2)
 
-regular : (g : Grammar) (n : ℕ) → n ≤ counts_bound → OfEachLevel AlternativesStandWell g → PlainIsUnmarked g → HasFewerThan n g → IsRegular g
-regular g n h well unmarked few = record { well = well; unmarked = unmarked; counted = with_more n counts_bound g h few }
+regular : (g : Grammar) (n : ℕ) → n ≤ numbers_end → OfEachLevel AlternativesStandWell g → PlainIsUnmarked g → HasFewerThan n g → IsRegular g
+regular g n h well unmarked few = record { well = well; unmarked = unmarked; counted = with_more n numbers_end g h few }
 
 -- no mark is left, in plain declarations neither
 nowhere_marked : (g : Grammar) → IsUnmarked g → PlainIsUnmarked g

@@ -26,6 +26,7 @@ use Rattle.ig_rewrite.specs.Remaining.{IsRemaining}
 use Rattle.ig_text.proofs.Lists.{contains_first, contains_later, contains_from_at, at_from_contains, unmapped_at, in_take, mapped_at}
 use Rattle.ig_text.proofs.Orders.{neither_below, equal_unless}
 use Rattle.ig_text.proofs.Pairwise.{beside}
+use Rattle.ig_text.proofs.Emptiness.{empty_unless}
 use Rattle.ig_core_laws.proofs.Lookups.{declared_named}
 
 abbrev pub Any : List ℕ → ℕ → Type 0
@@ -79,10 +80,6 @@ remains_by May (Literal w) ok more = ok
 remains_by May (OneOf w) ok more = ok
 remains_by May (Call n es) ok more = more ok
 remains_by May x ok more = absurd ok
-
-no_parameters : (ps : List Param) → (ps ≢ [] → ⊥) → ps ≡ []
-no_parameters [] f = refl
-no_parameters (p ∷ ps) f = absurd (f (λ e. cc))
 
 -- no condition is met there, and no declaration of the root is called
 pub record Fine (g : Grammar) (shapes : List Shape) (decl : Decl) (o : Occurrence) : Type 0 where
@@ -173,7 +170,7 @@ module _ (g : Grammar) (shapes : List Shape) (scoped : IsWellScoped g) (fit : Fi
         h.1,
         h.3,
         h.4,
-        no_parameters h.1.params
+        empty_unless h.1.params
             (λ some. scoped (record { decl = 0; alt = 0; symbol = 0 }) condition.StartHasParameters (start_has_parameters start h.1 is h.2 some)),
       )
 

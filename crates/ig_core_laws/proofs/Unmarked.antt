@@ -4,6 +4,7 @@ use Rattle.std.specs.Prelude.{◌&&◌, pos}
 use Rattle.ig_expr.specs.Expression.{Integer, Variable, Binary}
 use Rattle.ig_expr.specs.declared.operator.Op.TheVariants.{GreaterEqual}
 use Rattle.std.proofs.lemmas.List.Elements.{All-nil, All-cons, All-head, All-tail, All-append, All-map, Contains-append_cases}
+use Rattle.ig_text.proofs.Lists.{contains_first, contains_later, contains_one, unmapped_in, none_in_nil}
 use Rattle.ig_grammar.specs.Alternative.{gathered_alternatives}
 use Rattle.ig_grammar.specs.Checked.{CheckedGrammar}
 use Rattle.ig_grammar.specs.Laws.{RegularityByForm}
@@ -21,10 +22,6 @@ use Rattle.ig_rewrite.specs.Rooted.{rooted, with_root, root_declaration, has_roo
 use Rattle.ig_rewrite.specs.Sound.{IsSound, IsUnmarked}
 use Rattle.ig_levels_laws.specs.Levels.{Pair, Place, no_pair, pair_at, pair_arguments, with_pair, in_symbols, in_alternatives, is_test, has_left, has_right, lowered, test_of, place_in, lowered_alternative, one_level, lowered_declaration, names_levelled, LevelsOf}
 use Rattle.ig_blocks_laws.specs.Laws.{PlainIsUnmarked}
-use Rattle.ig_text.proofs.Lists.{contains_first, contains_later, contains_one, unmapped_in}
-
-none_among : {X : Type 0} (x : X) → Contains {X = X} [] x → ⊥
-none_among x here = absurd (omega (arith, here.1))
 
 module _ (law : RegularityByForm) where
   module _ (levelled : List ℕ → Bool) where
@@ -133,7 +130,7 @@ module _ (law : RegularityByForm) where
       (by_levels others (λ l here. each l (contains_later level others l here)))
 
   one_is : (levels : List Level) (alts : List Alt) (level : Level) → Contains (one_level levels alts) level → level.alts ≡ alts
-  one_is [] alts level here = absurd (none_among level here)
+  one_is [] alts level here = absurd (none_in_nil level here)
   one_is (l ∷ levels) alts level here = ap (λ (z : Level). z.alts) (contains_one _ level here)
 
   declaration_kept : (levelled : List ℕ → Bool) (decl : Decl) →

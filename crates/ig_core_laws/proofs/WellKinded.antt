@@ -10,6 +10,7 @@ use Rattle.ig_text.specs.declared.tag.Tag.TheVariants as tag
 use Rattle.ig_text.specs.TagNumber as tag_number
 use Rattle.ig_text.proofs.Lists.{contains_from_at, at_from_contains, in_take}
 use Rattle.ig_text.proofs.Orders.{neither_below}
+use Rattle.ig_text.proofs.Numbers.{from_zero}
 use Rattle.ig_grammar.specs.Symbol.{Symbol, Call, Seq}
 use Rattle.ig_grammar.specs.Visible.{names, kinds, parameters}
 use Rattle.ig_grammar.specs.Condition.{duplicate_parameter}
@@ -104,9 +105,6 @@ unrooted_few (d ∷ decls) (s ∷ shapes) = go (is_root s) (unrooted_few decls s
         length (if b then unrooted decls shapes else shaped d s ∷ unrooted decls shapes) ≤ suc (length decls)
     go true h = omega (arith, h)
     go false h = omega (arith, h)
-
-from_zero : (m : ℕ) → 0 + m ≡ m
-from_zero m = omega arith
 
 param_names : (ps : List Param) → names (parameters ps) ≡ map (λ p. p.name) ps
 param_names [] = refl

@@ -7,7 +7,8 @@
 //!
 //! The law `core_trees_are_permitted_trees`: for every text and tree, the tree is one of a
 //! grammar's core grammar exactly where the grammar permits it, for every grammar that the passes
-//! take. The law `notation_is_buildable`: they take every well-scoped grammar of the notation.
+//! take and whose lists are so few that numbers tell the added names apart. The law
+//! `notation_is_buildable`: they take every well-scoped grammar of the notation.
 #![tactic(auto)]
 
 mod laws;

@@ -13,7 +13,6 @@ use Rattle.ig_ebnf_laws.proofs.Environments.{entered_agrees, binds_parameters, h
 use Rattle.ig_ebnf_laws.proofs.AddedInstances.{chosen_from}
 use Rattle.ig_ebnf_laws.proofs.InstanceParts.{nothing_of, two, opened, form_holds, bound_wanted, uses_mapped, NoneBinds}
 use Rattle.ig_ebnf_laws.proofs.InstanceParts.{none_binds}
-use Rattle.ig_ebnf_laws.proofs.Elements.{listed_gathered, declared_first, declared_second, ready, all_ready}
 use Rattle.ig_ebnf_laws.proofs.Elements.{elements_need, elements_want, all_elements_want, sources, standing, reaching}
 use Rattle.ig_ebnf_laws.specs.Lists.{count, params_for, arguments, argument, Element, elements, all_elements, entering}
 use Rattle.ig_ebnf_laws.specs.Lists.{new_symbol}
@@ -47,8 +46,10 @@ use Rattle.ig_text.proofs.Trees.{join_join}
 use Rattle.ig_expr.specs.declared.value.Value.TheVariants as value
 use Rattle.ig_grammar.specs.Visible as visible
 use Rattle.ig_grammar.specs.declared.place.Shape.TheVariants as shape
+use Rattle.ig_grammar.specs.Gathered.{listed_gathered}
 use Rattle.ig_ebnf_laws.proofs.HigherDerivations.{part, plain_quiet, nothing_needed, IsList, of_list, trails_from, not_lexical, form_not_lexical}
 use Rattle.ig_ebnf_laws.proofs.HigherDerivations as higher
+use Rattle.ig_ebnf_laws.proofs.Elements.{declared_first, declared_second, ready, all_ready}
 
 module _ (g g' : Grammar) (shapes shapes' : List Shape) (May : List ℕ → Type 0) (text : List ℕ)
     (takes : Takes g g' shapes shapes' May) where

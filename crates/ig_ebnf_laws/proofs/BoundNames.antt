@@ -3,7 +3,6 @@ use Rattle.ig_grammar.specs.Visible.{kind_at}
 use Rattle.std.proofs.Common.{ℕ, List, [], ◌∷◌, ◌++◌, sym, subst}
 use Rattle.ig_ebnf_laws.proofs.Definitions.{Proper, SymbolsProper}
 use Rattle.ig_ebnf_laws.proofs.Environments.{Adds, adds_nothing, adds_one, adds_both}
-use Rattle.ig_ebnf_laws.proofs.Elements.{gathered_listed}
 use Rattle.ig_expr.specs.declared.kind.Kind.TheVariants.{Span}
 use Rattle.ig_grammar.specs.Symbol.{Symbol, gathered}
 use Rattle.ig_grammar.specs.Visible.{Visible, binds, all_bind, bound}
@@ -16,6 +15,7 @@ use Rattle.ig_meaning.specs.Derivation.{present, star, plus, sep_star, sep_plus,
 use Rattle.ig_meaning.specs.Derivation.{filtered, sequence, entry}
 use Rattle.ig_meaning.specs.Environment.{Environment}
 use Rattle.ig_text.specs.Tree.{Trees}
+use Rattle.ig_grammar.specs.Gathered.{gathered_listed}
 
 module _ (g : Grammar) (shapes : List Shape) (May : List ℕ → Type 0) (text : List ℕ) where
   mutual

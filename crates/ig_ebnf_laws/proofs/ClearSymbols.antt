@@ -3,7 +3,7 @@ use Rattle.std.proofs.Common.{◌≡◌, ℕ, zero, suc, List, [], ◌∷◌, �
 use Rattle.std.specs.Prelude.{All, slice_get}
 use Rattle.std.proofs.lemmas.Option.{same_Some}
 use Rattle.std.proofs.lemmas.List.Elements.{All-nil, All-cons, All-head, All-tail}
-use Rattle.ig_text.proofs.Lists.{both_empty}
+use Rattle.ig_text.proofs.Lists.{both_empty, halves}
 use Rattle.ig_grammar.specs.Symbol.{Symbol, Literal, OneOf, Call, Label, Guard, Let, Opt, Star, Plus, SepStar}
 use Rattle.ig_grammar.specs.Symbol.{SepPlus, Group, Offside, Ignore, Align}
 use Rattle.ig_grammar.specs.Symbol.{Filtered, Seq, Entry, Symbols, no_symbols, next_symbol, Alternatives}
@@ -52,13 +52,6 @@ abbrev mutual
   AlternativesClear no_alternatives = Unit {0}
   AlternativesClear (next_alternative xs others) = SymbolsClear xs × AlternativesClear others
 
--- what holds of all elements of two lists holds of those of each
-pub all_split : {X : Type 0} (P : X → Type 0) (xs ys : List X) → All P (xs ++ ys) → All P xs × All P ys
-all_split P [] ys h = (All-nil P, h)
-all_split P (x ∷ xs) ys h =
-    let below = all_split P xs ys (All-tail P x (xs ++ ys) h) in
-    (All-cons P x xs (All-head P x (xs ++ ys) h) below.0, below.1)
-
 mutual
   clear : (x : Symbol) → All IsFit (subterms x) → Clear x
   clear (Literal w) h = tt
@@ -73,11 +66,11 @@ mutual
   clear (Plus x) h = clear x (All-tail IsFit (Plus x) (subterms x) h)
   clear (SepStar x s) h =
       let parts =
-      all_split IsFit (subterms x) (subterms s) (All-tail IsFit (SepStar x s) (subterms x ++ subterms s) h) in
+      halves IsFit (subterms x) (subterms s) (All-tail IsFit (SepStar x s) (subterms x ++ subterms s) h) in
       (clear x parts.0, clear s parts.1, (All-head IsFit (SepStar x s) (subterms x ++ subterms s) h).placed.1.3)
   clear (SepPlus x s) h =
       let parts =
-      all_split IsFit (subterms x) (subterms s) (All-tail IsFit (SepPlus x s) (subterms x ++ subterms s) h) in
+      halves IsFit (subterms x) (subterms s) (All-tail IsFit (SepPlus x s) (subterms x ++ subterms s) h) in
       (clear x parts.0, clear s parts.1, (All-head IsFit (SepPlus x s) (subterms x ++ subterms s) h).placed.1.3)
   clear (Group ys) h = alternatives_clear ys (All-tail IsFit (Group ys) (subterms_of_alternatives ys) h)
   clear (Offside x) h = absurd (All-head IsFit (Offside x) (subterms x) h).bare
@@ -94,13 +87,13 @@ mutual
   symbols_clear : (xs : Symbols) → All IsFit (subterms_of_symbols xs) → SymbolsClear xs
   symbols_clear no_symbols h = tt
   symbols_clear (next_symbol x xs) h =
-      let parts = all_split IsFit (subterms x) (subterms_of_symbols xs) h in
+      let parts = halves IsFit (subterms x) (subterms_of_symbols xs) h in
       (clear x parts.0, symbols_clear xs parts.1)
 
   alternatives_clear : (ys : Alternatives) → All IsFit (subterms_of_alternatives ys) → AlternativesClear ys
   alternatives_clear no_alternatives h = tt
   alternatives_clear (next_alternative xs ys) h =
-      let parts = all_split IsFit (subterms_of_symbols xs) (subterms_of_alternatives ys) h in
+      let parts = halves IsFit (subterms_of_symbols xs) (subterms_of_alternatives ys) h in
       (symbols_clear xs parts.0, alternatives_clear ys parts.1)
 
 -- each alternative of a level
@@ -111,12 +104,12 @@ clear_at [] m a h e = absurd (cc)
 clear_at (b ∷ alts) zero a h e =
     let same : b ≡ a = same_Some b a e in
     let parts =
-    all_split IsFit (subterms_of_symbols (gathered b.symbols))
+    halves IsFit (subterms_of_symbols (gathered b.symbols))
     (subterms_of_alternatives (gathered_alternatives alts)) h in
     subst (λ (z : Alt). SymbolsClear (gathered z.symbols)) same (symbols_clear (gathered b.symbols) parts.0)
 clear_at (b ∷ alts) (suc m) a h e =
     clear_at alts m a
-    (all_split IsFit (subterms_of_symbols (gathered b.symbols))
+    (halves IsFit (subterms_of_symbols (gathered b.symbols))
     (subterms_of_alternatives (gathered_alternatives alts)) h).1 e
 
 -- a symbol that binds no name binds nothing

@@ -3,6 +3,7 @@ use Rattle.std.proofs.Common.{◌≡◌, ◌∙◌, ℕ, suc, ◌+◌, ◌*◌, 
 use Rattle.std.specs.Prelude.{All}
 use Rattle.std.proofs.lemmas.List.{map-append}
 use Rattle.std.proofs.lemmas.List.Elements.{All-head, All-tail}
+use Rattle.ig_text.proofs.Lists.{halves}
 use Rattle.ig_grammar.specs.Laws.{CountsByForm}
 use Rattle.ig_grammar.specs.Regular.{FitsRound, IsNoMark}
 use Rattle.ig_grammar.specs.Counts.{alternatives_among, alternatives_inside}
@@ -17,7 +18,6 @@ use Rattle.ig_rewrite.specs.Counts.{alternatives_of_levels, parts_of_levels}
 use Rattle.ig_ebnf_laws.specs.Lists.{added, added_alternatives, added_symbols, all_elements, count, count_symbols}
 use Rattle.ig_ebnf_laws.specs.Lists.{elements, new, new_alternatives, new_element, new_symbol, new_symbols}
 use Rattle.ig_ebnf_laws.specs.Lists.{sep_plus_alternatives}
-use Rattle.ig_ebnf_laws.proofs.ClearSymbols.{all_split}
 use Rattle.ig_ebnf_laws.proofs.Counting.{total, total_joined, made_alternatives, made_parts, level_alternatives, level_parts, level_of}
 use Rattle.ig_ebnf_laws.proofs.Definitions.{IsSingle}
 use Rattle.ig_ebnf_laws.proofs.ProperSymbols.{may_filters, may_label}
@@ -238,7 +238,7 @@ module _ (by_form : CountsByForm) (of : List ℕ) where
         (omega (arith, p))
     symbol_fits (SepPlus x s) v k h =
         let premises =
-        all_split IsCounted (subterms x) (subterms s)
+        halves IsCounted (subterms x) (subterms s)
         (All-tail IsCounted (SepPlus x s) (subterms x ++ subterms s) h) in
         let l = suc k + count x in
         let w = symbol_fits x v (suc k) premises.0 in
@@ -251,7 +251,7 @@ module _ (by_form : CountsByForm) (of : List ℕ) where
         (omega (arith, p, q))
     symbol_fits (SepStar x s) v k h =
         let premises =
-        all_split IsCounted (subterms x) (subterms s)
+        halves IsCounted (subterms x) (subterms s)
         (All-tail IsCounted (SepStar x s) (subterms x ++ subterms s) h) in
         let l = suc (suc k) + count x in
         let w = symbol_fits x v (suc (suc k)) premises.0 in
@@ -279,7 +279,7 @@ module _ (by_form : CountsByForm) (of : List ℕ) where
         (total made_alternatives (added_symbols of v k xs)) (total made_parts (added_symbols of v k xs))
     symbols_fit no_symbols v k h = nothing
     symbols_fit (next_symbol x xs) v k h =
-        let premises = all_split IsCounted (subterms x) (subterms_of_symbols xs) h in
+        let premises = halves IsCounted (subterms x) (subterms_of_symbols xs) h in
         let u = v ++ binds v x in
         let l = k + count x in
         let stand = map-append (new_element of) (elements v k x) (all_elements u l xs) in
@@ -298,7 +298,7 @@ module _ (by_form : CountsByForm) (of : List ℕ) where
         (total made_parts (added_alternatives of v k ys))
     choices_fit no_alternatives v k h = nothing
     choices_fit (next_alternative xs ys) v k h =
-        let premises = all_split IsCounted (subterms_of_symbols xs) (subterms_of_alternatives ys) h in
+        let premises = halves IsCounted (subterms_of_symbols xs) (subterms_of_alternatives ys) h in
         let l = k + count_symbols xs in
         choice (symbols_fit xs v k premises.0) (choices_fit ys v l premises.1)
         (by_form.parts_among_alternatives (next_alternative xs ys)) (by_form.further_alternative xs ys)

@@ -20,14 +20,6 @@ use Rattle.ig_rewrite.specs.Needs.{needs, symbols_need}
 use Rattle.ig_text.specs.Tree.{Trees, none, join}
 use Rattle.ig_text.proofs.Trees.{join-none, join_join}
 
-pub gathered_listed : (xs : Symbols) → gathered (listed xs) ≡ xs
-gathered_listed no_symbols = refl
-gathered_listed (next_symbol x xs) = ap (next_symbol x) (gathered_listed xs)
-
-pub listed_gathered : (xs : List Symbol) → listed (gathered xs) ≡ xs
-listed_gathered [] = refl
-listed_gathered (x ∷ xs) = ap (λ z. x ∷ z) (listed_gathered xs)
-
 abbrev pub sources : List Element → List Symbol
 sources [] = []
 sources (e ∷ es) = e.x ∷ sources es

@@ -14,7 +14,6 @@ use Rattle.ig_ebnf_laws.proofs.Environments.{keeps_both, keeps_append, binds_mor
 use Rattle.ig_ebnf_laws.proofs.Environments.{zipped, enter, entered_agrees, binds_parameters, has_params, held_by, valued}
 use Rattle.ig_ebnf_laws.proofs.AddedInstances.{instance_of, calling, bare as bare_end, no_trail, swapped, chosen_to}
 use Rattle.ig_ebnf_laws.proofs.AddedInstances.{form_call}
-use Rattle.ig_ebnf_laws.proofs.Elements.{gathered_listed, joined, declared_first, declared_second}
 use Rattle.ig_ebnf_laws.specs.Lists.{count, params_for, arguments, argument, element, elements, all_elements, entering}
 use Rattle.ig_ebnf_laws.specs.Lists.{new_symbol, new_element, new}
 use Rattle.ig_ebnf_laws.specs.Lists.{new_symbols, new_alternatives, sep_plus_alternatives, added, added_symbols}
@@ -40,6 +39,8 @@ use Rattle.ig_text.specs.Tree.{Tree, Trees, Node, none, more, one}
 use Rattle.ig_text.proofs.Trees.{join-none}
 use Rattle.ig_grammar.specs.Visible as visible
 use Rattle.ig_grammar.specs.declared.place.Shape.TheVariants as shape
+use Rattle.ig_grammar.specs.Gathered.{gathered_listed}
+use Rattle.ig_ebnf_laws.proofs.Elements.{joined, declared_first, declared_second}
 
 pub form_single : (x : Symbol) → IsForm x → IsSingle x
 form_single (Opt x) f = tt

@@ -21,7 +21,6 @@ use Rattle.ig_ebnf_laws.proofs.ValuedForth.{bind_to, same_values}
 use Rattle.ig_ebnf_laws.proofs.LoweredGrammar.{takes_of}
 use Rattle.ig_ebnf_laws.proofs.AddedNames.{all_plain}
 use Rattle.ig_ebnf_laws.proofs.InstanceParts.{nothing_of}
-use Rattle.ig_ebnf_laws.proofs.Elements.{all_ready, reaching, listed_gathered}
 use Rattle.ig_ebnf_laws.specs.Lists.{added_symbols, lowered, lowered_grammar, Made, new_declaration, new_symbols}
 use Rattle.ig_ebnf_laws.specs.Lists.{all_elements, all_added, decls_of, forms_of}
 use Rattle.ig_grammar.specs.Numbering.{Levelled, Declares, IsAlternative}
@@ -38,6 +37,8 @@ use Rattle.ig_meaning.specs.Laws.{HasNoOperators}
 use Rattle.ig_meaning.specs.Permitted.{Permitted, IsRootAlternative, written, declared, behind_layout}
 use Rattle.ig_text.specs.Tree.{Tree, Trees, Node, join}
 use Rattle.ig_grammar.specs.declared.place.Shape.TheVariants as shape
+use Rattle.ig_grammar.specs.Gathered.{listed_gathered}
+use Rattle.ig_ebnf_laws.proofs.Elements.{all_ready, reaching}
 
 module _ (clean_tree : TreesWithoutOperatorsAreClean) (g : Grammar) (shapes : List Shape) (text : List ℕ)
     (may : MayBeLowered g shapes) where

@@ -21,9 +21,9 @@ use Rattle.ig_grammar.specs.Symbol.{Filtered, Seq, Entry, Symbols, no_symbols, n
 use Rattle.ig_grammar.specs.Visible.{Visible, binds, all_bind, bound, kind_at, inside, inside_sequence, at}
 use Rattle.ig_grammar.specs.declared.declaration.DeclKind.{DeclKind}
 use Rattle.ig_grammar.specs.declared.grammar.Grammar.{Grammar}
-use Rattle.ig_rewrite.specs.Forms.{label_of_filtered}
 use Rattle.ig_text.specs.Words.{is_word}
 use Rattle.ig_text.proofs.Characters.{differs}
+use Rattle.ig_grammar.specs.Forms.{label_of_filtered}
 
 unlabelled : (x : Symbol) (v : Visible) → MayHaveLabel x → Clear x → binds v x ≡ []
 unlabelled (Literal w) v h clear = refl

@@ -6,10 +6,10 @@ use Rattle.std.specs.List.{flat_map}
 use Rattle.std.proofs.lemmas.List.{map-append}
 use Rattle.std.proofs.lemmas.List.Elements.{All-nil, All-cons, All-head, All-tail, All-append, Contains-append_cases}
 use Rattle.std.proofs.lemmas.List.Elements.{Contains-push_cases}
-use Rattle.ig_text.proofs.Lists.{at_from_contains, contains_first, contains_from_at, contains_later, contains_one, from_map}
 use Rattle.ig_text.proofs.Lists.{none_in_nil}
 use Rattle.ig_text.specs.Words.{is_word}
 use Rattle.ig_text.specs.Pattern.{HasNoEmptyLiteral}
+use Rattle.ig_text.proofs.Lists.{at_from_contains, contains_first, contains_from_at, contains_later, contains_one, from_map, halves}
 use Rattle.ig_expr.specs.Expression.{patterns_in}
 use Rattle.ig_grammar.specs.Alternative.{gathered_alternatives}
 use Rattle.ig_grammar.specs.Binding.{Binding}
@@ -40,7 +40,6 @@ use Rattle.ig_ebnf_laws.specs.Lists.{all_added, all_elements, alts_of, argument,
 use Rattle.ig_ebnf_laws.specs.Lists.{count_symbols, decls_of, elements, entering, lowered_grammar, new, new_alternatives}
 use Rattle.ig_ebnf_laws.specs.Lists.{new_alts, new_declaration, new_element, new_levels, new_symbol, new_symbols, params_for}
 use Rattle.ig_ebnf_laws.specs.Lists.{sep_plus_alternatives}
-use Rattle.ig_ebnf_laws.proofs.ClearSymbols.{all_split}
 use Rattle.ig_ebnf_laws.proofs.OfAdded.{OfAdded, of_added_at, of_added_both, by_declarations}
 
 abbrev AllStand : List Symbol → Type 0
@@ -98,7 +97,7 @@ argument_placed : (bs : List Binding) → All HasNoEmptyLiteral (flat_map patter
 argument_placed [] h n = All-nil HasNoEmptyLiteral
 argument_placed (b ∷ bs) h n =
     let parts =
-    all_split HasNoEmptyLiteral (patterns_in b.value) (flat_map patterns_in (map (λ (z : Binding). z.value) bs)) h in
+    halves HasNoEmptyLiteral (patterns_in b.value) (flat_map patterns_in (map (λ (z : Binding). z.value) bs)) h in
     go (is_word b.name n) parts.0 (argument_placed bs parts.1 n)
   where
     go : (chosen : Bool) → All HasNoEmptyLiteral (patterns_in b.value) →
@@ -154,7 +153,7 @@ module _ (of : List ℕ) where
     news_stand no_symbols v k h = tt
     news_stand (next_symbol x xs) v k h =
         let u = v ++ binds v x in
-        let parts = all_split IsPlaced (subterms x) (subterms_of_symbols xs) h in
+        let parts = halves IsPlaced (subterms x) (subterms_of_symbols xs) h in
         subst AllStand (sym (map-append (new_element of) (elements v k x) (all_elements u (k + count x) xs)))
         (both_stand (new of v k x) (new_symbols of u (k + count x) xs) (new_stand x v k parts.0)
         (news_stand xs u (k + count x) parts.1))
@@ -212,14 +211,14 @@ module _ (of : List ℕ) where
         )
     added_stand (SepPlus x s) v k h =
         let parts =
-        all_split IsPlaced (subterms x) (subterms s) (All-tail IsPlaced (SepPlus x s) (subterms x ++ subterms s) h) in (
+        halves IsPlaced (subterms x) (subterms s) (All-tail IsPlaced (SepPlus x s) (subterms x ++ subterms s) h) in (
           only_level (sep_plus_alternatives of v k x s) (plus_stands x s v k parts.0 parts.1),
           of_added_both MadeStands (added of v (suc k) x) (added of v (suc k + count x) s)
               (added_stand x v (suc k) parts.0) (added_stand s v (suc k + count x) parts.1),
         )
     added_stand (SepStar x s) v k h =
         let parts =
-        all_split IsPlaced (subterms x) (subterms s) (All-tail IsPlaced (SepStar x s) (subterms x ++ subterms s) h) in
+        halves IsPlaced (subterms x) (subterms s) (All-tail IsPlaced (SepStar x s) (subterms x ++ subterms s) h) in
         let list = bare_call (suc k) v (λ n. needs n (SepPlus x s)) in (
           only_level ([] ∷ (new_symbol of v (suc k) (SepPlus x s) ∷ []) ∷ []) (tt, ((list, tt), tt)),
           (
@@ -237,7 +236,7 @@ module _ (of : List ℕ) where
     symbols_add no_symbols v k h = tt
     symbols_add (next_symbol x xs) v k h =
         let u = v ++ binds v x in
-        let parts = all_split IsPlaced (subterms x) (subterms_of_symbols xs) h in
+        let parts = halves IsPlaced (subterms x) (subterms_of_symbols xs) h in
         of_added_both MadeStands (added of v k x) (added_symbols of u (k + count x) xs) (added_stand x v k parts.0)
         (symbols_add xs u (k + count x) parts.1)
 
@@ -245,7 +244,7 @@ module _ (of : List ℕ) where
         ChoicesStand (new_alternatives of v k ys) × OfAdded MadeStands (added_alternatives of v k ys)
     choices_add no_alternatives v k h = (tt, tt)
     choices_add (next_alternative xs ys) v k h =
-        let parts = all_split IsPlaced (subterms_of_symbols xs) (subterms_of_alternatives ys) h in
+        let parts = halves IsPlaced (subterms_of_symbols xs) (subterms_of_alternatives ys) h in
         let rest = choices_add ys v (k + count_symbols xs) parts.1 in (
           (news_stand xs v k parts.0, rest.0),
           of_added_both MadeStands (added_symbols of v k xs) (added_alternatives of v (k + count_symbols xs) ys)
@@ -261,7 +260,7 @@ module _ (of : List ℕ) where
       let xs = gathered a.symbols in
       let l = k + count_symbols xs in
       let parts =
-      all_split IsPlaced (subterms_of_symbols xs) (subterms_of_alternatives (gathered_alternatives alts)) h in
+      halves IsPlaced (subterms_of_symbols xs) (subterms_of_alternatives (gathered_alternatives alts)) h in
       let rest = alts_stand alts v l parts.1 in (
         All-append IsPlaced (subterms_of_symbols (gathered (new_symbols of v k xs)))
             (subterms_of_alternatives (gathered_alternatives (new_alts of v l alts)))

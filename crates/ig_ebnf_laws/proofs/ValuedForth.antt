@@ -7,7 +7,6 @@ use Rattle.std.proofs.lemmas.Bool.{or_left, or_right, and_parts, and_from}
 use Rattle.ig_ebnf_laws.proofs.AddedInstances.{alternative_at, form_call}
 use Rattle.ig_ebnf_laws.proofs.Definitions.{has, find, Binds as Shows, Agree, Keeps, Quiet, Proper, SymbolsProper, AllDeclared}
 use Rattle.ig_ebnf_laws.proofs.Definitions.{IsForm, IsSingle, Takes}
-use Rattle.ig_ebnf_laws.proofs.Elements.{gathered_listed, declared_first, declared_second}
 use Rattle.ig_ebnf_laws.proofs.EntryValues.{binds_replaced, argument_value, arguments_to}
 use Rattle.ig_ebnf_laws.proofs.Environments.{Adds, adds_nothing, adds_one, adds_both, binds_more, binds_parameters, bound_to}
 use Rattle.ig_ebnf_laws.proofs.Environments.{keeps_append, has_to, have_to, held, holding, params_wanted, has_params, enter}
@@ -19,6 +18,7 @@ use Rattle.ig_ebnf_laws.specs.Lists.{made, new_symbol, new_element, new, new_sym
 use Rattle.ig_expr.specs.ValuedTree.{Tree, Trees, Node, none, more, one, join}
 use Rattle.ig_expr.specs.declared.kind.Kind.TheVariants.{Span}
 use Rattle.ig_expr.specs.declared.value.Value.{Value}
+use Rattle.ig_expr.specs.JoinedTrees.{join_join, join-none}
 use Rattle.ig_grammar.specs.Numbering.{tag_of}
 use Rattle.ig_grammar.specs.Symbol.{Symbol, gathered}
 use Rattle.ig_grammar.specs.Visible.{Visible, binds, all_bind, bound, kind_at, parameters}
@@ -28,6 +28,7 @@ use Rattle.ig_grammar.specs.declared.declaration.DeclKind.{DeclKind}
 use Rattle.ig_grammar.specs.declared.declaration.DeclKind.TheVariants.{Plain}
 use Rattle.ig_grammar.specs.declared.grammar.Grammar.{Grammar}
 use Rattle.ig_grammar.specs.declared.place.Shape.{Shape}
+use Rattle.ig_grammar.specs.Gathered.{gathered_listed}
 use Rattle.ig_meaning.specs.Annotated as a
 use Rattle.ig_meaning.specs.Annotated.{bound_between, Bind, Binds, BindApart, Within, Behind}
 use Rattle.ig_meaning.specs.Derivation.{span_value}
@@ -35,15 +36,7 @@ use Rattle.ig_meaning.specs.Environment.{Environment, values}
 use Rattle.ig_rewrite.specs.Added.{added_name}
 use Rattle.ig_rewrite.specs.Grown.{values_behind}
 use Rattle.ig_rewrite.specs.Needs.{needs, symbols_need, bindings_use, is_bound}
-
--- lists of trees, joined
-join_assoc : (ts us vs : Trees) → join (join ts us) vs ≡ join ts (join us vs)
-join_assoc none us vs = refl
-join_assoc (more t ts) us vs = ap (more t) (join_assoc ts us vs)
-
-join_none : (ts : Trees) → join ts none ≡ ts
-join_none none = refl
-join_none (more t ts) = ap (more t) (join_none ts)
+use Rattle.ig_ebnf_laws.proofs.Elements.{declared_first, declared_second}
 
 -- both environments grow by the same
 pub record Grown (env env' after left : Environment) : Type 0 where
@@ -101,7 +94,7 @@ module _ (g : Grammar) (shapes : List Shape) (text : List ℕ) where
   joined {ys = ys} {after = after} {us = us} (a.next c x others env between out i e h j ts rs vs head rest trees)
       second =
       a.next c x (others ++ ys) env between after i e h _ ts (join rs us) _ head (joined rest second)
-      (ap (λ z. join z us) trees ∙ join_assoc ts rs us)
+      (ap (λ z. join z us) trees ∙ join_join ts rs us)
 
   pub record Bare (e j : ℕ) (us : Trees) : Type 0 where
     pub place : e ≡ j
@@ -198,7 +191,7 @@ module _ (g g' : Grammar) (shapes shapes' : List Shape) (May : List ℕ → Type
               subst (λ z. Bind g' shapes' text c (map (new_element of) z) env' i j ts here.left)
               (sym (lone_element v k x single))
               (a.next c (new_symbol of v k x) [] env' here.left here.left i e j j ts none ts here.binds
-              (a.nothing c here.left j) (sym (join_none ts)));
+              (a.nothing c here.left j) (sym (join-none ts)));
           grown = here.grown;
         };
         single = λ s. here;

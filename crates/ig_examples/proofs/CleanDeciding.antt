@@ -16,6 +16,8 @@ use Rattle.ig_meaning.specs.Clean.{Applies, EndsInOperand, BeginsWithOperand, On
 use Rattle.ig_grammar.specs.declared.declaration.Decl.{Decl}
 use Rattle.ig_grammar.specs.declared.grammar.Grammar.{Grammar}
 use Rattle.ig_examples.proofs.Choosing.{IsAmong}
+use Rattle.ig_text.proofs.Characters.{itself}
+use Rattle.ig_text.proofs.Trees.{never_none}
 
 module _ (name : List ℕ) where
   abbrev is_plain_call : Symbol → Bool
@@ -41,12 +43,9 @@ module _ (name : List ℕ) where
   ends_with_call (x ∷ y ∷ ys) = last_is_call y ys
   ends_with_call xs = false
 
-  is_own : is_word name name ≡ true
-  is_own = (bytes_decides name name).1 refl
-
   called : {x : Symbol} → Calls name x → is_call x ≡ true
-  called (plain arguments) = is_own
-  called (labelled label arguments) = is_own
+  called (plain arguments) = itself name
+  called (labelled label arguments) = itself name
 
   plain_calls : (label : List ℕ) (x : Symbol) → is_plain_call x ≡ true → Calls name (Label label x)
   plain_calls label (Call n arguments) h =
@@ -336,17 +335,13 @@ module _ (g : Grammar) where
   last_of_more t ts k first others (more b bs) operand e m =
       let rest : ts ≡ join bs (one operand) = cc in others bs operand rest m
 
-  no_last : (before : Trees) (operand : Tree) → none ≡ join before (one operand) → ⊥
-  no_last none operand e = cc
-  no_last (more b bs) operand e = cc
-
   mutual
     right_on : (t : Tree) (k : ℕ) → IsAmong (right_levels t) k → HasRight t k
     right_on (Leaf i j) k m = absurd m
     right_on (Node tag i j ts) k m = right_node tag i j ts k (last_on ts k) (split_trees ts) m
 
     last_on : (ts : Trees) (k : ℕ) → EachLast ts k
-    last_on none k before operand e m = absurd (no_last before operand e)
+    last_on none k before operand e m = absurd (never_none before operand (sym e))
     last_on (more t ts) k before operand e m = last_of_more t ts k (right_on t k) (last_on ts k) before operand e m
 
   mutual

@@ -3,7 +3,7 @@ use Rattle.std.proofs.Common.{◌≡◌, ◌∙◌, ℕ, ◌+◌, ◌<◌, Bool,
 use Rattle.std.specs.Prelude.{◌⊎◌, ◌&&◌, ◌||◌, ◌==◌, not, All, Contains, option_map, slice_index_or}
 use Rattle.std.specs.Bool.{Decides}
 use Rattle.std.proofs.lemmas.Bool.Decides.{Decides-and, Decides-or, Decides-eqb, Decides-ltb, Decides-like, Decides-by_and, Decides-not}
-use Rattle.std.proofs.lemmas.List.Elements.{Contains-get_or}
+use Rattle.std.proofs.lemmas.List.Elements.{Contains-get_or, All-contains}
 use Rattle.ig_text.specs.Lines.{column_of}
 use Rattle.ig_text.specs.Pattern.{Matches}
 use Rattle.ig_text.specs.declared.pattern.Pattern.{Pattern}
@@ -125,16 +125,13 @@ pub passes_all_decides : (known : MatchesAreKnown) (text : List ℕ) (i e : ℕ)
 passes_all_decides known text i e filters =
     Decides-by_and (passes text i e) (Passes text i e) (all_pass (passes text i e)) (passes_decides known text i e) refl (λ _ _. refl) filters
 
-all_contained : {A : Type 0} (P : A → Type 0) (xs : List A) → All P xs → (x : A) → Contains xs x → P x
-all_contained P xs all x c = subst P c.2 (all c.0 x c.1)
-
 contained_all : {A : Type 0} (P : A → Type 0) (xs : List A) → ((x : A) → Contains xs x → P x) → All P xs
 contained_all P xs each k d l = each (slice_index_or xs k d) (Contains-get_or xs k d l)
 
 of_contained : {A : Type 0} (test : A → Bool) (P : A → Type 0) (each : (x : A) → Decides (test x) (P x)) (xs : List A) →
     Decides (all_pass test xs) ((x : A) → Contains xs x → P x)
 of_contained test P each xs =
-    Decides-like (all_pass test xs) (all_contained P xs) (contained_all P xs)
+    Decides-like (all_pass test xs) (λ all x c. All-contains P xs x all c) (contained_all P xs)
     (Decides-by_and test P (all_pass test) each refl (λ _ _. refl) xs)
 
 -- whether the position is i, or to the right of the column of i

@@ -28,15 +28,12 @@ use Rattle.ig_grammar.specs.declared.declaration.DeclKind.TheVariants.{Syntax, L
 use Rattle.ig_grammar.specs.declared.declaration.Decl.{Decl}
 use Rattle.ig_grammar.specs.declared.grammar.Grammar.{Grammar}
 use Rattle.ig_grammar.specs.declared.place.Shape.{Shape}
+use Rattle.ig_grammar.specs.Gathered.{gathered_listed}
 use Rattle.ig_examples.proofs.Choosing.{IsAmong}
 use Rattle.ig_examples.proofs.Members.{below, among_left, among_right, among_map, among_each, among_given, among_from, among_below, same_member}
 use Rattle.ig_examples.proofs.Deciding.{values_at, have_values, bound_by, are_bound, ends_of, matches_end, passes_all, passes_all_decides, are_right, are_right_decides, are_aligned, are_aligned_decides}
 use Rattle.ig_examples.proofs.Enumeration as all
 use Rattle.ig_examples.proofs.Enumeration.{Outcome, Covering, Listing, Itemised, Instanced, before}
-
-gathered_listed : (xs : Symbols) → gathered (listed xs) ≡ xs
-gathered_listed no_symbols = refl
-gathered_listed (next_symbol x xs) = ap (next_symbol x) (gathered_listed xs)
 
 -- what is lower than a height is so by a height that is one less
 lowered : (P : ℕ → Type 0) (k n : ℕ) → k < n → ((m : ℕ) → k < suc m → P (suc m)) → P n

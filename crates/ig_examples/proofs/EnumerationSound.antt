@@ -27,15 +27,12 @@ use Rattle.ig_grammar.specs.declared.declaration.DeclKind.TheVariants.{Syntax, L
 use Rattle.ig_grammar.specs.declared.declaration.Decl.{Decl}
 use Rattle.ig_grammar.specs.declared.grammar.Grammar.{Grammar}
 use Rattle.ig_grammar.specs.declared.place.Shape.{Shape}
+use Rattle.ig_grammar.specs.Gathered.{listed_gathered}
 use Rattle.ig_examples.proofs.Choosing.{OfEach}
 use Rattle.ig_examples.proofs.Members.{below, each_append, each_map, each_of_each, each_given, each_from, Any, any}
 use Rattle.ig_examples.proofs.Deciding.{values_at, values_have, bound_by, bound_are, is_truth, truth_is, ends_of, ends_match, passes_all, passes_all_decides, are_right, are_right_decides, are_aligned, are_aligned_decides}
 use Rattle.ig_examples.proofs.Enumeration as all
 use Rattle.ig_examples.proofs.Enumeration.{Outcome, Covering, Listing, Itemised, Instanced, Trailing, Lower, nothing, before}
-
-pub listed_gathered : (xs : List Symbol) → listed (gathered xs) ≡ xs
-listed_gathered [] = refl
-listed_gathered (x ∷ xs) = ap (λ ys. x ∷ ys) (listed_gathered xs)
 
 syntax_is_no_token : Syntax ≢ Lexical
 syntax_is_no_token h = cc

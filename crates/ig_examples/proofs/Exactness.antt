@@ -15,15 +15,16 @@ use Rattle.ig_grammar.specs.declared.declaration.DeclKind.{DeclKind}
 use Rattle.ig_grammar.specs.declared.declaration.DeclKind.TheVariants.{Syntax}
 use Rattle.ig_grammar.specs.declared.grammar.Grammar.{Grammar}
 use Rattle.ig_grammar.specs.declared.place.Shape.{Shape}
+use Rattle.ig_grammar.specs.Gathered.{listed_gathered}
 use Rattle.ig_examples.specs.Exactly.{IsOneOf, PermitsExactly, Permits}
 use Rattle.ig_examples.proofs.Choosing.{IsAmong, OfEach, each}
 use Rattle.ig_examples.proofs.Members.{given, among_each, among_given, each_of_each, each_given}
 use Rattle.ig_examples.proofs.Enumeration as all
 use Rattle.ig_examples.proofs.Enumeration.{Covering, before}
-use Rattle.ig_examples.proofs.EnumerationSound.{IsCovering, sound_before, covered, listed_gathered}
 use Rattle.ig_examples.proofs.EnumerationComplete.{covered_found}
 use Rattle.ig_examples.proofs.Roots.{IsOnlyRoot, written_root, written_symbols}
 use Rattle.ig_examples.proofs.CleanDeciding.{is_clean, clean_by, by_clean}
+use Rattle.ig_examples.proofs.EnumerationSound.{IsCovering, sound_before, covered}
 
 to_one : (ts : List Tree) (t : Tree) → IsAmong ts t → IsOneOf ts t
 to_one [] t m = m

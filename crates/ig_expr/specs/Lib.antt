@@ -14,5 +14,6 @@ pub mod Evaluation
 pub mod Laws
 pub mod ValueOrder
 pub mod ValuedTree
+pub mod JoinedTrees
 pub mod TreeOrder
 pub mod Examples

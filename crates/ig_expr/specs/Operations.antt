@@ -1,7 +1,8 @@
 -- What operators give: an integer operation its result over whole numbers, where that fits 64 bits.
-use Rattle.std.specs.Prelude.{◌^◌, nat_lt, ◌==◌, Bool, true, false, not, ◌&&◌, ◌||◌, if◌then◌else◌, Option, Some, None, option_map, ℤ, pos, negsuc, ◌+ℤ◌, ◌-ℤ◌, ◌*ℤ◌, neg_ℤ, int_lt, int_le, int_div, int_rem}
+use Rattle.std.specs.Prelude.{nat_lt, ◌==◌, Bool, true, false, not, ◌&&◌, ◌||◌, if◌then◌else◌, Option, Some, None, option_map, ℤ, pos, negsuc, ◌+ℤ◌, ◌-ℤ◌, ◌*ℤ◌, neg_ℤ, int_lt, int_le, int_div, int_rem}
 use Rattle.std.specs.Ordering.{int_eq}
 use Rattle.ig_text.specs.declared.text.Span.{Span}
+use Rattle.ig_text.specs.Limits.{integers_end}
 use Rattle.ig_expr.specs.declared.value.Value.{Value}
 use Rattle.ig_expr.specs.declared.value.Value.TheVariants as value
 use Rattle.ig_expr.specs.declared.operator.Op.{Op}
@@ -9,8 +10,8 @@ use Rattle.ig_expr.specs.declared.operator.Op.TheVariants.{Add, Sub, Mul, Div, M
 
 -- whether the number fits 64 bits
 abbrev pub fits : ℤ → Bool
-fits (pos n) = nat_lt n (2 ^ 63)
-fits (negsuc n) = nat_lt n (2 ^ 63)
+fits (pos n) = nat_lt n integers_end
+fits (negsuc n) = nat_lt n integers_end
 
 -- the number, where it fits
 abbrev pub whole : ℤ → Option ℤ

@@ -13,6 +13,7 @@ use Rattle.ig_expr.specs.Evaluation.{value_of}
 use Rattle.ig_expr.specs.TreeOrder.{begin_of, tree_cmp, count_of}
 use Rattle.ig_expr.specs.ValuedTree.{Tree, Trees, Leaf, Node, none, more, one, join, bare_tree, bare_trees}
 use Rattle.ig_expr.specs.declared.value.Value.{Value}
+use Rattle.ig_expr.specs.JoinedTrees.{join-none}
 use Rattle.ig_item.specs.Annotated as annotated
 use Rattle.ig_item.specs.Annotated.{Leaves, Within}
 use Rattle.ig_item.specs.Core.{IsAlternative}
@@ -29,11 +30,6 @@ use Rattle.ig_item.specs.Gives.{NodeKey, Taken}
 use Rattle.ig_live.specs.Live.{Gives}
 use Rattle.ig_forest.proofs.Given.{GivenValues}
 use Rattle.ig_forest.proofs.Cursors.{node_parts}
-
--- none behind the trees
-join-none : (ts : Trees) → join ts none ≡ ts
-join-none none = refl
-join-none (more t ts) = ap (more t) (join-none ts)
 
 -- a leaf has no difference from another one
 pub leaf_tied : (a b : Tree) (i j k l : ℕ) → bare_tree a ≡ plain.Leaf i j → bare_tree b ≡ plain.Leaf k l →

@@ -8,6 +8,7 @@ use Rattle.std.proofs.lemmas.Option.{slice_get-get_or}
 use Rattle.std.proofs.lemmas.Bool.{cases_order}
 use Rattle.ig_text.proofs.Lists.{mapped_in, unmapped_in}
 use Rattle.ig_text.proofs.Rising.{rises}
+use Rattle.ig_text.proofs.Sorted.{less_number, greater_number, equal_number}
 use Rattle.ig_expr.specs.declared.value.Value.{Value}
 use Rattle.ig_item.specs.Items.{Item}
 use Rattle.ig_item.specs.declared.core_grammar.Nonterminal.{Nonterminal}
@@ -24,7 +25,6 @@ use Rattle.ig_forest.specs.declared.node_rows.NodeRow.{NodeRow}
 use Rattle.ig_forest.proofs.CodeOrders.{list_total}
 use Rattle.ig_forest.proofs.CodeSorted.{strict_map}
 use Rattle.ig_forest.proofs.CodeGives.{complete_from_last, last_from_complete}
-use Rattle.ig_text.proofs.Sorted.{less_number}
 
 -- places have the order of their lists
 pub rank : (lists : List (List Value)) (a b : ℕ) → IsStrictlySortedBy values_cmp lists → a < length lists → b < length lists →
@@ -35,12 +35,12 @@ rank lists a b sorted la lb =
     elim (cases_order a b) [
       | inr (inl lt) ↦ less_number a b lt ∙ sym (rises values_cmp lists a b (list_at lists a) (list_at lists b) sorted at_a at_b lt)
       | inl e ↦
-          let n : nat_cmp a b ≡ Equal = ap (nat_cmp a) (sym e) ∙ tied_itself nat_cmp_total a in
+          let n = equal_number a b e in
           let m : values_cmp (list_at lists a) (list_at lists b) ≡ Equal =
           ap (λ z. values_cmp (list_at lists a) (list_at lists z)) (sym e) ∙ tied_itself list_total (list_at lists a) in
           n ∙ sym m
       | inr (inr gt) ↦
-          let n : nat_cmp a b ≡ Greater = nat_cmp_total.antisymm a b ∙ ap ordering_reverse (less_number b a gt) in
+          let n = greater_number a b gt in
           let r = rises values_cmp lists b a (list_at lists b) (list_at lists a) sorted at_b at_a gt in
           let m : values_cmp (list_at lists a) (list_at lists b) ≡ Greater = list_total.antisymm (list_at lists a) (list_at lists b) ∙ ap ordering_reverse r in
           n ∙ sym m

@@ -12,7 +12,7 @@ use Rattle.std.proofs.lemmas.Bool.Decides.{nat_tests}
 use Rattle.std.proofs.lemmas.Map.Lookups.{exact_unsigned}
 use Rattle.ig_text.proofs.Options.{then_assoc, then_nothing}
 use Rattle.ig_text.proofs.Rising.{rises}
-use Rattle.ig_text.proofs.Sorted.{less_number}
+use Rattle.ig_text.proofs.Sorted.{less_number, greater_number, equal_number}
 use Rattle.ig_expr.specs.ValueOrder.{value_cmp, values_cmp}
 use Rattle.ig_expr.specs.declared.value.Value.{Value}
 use Rattle.ig_item.specs.Items.{Item}
@@ -33,23 +33,16 @@ decides ordering.Greater p q same = refl
 pub passed : (a b : Ordering) → a ≡ ordering.Equal → ordering_then a b ≡ b
 passed a b e = ap (λ (o : Ordering). ordering_then o b) e
 
--- the other two answers on numbers
-pub higher : (a b : ℕ) → b < a → nat_cmp a b ≡ ordering.Greater
-higher a b h = grind (arith, nat_tests)
-
-pub tied : (a b : ℕ) → a ≡ b → nat_cmp a b ≡ ordering.Equal
-tied a b e = subst (λ (c : ℕ). nat_cmp a c ≡ ordering.Equal) e (tied_itself nat_cmp_total a)
-
 -- in a strictly sorted list members compare as their places do
 pub places_cmp : {X : Type 0} (cmp : X → X → Ordering) → IsTotalOrder cmp → (xs : List X) (i j : ℕ) (x y : X) →
     IsStrictlySortedBy cmp xs → slice_get xs i ≡ Some x → slice_get xs j ≡ Some y → nat_cmp i j ≡ cmp x y
 places_cmp {X = X} cmp total xs i j x y sorted at_x at_y =
     elim (cases_order i j) [
       | inl e ↦
-          let same : x ≡ y = cc in tied i j e ∙ sym (tied_itself total x) ∙ ap (cmp x) same
+          let same : x ≡ y = cc in equal_number i j e ∙ sym (tied_itself total x) ∙ ap (cmp x) same
       | inr (inl lt) ↦ less_number i j lt ∙ sym (rises cmp xs i j x y sorted at_x at_y lt)
       | inr (inr lt) ↦
-          higher i j lt ∙ sym (ap ordering_reverse (rises cmp xs j i y x sorted at_y at_x lt)) ∙
+          greater_number i j lt ∙ sym (ap ordering_reverse (rises cmp xs j i y x sorted at_y at_x lt)) ∙
           sym (total.antisymm x y)
     ]
 
@@ -57,7 +50,7 @@ places_cmp {X = X} cmp total xs i j x y sorted at_x at_y =
 pub noted_cmp : (many i j : ℕ) (cs ds : List ℕ) → i < many → j < many →
     slice_cmp nat_cmp (noted many i ++ cs) (noted many j ++ ds) ≡ ordering_then (nat_cmp i j) (slice_cmp nat_cmp cs ds)
 noted_cmp zero i j cs ds i_in j_in = absurd (omega arith)
-noted_cmp (suc zero) i j cs ds i_in j_in = sym (passed (nat_cmp i j) (slice_cmp nat_cmp cs ds) (tied i j (omega arith)))
+noted_cmp (suc zero) i j cs ds i_in j_in = sym (passed (nat_cmp i j) (slice_cmp nat_cmp cs ds) (equal_number i j (omega arith)))
 noted_cmp (suc (suc n)) i j cs ds i_in j_in = refl
 
 -- whatever stands behind them, the first list is to the second as the ordering says, and then as what stands behind
@@ -88,7 +81,7 @@ joined_cmp hs bs cs ds first later p q rest others =
 -- what both lists begin with is passed over
 nat_append : (bs cs ds : List ℕ) → slice_cmp nat_cmp (bs ++ cs) (bs ++ ds) ≡ slice_cmp nat_cmp cs ds
 nat_append [] cs ds = refl
-nat_append (b ∷ bs) cs ds = passed (nat_cmp b b) _ (tied b b refl) ∙ nat_append bs cs ds
+nat_append (b ∷ bs) cs ds = passed (nat_cmp b b) _ (equal_number b b refl) ∙ nat_append bs cs ds
 
 -- a cursor is to itself as what stands behind it
 pub same_cmp : (cs ds : List ℕ) → cs ≡ ds → Compared cs ds ordering.Equal
@@ -104,7 +97,7 @@ values_append (u ∷ us) vs ws = passed (value_cmp u u) _ (tied_itself value_tot
 pub less_cmp : {cs ds : List ℕ} → Less cs ds → slice_cmp nat_cmp cs ds ≡ ordering.Less
 less_cmp (order.shorter j ds) = refl
 less_cmp (order.here i j cs ds less) = ap (λ (o : Ordering). ordering_then o (slice_cmp nat_cmp cs ds)) (less_number i j less)
-less_cmp (order.later i j cs ds same less) = passed (nat_cmp i j) (slice_cmp nat_cmp cs ds) (tied i j same) ∙ less_cmp less
+less_cmp (order.later i j cs ds same less) = passed (nat_cmp i j) (slice_cmp nat_cmp cs ds) (equal_number i j same) ∙ less_cmp less
 
 -- and the other way round
 pub cmp_less : (cs ds : List ℕ) → slice_cmp nat_cmp cs ds ≡ ordering.Less → Less cs ds
@@ -114,11 +107,11 @@ cmp_less (i ∷ cs) [] e = cc
 cmp_less (i ∷ cs) (j ∷ ds) e =
     elim (cases_order i j) [
       | inl same ↦
-          order.later i j cs ds same (cmp_less cs ds (sym (passed (nat_cmp i j) (slice_cmp nat_cmp cs ds) (tied i j same)) ∙ e))
+          order.later i j cs ds same (cmp_less cs ds (sym (passed (nat_cmp i j) (slice_cmp nat_cmp cs ds) (equal_number i j same)) ∙ e))
       | inr (inl less) ↦ order.here i j cs ds less
       | inr (inr more) ↦
           let greater : ordering.Greater ≡ ordering.Less =
-          sym (ap (λ (o : Ordering). ordering_then o (slice_cmp nat_cmp cs ds)) (higher i j more)) ∙ e in cc
+          sym (ap (λ (o : Ordering). ordering_then o (slice_cmp nat_cmp cs ds)) (greater_number i j more)) ∙ e in cc
     ]
 
 -- equally long beginnings of one list are equal
@@ -142,11 +135,11 @@ alike_cmp x y a env =
     let start : x.instance.start ≡ y.instance.start = ap (λ i. i.start) a.instance in
     let nonterminal : x.instance.nonterminal ≡ y.instance.nonterminal = ap (λ i. i.nonterminal) a.instance in
     let values : x.instance.values ≡ y.instance.values = ap (λ i. i.values) a.instance in
-    passed _ _ (tied x.instance.start y.instance.start start) ∙
+    passed _ _ (equal_number x.instance.start y.instance.start start) ∙
     ap (ordering_then (nat_cmp x.position y.position))
-    (passed _ _ (tied x.instance.nonterminal y.instance.nonterminal nonterminal) ∙
+    (passed _ _ (equal_number x.instance.nonterminal y.instance.nonterminal nonterminal) ∙
     passed _ _ (tied_values x.instance.values y.instance.values values) ∙
-    passed _ _ (tied x.alternative y.alternative a.alternative) ∙ passed _ _ (tied x.dot y.dot a.dot) ∙
+    passed _ _ (equal_number x.alternative y.alternative a.alternative) ∙ passed _ _ (equal_number x.dot y.dot a.dot) ∙
     tied_values x.env y.env env) ∙ then_nothing (nat_cmp x.position y.position)
 
 -- items of one instance at one position compare as alternatives, dots and environments do
@@ -157,6 +150,6 @@ beside_cmp x y instance position =
     let start : x.instance.start ≡ y.instance.start = ap (λ i. i.start) instance in
     let nonterminal : x.instance.nonterminal ≡ y.instance.nonterminal = ap (λ i. i.nonterminal) instance in
     let values : x.instance.values ≡ y.instance.values = ap (λ i. i.values) instance in
-    passed _ _ (tied x.instance.start y.instance.start start) ∙ passed _ _ (tied x.position y.position position) ∙
-    passed _ _ (tied x.instance.nonterminal y.instance.nonterminal nonterminal) ∙
+    passed _ _ (equal_number x.instance.start y.instance.start start) ∙ passed _ _ (equal_number x.position y.position position) ∙
+    passed _ _ (equal_number x.instance.nonterminal y.instance.nonterminal nonterminal) ∙
     passed _ _ (tied_values x.instance.values y.instance.values values)

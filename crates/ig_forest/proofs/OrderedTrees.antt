@@ -15,6 +15,7 @@ use Rattle.ig_text.proofs.Lists.{contains_from_at}
 use Rattle.ig_text.proofs.Options.{then_assoc, then_nothing}
 use Rattle.ig_text.proofs.Pairwise.{both_at}
 use Rattle.ig_text.proofs.Rising.{one_place}
+use Rattle.ig_text.proofs.Sorted.{equal_number}
 use Rattle.ig_expr.specs.TreeOrder.{tree_cmp, children_cmp, count_of}
 use Rattle.ig_expr.specs.ValueOrder.{values_cmp}
 use Rattle.ig_expr.specs.ValuedTree.{Tree, Trees, none, more, one, join, bare_tree, bare_trees}
@@ -45,13 +46,13 @@ use Rattle.ig_forest.specs.declared.entry.Entry.{Entry}
 use Rattle.ig_forest.specs.declared.entry.Entry.TheVariants.{Pass, Take}
 use Rattle.ig_forest.specs.declared.entry.Child.TheVariants as child
 use Rattle.ig_forest.proofs.Annotating.{Valued, Last, OfComplete, leaf_tied, equally_many, by_nothing, by_leaf, by_tree, of_complete}
-use Rattle.ig_forest.proofs.CursorOrders.{decides, passed, tied, places_cmp, Compared, chosen_cmp, joined_cmp, same_cmp, values_append, less_cmp, cmp_less, same_beginning, alike_cmp, beside_cmp}
 use Rattle.ig_forest.proofs.Cursors.{Entered, same_item, pass_entry, leaf_entry, node_entry, as_begin, as_pass, as_leaf, as_node}
 use Rattle.ig_forest.proofs.Given.{GivenValues}
 use Rattle.ig_forest.proofs.Liveness.{live_is_reachable}
 use Rattle.ig_forest.proofs.Targets.{Alike, alike_before, stepped, one_callee, end_of}
 use Rattle.ig_forest.proofs.TotalOrders.{item_total, node_total, choice_total, entry_total}
 use Rattle.ig_forest.proofs.Unfolding.{live_at, item_trees}
+use Rattle.ig_forest.proofs.CursorOrders.{decides, passed, places_cmp, Compared, chosen_cmp, joined_cmp, same_cmp, values_append, less_cmp, cmp_less, same_beginning, alike_cmp, beside_cmp}
 
 -- trees without a tree, and trees that are as many
 none_counted : (ts : Trees) → bare_trees ts ≡ plain.none → ts ≡ none
@@ -116,7 +117,7 @@ module _ (values : GivenValues) (core : List Nonterminal) (text : List ℕ) (f :
       (slice_get_within m.it.entries m.i e m.among) (slice_get_within m.it.entries n.i d among) m.cursor
       (n.cursor ∙ ap (λ (z : ItemNode). noted (length z.entries) n.i ++ gs) one) (numbers ∙ positions)
       (λ z.
-      let number_is = exact_unsigned number other (sym numbers ∙ tied m.i n.i z) in
+      let number_is = exact_unsigned number other (sym numbers ∙ equal_number m.i n.i z) in
       same number_is (same_item values.given core text f r w number other p q at_p at_q number_is))
 
   -- to where a rule leads
@@ -182,8 +183,8 @@ module _ (values : GivenValues) (core : List Nonterminal) (text : List ℕ) (f :
       values_append x.instance.values (own x) (own y) in
       beside_cmp x y instance position ∙
       passed (nat_cmp x.alternative y.alternative) (ordering_then (nat_cmp x.dot y.dot) (values_cmp x.env y.env))
-      (tied x.alternative y.alternative alternative) ∙
-      passed (nat_cmp x.dot y.dot) (values_cmp x.env y.env) (tied x.dot y.dot dots) ∙ bound
+      (equal_number x.alternative y.alternative alternative) ∙
+      passed (nat_cmp x.dot y.dot) (values_cmp x.env y.env) (equal_number x.dot y.dot dots) ∙ bound
 
   -- the cursors of children of one item are to each other as the starts of the last ones, the others, and the last ones
   last_cmp : (p q : Item) (ts us : plain.Trees) (t u : plain.Tree) (xs ys : Trees) (cs ds : List ℕ)
@@ -277,7 +278,7 @@ module _ (values : GivenValues) (core : List Nonterminal) (text : List ℕ) (f :
         let s = as_pass values.given core text f r w other p.prev x x p.gives (self_alike x) has in
         let here : p.prev.position ≡ s.prev.position = sym (comes_to p.gives) ∙ comes_to s.gives in
         let children = children_cmp xs ys in
-        subst (Compared cs ds) (passed (nat_cmp p.prev.position s.prev.position) children (tied p.prev.position s.prev.position here))
+        subst (Compared cs ds) (passed (nat_cmp p.prev.position s.prev.position) children (equal_number p.prev.position s.prev.position here))
         (entered_cmp k prev s.number x p.prev s.prev (Pass prev) (Pass s.number) gs s.rest cs ds children has p.at s.at p.gives
         s.gives refl refl (record { it = it; there = at; i = i; among = among; cursor = c }) s.entered
         (λ number same.

@@ -14,6 +14,7 @@ use Rattle.ig_text.specs.Tree.{Tree, Trees}
 use Rattle.ig_text.proofs.Lists.{get_within, contains_from_at, unmapped_in, mapped_at}
 use Rattle.ig_text.proofs.Pairwise.{key_at, same_length}
 use Rattle.ig_text.proofs.Rising.{rises}
+use Rattle.ig_text.proofs.Sorted.{equal_number}
 use Rattle.ig_item.specs.Core.{IsAlternative}
 use Rattle.ig_item.specs.Gives.{NodeKey}
 use Rattle.ig_item.specs.Items.{Item}
@@ -30,7 +31,6 @@ use Rattle.ig_forest.specs.Unfold as ways
 use Rattle.ig_forest.specs.Unfold.{OfNode, OfItem, noted}
 use Rattle.ig_forest.specs.declared.entry.Choice.{Choice}
 use Rattle.ig_forest.specs.declared.entry.Entry.{Entry}
-use Rattle.ig_forest.proofs.CursorOrders.{tied}
 use Rattle.ig_forest.proofs.TotalOrders.{choice_total, entry_total}
 
 -- a sorted list whose members have different numbers has no more members than there are numbers
@@ -108,7 +108,7 @@ module _ (alternatives_one : AlternativesAreOne) (core : List Nonterminal) (text
   entries_few : (k : ℕ) (it : ItemNode) → slice_get f.items k ≡ Some it → length it.entries ≤ length f.items
   entries_few k it there =
       let h = key_at is.item_nodes k it there in
-      few entry_total previous (length f.items) it.entries h.2.order (λ a b in_a in_b same. tied (previous a) (previous b) same)
+      few entry_total previous (length f.items) it.entries h.2.order (λ a b in_a in_b same. equal_number (previous a) (previous b) same)
       (λ e among. entry_below k h.0 e (slice_get_within f.items k it there) ((h.2.entries e).0 among))
 
   abbrev IsBelow : List ℕ → Type 0

@@ -1,5 +1,5 @@
 -- The reduced forest is a forest, and its items stand behind the previous ones.
-use Rattle.std.proofs.Common.{◌≡◌, ◌⊎◌, inl, inr, ℕ, zero, suc, ◌+◌, ◌<◌, ◌≤◌, List, [], ◌∷◌, Some, slice_get, sym, ap, ◌∙◌, subst, arith}
+use Rattle.std.proofs.Common.{◌≡◌, ◌⊎◌, inl, inr, ℕ, zero, suc, ◌+◌, ◌<◌, ◌≤◌, List, [], ◌∷◌, Some, slice_get, refl, sym, ap, ◌∙◌, subst, arith}
 use Rattle.std.specs.Ordering.{nat_cmp, ordering_then}
 use Rattle.std.specs.declared.cmp.Ordering.{Ordering}
 use Rattle.std.specs.declared.cmp.Ordering.TheVariants.{Less, Equal}
@@ -11,7 +11,7 @@ use Rattle.ig_text.specs.declared.pattern.Pattern.TheVariants.{Literal, OneOf}
 use Rattle.ig_text.proofs.Lists.{at_from_contains, contains_from_at}
 use Rattle.ig_text.proofs.Pairwise.{key_at, partner, same_length}
 use Rattle.ig_text.proofs.Rising.{same_members, one_sorted, stands_before}
-use Rattle.ig_text.proofs.Sorted.{less_number}
+use Rattle.ig_text.proofs.Sorted.{less_number, equal_number}
 use Rattle.ig_expr.specs.declared.value.Value.{Value}
 use Rattle.ig_item.specs.Items.{Item, past}
 use Rattle.ig_item.specs.declared.core_grammar.Nonterminal.{Nonterminal}
@@ -40,9 +40,6 @@ then_tied a b p q = ap (λ (o : Ordering). ordering_then o b) p ∙ q
 then_lower : (a b : Ordering) → a ≡ Less → ordering_then a b ≡ Less
 then_lower a b p = ap (λ (o : Ordering). ordering_then o b) p
 
-tied : (a : ℕ) → nat_cmp a a ≡ Equal
-tied a = tied_itself nat_cmp_total a
-
 tied_or_lower : (a b : ℕ) → a ≤ b → (a < b) ⊎ (a ≡ b)
 tied_or_lower a b h = grind arith
 
@@ -50,11 +47,11 @@ tied_or_lower a b h = grind arith
 below_past : (x : Item) (bound : List Value) (j : ℕ) → x.position ≤ j → item_cmp x (past x bound j) ≡ Less
 below_past x bound j h =
     let dots = then_lower (nat_cmp x.dot (suc x.dot)) (values_cmp x.env (past x bound j).env) (less_number x.dot (suc x.dot) (omega arith)) in
-    let rest = then_tied _ _ (tied x.instance.nonterminal) (then_tied _ _ (tied_itself (lists_total value_total) x.instance.values) (then_tied _ _ (tied x.alternative) dots)) in
-    then_tied _ _ (tied x.instance.start)
+    let rest = then_tied _ _ (equal_number x.instance.nonterminal x.instance.nonterminal refl) (then_tied _ _ (tied_itself (lists_total value_total) x.instance.values) (then_tied _ _ (equal_number x.alternative x.alternative refl) dots)) in
+    then_tied _ _ (equal_number x.instance.start x.instance.start refl)
     (elim (tied_or_lower x.position j h) [
       | inl lt ↦ then_lower _ _ (less_number x.position j lt)
-      | inr e ↦ then_tied _ _ (subst (λ (z : ℕ). nat_cmp x.position z ≡ Equal) e (tied x.position)) rest
+      | inr e ↦ then_tied _ _ (equal_number x.position j e) rest
     ])
 
 module _ (in_text : ItemsAreInText) (core : List Nonterminal) (text : List ℕ) where

@@ -1,7 +1,7 @@
 -- What one function promises the next; who reads the theorems need not read this file.
 -- The forest of the stored nodes and item nodes, and what the code knows of their parts.
 use Rattle.std.specs.Prelude.{ℕ, ◌<◌, List, [], map, length, Contains, slice_index_or}
-use Rattle.ig_item.specs.Limits.{numbers_end}
+use Rattle.ig_text.specs.Limits.{numbers_end}
 use Rattle.ig_expr.specs.declared.value.Value.{Value}
 use Rattle.ig_forest.specs.Forest as parts
 use Rattle.ig_forest.specs.Unfold.{IsTrim}

@@ -1,7 +1,7 @@
 -- Cursors, and their order.
 use Rattle.std.specs.Prelude.{◌≡◌, ℕ, ◌<◌, List, [], ◌∷◌}
 use Rattle.std.specs.List.{All}
-use Rattle.ig_item.specs.Limits.{numbers_end}
+use Rattle.ig_text.specs.Limits.{numbers_end}
 
 -- each number of the cursor has 32 bits
 abbrev pub IsShortCursor : List ℕ → Type 0

@@ -1,9 +1,9 @@
 -- Forests: shared packed parse forests, binarised.
 use Rattle.std.specs.Prelude.{◌≡◌, ℕ, suc, ◌<◌, List, [], ◌∷◌, length, Contains, Some, slice_get}
 use Rattle.ig_text.specs.declared.text.Span.{Span}
+use Rattle.ig_text.specs.Limits.{numbers_end}
 use Rattle.ig_expr.specs.declared.value.Value.{Value}
 use Rattle.ig_item.specs.Items.{Item}
-use Rattle.ig_item.specs.Limits.{numbers_end}
 use Rattle.ig_forest.specs.declared.entry.Choice.{Choice}
 use Rattle.ig_forest.specs.declared.entry.Entry.{Entry}
 use Rattle.ig_forest.specs.declared.entry.Entry.TheVariants.{Begin, Pass, Take}

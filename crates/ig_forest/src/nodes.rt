@@ -1,6 +1,6 @@
 //! The nodes of a forest, read off its complete items in order.
 ghost use Rattle.std.specs.Prelude.{◌≡◌, ◌<◌, ◌+◌, ◌-◌, false, IfOk, OnOk, IsTrue, length};
-ghost use Rattle.ig_item.specs.Limits.{numbers_end};
+ghost use Rattle.ig_text.specs.Limits.{numbers_end};
 ghost use Rattle.ig_live.specs.declared.mark.Mark.TheVariants.{Complete};
 ghost use Rattle.ig_forest.specs.CodeDone.{IsTagged, StandsLast};
 ghost use Rattle.ig_live.specs.LiveOrder.{AreLiveInOrder};

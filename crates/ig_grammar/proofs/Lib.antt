@@ -1,3 +1,3 @@
-pub mod ByForm
+pub mod Sums
 pub mod KeywordTexts
 pub mod NamePlaces

@@ -1,4 +1,4 @@
--- How many declarations, levels, alternatives and symbols a grammar has, and the bound on each of these counts.
+-- How many declarations, levels, alternatives and symbols a grammar has, and that each of these is below a bound.
 use Rattle.std.specs.Prelude.{ℕ, ◌+◌, ◌<◌, length, sum_by}
 use Rattle.ig_grammar.specs.Symbol.{Symbol, Group, Filtered, Symbols, Alternatives, no_alternatives, next_alternative}
 use Rattle.ig_grammar.specs.Subterms.{subterms, subterms_of_symbols, subterms_of_alternatives}
@@ -52,7 +52,3 @@ pub record HasFewerThan (most : ℕ) (g : Grammar) : Type 0 where
   pub levels : sum_by (λ decl. length decl.levels) g.decls < most
   pub alternatives : sum_over_levels alternatives_among g < most
   pub symbols : sum_over_levels parts_of_alternatives g < most
-
--- the bound on each count
-abbrev pub counts_bound : ℕ
-counts_bound = 4294967296

@@ -1,5 +1,5 @@
 -- Laws of regular grammars: what they say of a symbol, and of those directly inside it.
-use Rattle.std.specs.Prelude.{◌≡◌, ℕ, ◌+◌, All, sum_by}
+use Rattle.std.specs.Prelude.{◌≡◌, ℕ, ◌+◌, ◌≤◌, All, sum_by}
 use Rattle.ig_grammar.specs.Symbol.{Symbol, Label, Opt, Star, Plus, SepStar, SepPlus, Group, Offside, Ignore, Align, Filtered, Seq, Entry}
 use Rattle.ig_grammar.specs.Symbol.{Symbols, no_symbols, next_symbol, Alternatives, no_alternatives, next_alternative}
 use Rattle.ig_grammar.specs.Subterms.{subterms, subterms_of_symbols, subterms_of_alternatives}
@@ -79,6 +79,7 @@ pub record RegularityByForm : Type 0 where
 -- a count over all symbols in a symbol is that of the symbol itself, and the sum over those directly inside it
 pub record CountsByForm : Type 0 where
   pub parts_of : (x : Symbol) → parts x ≡ own_parts x + inner_sum own_parts x
+  pub some_part : (x : Symbol) → 1 ≤ own_parts x
   pub parts_among_symbols : (xs : Symbols) → parts_of_symbols xs ≡ symbols_sum own_parts xs
   pub parts_among_alternatives : (ys : Alternatives) → parts_of_alternatives ys ≡ alternatives_sum own_parts ys
   pub alternatives_of : (x : Symbol) → alternatives_inside x ≡ own_alternatives x + inner_sum own_alternatives x

@@ -13,7 +13,10 @@ pub mod Subterms
 pub mod Counts
 pub mod Regular
 pub mod Standing
+pub mod Forms
+pub mod Gathered
 pub mod Laws
+pub mod ByForm
 pub mod CodingBindings
 pub mod CodingSymbols
 pub mod CodingAlternatives

@@ -4,19 +4,20 @@ use Rattle.std.specs.List.{flat_map}
 use Rattle.ig_text.specs.declared.pattern.Pattern.{Pattern}
 use Rattle.ig_text.specs.declared.pattern.Pattern.TheVariants.{Literal as Spelled}
 use Rattle.ig_text.specs.Pattern.{HasNoEmptyLiteral}
+use Rattle.ig_text.specs.Limits.{numbers_end}
 use Rattle.ig_expr.specs.Expression.{patterns_in}
 use Rattle.ig_grammar.specs.Symbol.{Symbol, Literal, Label, Guard, Let, Opt, Star, Plus, SepStar, SepPlus, Group, Offside, Ignore, Align, Filtered, Seq, Entry}
 use Rattle.ig_grammar.specs.Symbol.{Alternatives}
 use Rattle.ig_grammar.specs.Subterms.{subterms_of_alternatives, bound_names}
 use Rattle.ig_grammar.specs.Alternative.{gathered_alternatives}
 use Rattle.ig_grammar.specs.Condition.{expressions}
-use Rattle.ig_grammar.specs.Counts.{HasFewerThan, counts_bound}
 use Rattle.ig_grammar.specs.declared.filter.Filter.{Filter}
 use Rattle.ig_grammar.specs.declared.filter.Filter.TheVariants.{NotFollowed, NotPreceded, Not}
 use Rattle.ig_grammar.specs.declared.declaration.DeclKind.TheVariants.{Plain}
 use Rattle.ig_grammar.specs.declared.declaration.Level.{Level}
 use Rattle.ig_grammar.specs.declared.declaration.Decl.{Decl}
 use Rattle.ig_grammar.specs.declared.grammar.Grammar.{Grammar}
+use Rattle.ig_grammar.specs.Counts.{HasFewerThan}
 
 -- what a label may stand directly round: no second label, guard, let or sequence
 abbrev pub MayHaveLabel : Symbol → Type 0
@@ -115,4 +116,4 @@ pub record IsRegular (g : Grammar) : Type 0 where
   pub well : OfEachLevel AlternativesStandWell g
   -- where some declaration is plain, no mark is left
   pub unmarked : (decl : Decl) → Contains g.decls decl → decl.kind ≡ Plain → OfEachLevel AlternativesHaveNoMark g
-  pub counted : HasFewerThan counts_bound g
+  pub counted : HasFewerThan numbers_end g

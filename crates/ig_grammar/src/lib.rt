@@ -3,9 +3,9 @@
 //! Contracts see a symbol as the syntax tree of `specs/Symbol.antt`, and a grammar as records and
 //! lists over such trees: equal grammars are equal there, and no clause sees a pointer. Each list
 //! adds at its end or hands the value back, and each `copy` gives an equal value.
-//! `specs/Regular.antt` says what every grammar keeps to that is read or made by a pass,
-//! `specs/WellScoped.antt` which ones are well scoped; a [`Checked`] grammar is one, with a shape
-//! for each declaration.
+//! `specs/Regular.antt` says what a grammar that was read keeps to, and each one that a pass makes
+//! of it, `specs/WellScoped.antt` which ones are well scoped; a [`Checked`] grammar is one, with a
+//! shape for each declaration.
 #![tactic(auto)]
 
 mod checked;

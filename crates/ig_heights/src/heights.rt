@@ -1,6 +1,6 @@
 //! The heights of a forest.
 ghost use Rattle.std.specs.Prelude.{◌≡◌, ◌↔◌, ◌<◌, ◌≤◌, ◌+◌, ℕ, IfOk, IsTrue, length, slice_get};
-ghost use Rattle.ig_item.specs.Limits.{numbers_end};
+ghost use Rattle.ig_text.specs.Limits.{numbers_end};
 ghost use Rattle.ig_heights.specs.Heights.{AreHeights};
 ghost use Rattle.ig_heights.specs.Rules.{IsPart, height_at};
 

@@ -1,6 +1,6 @@
 //! Rules between numbered parts.
 ghost use Rattle.std.specs.Prelude.{◌<◌, ◌≤◌};
-ghost use Rattle.ig_item.specs.Limits.{numbers_end};
+ghost use Rattle.ig_text.specs.Limits.{numbers_end};
 ghost use Rattle.ig_heights.specs.Fits.{FitAll, bottom_end};
 
 /// The target has trees where both sources have some.

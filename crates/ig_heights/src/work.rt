@@ -1,6 +1,6 @@
 //! Least heights by a work list.
 ghost use Rattle.std.specs.Prelude.{◌≡◌, ◌<◌, ◌≤◌, ◌↔◌, [], suc, IfOk, IsTrue, OnOk, length};
-ghost use Rattle.ig_item.specs.Limits.{numbers_end};
+ghost use Rattle.ig_text.specs.Limits.{numbers_end};
 ghost use Rattle.ig_heights.specs.Fits.{FitsRule};
 ghost use Rattle.ig_heights.specs.Rules.{AreLeast, height_at};
 ghost use Rattle.ig_heights.specs.Work.{Fires, Looks, Pops, Takes, UseAll, Works, weight};

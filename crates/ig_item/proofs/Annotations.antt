@@ -6,6 +6,7 @@ use Rattle.std.proofs.lemmas.Option.{same_Some}
 use Rattle.ig_text.specs.Tree as plain
 use Rattle.ig_text.proofs.Trees.{join-none, parted}
 use Rattle.ig_text.proofs.Lists.{take_step}
+use Rattle.ig_text.proofs.Options.{one_value}
 use Rattle.ig_expr.specs.ValuedTree as valued
 use Rattle.ig_expr.specs.ValuedTree.{bare_tree, bare_trees}
 use Rattle.ig_expr.specs.Evaluation.{value_of}
@@ -157,10 +158,6 @@ module _ (core : List Nonterminal) (text : List ℕ) where
         visible = (λ i. names_at (sym same.nonterminals i) (sym same.alternatives i) it.dot) ∙ sym s.visible;
       }
 
-  -- an expression has one value
-  same_value : (v w : Value) (o : Option Value) → o ≡ Some v → o ≡ Some w → v ≡ w
-  same_value v w o e f = same_Some v w (sym e ∙ f)
-
   -- where trees end
   abbrev end_of : plain.Tree → ℕ
   end_of (plain.Leaf i j) = j
@@ -201,7 +198,7 @@ module _ (core : List Nonterminal) (text : List ℕ) where
       let m = meets nonterminal alternative t.h t.us t.between has t.first bare in
       let own : value_of text names it.env it.position e ≡ Some t.alone.0 =
       (λ i. value_of text (sym b.visible i) (sym m.1 i) (sym m.0 i) e) ∙ t.alone.1 in
-      let values = same_value t.alone.0 v (value_of text names it.env it.position e) own value in
+      let values = one_value (value_of text names it.env it.position e) t.alone.0 v own value in
       (t.alone.2 ∙ m.0 ∙ sym here, t.alone.4 ∙ ap₂ (λ (vs : List Value) (w : Value). vs ++ w ∷ []) m.1 values)
   past_meets it bound j ts us meets (trees.terminal names what label excluded _ _ _ before matches free bound_is us_is)
       nonterminal alternative k zs after has leaves same =

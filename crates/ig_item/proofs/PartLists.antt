@@ -3,7 +3,7 @@ use Rattle.std.proofs.Common.{◌≡◌, ℕ, zero, suc, ◌+◌, List, [], ◌�
 use Rattle.std.specs.Prelude.{slice_range, option_map, slice_index_or}
 use Rattle.std.proofs.lemmas.List.{map-append}
 use Rattle.std.proofs.lemmas.Option.{slice_get-map, slice_get-get_or, get_or_from_slice_get}
-use Rattle.ig_text.proofs.Lists.{at_from_contains, contains_from_at, sides, range_left, range_right, same_map}
+use Rattle.ig_text.proofs.Lists.{at_from_contains, contains_from_at, sides, range_left, range_right, same_map, only_one}
 use Rattle.ig_expr.specs.declared.value.Value.{Value}
 use Rattle.ig_item.specs.declared.environment_table.Part.{Part}
 use Rattle.ig_item.specs.declared.items.Instance.{Instance}
@@ -12,16 +12,12 @@ use Rattle.ig_item.specs.Tables.{HaveValues, instance_by}
 use Rattle.ig_item.specs.Parts.{values_in, IsPartOf, ArePartsOf}
 
 module _ {X : Type 0} where
-  in_one : (y x : X) (k : ℕ) → slice_get (y ∷ []) k ≡ Some x → y ≡ x
-  in_one y x zero e = cc
-  in_one y x (suc k) e = cc
-
   -- a member of a list with one more at its end
   pub of_pushed : (P : X → Type 0) (xs : List X) (y x : X) → ((z : X) → Contains xs z → P z) → P y → Contains (xs ++ y ∷ []) x → P x
   of_pushed P xs y x each last c =
       let at = at_from_contains (xs ++ y ∷ []) x c in
       ⊎_elim (λ (e : slice_get xs at.0 ≡ Some x). each x (contains_from_at xs at.0 x e))
-      (λ (h : (m : ℕ) × (at.0 ≡ length xs + m) × (slice_get (y ∷ []) m ≡ Some x)). subst P (in_one y x h.0 h.2) last)
+      (λ (h : (m : ℕ) × (at.0 ≡ length xs + m) × (slice_get (y ∷ []) m ≡ Some x)). subst P (only_one y x h.0 h.2) last)
       (sides xs (y ∷ []) at.0 x at.1)
 
 -- parts of values that grow

@@ -1,12 +1,12 @@
 -- Items that name their instances and environments by number.
 use Rattle.std.specs.Prelude.{◌<◌, List, [], map, length, Contains, slice_index_or}
+use Rattle.ig_text.specs.Limits.{numbers_end}
 use Rattle.ig_expr.specs.declared.value.Value.{Value}
 use Rattle.ig_item.specs.Items.{Item, root_instance}
 use Rattle.ig_item.specs.declared.items.Instance.{Instance}
 use Rattle.ig_item.specs.declared.items.InstanceKey.{InstanceKey}
 use Rattle.ig_item.specs.declared.items.InstanceView.{InstanceView}
 use Rattle.ig_item.specs.declared.items.Item as stored
-use Rattle.ig_item.specs.Limits.{numbers_end}
 
 -- a table of instances, one of environments, and items that name them by number
 pub record Tables : Type 0 where

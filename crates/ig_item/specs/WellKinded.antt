@@ -2,15 +2,16 @@
 use Rattle.std.specs.Prelude.{◌≡◌, ℕ, ◌<◌, ◌≤◌, List, [], ◌∷◌, length, map, Contains, Some, slice_get}
 use Rattle.std.specs.List.{flat_map}
 use Rattle.ig_text.specs.declared.tag.Tag.TheVariants.{Rule}
+use Rattle.ig_text.specs.Limits.{numbers_end}
 use Rattle.ig_expr.specs.declared.kind.Kind.{Kind}
 use Rattle.ig_expr.specs.declared.kind.Kind.TheVariants.{Bool}
 use Rattle.ig_expr.specs.Kinds.{kind_in}
 use Rattle.ig_item.specs.Step.{Step, Test, Bind, Term, Call, names_of}
 use Rattle.ig_item.specs.Core.{IsAlternative, dots}
-use Rattle.ig_item.specs.Limits.{most_dots, numbers_end}
 use Rattle.ig_item.specs.Visible.{names_at, kinds_at}
 use Rattle.ig_item.specs.declared.core_grammar.Nonterminal.{Nonterminal}
 use Rattle.ig_item.specs.declared.core_grammar.CoreAlt.{CoreAlt}
+use Rattle.ig_item.specs.Limits.{most_dots}
 
 -- nothing stands twice in the list
 abbrev pub NoneTwice : {X : Type 0} → List X → Type 0

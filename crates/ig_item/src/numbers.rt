@@ -1,6 +1,6 @@
 //! Numbers of 32 bits.
 ghost use Rattle.std.specs.Prelude.{◌≡◌, ◌≤◌, ◌<◌, IfOk, OnErr, OnOk};
-ghost use Rattle.ig_item.specs.Limits.{numbers_end};
+ghost use Rattle.ig_text.specs.Limits.{numbers_end};
 
 use std::alloc::AllocError;
 

@@ -1,6 +1,7 @@
 //! A grammar without levels.
-ghost use Rattle.std.specs.Prelude.{◌≡◌, ◌+◌, ◌-◌, ◌^◌, ◌<◌, ◌≤◌, ◌++◌, map, true};
 ghost use Rattle.std.specs.Prelude.{IfOk, OnErr, OnOk};
+ghost use Rattle.std.specs.Prelude.{◌≡◌, ◌+◌, ◌-◌, ◌<◌, ◌≤◌, ◌++◌, map, true};
+ghost use Rattle.ig_text.specs.Limits.{numbers_end};
 ghost use Rattle.ig_grammar.specs.Numbering.{by_level};
 ghost use Rattle.ig_grammar.specs.View.{symbol_of};
 ghost use Rattle.ig_rewrite.specs.Added.{left_name, right_name};
@@ -160,7 +161,7 @@ fn levels_from(levels: usize, index: usize) -> usize
 fn level_number(levels: usize, index: usize) -> Result<u32, AllocError>
     requires { index < levels }
     ensures number { IfOk result (λ n. n ≡ levels - index) }
-    ensures refused { OnErr result (2 ^ 32 ≤ levels - index) }
+    ensures refused { OnErr result (numbers_end ≤ levels - index) }
 {
     u32::try_from(levels_from(levels, index)).map_err(|_| AllocError)
 }

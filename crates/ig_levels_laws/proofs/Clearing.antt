@@ -4,7 +4,6 @@ use Rattle.std.specs.Prelude.{All, Contains}
 use Rattle.std.specs.List.{flat_map}
 use Rattle.std.proofs.lemmas.List.Elements.{All-nil, All-cons, All-head, All-tail, Contains-append_left, Contains-append_right}
 use Rattle.std.proofs.lemmas.List.Concat.{flat_map-cons}
-use Rattle.ig_text.proofs.Lists.{contains_from_at}
 use Rattle.ig_expr.specs.Expression.{Expression, Integer, Truth, Here, Variable, Not, Negative, Binary, Of, Same, Spells, Outer, Inside, FreeBefore, FreeAfter}
 use Rattle.ig_grammar.specs.Binding.{Binding}
 use Rattle.ig_grammar.specs.Condition.{variables}
@@ -16,9 +15,9 @@ use Rattle.ig_grammar.specs.declared.grammar.Grammar.{Grammar}
 use Rattle.ig_rewrite.specs.Added.{left_name, right_name}
 use Rattle.ig_rewrite.specs.Unbound.{IsUnbound, LacksName}
 use Rattle.ig_levels_laws.proofs.Bounds.{IsSource, OfSource, AllOfSource, BindingsOfSource, ParametersOfSource, Clear, SymbolsClear, AlternativesClear, AllClear}
-use Rattle.ig_levels_laws.proofs.Keeping.{all_first, all_others}
 use Rattle.ig_rewrite.specs.EachLevel.{everywhere}
 use Rattle.ig_text.proofs.Lists.{contains_first}
+use Rattle.ig_text.proofs.Lists.{contains_from_at, halves}
 use Rattle.ig_levels_laws.proofs.Premises.{IsClear}
 
 -- neither name of a bound is among these
@@ -106,10 +105,10 @@ mutual
   clear (Plus x) a = clear x (All-tail LacksBoth (Plus x) (subterms x) a)
   clear (SepStar x separator) a =
       let b = All-tail LacksBoth (SepStar x separator) (subterms x ++ subterms separator) a in
-      (clear x (all_first LacksBoth (subterms x) (subterms separator) b), clear separator (all_others LacksBoth (subterms x) (subterms separator) b))
+      (clear x (halves LacksBoth (subterms x) (subterms separator) b).0, clear separator (halves LacksBoth (subterms x) (subterms separator) b).1)
   clear (SepPlus x separator) a =
       let b = All-tail LacksBoth (SepPlus x separator) (subterms x ++ subterms separator) a in
-      (clear x (all_first LacksBoth (subterms x) (subterms separator) b), clear separator (all_others LacksBoth (subterms x) (subterms separator) b))
+      (clear x (halves LacksBoth (subterms x) (subterms separator) b).0, clear separator (halves LacksBoth (subterms x) (subterms separator) b).1)
   clear (Group choices) a = clear_alternatives choices (All-tail LacksBoth (Group choices) (subterms_of_alternatives choices) a)
   clear (Offside x) a = clear x (All-tail LacksBoth (Offside x) (subterms x) a)
   clear (Ignore x) a = clear x (All-tail LacksBoth (Ignore x) (subterms x) a)
@@ -126,13 +125,13 @@ mutual
   clear_symbols : (xs : Symbols) → All LacksBoth (subterms_of_symbols xs) → SymbolsClear xs
   clear_symbols no_symbols a = tt
   clear_symbols (next_symbol x xs) a =
-      (clear x (all_first LacksBoth (subterms x) (subterms_of_symbols xs) a), clear_symbols xs (all_others LacksBoth (subterms x) (subterms_of_symbols xs) a))
+      (clear x (halves LacksBoth (subterms x) (subterms_of_symbols xs) a).0, clear_symbols xs (halves LacksBoth (subterms x) (subterms_of_symbols xs) a).1)
 
   clear_alternatives : (choices : Alternatives) → All LacksBoth (subterms_of_alternatives choices) → AlternativesClear choices
   clear_alternatives no_alternatives a = tt
   clear_alternatives (next_alternative xs others) a = (
-    clear_symbols xs (all_first LacksBoth (subterms_of_symbols xs) (subterms_of_alternatives others) a),
-    clear_alternatives others (all_others LacksBoth (subterms_of_symbols xs) (subterms_of_alternatives others) a),
+    clear_symbols xs (halves LacksBoth (subterms_of_symbols xs) (subterms_of_alternatives others) a).0,
+    clear_alternatives others (halves LacksBoth (subterms_of_symbols xs) (subterms_of_alternatives others) a).1,
   )
 
 all_clear : (xs : List Symbol) → SymbolsClear (gathered xs) → AllClear xs

@@ -159,10 +159,6 @@ own_parts_kept : (levelled : List ℕ → Bool) (pair : Pair) (x : Symbol) → o
 own_parts_kept levelled pair (Filtered x filters) = refl
 own_parts_kept levelled pair x = refl
 
-some_part : (x : Symbol) → 1 ≤ own_parts x
-some_part (Filtered x filters) = omega arith
-some_part x = omega arith
-
 levels_few : (levels : List Level) (alts : List Alt) → length (one_level levels alts) ≤ 3 * length levels
 levels_few [] alts = omega arith
 levels_few (level ∷ levels) alts = omega arith
@@ -180,7 +176,7 @@ module _ (by_form : CountsByForm) where
         guard = λ e xs.
             let a = by_form.parts_among_symbols (next_symbol (Guard e) xs) in let b = by_form.parts_of (Guard e) in omega (arith, a, b);
         least = λ x xs.
-            let a = by_form.parts_among_symbols (next_symbol x xs) in let b = by_form.parts_of x in let c = some_part x in omega (arith, a, b, c);
+            let a = by_form.parts_among_symbols (next_symbol x xs) in let b = by_form.parts_of x in let c = by_form.some_part x in omega (arith, a, b, c);
         same = λ levelled.
             lowered_kept levelled own_parts by_form.parts_of by_form.parts_among_symbols by_form.parts_among_alternatives (own_parts_kept levelled);
       }

@@ -11,21 +11,6 @@ use Rattle.ig_grammar.specs.Symbol.{Symbol, Guard}
 use Rattle.ig_rewrite.specs.Added.{left_name, right_name}
 use Rattle.ig_levels_laws.specs.Levels.{Pair, no_pair, with_pair, is_left, is_right, pair_at, Place}
 
--- the members of the first of two lists, and of the second
-pub all_first : {X : Type 0} (P : X → Type 0) (xs ys : List X) → All P (xs ++ ys) → All P xs
-all_first P [] ys a = All-nil P
-all_first P (x ∷ xs) ys a = All-cons P x xs (All-head P x (xs ++ ys) a) (all_first P xs ys (All-tail P x (xs ++ ys) a))
-
-pub all_others : {X : Type 0} (P : X → Type 0) (xs ys : List X) → All P (xs ++ ys) → All P ys
-all_others P [] ys a = a
-all_others P (x ∷ xs) ys a = all_others P xs ys (All-tail P x (xs ++ ys) a)
-
-pub in_map : {X Y : Type 0} (f : X → Y) (xs : List X) (y : Y) → Contains (map f xs) y → (x : X) × Contains xs x × (y ≡ f x)
-in_map f xs y among =
-    let at = at_from_contains (map f xs) y among in
-    let from = mapped f (slice_get xs at.0) y (sym (slice_get-map f xs at.0) ∙ at.1) in
-    (from.0, contains_from_at xs at.0 from.0 from.1, from.2)
-
 -- an added argument: a number, or the variable of a bound
 pub data IsAddedArgument : Expression → Type 0 where
   number : (n : ℕ) → IsAddedArgument (Integer (pos n))

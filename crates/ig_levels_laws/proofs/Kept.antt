@@ -3,6 +3,7 @@ use Rattle.std.proofs.Common.{◌≡◌, ◌∙◌, ℕ, true, false, List, [], 
 use Rattle.std.specs.Prelude.{◌≢◌, Contains, slice_get}
 use Rattle.std.proofs.lemmas.Option.{slice_get-map}
 use Rattle.ig_text.proofs.Options.{mapped, one_value}
+use Rattle.ig_text.proofs.Lists.{contains_first, contains_one, none_in_nil, unmapped_in}
 use Rattle.ig_grammar.specs.Checked.{CheckedGrammar}
 use Rattle.ig_grammar.specs.Condition.{declaration_of}
 use Rattle.ig_grammar.specs.declared.declaration.DeclKind.TheVariants.{Syntax}
@@ -20,12 +21,10 @@ use Rattle.ig_rewrite.specs.Unbound.{IsUnbound}
 use Rattle.ig_levels_laws.specs.Levels.{is_levelled, names_levelled, lowered_declaration, lowered_grammar, LevelsOf}
 use Rattle.ig_levels_laws.specs.Laws.{LevelsKeep}
 use Rattle.ig_levels_laws.proofs.Clearing.{clear_of}
-use Rattle.ig_levels_laws.proofs.Keeping.{in_map}
 use Rattle.ig_levels_laws.proofs.Giving.{LawsBelow, gives, settles}
 use Rattle.ig_rewrite.specs.Asked.{AsksElsewhere}
 use Rattle.ig_rewrite.specs.Binders.{BindersAreCounted}
 use Rattle.ig_rewrite.specs.Passing.{IsReadyFor, ResultsAreReady}
-use Rattle.ig_text.proofs.Lists.{contains_first, contains_one, none_in_nil}
 use Rattle.ig_levels_laws.proofs.Permitting.{lowered_is_free, permits_same, annotates_same}
 use Rattle.ig_levels_laws.proofs.Premises.{Lowerable, lowerable, one_free}
 use Rattle.ig_levels_laws.proofs.Shaped.{lowered_fits, root_calls_kept}
@@ -93,8 +92,8 @@ module _ (given : Given) (c : CheckedGrammar) (sound : IsSound c) (has : has_roo
             root_calls_kept c.grammar c.shapes may sound.fit before lower b at shaped
             (λ decl a declared kinds. sound.root_calls before decl a declared shaped (sym kinds ∙ kind)) among;
         unsigned = λ lower among.
-            let from = in_map (lowered_declaration (names_levelled c.grammar.decls)) c.grammar.decls lower among in
-            subst (λ (z : Decl). HasNoSign z.name) (sym from.2) (sound.unsigned from.0 from.1);
+            let from = unmapped_in (lowered_declaration (names_levelled c.grammar.decls)) c.grammar.decls lower among in
+            subst (λ (z : Decl). HasNoSign z.name) from.2 (sound.unsigned from.0 from.1);
       }
 
   -- a name that is none of the bounds stays unbound

@@ -19,6 +19,7 @@ use Rattle.ig_text.proofs.Lists.{contains_first, contains_later, in_rest}
 use Rattle.ig_levels_laws.proofs.Kinded.{bound_kinds, InsertedKinds, here, behind, PairFits, Paired, no_pairs, next_pair}
 use Rattle.ig_levels_laws.proofs.Sequences.{lowered_paired}
 use Rattle.ig_text.proofs.Lists.{none_in_nil}
+use Rattle.ig_text.proofs.Numbers.{from_zero}
 
 -- the occurrence of the source that stands beside one of the lowered alternative
 pub record Partner (levelled : List ℕ → Bool) (m : Bool) (os : List Occurrence) (o : Occurrence) : Type 0 where
@@ -102,12 +103,9 @@ module _ (levelled : List ℕ → Bool) where
       go (inr i) = inr i
   among_test m false active level name bound w os o among = inr among
 
-  none_more : (n : ℕ) → 0 + n ≡ n
-  none_more n = omega arith
-
   count_behind : (b : Bool) (level : ℕ) (name : List ℕ) (w : Visible) (os : List Occurrence) →
       count_by binding (map (at w) (test_of b level name) ++ os) ≡ count_by binding os
-  count_behind true level name w os = count-cons (at w (test level name)) os ∙ none_more (count_by binding os)
+  count_behind true level name w os = count-cons (at w (test level name)) os ∙ from_zero (count_by binding os)
   count_behind false level name w os = refl
 
   pub parameters_inserted : (ps : List Param) (m : Bool) → ParametersOfSource ps → InsertedKinds m (parameters ps) (parameters (ps ++ added_parameters m))

@@ -14,10 +14,10 @@ use Rattle.ig_grammar.specs.Regular.{IsPlaced, pattern_of, IsNoMark, MayHaveLabe
 use Rattle.ig_grammar.specs.Subterms.{bound_names, names_bound_by, subterms_of_alternatives}
 use Rattle.ig_grammar.specs.declared.filter.Filter.{Filter}
 use Rattle.ig_grammar.specs.declared.filter.Filter.TheVariants.{NotFollowed, NotPreceded, Not}
+use Rattle.ig_grammar.specs.Forms.{label_of_filtered, separated_of_label}
 use Rattle.ig_rewrite.specs.Needs.{needs, symbols_need, IsEntered, AlternativesAreEntered}
 use Rattle.ig_rewrite.specs.Remaining.{IsExclusion}
 use Rattle.ig_traversal.specs.Rewriting.{within, rewritten, rewritten_symbols, rewritten_choices}
-use Rattle.ig_rewrite.specs.Forms.{label_of_filtered, separated_of_label}
 use Rattle.ig_rewrite.specs.Sound.{ExcludesOnly}
 use Rattle.ig_lexical_laws.specs.Filters.{befores, afters, exclusions, with_filters, guarded, attached}
 use Rattle.ig_lexical_laws.proofs.Traversal.{Throughout, ThroughoutSymbols, ThroughoutChoices}

@@ -10,7 +10,6 @@ use Rattle.ig_text.proofs.Trees.{join-none}
 use Rattle.ig_expr.specs.Expression.{Expression, FreeBefore, FreeAfter}
 use Rattle.ig_expr.specs.declared.value.Value.TheVariants as value
 use Rattle.ig_expr.specs.Laws.{TestsLookFor}
-use Rattle.ig_traversal.specs.Gathered.{listed_gathered}
 use Rattle.ig_grammar.specs.Symbol.{Symbol, Label, Guard, Filtered, Seq}
 use Rattle.ig_grammar.specs.Symbol.{gathered}
 use Rattle.ig_meaning.specs.Environment.{Environment, HasValue, names, values}
@@ -22,6 +21,7 @@ use Rattle.ig_grammar.specs.declared.filter.Filter.TheVariants.{NotFollowed, Not
 use Rattle.ig_grammar.specs.declared.declaration.DeclKind.{DeclKind}
 use Rattle.ig_grammar.specs.declared.grammar.Grammar.{Grammar}
 use Rattle.ig_grammar.specs.declared.place.Shape.{Shape}
+use Rattle.ig_grammar.specs.Gathered.{listed_gathered}
 use Rattle.ig_lexical_laws.specs.Filters.{befores, afters, exclusions, with_filters, guarded, attached}
 
 -- each has the value true

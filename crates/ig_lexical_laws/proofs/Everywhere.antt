@@ -2,7 +2,7 @@
 use Rattle.std.proofs.Common.{List, [], ◌∷◌, ◌++◌, sym, subst}
 use Rattle.std.specs.Prelude.{All, Contains}
 use Rattle.std.proofs.lemmas.List.Elements.{All-nil, All-cons, All-head, All-tail, All-append}
-use Rattle.ig_text.proofs.Lists.{contains_from_at, at_from_contains, from_map}
+use Rattle.ig_text.proofs.Lists.{contains_from_at, at_from_contains, from_map, halves}
 use Rattle.ig_grammar.specs.Symbol.{Symbol, Literal, OneOf, Call, Label, Guard, Let, Opt, Star, Plus, SepStar, SepPlus, Group, Offside, Ignore, Align, Filtered, Seq, Entry}
 use Rattle.ig_grammar.specs.Symbol.{Symbols, no_symbols, next_symbol, Alternatives, no_alternatives, next_alternative}
 use Rattle.ig_grammar.specs.Alternative.{gathered_alternatives}
@@ -18,12 +18,6 @@ use Rattle.ig_lexical_laws.proofs.RewrittenScoped.{turned, turned_grammar}
 use Rattle.ig_lexical_laws.proofs.Traversal.{Throughout, ThroughoutSymbols, ThroughoutChoices}
 
 module _ (N : Symbol → Type 0) where
-  halves : (xs ys : List Symbol) → All N (xs ++ ys) → All N xs × All N ys
-  halves [] ys all = (All-nil N, all)
-  halves (x ∷ xs) ys all =
-      let rest = halves xs ys (All-tail N x (xs ++ ys) all) in
-      (All-cons N x xs (All-head N x (xs ++ ys) all) rest.0, rest.1)
-
   mutual
     throughout : (x : Symbol) → All N (subterms x) → Throughout N x
     throughout (Literal word) a = All-head N (Literal word) [] a
@@ -36,10 +30,10 @@ module _ (N : Symbol → Type 0) where
     throughout (Star x) a = (All-head N (Star x) (subterms x) a, throughout x (All-tail N (Star x) (subterms x) a))
     throughout (Plus x) a = (All-head N (Plus x) (subterms x) a, throughout x (All-tail N (Plus x) (subterms x) a))
     throughout (SepStar x s) a =
-        let b = halves (subterms x) (subterms s) (All-tail N (SepStar x s) (subterms x ++ subterms s) a) in
+        let b = halves N (subterms x) (subterms s) (All-tail N (SepStar x s) (subterms x ++ subterms s) a) in
         (All-head N (SepStar x s) (subterms x ++ subterms s) a, throughout x b.0, throughout s b.1)
     throughout (SepPlus x s) a =
-        let b = halves (subterms x) (subterms s) (All-tail N (SepPlus x s) (subterms x ++ subterms s) a) in
+        let b = halves N (subterms x) (subterms s) (All-tail N (SepPlus x s) (subterms x ++ subterms s) a) in
         (All-head N (SepPlus x s) (subterms x ++ subterms s) a, throughout x b.0, throughout s b.1)
     throughout (Group xs) a =
         (All-head N (Group xs) (subterms_of_alternatives xs) a, throughout_choices xs (All-tail N (Group xs) (subterms_of_alternatives xs) a))
@@ -52,12 +46,12 @@ module _ (N : Symbol → Type 0) where
 
     throughout_symbols : (xs : Symbols) → All N (subterms_of_symbols xs) → ThroughoutSymbols N xs
     throughout_symbols no_symbols a = tt
-    throughout_symbols (next_symbol x xs) a = let b = halves (subterms x) (subterms_of_symbols xs) a in (throughout x b.0, throughout_symbols xs b.1)
+    throughout_symbols (next_symbol x xs) a = let b = halves N (subterms x) (subterms_of_symbols xs) a in (throughout x b.0, throughout_symbols xs b.1)
 
     pub throughout_choices : (xs : Alternatives) → All N (subterms_of_alternatives xs) → ThroughoutChoices N xs
     throughout_choices no_alternatives a = tt
     throughout_choices (next_alternative xs others) a =
-        let b = halves (subterms_of_symbols xs) (subterms_of_alternatives others) a in (throughout_symbols xs b.0, throughout_choices others b.1)
+        let b = halves N (subterms_of_symbols xs) (subterms_of_alternatives others) a in (throughout_symbols xs b.0, throughout_choices others b.1)
 
   both : (z x s : Symbol) → N z → All N (subterms x) → All N (subterms s) → All N (z ∷ subterms x ++ subterms s)
   both z x s n a b = All-cons N z (subterms x ++ subterms s) n (All-append N (subterms x) (subterms s) a b)

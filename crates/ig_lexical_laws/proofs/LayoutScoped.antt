@@ -1,5 +1,6 @@
 -- The layout pass keeps a grammar well scoped.
 use Rattle.std.proofs.Common.{◌≡◌, ℕ, suc, List, [], Option, Some, None, refl, sym, subst, inr}
+use Rattle.ig_text.proofs.Emptiness.{empty_unless}
 use Rattle.ig_grammar.specs.Symbol.{Symbol, Call}
 use Rattle.ig_grammar.specs.Visible.{Visible}
 use Rattle.ig_grammar.specs.Laws.{RegularityByForm}
@@ -13,7 +14,6 @@ use Rattle.ig_grammar.specs.declared.declaration.DeclKind.TheVariants.{Syntax, L
 use Rattle.ig_grammar.specs.declared.grammar.Grammar.{Grammar}
 use Rattle.ig_rewrite.specs.Found.{DeclarationsAreFound}
 use Rattle.ig_lexical_laws.specs.Layout.{laid_in, laid_grammar}
-use Rattle.ig_lexical_laws.proofs.Meeting.{layout_there, no_parameters}
 use Rattle.ig_rewrite.specs.Asked.{Fit, Asks}
 use Rattle.ig_rewrite.specs.Passing.{ResultsAreReady}
 use Rattle.ig_lexical_laws.proofs.Keeping.{Keeps, same_keeps, laid_keeps}
@@ -27,8 +27,8 @@ plain_kinds = record { kept = λ k. inr refl; lexical = λ k i. absurd i; syntax
 module _ (passes : ResultsAreReady) (forms : RegularityByForm) (found : DeclarationsAreFound) (g : Grammar) (scoped : IsWellScoped g) (none : OfEachLevel AlternativesHaveNoMark g) where
   layout_asks : (w : List ℕ) → layout_among g.decls ≡ Some w → (v : Visible) → Asks g.decls Syntax v (Call w [])
   layout_asks w e v =
-      let l = layout_there g.decls w e in
-      let none = no_parameters l.1.params (λ some. scoped (record { decl = suc l.0; alt = 0; symbol = 0 }) meets.LayoutNotPlain (l.1, l.2, meets.layout_not_plain l.4 (meets.parametrized some))) in
+      let l = found.layout g.decls w e in
+      let none = empty_unless l.1.params (λ some. scoped (record { decl = suc l.0; alt = 0; symbol = 0 }) meets.LayoutNotPlain (l.1, l.2, meets.layout_not_plain l.4 (meets.parametrized some))) in
       record {
         callee = l.1;
         declared = subst (λ n. declaration_of g.decls n ≡ Some l.1) l.3 (found.itself g l.0 l.1 scoped l.2);

@@ -15,7 +15,6 @@ use Rattle.ig_grammar.specs.declared.declaration.Decl.{Decl}
 use Rattle.ig_grammar.specs.declared.grammar.Grammar.{Grammar}
 use Rattle.ig_grammar.specs.declared.place.Shape.{Shape}
 use Rattle.ig_traversal.specs.Rewriting.{rewritten}
-use Rattle.ig_lexical_laws.proofs.Meeting.{layout_there}
 use Rattle.ig_lexical_laws.specs.Layout.{declares_lexical, then_layout, laid, laid_in, laid_grammar}
 use Rattle.ig_rewrite.specs.Sound.{RootHasCallsAlone}
 use Rattle.ig_rewrite.specs.Found.{DeclarationsAreFound}
@@ -61,7 +60,7 @@ module _ (forms : RegularityByForm) (found : DeclarationsAreFound) (g : Grammar)
 
   apart : (before : ℕ) (decl : Decl) → slice_get g.decls before ≡ Some decl → IsRoot g shapes before decl → (w : List ℕ) → layout_among g.decls ≡ Some w → w ≢ decl.name
   apart before decl at root w e same =
-      let l = layout_there g.decls w e in
+      let l = found.layout g.decls w e in
       let one : declaration_of g.decls decl.name ≡ Some l.1 = subst (λ n. declaration_of g.decls n ≡ Some l.1) (l.3 ∙ same) (found.itself g l.0 l.1 scoped l.2) in
       let both : Some l.1 ≡ Some decl = sym one ∙ found.itself g before decl scoped at in
       root.no_layout (let d : l.1 ≡ decl = cc in ap (λ z. z.kind) (sym d) ∙ l.4)

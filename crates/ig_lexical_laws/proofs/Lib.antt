@@ -18,7 +18,6 @@ pub mod Sorting
 pub mod Sides
 pub mod LayoutSame
 pub mod Placing
-pub mod Meeting
 pub mod Keeping
 pub mod Counting
 pub mod LayoutScoped

@@ -24,7 +24,8 @@ use Rattle.ig_lexical_laws.proofs.Traversal.{Throughout, ThroughoutSymbols, Admi
 use Rattle.ig_lexical_laws.proofs.Instances.{Low, LowInstances, AlternativeToo, low_instances}
 use Rattle.ig_lexical_laws.proofs.Leaves.{SameEnv, SameStarts, SameKind, IsCallOf, fits_same, leaf_follows}
 use Rattle.ig_text.proofs.Lists.{contains_from_at, at_from_contains, mapped_at, from_map}
-use Rattle.ig_traversal.specs.Gathered.{listed_gathered, symbols_gathered}
+use Rattle.ig_grammar.specs.Gathered.{listed_gathered}
+use Rattle.ig_traversal.specs.Gathered.{symbols_gathered}
 
 map_crossed : {X Y V W : Type 0} (f : X → Y) (r : Y → W) (s : X → V) (t : V → W) → ((x : X) → r (f x) ≡ t (s x)) → (xs : List X) → map r (map f xs) ≡ map t (map s xs)
 map_crossed f r s t e [] = refl

@@ -12,13 +12,14 @@ use Rattle.ig_lexical_laws.proofs.Traversal.{ThroughoutSymbols, symbols_alike, t
 use Rattle.ig_lexical_laws.proofs.Instances.{Low, LowInstances}
 use Rattle.ig_lexical_laws.proofs.Leaves.{SameEnv, AnyStarts, fits_any}
 use Rattle.ig_lexical_laws.proofs.LayoutChain.{BecomesPlain}
-use Rattle.ig_traversal.specs.Gathered.{listed_gathered, symbols_gathered}
 use Rattle.ig_lexical_laws.specs.Layout.{laid}
 use Rattle.ig_lexical_laws.proofs.Tight.{AnyName, IsTight, leaf_there}
 use Rattle.ig_lexical_laws.proofs.Kept.{SameLeaf, leaf_kept}
 use Rattle.ig_lexical_laws.proofs.Laying.{AnyEntry, Decides, laid_replaces}
 use Rattle.ig_lexical_laws.proofs.LayingBack.{AnyKind, AllPlain, back_replaces}
 use Rattle.ig_grammar.specs.Regular.{IsNoMark}
+use Rattle.ig_grammar.specs.Gathered.{listed_gathered}
+use Rattle.ig_traversal.specs.Gathered.{symbols_gathered}
 use Rattle.ig_lexical_laws.proofs.Unmarked.{admits}
 use Rattle.ig_lexical_laws.proofs.Sorting.{Sort, laid_sort, tight_sort}
 

@@ -2,23 +2,19 @@
 use Rattle.std.proofs.Common.{◌≡◌, ◌∙◌, ℕ, List, [], ◌∷◌, ◌++◌, map, refl, sym, ap, subst}
 use Rattle.ig_expr.specs.Expression.{Expression}
 use Rattle.ig_expr.specs.ValuedTree.{Trees, none, more, join}
+use Rattle.ig_expr.specs.JoinedTrees.{join-none}
 use Rattle.ig_grammar.specs.Symbol.{Symbol, Label, Guard, Filtered, Seq, gathered}
 use Rattle.ig_grammar.specs.declared.declaration.DeclKind.{DeclKind}
 use Rattle.ig_grammar.specs.declared.filter.Filter.{Filter}
 use Rattle.ig_grammar.specs.declared.grammar.Grammar.{Grammar}
 use Rattle.ig_grammar.specs.declared.place.Shape.{Shape}
+use Rattle.ig_grammar.specs.Gathered.{listed_gathered}
 use Rattle.ig_meaning.specs.Annotated as a
 use Rattle.ig_meaning.specs.Annotated.{Bind, Binds}
 use Rattle.ig_meaning.specs.Derivation.{span_value}
 use Rattle.ig_meaning.specs.Environment.{Environment}
-use Rattle.ig_traversal.specs.Gathered.{listed_gathered}
 use Rattle.ig_lexical_laws.proofs.ValuedForms.{IsWhole, parts_whole}
 use Rattle.ig_lexical_laws.specs.Filters.{befores, afters, exclusions, with_filters, guarded, attached}
-
--- no trees joined behind others change nothing
-join_none : (ts : Trees) → join ts none ≡ ts
-join_none none = refl
-join_none (more t ts) = ap (more t) (join_none ts)
 
 -- options, lists, groups and sequences have no filters of their own
 pub whole_attached : (x : Symbol) → IsWhole x → attached x ≡ x
@@ -88,7 +84,7 @@ module _ (g : Grammar) (shapes : List Shape) (text : List ℕ) (c : DeclKind) wh
       a.sequence c (gathered (map Guard before ++ x ∷ map Guard behind)) env after i j ts
       (subst (λ z. Bind g shapes text c z env i j ts after) (sym (listed_gathered (map Guard before ++ x ∷ map Guard behind)))
       (before_guards before (x ∷ map Guard behind) env after i j ts
-      (a.next c x (map Guard behind) env after after i e j j ts none ts b (behind_guards behind after j) (sym (join_none ts)))))
+      (a.next c x (map Guard behind) env after after i e j j ts none ts b (behind_guards behind after j) (sym (join-none ts)))))
 
   -- a symbol behind guards and before guards binds what it binds alone
   guarded_keeps : (before behind : List Expression) (x : Symbol) (env after : Environment) (i e j : ℕ) (ts : Trees) →

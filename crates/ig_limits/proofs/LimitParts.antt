@@ -4,10 +4,11 @@ use Rattle.std.specs.Prelude.{IsTrue}
 use Rattle.std.proofs.lemmas.Bool.Decides.{not_from_Decides}
 use Rattle.std.proofs.lemmas.List.{drop_more, drop_all}
 use Rattle.std.proofs.lemmas.List.Elements.{All-nil, All-cons, All-head, All-tail}
+use Rattle.ig_text.specs.Limits.{integers_end}
 use Rattle.ig_syntax.specs.Token.{Token, Number}
 use Rattle.ig_tokens.specs.View.{token_of, tokens_of}
 use Rattle.ig_tokens.specs.declared.token.Placed.{Placed}
-use Rattle.ig_limits.specs.Limits.{meanings, byte_of, number_bound, most_open, NumberFits, NumbersFit, opened, open_behind, IsShallowFrom, IsShallow}
+use Rattle.ig_limits.specs.Limits.{meanings, byte_of, most_open, NumberFits, NumbersFit, opened, open_behind, IsShallowFrom, IsShallow}
 
 -- the tokens from a number on
 pub there : (placed : List Placed) (i : ℕ) (d : Placed) → i < length placed →
@@ -25,8 +26,8 @@ found_true : (P : Type 0) → P → IsTrue true ↔ P
 found_true P p = (λ t. p, λ q. refl)
 
 -- numbers
-pub too_large : (n : ℕ) → number_bound ≤ n → IsTrue false ↔ NumberFits (Number n)
-too_large n l = untrue (n < number_bound) (λ f. omega arith)
+pub too_large : (n : ℕ) → integers_end ≤ n → IsTrue false ↔ NumberFits (Number n)
+too_large n l = untrue (n < integers_end) (λ f. omega arith)
 
 -- all numbers fit exactly where the others do
 pub record Fitting (all others : List Token) : Type 0 where

@@ -1,5 +1,6 @@
--- The limits that the bytes and the tokens of a grammar text keep, and the byte at which a token stands.
-use Rattle.std.specs.Prelude.{◌≡◌, ℕ, zero, suc, ◌+◌, ◌-◌, ◌^◌, ◌<◌, ◌≤◌, List, [], ◌∷◌, ◌++◌, All, map}
+-- The limits that the tokens of a grammar text keep, and the byte at which a token stands.
+use Rattle.std.specs.Prelude.{◌≡◌, ℕ, zero, suc, ◌+◌, ◌-◌, ◌<◌, ◌≤◌, List, [], ◌∷◌, ◌++◌, All, map}
+use Rattle.ig_text.specs.Limits.{integers_end}
 use Rattle.ig_syntax.specs.Token.{Token, Head, Number, Open, Close, OpenBrace, CloseBrace}
 use Rattle.ig_tokens.specs.View.{token_of}
 use Rattle.ig_tokens.specs.declared.token.Placed.{Placed}
@@ -14,16 +15,13 @@ byte_of end [] number = end
 byte_of end (p ∷ tokens) zero = p.1
 byte_of end (p ∷ tokens) (suc number) = byte_of end tokens number
 
--- each number is below this one
-abbrev pub number_bound : ℕ
-number_bound = 2 ^ 63
-
 -- the most brackets that may be open at one place
 abbrev pub most_open : ℕ
 most_open = 64
 
+-- each number is one of an integer
 abbrev pub NumberFits : Token → Type 0
-NumberFits (Number n) = n < number_bound
+NumberFits (Number n) = n < integers_end
 NumberFits t = Unit {0}
 
 abbrev pub NumbersFit : List Token → Type 0

@@ -5,9 +5,9 @@ use Rattle.std.proofs.lemmas.Bool.{cases_eq}
 use Rattle.std.proofs.lemmas.List.{take_all, take_more, length-replicate}
 use Rattle.std.proofs.lemmas.List.Elements.{Contains-append_left, Contains-push, Contains-push_cases}
 use Rattle.std.proofs.lemmas.Option.{same_Some, slice_get_within}
-use Rattle.ig_text.proofs.Lists.{left_at, none_in_nil, contains_from_at, at_from_contains, get_within, unmapped_at, mapped_at}
 use Rattle.ig_text.proofs.Orders.{below_or_at}
 use Rattle.ig_text.proofs.Filtered.{one_kept}
+use Rattle.ig_text.proofs.Lists.{left_at, none_in_nil, contains_from_at, at_from_contains, get_within, unmapped_at, mapped_at, past_end}
 use Rattle.ig_item.specs.Ways as ways
 use Rattle.ig_item.specs.Ways.{WayLists, WayTo}
 use Rattle.ig_item.specs.declared.ways.Way.{Way}
@@ -440,12 +440,7 @@ module _ (lists : WayLists) where
             walked.closed at.0 j (omega (arith, lt, le)) at.1 k m leads
 
     pub walk_stops : (w : Walk) (turn : ℕ) → Walked w turn → slice_get w.found.items turn ≡ None → AreReached root w.marks.items
-    walk_stops w turn walked none = walk_ends w turn walked (past w.found.items turn none)
-      where
-        past : (xs : List ℕ) (k : ℕ) → slice_get xs k ≡ None → length xs ≤ k
-        past [] k e = omega arith
-        past (x ∷ xs) zero e = cc
-        past (x ∷ xs) (suc k) e = let h = past xs k e in omega (arith, h)
+    walk_stops w turn walked none = walk_ends w turn walked (past_end w.found.items turn none)
 
     pub walk_runs_out : (w : Walk) (turn : ℕ) → Walked w turn → length lists.firsts ≤ turn → AreReached root w.marks.items
     walk_runs_out w turn walked le =

@@ -1,7 +1,7 @@
 //! The lists of values of a run, each once and in order.
 ghost use Rattle.std.specs.Prelude.{◌≡◌, ◌<◌, IfOk, MatchOption, map, slice_get, Contains, length};
 ghost use Rattle.std.specs.List.Sorted.{IsStrictlySortedBy};
-ghost use Rattle.ig_item.specs.Limits.{numbers_end};
+ghost use Rattle.ig_text.specs.Limits.{numbers_end};
 ghost use Rattle.ig_live.specs.Lists.{AreLists, ArePlaces};
 ghost use Rattle.ig_expr.specs.ValueOrder.{values_cmp};
 

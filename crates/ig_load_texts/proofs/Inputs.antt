@@ -6,6 +6,7 @@ use Rattle.std.specs.Str.{IsAscii}
 use Rattle.std.proofs.lemmas.List.Elements.{All-nil, All-cons}
 use Rattle.std.proofs.lemmas.List.{append_assoc}
 use Rattle.std.proofs.lemmas.Str.{chars-IsAscii, IsUtf8-from_ascii}
+use Rattle.std.proofs.lemmas.Str.Ascii.{IsAscii-cons}
 use Rattle.ig_text.specs.Decoding.{IsDecoded, IsFaulty}
 use Rattle.ig_text.specs.declared.text.TextFault.TheVariants.{NotUtf8, TooLong}
 use Rattle.ig_load_texts.specs.Operators.{Operator, power, times, plus, minus, sign, letter, letters, step_text, HasLetter}
@@ -44,21 +45,17 @@ sign_is_ascii minus = omega arith
 ascii_nil : IsAscii []
 ascii_nil i = omega arith
 
-ascii_cons : (c : ℕ) (cs : List ℕ) → c < 128 → IsAscii cs → IsAscii (c ∷ cs)
-ascii_cons c cs h a zero = h
-ascii_cons c cs h a (suc i) = a i
-
 steps_are_ascii : (n state : ℕ) → IsAscii (flat_map step_text (steps_from state n))
 steps_are_ascii zero state = ascii_nil
 steps_are_ascii (suc n) state =
     let next = next_state (next_state state) in
     let rest = flat_map step_text (steps_from next n) in
-    ascii_cons (sign (operator_at (next_state state))) (letter (operand_at next) ∷ rest) (sign_is_ascii (operator_at (next_state state)))
-    (ascii_cons (letter (operand_at next)) rest (let fits = operand_fits next in omega arith) (steps_are_ascii n next))
+    IsAscii-cons (sign (operator_at (next_state state))) (letter (operand_at next) ∷ rest) (sign_is_ascii (operator_at (next_state state)))
+    (IsAscii-cons (letter (operand_at next)) rest (let fits = operand_fits next in omega arith) (steps_are_ascii n next))
 
 pub input_is_ascii : (size number : ℕ) → IsAscii (LoadInput size number)
 input_is_ascii size number =
-    ascii_cons (letter (operand_at (next_state number))) (flat_map step_text (steps_from (next_state number) (size - 1)))
+    IsAscii-cons (letter (operand_at (next_state number))) (flat_map step_text (steps_from (next_state number) (size - 1)))
     (let fits = operand_fits (next_state number) in omega arith)
     (steps_are_ascii (size - 1) (next_state number))
 

@@ -3,6 +3,7 @@ use Rattle.std.proofs.Common.{◌≡◌, ℕ, List, [], ◌∷◌, ◌++◌, len
 use Rattle.ig_text.specs.declared.tag.Tag.{Tag}
 use Rattle.ig_text.specs.declared.tag.Tag.TheVariants as tag
 use Rattle.ig_text.specs.Tree as plain
+use Rattle.ig_text.proofs.Trees.{join-none}
 use Rattle.ig_expr.specs.declared.value.Value.{Value}
 use Rattle.ig_grammar.specs.Symbol.{Symbol, SepPlus, Seq}
 use Rattle.ig_meaning.specs.Environment.{Environment}
@@ -22,10 +23,6 @@ use Rattle.ig_grammar.specs.declared.place.Shape.{Shape}
 pub bare_join : (ts us : Trees) → bare_trees (join ts us) ≡ plain.join (bare_trees ts) (bare_trees us)
 bare_join none us = refl
 bare_join (more t ts) us = ap (plain.more (bare_tree t)) (bare_join ts us)
-
-join_none : (ts : plain.Trees) → plain.join ts plain.none ≡ ts
-join_none plain.none = refl
-join_none (plain.more t ts) = ap (plain.more t) (join_none ts)
 
 module _ (g : Grammar) (shapes : List Shape) (text : List ℕ) where
   -- trees of symbols, with values
@@ -71,7 +68,7 @@ module _ (g : Grammar) (shapes : List Shape) (text : List ℕ) where
   part_alone : {c : DeclKind} {x : Symbol} {env after : Environment} {i e j : ℕ} {ts : plain.Trees} →
       Annotated c x env i e j ts after → AnnotatedParts c (x ∷ []) env i j ts
   part_alone {c = c} {x = x} {env = env} {i = i} {j = j} {ts = ts} p =
-      subst (AnnotatedParts c (x ∷ []) env i j) (join_none ts) (part p (no_parts c env j))
+      subst (AnnotatedParts c (x ∷ []) env i j) (join-none ts) (part p (no_parts c env j))
 
   whole : {c : DeclKind} {x : Symbol} {form : Tag} {parts : List Symbol} {env : Environment} {i j : ℕ} {ts : plain.Trees} →
       HasParts x form parts → AnnotatedParts c parts env i j ts → Annotated c x env i j j (plain.one (plain.Node form i j ts)) env

@@ -16,6 +16,7 @@ use Rattle.ig_meaning.specs.Laws.{begin_of, end_of, BindsFirstTree}
 use Rattle.ig_grammar.specs.declared.declaration.DeclKind.{DeclKind}
 use Rattle.ig_grammar.specs.declared.grammar.Grammar.{Grammar}
 use Rattle.ig_grammar.specs.declared.place.Shape.{Shape}
+use Rattle.ig_grammar.specs.Forms.{mark_of_filtered, label_of_marked}
 
 -- the first of the trees covers i to e
 pub record BeginsWith (i e : ℕ) (ts : Trees) : Type 0 where
@@ -31,16 +32,6 @@ HasSpan i j t = (begin_of t ≡ i) × (end_of t ≡ j)
 
 alone : (i j : ℕ) (t : Tree) → HasSpan i j t → BeginsWith i j (one t)
 alone i j t span = record { first = t; others = none; split = refl; begin = span.0; end = span.1 }
-
-may_have_label : (x : Symbol) → MayHaveMark x → MayHaveLabel x
-may_have_label (Offside x) h = absurd h
-may_have_label (Ignore x) h = absurd h
-may_have_label (Align x) h = absurd h
-may_have_label x h = h
-
-may_have_mark : (x : Symbol) → MayHaveFilters x → MayHaveMark x
-may_have_mark (Filtered x filters) h = absurd h
-may_have_mark x h = h
 
 module _ (g : Grammar) (shapes : List Shape) (text : List ℕ) where
   of_list : {c : DeclKind} {x : Symbol} {env : Environment} {i j : ℕ} {t : Tree} {starts items : List ℕ} →
@@ -99,12 +90,12 @@ module _ (g : Grammar) (shapes : List Shape) (text : List ℕ) where
   of_symbol may well (group c choices k xs env between i j ts starts chosen inner) =
       alone i j (Node (tag.GroupAlt k) i j ts) (refl, refl)
   of_symbol may well (offside c x env after i e j ts starts inner right) =
-      of_symbol (may_have_label x (All-head IsPlaced (Offside x) (subterms x) well).1) (All-tail IsPlaced (Offside x) (subterms x) well) inner
+      of_symbol (label_of_marked x (All-head IsPlaced (Offside x) (subterms x) well).1) (All-tail IsPlaced (Offside x) (subterms x) well) inner
   of_symbol may well (ignore c x env after i e j ts starts inner) =
-      of_symbol (may_have_label x (All-head IsPlaced (Ignore x) (subterms x) well).1) (All-tail IsPlaced (Ignore x) (subterms x) well) inner
+      of_symbol (label_of_marked x (All-head IsPlaced (Ignore x) (subterms x) well).1) (All-tail IsPlaced (Ignore x) (subterms x) well) inner
   of_symbol may well (align c x env after i e j ts starts items inner column) = of_items inner
   of_symbol may well (filtered c x filters env after i e j ts starts inner passes) =
-      of_symbol (may_have_label x (may_have_mark x (All-head IsPlaced (Filtered x filters) (subterms x) well).1)) (All-tail IsPlaced (Filtered x filters) (subterms x) well) inner
+      of_symbol (label_of_marked x (mark_of_filtered x (All-head IsPlaced (Filtered x filters) (subterms x) well).1)) (All-tail IsPlaced (Filtered x filters) (subterms x) well) inner
   of_symbol may well (sequence c xs env after i j ts starts inner) = absurd may
   of_symbol may well (entry c bindings x vs env inside after i e j ts starts have renewed inner) =
       of_entry (All-head IsPlaced (Entry bindings x) (subterms x) well).1 inner

@@ -1,5 +1,6 @@
 //! Which symbols of an alternative are its operands.
-ghost use Rattle.std.specs.Prelude.{◌≡◌, ◌≤◌, ◌+◌, ◌^◌, ◌⊎◌, map, true, IfOk, OnErr};
+ghost use Rattle.std.specs.Prelude.{◌≡◌, ◌≤◌, ◌+◌, ◌⊎◌, map, true, IfOk, OnErr};
+ghost use Rattle.ig_text.specs.Limits.{numbers_end};
 ghost use Rattle.ig_grammar.specs.View.{symbol_of};
 ghost use Rattle.ig_meaning.specs.Operands.{more_on_the_left, more_on_the_right};
 ghost use Rattle.ig_levels_laws.specs.Levels.{is_test, only_tests, is_call, is_operand};
@@ -28,8 +29,8 @@ pub fn bounds_at(levelled: bool, level: u32, assoc: Assoc) -> Result<Bounds, All
     ensures level { IfOk result (λ b. b.level ≡ level) }
     ensures left { IfOk result (λ b. b.left ≡ level + more_on_the_left assoc) }
     ensures right { IfOk result (λ b. b.right ≡ level + more_on_the_right assoc) }
-    ensures refused { OnErr result ((2 ^ 32 ≤ level + more_on_the_left assoc)
-        ⊎ (2 ^ 32 ≤ level + more_on_the_right assoc)) }
+    ensures refused { OnErr result ((numbers_end ≤ level + more_on_the_left assoc)
+        ⊎ (numbers_end ≤ level + more_on_the_right assoc)) }
 {
     Ok(Bounds {
         levelled,
@@ -42,7 +43,7 @@ pub fn bounds_at(levelled: bool, level: u32, assoc: Assoc) -> Result<Bounds, All
 /// The sum. Refused, as want of memory, exactly where 32 bits don't hold it.
 fn sum(a: u32, b: u32) -> Result<u32, AllocError>
     ensures number { IfOk result (λ s. s ≡ a + b) }
-    ensures refused { OnErr result (2 ^ 32 ≤ a + b) }
+    ensures refused { OnErr result (numbers_end ≤ a + b) }
 {
     match a.checked_add(b) {
         Some(both) => Ok(both),

@@ -71,11 +71,6 @@ module _ (f : Forest) (d : ℕ) where
 pub all_short : (cursor : List ℕ) → ((k : ℕ) → get_or cursor k 0 < 4294967296) → IsShortCursor cursor
 all_short cursor h = λ k d within. let same = get_or_default cursor k d 0 within in let small : get_or cursor k 0 < 4294967296 = h k in omega arith
 
--- a fault that is passed on
-pub passed : {T : Type 0} (r : Result T ListFault) (x : ListFault) → IsErrAnd r (λ y. y ≡ x) → r ≡ Err x
-passed (Ok given) x h = absurd h
-passed (Err y) x h = ap Err h
-
 -- what comes of a listing
 module _ (core : List Nonterminal) (f : Forest) (l : command.Listing) where
   module _ (d : ℕ) where

@@ -12,6 +12,7 @@ use Rattle.ig_text.specs.TagNumber.{number_of}
 use Rattle.ig_text.proofs.Lists.{contains_from_at}
 use Rattle.ig_text.proofs.Pairwise.{partner, key_at}
 use Rattle.ig_text.proofs.Rising.{rises}
+use Rattle.ig_text.proofs.Sorted.{greater_number, equal_number}
 use Rattle.ig_expr.specs.ValueOrder.{value_cmp, values_cmp}
 use Rattle.ig_expr.specs.declared.value.Value.{Value}
 use Rattle.ig_expr.specs.declared.value.Value.TheVariants as value
@@ -45,12 +46,6 @@ values_tied (v ∷ vs) = ap (λ o. ordering_then o (values_cmp vs vs)) (value_ti
 tied_first : (o p : Ordering) → o ≡ Equal → ordering_then o p ≡ Less → p ≡ Less
 tied_first o p tied less = sym (ap (λ q. ordering_then q p) tied) ∙ less
 
-tied_numbers : (a b : ℕ) → a ≡ b → nat_cmp a b ≡ Equal
-tied_numbers a b e = subst (λ (c : ℕ). nat_cmp a c ≡ Equal) e (tied_itself nat_cmp_total a)
-
-greater_numbers : (a b : ℕ) → b < a → nat_cmp a b ≡ Greater
-greater_numbers a b less = grind (arith, nat_tests)
-
 less_numbers : (a b : ℕ) → nat_cmp a b ≡ Less → a < b
 less_numbers a b less = grind (arith, nat_tests)
 
@@ -62,10 +57,10 @@ behind_instance x y same position less =
     subst (λ (z : Instance). values_cmp x.instance.values z.values ≡ Equal) same (values_tied x.instance.values) in
     tied_first (values_cmp x.instance.values y.instance.values) _ values
     (tied_first (nat_cmp x.instance.nonterminal y.instance.nonterminal) _
-    (tied_numbers x.instance.nonterminal y.instance.nonterminal (ap (λ (z : Instance). z.nonterminal) same))
-    (tied_first (nat_cmp x.position y.position) _ (tied_numbers x.position y.position position)
+    (equal_number x.instance.nonterminal y.instance.nonterminal (ap (λ (z : Instance). z.nonterminal) same))
+    (tied_first (nat_cmp x.position y.position) _ (equal_number x.position y.position position)
     (tied_first (nat_cmp x.instance.start y.instance.start) _
-    (tied_numbers x.instance.start y.instance.start (ap (λ (z : Instance). z.start) same)) less)))
+    (equal_number x.instance.start y.instance.start (ap (λ (z : Instance). z.start) same)) less)))
 
 -- the tags of two complete items, and their environments
 module _ (core : List Nonterminal) (rise : TagsRise core) (x y : Item) (first : IsComplete core x) (second : IsComplete core y)
@@ -92,8 +87,8 @@ module _ (core : List Nonterminal) (rise : TagsRise core) (x y : Item) (first : 
       (sym first.has.has ∙ ap (numbered first.nonterminal.alternatives) e ∙ also.has) in
       let dots : x.dot ≡ y.dot = first.last ∙ ap (λ (a : CoreAlt). length a.steps) one ∙ sym second.last in (
         ap (λ (a : CoreAlt). number_of a.tag) one,
-        tied_first (nat_cmp x.dot y.dot) (values_cmp x.env y.env) (tied_numbers x.dot y.dot dots)
-            (tied_first (nat_cmp x.alternative y.alternative) _ (tied_numbers x.alternative y.alternative e) less),
+        tied_first (nat_cmp x.dot y.dot) (values_cmp x.env y.env) (equal_number x.dot y.dot dots)
+            (tied_first (nat_cmp x.alternative y.alternative) _ (equal_number x.alternative y.alternative e) less),
       )
 
   by_tags : (number_of first.alternative.tag < number_of second.alternative.tag) ⊎ IsBehind
@@ -105,7 +100,7 @@ module _ (core : List Nonterminal) (rise : TagsRise core) (x y : Item) (first : 
             (rise x.instance.nonterminal x.alternative first.nonterminal first.alternative first.has y.alternative
             second.alternative also lower)
         | inr (inr higher) ↦
-            let p = greater_numbers x.alternative y.alternative higher in
+            let p = greater_number x.alternative y.alternative higher in
             let q =
             sym (ap (λ o. ordering_then o (ordering_then (nat_cmp x.dot y.dot) (values_cmp x.env y.env))) p) ∙ less in cc
       ]
@@ -158,11 +153,11 @@ alternatives_rise_by_tags law c text f buildable few is v i j node first second 
           let items : first.item < second.item =
           less_numbers first.item second.item
           (tied_first (nat_cmp (number_of first.tag) (number_of second.tag)) (nat_cmp first.item second.item)
-          (tied_numbers (number_of first.tag) (number_of second.tag) same) ordered) in
+          (equal_number (number_of first.tag) (number_of second.tag) same) ordered) in
           rise_by_tags (CoreOf c) text f (law c buildable few) r of.0 first second p q
           (rises item_cmp r.items first.item second.item p.item q.item r.are_items.order p.numbered q.numbered items)
       | inr (inl lower) ↦ inl lower
       | inr (inr higher) ↦
-          let greater = greater_numbers (number_of first.tag) (number_of second.tag) higher in
+          let greater = greater_number (number_of first.tag) (number_of second.tag) higher in
           let never = sym (ap (λ o. ordering_then o (nat_cmp first.item second.item)) greater) ∙ ordered in cc
     ]

@@ -5,8 +5,8 @@
 //!
 //! Each function that reads a part promises what those of ig_readers do: that the tokens which it
 //! takes read as what it returns by the rules, and that the machine of ig_rules does the same on
-//! every stack; so where it stops, the tokens stop following the rules. `specs/Parts.antt` says how
-//! symbols begin, and what is made of one by what stands behind it.
+//! every stack, or where it stops. `specs/Parts.antt` says how symbols begin, and what is made of
+//! one by what stands behind it.
 #![tactic(auto)]
 
 mod parts;

@@ -1,15 +1,16 @@
 -- Functions that add items, one after the other.
 use Rattle.std.proofs.Common.{◌≡◌, ◌⊎◌, ⊎_elim, ℕ, ◌<◌, ◌≤◌, List, ◌++◌, length, Contains, refl, sym, ap, ◌∙◌, subst, arith}
 use Rattle.std.specs.Prelude.{Result, Ok, Err, OnOk, IfErr}
+use Rattle.std.specs.Prelude.{Option}
+use Rattle.std.specs.Prelude.{IsTrue, Some, true, false, Bool, ◌↔◌}
 use Rattle.std.specs.Option.{option_to_list}
 use Rattle.std.specs.Result.{IsErrAnd}
 use Rattle.std.proofs.lemmas.Result.{err_from_is_err_and}
-use Rattle.std.proofs.lemmas.List.Elements.{Contains-append_left, Contains-append_right}
-use Rattle.std.specs.Prelude.{Option}
 use Rattle.ig_expr.specs.declared.value.Value.{Value}
 use Rattle.ig_item.specs.declared.items.Item as stored
-use Rattle.std.specs.Prelude.{IsTrue, Some, true, false, Bool, ◌↔◌}
+use Rattle.std.proofs.lemmas.List.Elements.{Contains-append_left, Contains-append_right}
 use Rattle.ig_text.proofs.Lists.{mapped_in}
+use Rattle.ig_text.proofs.Booleans.{refuted}
 use Rattle.ig_expr.specs.Expression.{Expression}
 use Rattle.ig_expr.specs.Evaluation.{value_of}
 use Rattle.ig_expr.specs.declared.value.Value.TheVariants.{Bool as truth}
@@ -157,9 +158,6 @@ later_added p budget x a b y (Err f) g within fault = λ e. (g, fault e)
 pub true_at : (b : Bool) (P : Type 0) → IsTrue b ↔ P → b ≡ true → P
 true_at b P e t = e.0 t
 
-pub false_at : (b : Bool) (P : Type 0) → IsTrue b ↔ P → b ≡ false → P → ⊥
-false_at b P e f q = let never : false ≡ true = sym f ∙ e.1 q in cc
-
 pub holds_at : (text : List ℕ) (names : List (List ℕ)) (here : ℕ) (env values : List Value) (e : Expression) (b : Bool) → values ≡ env →
     IsTrue b ↔ (value_of text names values here e ≡ Some (truth true)) → b ≡ true → value_of text names env here e ≡ Some (truth true)
 holds_at text names here env values e b same told t =
@@ -168,7 +166,7 @@ holds_at text names here env values e b same told t =
 pub fails_at : (text : List ℕ) (names : List (List ℕ)) (here : ℕ) (env values : List Value) (e : Expression) (b : Bool) → values ≡ env →
     IsTrue b ↔ (value_of text names values here e ≡ Some (truth true)) → b ≡ false → value_of text names env here e ≡ Some (truth true) → ⊥
 fails_at text names here env values e b same told f q =
-    false_at b _ told f (subst (λ (z : List Value). value_of text names z here e ≡ Some (truth true)) (sym same) q)
+    refuted b told f (subst (λ (z : List Value). value_of text names z here e ≡ Some (truth true)) (sym same) q)
 
 pub value_at : (text : List ℕ) (names : List (List ℕ)) (here : ℕ) (env values : List Value) (e : Expression) (r o : Option Value) → values ≡ env →
     r ≡ value_of text names values here e → r ≡ o → value_of text names env here e ≡ o

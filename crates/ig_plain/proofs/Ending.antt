@@ -10,6 +10,7 @@ use Rattle.ig_item.specs.Ways.{WayTo, CameBy, AreWays}
 use Rattle.ig_item.specs.Recorded as recorded
 use Rattle.ig_item.specs.Recorded.{recording}
 use Rattle.ig_item.specs.declared.core_grammar.Nonterminal.{Nonterminal}
+use Rattle.ig_item.specs.Induction.{gives_more}
 use Rattle.ig_plain.specs.declared.found.Found.{Found}
 use Rattle.ig_plain.specs.declared.trail.Trail.{Trail}
 use Rattle.ig_calls.specs.declared.waiting.Waiting.{Waiting}
@@ -17,8 +18,8 @@ use Rattle.ig_plain.specs.Found.{means, found_in, later_in, taken_in}
 use Rattle.ig_plain.specs.Run.{IsRun}
 use Rattle.ig_plain.specs.Trail as trail
 use Rattle.ig_plain.specs.Trail.{IsRecorded, IsCame, HasTrail}
-use Rattle.ig_plain.proofs.Trails.{EndsGrow, says_on, way_on, gives_more, ends_none}
 use Rattle.ig_plain.proofs.Ends.{no_later, taken_all, sound, complete, once, items_same, exactly, none_twice, keys_once}
+use Rattle.ig_plain.proofs.Trails.{EndsGrow, says_on, way_on, ends_none}
 
 -- the same items are known
 ends_same : (core : List Nonterminal) (known other : Item → Type 0) (items : List Item) → ((x : Item) → known x → other x) →

@@ -15,6 +15,7 @@ use Rattle.ig_item.specs.declared.ways.Way.{Way}
 use Rattle.ig_item.specs.declared.ways.Way.TheVariants.{Leaf}
 use Rattle.ig_item.specs.declared.ways.FurtherWay.{FurtherWay}
 use Rattle.ig_item.specs.declared.ways.FurtherEnd.{FurtherEnd}
+use Rattle.ig_item.specs.Induction.{gives_more}
 use Rattle.ig_plain.specs.declared.found.Found.{Found}
 use Rattle.ig_plain.specs.declared.trail.Trail.{Trail}
 use Rattle.ig_tables.specs.Extends.{Extends}
@@ -150,22 +151,12 @@ module _ (core : List Nonterminal) (known wider : Item → Type 0) (items more :
           (g.splits f.key end.item f.further)
 
 module _ (core : List Nonterminal) (text : List ℕ) where
-  -- the rules give no less from more
-  pub gives_more : {known wider : Item → Type 0} {prev x : Item} {what : Taken} → ((y : Item) → known y → wider y) →
-      Gives core text known prev what x → Gives core text wider prev what x
-  gives_more more (given.test prev names e x k before holds f) = given.test prev names e x (more prev k) before holds f
-  gives_more more (given.bind prev names name e v x k before has f) = given.bind prev names name e v x (more prev k) before has f
-  gives_more more (given.terminal prev names what label excluded j taken x k before matches free t f) =
-      given.terminal prev names what label excluded j taken x (more prev k) before matches free t f
-  gives_more more (given.return prev done label excluded key x k l calls completes free f) =
-      given.return prev done label excluded key x (more prev k) (more done l) calls completes free f
-
   -- an item that could come about in a way still can
   pub way_on : (known wider : Item → Type 0) (items more : List Item) (n : ℕ) (new : NodeKey → Type 0) → EndsGrow core known wider items more n new →
       (x : Item) (way : Way) → IsWay core text known items x way → IsWay core text wider more x way
   way_on known wider items more n new g x way (ways.begin e) = ways.begin e
   way_on known wider items more n new g x way (ways.comes w prev what says gives) =
-      ways.comes w prev what (says_on core known wider items more n new g says) (gives_more g.knows gives)
+      ways.comes w prev what (says_on core known wider items more n new g says) (gives_more core text g.knows gives)
 
   -- x comes from a taken item by a call of an instance of which `it` is a complete item
   pub record IsGivenBack (taken : List Item) (it prev : Item) (what : Taken) (x : Item) : Type 0 where

@@ -1,6 +1,6 @@
 //! The items that a run has found.
 ghost use Rattle.std.specs.Prelude.{◌≡◌, ◌≤◌, ◌+◌, [], IfOk, OnErr, length};
-ghost use Rattle.ig_item.specs.Limits.{numbers_end};
+ghost use Rattle.ig_text.specs.Limits.{numbers_end};
 ghost use Rattle.ig_plain.specs.Tables.{AreNamed};
 
 use ig_expr::Values;

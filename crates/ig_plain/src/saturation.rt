@@ -1,11 +1,11 @@
 //! Saturation in rising positions.
 ghost use Rattle.std.specs.Prelude.{◌≡◌, ◌≤◌, ◌+◌, ◌<◌, ◌++◌, ℕ, [], List, IfErr, IfOk};
 ghost use Rattle.std.specs.Prelude.{MatchResult, OnOk, length};
+ghost use Rattle.ig_text.specs.Limits.{numbers_end};
 ghost use Rattle.ig_item.specs.Items.{MoreThan};
 ghost use Rattle.ig_item.specs.Recorded.{AreReachable, IsRecorded};
 ghost use Rattle.ig_item.specs.Tables.{items_of, tables_by};
 ghost use Rattle.ig_item.specs.WellKinded.{NoneTwice};
-ghost use Rattle.ig_item.specs.Limits.{numbers_end};
 ghost use Rattle.ig_plain.specs.Contexts.{HasTrailIn, IsRunIn, RunsIn};
 ghost use Rattle.ig_plain.specs.Run.{IsRun, Refuses};
 ghost use Rattle.ig_plain.specs.Arrival.{ArrivesWith, IsNothing, IsParted, WereThere};

@@ -3,8 +3,8 @@
 ghost use Rattle.std.specs.Prelude.{◌≡◌, ◌++◌, ◌∷◌, ◌<◌, OnOk, IfOk, IfErr, List, ℕ, Some};
 ghost use Rattle.std.specs.Prelude.{◌↔◌, IsTrue, string_bytes, option_map};
 ghost use Rattle.std.specs.Fmt.{decimal};
+ghost use Rattle.ig_text.specs.Limits.{numbers_end};
 ghost use Rattle.ig_forest.specs.Cursors.{IsShortCursor};
-ghost use Rattle.ig_item.specs.Limits.{numbers_end};
 ghost use Rattle.ig_print.specs.TreeText.{cursor_text};
 ghost use Rattle.ig_print.specs.declared.cursor_text.CursorFault.TheVariants.{NotACursor};
 

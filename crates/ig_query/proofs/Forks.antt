@@ -5,6 +5,7 @@ use Rattle.std.specs.List.Sorted.{IsStrictlyIncreasing}
 use Rattle.std.proofs.lemmas.Option.{same_Some, slice_get_within}
 use Rattle.std.proofs.lemmas.List.Elements.{Contains-push}
 use Rattle.std.proofs.lemmas.Bool.{cases_lt}
+use Rattle.std.proofs.lemmas.List.{length_push}
 use Rattle.ig_text.proofs.Lists.{at_from_contains, contains_from_at, get_within, none_in_nil, place_cases}
 use Rattle.ig_forest.specs.Forest.{Forest, Node, ItemNode, PreviousIsBefore}
 use Rattle.ig_forest.specs.Unfold.{IsTrim}
@@ -66,7 +67,7 @@ module _ (f : Forest) where
         AreMarks f (k + 1) more
     marks_next mark more links is =
         record {
-          number = let n = are.number in let l = ap length is in let a = length_more marks mark in omega (arith, n, l, a);
+          number = let n = are.number in let l = ap length is in let a = length_push marks mark in omega (arith, n, l, a);
           each = λ j b at.
               ⊎_elim (λ old. are.each j b old)
               (λ new.
@@ -77,10 +78,6 @@ module _ (f : Forest) where
               ))
               (place_cases marks mark b j (subst (λ (z : List Bool). slice_get z j ≡ Some b) is at));
         }
-      where
-        length_more : (xs : List Bool) (x : Bool) → length (xs ++ x ∷ []) ≡ length xs + 1
-        length_more [] x = refl
-        length_more (y ∷ ys) x = let h = length_more ys x in omega (arith, h)
 
 -- the only member of a list, if any, and its mark
 module _ {X : Type 0} (P : X → Type 0) (xs : List X) where

@@ -5,6 +5,7 @@ use Rattle.std.specs.Option.{option_to_list}
 use Rattle.std.proofs.lemmas.List.{take_all, take_more}
 use Rattle.std.proofs.lemmas.List.Elements.{filter_map-append, Contains-append_left, Contains-append_right, Contains-append_cases, Contains-push}
 use Rattle.ig_text.proofs.Lists.{contains_from_at, contains_one, none_in_nil}
+use Rattle.ig_text.proofs.Orders.{le_or_lt}
 
 module _ {X : Type 0} where
   pub old_in : (zs : List X) (x y : X) → Contains zs y → Contains (zs ++ x ∷ []) y
@@ -49,12 +50,9 @@ module _ {X : Type 0} where
             greatest = λ y c q.
                 ⊎_elim (λ d. let low = most.greatest y d q in omega (arith, low, is))
                 (λ e. let same : place y ≡ place x = ap place e in omega (arith, same, is)) (one_more zs x y c);
-            reached = highest (greater m (place x));
+            reached = highest (le_or_lt (place x) m);
           }
         where
-          greater : (a b : ℕ) → (b ≤ a) ⊎ (a < b)
-          greater a b = grind arith
-
           highest : (place x ≤ m) ⊎ (m < place x) → ((y : X) × Contains (zs ++ x ∷ []) y × P y × (place y ≡ n)) ⊎ (NoneHas (zs ++ x ∷ []) × (n ≡ 0))
           highest (inr lt) = inl (x, Contains-push zs x, p, omega (arith, lt, is))
           highest (inl le) =

@@ -1,6 +1,7 @@
 -- The parts of the rules, put together of what is read one behind the other: expressions.
 use Rattle.std.proofs.Common.{◌≡◌, ℕ, ◌+◌, ◌≤◌, ◌<◌, List, [], ◌∷◌, ◌++◌, refl, sym, ap, ◌∙◌, subst, arith}
 use Rattle.std.specs.Prelude.{Some, None, All, pos, ℤ}
+use Rattle.ig_text.specs.Limits.{integers_end}
 use Rattle.ig_expr.specs.Expression.{Expression, Integer, Variable, Binary, Of, Same, Spells}
 use Rattle.ig_expr.specs.Expression as tree
 use Rattle.ig_expr.specs.declared.operator.Op.{Op}
@@ -12,10 +13,10 @@ use Rattle.ig_syntax.specs.Rules.{IsOperator, ReadsTerm, ReadsExpression, ReadsA
 use Rattle.ig_rules.specs.Machine as want
 use Rattle.ig_rules.specs.Machine.{after, before, after_operator_rest, arguments_wants}
 use Rattle.ig_rules.specs.Reading.{Goes}
+use Rattle.ig_limits.specs.Limits.{NumberFits}
 use Rattle.ig_readers.specs.declared.fault.RuleFault.{RuleFault}
 use Rattle.ig_readers.specs.declared.expressions.Named.{Named}
 use Rattle.ig_readers.specs.declared.expressions.Named.TheVariants as named
-use Rattle.ig_limits.specs.Limits.{NumberFits, number_bound}
 use Rattle.ig_readers.specs.Readers.{Stands, Takes, Misses, at_end, at_token, StopsAt, Runs, Finds, Closed, Front, IsNamed, named_wants, ReadsNamed, After}
 use Rattle.ig_readers.proofs.Names.{named_rows}
 use Rattle.ig_readers.specs.Lists.{one_more, the_last}
@@ -116,8 +117,8 @@ numeral T i n z h e =
     subst (λ y. Goes Expression ReadsTerm (want.term ∷ []) [] T i (i + 1) (Integer y)) (sym e)
     (by_itself ReadsTerm want.term [] (Number n) T i (Integer (pos n)) h refl (λ r. rule.number n r))
 
-pub no_larger : (T : List Token) (i n : ℕ) → All NumberFits T → Stands T i (Number n) → number_bound ≤ n → ⊥
-no_larger T i n a h l = let m : n < number_bound = each_there NumberFits T i (Number n) a h in omega arith
+pub no_larger : (T : List Token) (i n : ℕ) → All NumberFits T → Stands T i (Number n) → integers_end ≤ n → ⊥
+no_larger T i n a h l = let m : n < integers_end = each_there NumberFits T i (Number n) a h in omega arith
 
 pub variable : (T : List Token) (i : ℕ) (x y : List ℕ) → Stands T i (Name x) → y ≡ x → Goes Expression ReadsTerm (want.term ∷ []) [] T i (i + 1) (Variable y)
 variable T i x y h e =

@@ -1,7 +1,8 @@
 -- What the readers of parts of the rules promise.
-use Rattle.std.specs.Prelude.{◌≡◌, ℕ, ◌+◌, ◌^◌, ◌<◌, List, [], ◌∷◌, ◌++◌, length, drop, map, None, codes}
+use Rattle.std.specs.Prelude.{◌≡◌, ℕ, ◌+◌, ◌<◌, List, [], ◌∷◌, ◌++◌, length, drop, map, None, codes}
 use Rattle.std.specs.Borrow.{Bor}
 use Rattle.ig_text.specs.declared.pattern.Pattern.{Pattern}
+use Rattle.ig_text.specs.Limits.{integers_end}
 use Rattle.ig_expr.specs.Expression.{Expression}
 use Rattle.ig_syntax.specs.Token as token
 use Rattle.ig_syntax.specs.Token.{Token, Head, Close, Equals, Semicolon}
@@ -22,7 +23,7 @@ use Rattle.ig_grammar.specs.declared.filter.Filter.TheVariants as filters
 
 -- a place in a list that the machine holds
 pub record IsPlace (i : ℕ) : Type 0 where
-  pub below : i < 2 ^ 63
+  pub below : i < integers_end
 
 -- the token of number i is t
 pub record Stands (tokens : List Token) (i : ℕ) (t : Token) : Type 0 where

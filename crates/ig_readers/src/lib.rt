@@ -4,8 +4,9 @@
 //!
 //! They go over the tokens by recursive descent. Each function that reads a part promises that the
 //! tokens which it takes read as what it returns by the rules, and that the machine of ig_rules
-//! does the same on every stack (`Goes`); so where it stops, the tokens stop following the rules
-//! (`StopsAt`). `specs/Readers.antt` says what is promised of tokens and stops; `specs/Steps.antt`
+//! does the same on every stack (`Goes`), or stops on every stack (`StopsAt`); of whole grammars
+//! that is where the tokens stop following the rules, as `run_stops` of ig_rules says.
+//! `specs/Readers.antt` says what is promised of tokens and stops; `specs/Steps.antt`
 //! and `specs/Lists.antt` put such promises together, with proofs, for the readers above.
 #![tactic(auto)]
 

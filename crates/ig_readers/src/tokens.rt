@@ -17,7 +17,8 @@ pub struct Tokens<'a> {
 }
 
 impl<'a> Model for Tokens<'a> {
-    ghost use Rattle.std.specs.Prelude.{◌^◌, ◌<◌, List, length};
+    ghost use Rattle.std.specs.Prelude.{◌<◌, List, length};
+    ghost use Rattle.ig_text.specs.Limits.{integers_end};
     ghost use Rattle.ig_syntax.specs.Token.{Token};
     ghost use Rattle.ig_limits.specs.Limits.{NumbersFit, meanings};
 
@@ -26,7 +27,7 @@ impl<'a> Model for Tokens<'a> {
     ghost view = { λ t. meanings t.placed.now };
 
     ghost invariant = { λ t. NumbersFit (meanings t.placed.now) ×
-        (length t.placed.now < 2 ^ 63) };
+        (length t.placed.now < integers_end) };
 }
 
 impl<'a> Tokens<'a> {

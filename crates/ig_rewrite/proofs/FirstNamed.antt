@@ -1,9 +1,9 @@
--- The declaration of a name is the first one with that name.
+-- The declaration of a name is the first one with that name, and stands somewhere.
 use Rattle.std.proofs.Common.{◌≡◌, ◌∙◌, ℕ, zero, suc, ◌<◌, List, [], ◌∷◌, ◌++◌, Option, Some, None, Bool, true, false, refl, sym, ap, subst, arith, take, map}
 use Rattle.std.specs.Prelude.{option_map, option_and_then, slice_get, Contains, if◌then◌else◌}
 use Rattle.std.specs.Cmp.Lexicographic.{bytes_decides}
 use Rattle.std.proofs.lemmas.List.{take-map}
-use Rattle.std.proofs.lemmas.Option.{slice_get-map}
+use Rattle.std.proofs.lemmas.Option.{slice_get-map, same_Some}
 use Rattle.std.proofs.lemmas.List.Elements.{Contains-append_left, Contains-append_right, Contains-push}
 use Rattle.ig_expr.specs.Names.{place_of}
 use Rattle.ig_text.specs.Words.{is_word}
@@ -16,7 +16,10 @@ use Rattle.ig_grammar.specs.Names.{AreDistinct, names}
 use Rattle.ig_grammar.specs.WellScoped.{IsWellScoped}
 use Rattle.ig_grammar.specs.declared.declaration.Decl.{Decl}
 use Rattle.ig_grammar.specs.declared.grammar.Grammar.{Grammar}
-use Rattle.ig_rewrite.specs.Found.{DeclarationsAreFound}
+use Rattle.ig_grammar.specs.Numbering.{layout_among, name_of_layout}
+use Rattle.ig_grammar.specs.declared.declaration.DeclKind.{DeclKind}
+use Rattle.ig_grammar.specs.declared.declaration.DeclKind.TheVariants.{Syntax, Lexical, Layout, Plain}
+use Rattle.ig_rewrite.specs.Found.{HasLayout, DeclarationsAreFound}
 
 pub declaration_first : (d : Decl) (ds : List Decl) (name : List ℕ) →
     declaration_of (d ∷ ds) name ≡ (if is_word d.name name then Some d else declaration_of ds name)
@@ -136,5 +139,36 @@ module _ (change : Decl → Decl) (kept : (d : Decl) → (change d).name ≡ d.n
   changed ds name =
       ap (λ ns. option_and_then (slice_get (map change ds)) (place_of ns name)) (names_kept ds) ∙ found_along ds (place_of (names ds) name)
 
+-- a declaration that is found stands at a place, under its name
+pub found_at : (ds : List Decl) (name : List ℕ) (d : Decl) → declaration_of ds name ≡ Some d → (k : ℕ) × (slice_get ds k ≡ Some d) × (d.name ≡ name)
+found_at [] name d e = let none : declaration_of [] name ≡ None = refl in absurd (cc)
+found_at (x ∷ ds) name d e = go (is_word x.name name) refl (sym (declaration_first x ds name) ∙ e) (λ f. found_at ds name d f)
+  where
+    go : (b : Bool) → is_word x.name name ≡ b → (if b then Some x else declaration_of ds name) ≡ Some d →
+        (declaration_of ds name ≡ Some d → (k : ℕ) × (slice_get ds k ≡ Some d) × (d.name ≡ name)) →
+        (k : ℕ) × (slice_get (x ∷ ds) k ≡ Some d) × (d.name ≡ name)
+    go true w f rest =
+        let same : x ≡ d = same_Some x d f in (0, f, ap (λ (z : Decl). z.name) (sym same) ∙ (bytes_decides x.name name).0 w)
+    go false w f rest = let r = rest f in (suc r.0, r.1, r.2)
+
+-- and so does the layout nonterminal
+pub layout_there : (ds : List Decl) (name : List ℕ) → layout_among ds ≡ Some name → HasLayout ds name
+layout_there [] name e = absurd (cc)
+layout_there (d ∷ ds) name e = go d.kind refl e (λ f. let r = layout_there ds name f in (suc r.0, r.1, r.2, r.3, r.4))
+  where
+    go : (k : DeclKind) → d.kind ≡ k → name_of_layout d.kind d.name (layout_among ds) ≡ Some name → (layout_among ds ≡ Some name → HasLayout (d ∷ ds) name) → HasLayout (d ∷ ds) name
+    go Layout f h rest = (zero, d, refl, (let v : Some d.name ≡ Some name = subst (λ z. name_of_layout z d.name (layout_among ds) ≡ Some name) f h in cc), f)
+    go Syntax f h rest = rest (subst (λ z. name_of_layout z d.name (layout_among ds) ≡ Some name) f h)
+    go Lexical f h rest = rest (subst (λ z. name_of_layout z d.name (layout_among ds) ≡ Some name) f h)
+    go Plain f h rest = rest (subst (λ z. name_of_layout z d.name (layout_among ds) ≡ Some name) f h)
+
 pub found : DeclarationsAreFound
-found = record { first = declaration_first; itself = itself_declared; distinct = distinct; changed = changed }
+found =
+    record {
+      first = declaration_first;
+      itself = itself_declared;
+      distinct = distinct;
+      changed = changed;
+      place = found_at;
+      layout = layout_there;
+    }

@@ -97,10 +97,6 @@ root_counted c most fewer =
       }
     ])
 
-at_least_one : (x : Symbol) → 1 ≤ own_parts x
-at_least_one (Filtered x filters) = omega arith
-at_least_one x = omega arith
-
 module _ (by_form : CountsByForm) where
   module _ (n : ℕ) (own : Symbol → Symbol) (adds : (x : Symbol) → parts (own x) ≤ parts x + n)
       (keeps : (x : Symbol) → alternatives_inside (own x) ≤ alternatives_inside x) where
@@ -109,7 +105,7 @@ module _ (by_form : CountsByForm) where
     by_parts x y e h =
         let a : parts y ≡ own_parts y + inner_sum own_parts y = by_form.parts_of y in
         let b : suc n * parts x ≡ suc n * (own_parts x + inner_sum own_parts x) = ap (λ m. suc n * m) (by_form.parts_of x) in
-        let m : n * 1 ≤ n * own_parts x = mul-le n 1 n (own_parts x) (omega arith) (at_least_one x) in
+        let m : n * 1 ≤ n * own_parts x = mul-le n 1 n (own_parts x) (omega arith) (by_form.some_part x) in
         omega (arith, a, b, e, h, m)
 
     by_alternatives : (x y : Symbol) → own_alternatives y ≡ own_alternatives x → inner_sum own_alternatives y ≤ inner_sum own_alternatives x →

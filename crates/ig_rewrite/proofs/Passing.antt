@@ -8,6 +8,7 @@ use Rattle.std.proofs.lemmas.List.Sums.{sum_by-append, sum_by-cons}
 use Rattle.std.proofs.lemmas.Option.{same_Some, slice_get_within}
 use Rattle.ig_text.specs.Words.{is_word}
 use Rattle.ig_text.proofs.Lists.{at_from_contains, contains_from_at, contains_first, contains_later, contains_one, none_in_nil, get_within, in_take, within_take, left_at, sides, mapped_at}
+use Rattle.ig_text.proofs.Booleans.{not_both}
 use Rattle.ig_grammar.specs.Condition.{Condition, HeadMeets, StartMeets, IsNotPlain, declaration_of, symbols_of, named_parameters, most_variables, most_parameters, binds_name}
 use Rattle.ig_grammar.specs.Condition as meets
 use Rattle.ig_grammar.specs.Name.{is_name}
@@ -32,20 +33,8 @@ use Rattle.ig_rewrite.specs.Passing.{IsSettled, Settles, GetAll, IsReadyFor, IsR
 use Rattle.ig_rewrite.specs.Unbound.{LacksName}
 use Rattle.ig_rewrite.proofs.Asking.{symbols_ask}
 use Rattle.ig_rewrite.proofs.Counting.{symbols_counted}
-use Rattle.ig_rewrite.proofs.FirstNamed.{declaration_first, first_at, distinct}
 use Rattle.ig_rewrite.proofs.NamesOnce.{not_again, all_different, different_both}
-
--- a declaration that is found stands at a place, under its name
-found_at : (ds : List Decl) (name : List ℕ) (d : Decl) → declaration_of ds name ≡ Some d → (k : ℕ) × (slice_get ds k ≡ Some d) × (d.name ≡ name)
-found_at [] name d e = let none : declaration_of [] name ≡ None = refl in absurd (cc)
-found_at (x ∷ ds) name d e = go (is_word x.name name) refl (sym (declaration_first x ds name) ∙ e) (λ f. found_at ds name d f)
-  where
-    go : (b : Bool) → is_word x.name name ≡ b → (if b then Some x else declaration_of ds name) ≡ Some d →
-        (declaration_of ds name ≡ Some d → (k : ℕ) × (slice_get ds k ≡ Some d) × (d.name ≡ name)) →
-        (k : ℕ) × (slice_get (x ∷ ds) k ≡ Some d) × (d.name ≡ name)
-    go true w f rest =
-        let same : x ≡ d = same_Some x d f in (0, f, ap (λ (z : Decl). z.name) (sym same) ∙ (bytes_decides x.name name).0 w)
-    go false w f rest = let r = rest f in (suc r.0, r.1, r.2)
+use Rattle.ig_rewrite.proofs.FirstNamed.{declaration_first, first_at, distinct, found_at}
 
 -- where no two declarations have one name, each is found under its own
 found_itself : (ds : List Decl) → AreDistinct (names ds) → (k : ℕ) (d : Decl) → slice_get ds k ≡ Some d → declaration_of ds d.name ≡ Some d
@@ -97,9 +86,6 @@ none_counted [] f = refl
 none_counted (p ∷ ps) f =
     sum_by-cons (λ (q : Param). cond (is_name q.name) 1 0) p ps ∙
     ap₂ (λ a b. a + b) (ap (λ z. cond z 1 0) (f p (contains_first p ps))) (none_counted ps (λ q m. f q (contains_later p ps q m)))
-
-clash : (b : Bool) → b ≡ true → b ≡ false → ⊥
-clash b p q = let e : true ≡ false = sym p ∙ q in absurd (cc)
 
 -- what the conditions say of a well-scoped grammar
 module _ (g : Grammar) (scoped : IsWellScoped g) where
@@ -221,8 +207,8 @@ module _ (later : List (List ℕ)) (g h : Grammar) (scoped : IsWellScoped g) (ma
     added_head new c (meets.duplicate_name m) = name_once m
     added_head new c (meets.duplicate_parameter k p at m) = parameter_once new.distinct k p at m
     added_head new c (meets.layout_not_plain k n) = new.kinded k
-    added_head new c (meets.too_many_nonterminals n m) = clash (is_name e.name) n new.unnamed
-    added_head new c (meets.too_many_parameters n m) = clash (is_name e.name) n new.unnamed
+    added_head new c (meets.too_many_nonterminals n m) = not_both (is_name e.name) n new.unnamed
+    added_head new c (meets.too_many_parameters n m) = not_both (is_name e.name) n new.unnamed
 
     module _ (d : Decl) (before : slice_get g.decls b ≡ Some d) (at : slice_get makes.remade b ≡ Some e) where
       made : IsRemade later d e
@@ -315,7 +301,7 @@ module _ (later : List (List ℕ)) (g h : Grammar) (scoped : IsWellScoped g) (gi
       let more : most_variables < named_parameters d + count_by (λ o. binds_name o.symbol) (symbols_of d r.0) = omega (arith, l, here, there, bound, same) in
       scoped (record { decl = suc b; alt = suc k.0; symbol = 0 }) (meets.TooMany meets.Variables)
       (d, before, (r.0, k.1, meets.too_many_variables (ap is_name (sym kept.named) ∙ n) more))
-  few_there b e y (added_at among behind) m n l = clash (is_name e.name) n (gives.remakes.new e among).unnamed
+  few_there b e y (added_at among behind) m n l = not_both (is_name e.name) n (gives.remakes.new e among).unnamed
 
   alternative_there : (b : ℕ) (e : Decl) (y : Alt) (s : ℕ) (c : Condition) → At later g h scoped gives.remakes b e → Contains (alternatives e.levels) y →
       AlternativeHas h.decls e y s c → ⊥

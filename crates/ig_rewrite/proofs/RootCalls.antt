@@ -19,9 +19,9 @@ use Rattle.ig_meaning.specs.Operands.{without_tests}
 use Rattle.ig_meaning.specs.Permitted.{behind_layout}
 use Rattle.ig_rewrite.specs.Added.{root_name, IsFresh}
 use Rattle.ig_rewrite.specs.Rooted.{calls_of_start, has_root, is_root}
-use Rattle.ig_rewrite.proofs.FirstNamed.{not_declared}
 use Rattle.ig_rewrite.proofs.CallsOnly.{IsCallOf, EachCallsOnly, each_gathered, from_symbols}
 use Rattle.ig_rewrite.specs.EachLevel.{alternative_at}
+use Rattle.ig_rewrite.proofs.FirstNamed.{not_declared, layout_there}
 
 -- another name than that of the root
 abbrev pub IsOther : List ℕ → Type 0
@@ -62,20 +62,6 @@ root_names Named None None f h = tt
 root_names Named None (Some s) f h = (h s refl, tt)
 root_names Named (Some w) None f h = (f w refl, tt)
 root_names Named (Some w) (Some s) f h = (f w refl, (h s refl, tt))
-
--- the layout nonterminal is declared, as one
-abbrev pub HasLayout : List Decl → List ℕ → Type 0
-HasLayout ds name = (k : ℕ) × (decl : Decl) × (slice_get ds k ≡ Some decl) × (decl.name ≡ name) × (decl.kind ≡ Layout)
-
-pub layout_there : (ds : List Decl) (name : List ℕ) → layout_among ds ≡ Some name → HasLayout ds name
-layout_there [] name e = absurd (cc)
-layout_there (d ∷ ds) name e = go d.kind refl e (λ f. let r = layout_there ds name f in (suc r.0, r.1, r.2, r.3, r.4))
-  where
-    go : (k : DeclKind) → d.kind ≡ k → name_of_layout d.kind d.name (layout_among ds) ≡ Some name → (layout_among ds ≡ Some name → HasLayout (d ∷ ds) name) → HasLayout (d ∷ ds) name
-    go Layout f h rest = (zero, d, refl, (let v : Some d.name ≡ Some name = subst (λ z. name_of_layout z d.name (layout_among ds) ≡ Some name) f h in cc), f)
-    go Syntax f h rest = rest (subst (λ z. name_of_layout z d.name (layout_among ds) ≡ Some name) f h)
-    go Lexical f h rest = rest (subst (λ z. name_of_layout z d.name (layout_among ds) ≡ Some name) f h)
-    go Plain f h rest = rest (subst (λ z. name_of_layout z d.name (layout_among ds) ≡ Some name) f h)
 
 -- a last declaration that is no layout changes none
 pub layout_kept : (decls : List Decl) (root : Decl) → root.kind ≡ Syntax → layout_among decls ≡ layout_among (decls ++ root ∷ [])

@@ -5,6 +5,7 @@ use Rattle.std.proofs.Math.Seq.{take-length}
 use Rattle.std.proofs.lemmas.Option.{slice_get_within}
 use Rattle.std.proofs.lemmas.List.{take-append-le}
 use Rattle.ig_text.proofs.Lists.{place_cases}
+use Rattle.ig_text.proofs.Emptiness.{empty_unless}
 use Rattle.ig_grammar.specs.Symbol.{Symbol, Call, gathered}
 use Rattle.ig_grammar.specs.Names.{names}
 use Rattle.ig_grammar.specs.Name.{is_name}
@@ -22,8 +23,8 @@ use Rattle.ig_grammar.specs.declared.grammar.Grammar.{Grammar}
 use Rattle.ig_rewrite.specs.Added.{root_name, IsFresh}
 use Rattle.ig_rewrite.specs.Rooted.{root_symbols, root_declaration, rooted_grammar}
 use Rattle.ig_rewrite.proofs.AddedNames.{root_is_no_name}
-use Rattle.ig_rewrite.proofs.FirstNamed.{declared_last, declared_still, declared_before, undeclared_before, not_declared, itself_declared}
-use Rattle.ig_rewrite.proofs.RootCalls.{root_occurrence, layout_there}
+use Rattle.ig_rewrite.proofs.FirstNamed.{declared_last, declared_still, declared_before, undeclared_before, not_declared, itself_declared, layout_there}
+use Rattle.ig_rewrite.proofs.RootCalls.{root_occurrence}
 
 -- no condition holds there
 abbrev pub IsFine : List Decl → DeclKind → Visible → Symbol → Type 0
@@ -59,10 +60,6 @@ call_fine decls kind v name d apart e p c (meets.no_kind _ f m k) = let l = m.1 
 call_fine decls kind v name d apart e p c (meets.argument_kind _ _ callee k f q found a b differs) = cc
 call_fine decls kind v name d apart e p c (meets.syntax_in_lexical _ _ callee i found s) = apart i
 
-no_parameters : (ps : List Param) → (ps ≢ [] → ⊥) → ps ≡ []
-no_parameters [] f = refl
-no_parameters (p ∷ ps) f = absurd (f (λ e. cc))
-
 module _ (g : Grammar) (scoped : IsWellScoped g) (fresh : IsFresh g root_name) where
   abbrev r : Decl
   r = root_declaration Syntax g
@@ -79,7 +76,7 @@ module _ (g : Grammar) (scoped : IsWellScoped g) (fresh : IsFresh g root_name) w
       let l = layout_there g.decls name e in (
         l.1,
         declared_still g.decls r name l.1 (subst (λ n. declaration_of g.decls n ≡ Some l.1) l.3 (itself_declared g l.0 l.1 scoped l.2)),
-        no_parameters l.1.params (λ some. scoped (record { decl = suc l.0; alt = 0; symbol = 0 }) meets.LayoutNotPlain (l.1, l.2, meets.layout_not_plain l.4 (meets.parametrized some))),
+        empty_unless l.1.params (λ some. scoped (record { decl = suc l.0; alt = 0; symbol = 0 }) meets.LayoutNotPlain (l.1, l.2, meets.layout_not_plain l.4 (meets.parametrized some))),
       )
 
   start_free : (name : List ℕ) → g.start ≡ Some name → IsFree name
@@ -90,7 +87,7 @@ module _ (g : Grammar) (scoped : IsWellScoped g) (fresh : IsFresh g root_name) w
       go (Some d) f = (
         d,
         declared_still g.decls r name d f,
-        no_parameters d.params (λ some. scoped (record { decl = 0; alt = 0; symbol = 0 }) meets.StartHasParameters (meets.start_has_parameters name d e f some)),
+        empty_unless d.params (λ some. scoped (record { decl = 0; alt = 0; symbol = 0 }) meets.StartHasParameters (meets.start_has_parameters name d e f some)),
       )
 
   root_declared : declaration_of h.decls root_name ≡ Some r

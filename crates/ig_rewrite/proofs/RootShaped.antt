@@ -7,6 +7,7 @@ use Rattle.std.proofs.lemmas.List.Elements.{All-nil, All-cons, Contains-push_cas
 use Rattle.ig_text.proofs.Lists.{at_from_contains, contains_one, place_cases}
 use Rattle.ig_expr.specs.Expression.{Expression}
 use Rattle.ig_text.specs.Pattern.{HasNoEmptyLiteral}
+use Rattle.ig_text.specs.Limits.{numbers_end}
 use Rattle.ig_grammar.specs.Symbol.{Symbol, Call, Alternatives}
 use Rattle.ig_grammar.specs.Alternative.{gathered_alternatives}
 use Rattle.ig_grammar.specs.Visible.{Occurrence}
@@ -16,7 +17,6 @@ use Rattle.ig_grammar.specs.Condition as meets
 use Rattle.ig_grammar.specs.WellScoped.{IsWellScoped}
 use Rattle.ig_grammar.specs.Checked.{CheckedGrammar, FitShapes, FitsShape, IsRoot, IsOfCalls}
 use Rattle.ig_grammar.specs.Regular.{IsRegular, OfEachLevel, IsPlaced, IsNoMark, AlternativesHaveNoMark}
-use Rattle.ig_grammar.specs.Counts.{HasFewerThan, counts_bound}
 use Rattle.ig_grammar.specs.Subterms.{subterms_of_alternatives}
 use Rattle.ig_grammar.specs.declared.symbol.Alt.{Alt}
 use Rattle.ig_grammar.specs.declared.declaration.Assoc.TheVariants.{Free}
@@ -26,6 +26,7 @@ use Rattle.ig_grammar.specs.declared.declaration.Decl.{Decl}
 use Rattle.ig_grammar.specs.declared.grammar.Grammar.{Grammar}
 use Rattle.ig_grammar.specs.declared.place.Shape.{Shape}
 use Rattle.ig_grammar.specs.declared.place.Shape.TheVariants as shape
+use Rattle.ig_grammar.specs.Counts.{HasFewerThan}
 use Rattle.ig_meaning.specs.Permitted.{behind_layout}
 use Rattle.ig_rewrite.specs.Added.{root_name, IsFresh}
 use Rattle.ig_rewrite.specs.Rooted.{calls_of_start, root_symbols, root_declaration, rooted_grammar, has_root}
@@ -151,7 +152,7 @@ plain_before g decl among plain = go (Contains-push_cases g.decls (root_declarat
 pub rooted_is_unmarked : (g : Grammar) → OfEachLevel AlternativesHaveNoMark g → OfEachLevel AlternativesHaveNoMark (rooted_grammar Syntax g)
 rooted_is_unmarked g none = each_symbol IsNoMark (λ name. tt) g none
 
-pub rooted_is_regular : (g : Grammar) → IsRegular g → HasFewerThan counts_bound (rooted_grammar Syntax g) → IsRegular (rooted_grammar Syntax g)
+pub rooted_is_regular : (g : Grammar) → IsRegular g → HasFewerThan numbers_end (rooted_grammar Syntax g) → IsRegular (rooted_grammar Syntax g)
 rooted_is_regular g w fewer =
     record {
       well = each_symbol IsPlaced calls_are_placed g w.well;

@@ -15,4 +15,3 @@ pub mod Passing
 pub mod EachLevel
 pub mod Counts
 pub mod Grown
-pub mod Forms

@@ -1,10 +1,10 @@
 -- A grammar whose root alternative is written as a declaration of its own, the last one, which is then the start.
 use Rattle.std.specs.Prelude.{◌≡◌, ℕ, Bool, true, false, List, [], ◌∷◌, ◌++◌, Option, Some, None, if◌then◌else◌}
+use Rattle.ig_text.specs.Limits.{numbers_end}
 use Rattle.ig_grammar.specs.Symbol.{Symbol, Call}
 use Rattle.ig_grammar.specs.Numbering.{layout_among}
 use Rattle.ig_grammar.specs.Checked.{CheckedGrammar, FitShapes}
 use Rattle.ig_grammar.specs.Regular.{AlternativesHaveNoMark, IsRegular, OfEachLevel}
-use Rattle.ig_grammar.specs.Counts.{HasFewerThan, counts_bound}
 use Rattle.ig_grammar.specs.WellScoped.{IsWellScoped}
 use Rattle.ig_meaning.specs.Permitted.{behind_layout}
 use Rattle.ig_grammar.specs.declared.declaration.Assoc.TheVariants.{Free}
@@ -14,6 +14,7 @@ use Rattle.ig_grammar.specs.declared.declaration.Decl.{Decl}
 use Rattle.ig_grammar.specs.declared.grammar.Grammar.{Grammar}
 use Rattle.ig_grammar.specs.declared.place.Shape.{Shape}
 use Rattle.ig_grammar.specs.declared.place.Shape.TheVariants.{Root}
+use Rattle.ig_grammar.specs.Counts.{HasFewerThan}
 use Rattle.ig_rewrite.specs.Added.{root_name, IsFresh}
 use Rattle.ig_rewrite.specs.SameTrees.{PermitSame}
 use Rattle.ig_rewrite.specs.SameValues.{KeepsValues}
@@ -62,7 +63,7 @@ pub record RootAdds (c : CheckedGrammar) : Type 0 where
   pub fit : FitShapes (with_root Syntax c).grammar (with_root Syntax c).shapes
   pub unmarked : OfEachLevel AlternativesHaveNoMark c.grammar →
       OfEachLevel AlternativesHaveNoMark (with_root Syntax c).grammar
-  pub regular : IsRegular c.grammar → HasFewerThan counts_bound (with_root Syntax c).grammar →
+  pub regular : IsRegular c.grammar → HasFewerThan numbers_end (with_root Syntax c).grammar →
       IsRegular (with_root Syntax c).grammar
 
 abbrev pub RootedIsTheSame : Type 0

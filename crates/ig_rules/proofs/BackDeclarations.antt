@@ -12,6 +12,7 @@ use Rattle.ig_grammar.specs.declared.declaration.Assoc.{Assoc}
 use Rattle.ig_grammar.specs.declared.declaration.DeclKind.{DeclKind}
 use Rattle.ig_grammar.specs.declared.declaration.DeclKind.TheVariants as decls
 use Rattle.ig_grammar.specs.declared.declaration.Level.{Level}
+use Rattle.ig_grammar.specs.Gathered.{gathered_listed}
 use Rattle.ig_syntax.specs.Rules as rule
 use Rattle.ig_syntax.specs.Rules.{IsKind, IsDeclKind, ReadsAlternatives, ReadsAssociativity, ReadsLevel, ReadsLevels, ReadsParameters, ReadsDeclaration}
 use Rattle.ig_rules.specs.Machine.{Want, grammar, declarations, associativity, alternative, declaration, parameter, symbol, marked, post, atom, expression, term}
@@ -25,10 +26,6 @@ use Rattle.ig_rules.proofs.Back.{before_permits, weaker, alternatives_of, term_b
 use Rattle.ig_rules.proofs.Back.{alternatives_back, atom_back, post_back, marked_back, symbol_back, name_back, alternative_back}
 
 -- alternatives as a list, and back
-pub gathered-listed : (xs : Symbols) → gathered (listed xs) ≡ xs
-gathered-listed no_symbols = refl
-gathered-listed (next_symbol x xs) = ap (next_symbol x) (gathered-listed xs)
-
 abbrev pub alternatives_list : Alternatives → List Alt
 alternatives_list no_alternatives = []
 alternatives_list (next_alternative xs ys) = record { symbols = listed xs } ∷ alternatives_list ys
@@ -36,7 +33,7 @@ alternatives_list (next_alternative xs ys) = record { symbols = listed xs } ∷ 
 pub gathered-alternatives_list : (ys : Alternatives) → ys ≡ gathered_alternatives (alternatives_list ys)
 gathered-alternatives_list no_alternatives = refl
 gathered-alternatives_list (next_alternative xs ys) =
-    λ i. next_alternative (sym (gathered-listed xs) i) (gathered-alternatives_list ys i)
+    λ i. next_alternative (sym (gathered_listed xs) i) (gathered-alternatives_list ys i)
 
 -- levels
 level_of : (s m r : List Token) (a : Assoc) → ReadsAssociativity s m a → (ys : Alternatives) → ReadsAlternatives m r ys →

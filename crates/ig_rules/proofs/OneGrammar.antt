@@ -12,6 +12,7 @@ use Rattle.ig_grammar.specs.declared.declaration.DeclKind.{DeclKind}
 use Rattle.ig_grammar.specs.declared.declaration.Level.{Level}
 use Rattle.ig_grammar.specs.declared.declaration.Decl.{Decl}
 use Rattle.ig_grammar.specs.declared.grammar.Grammar.{Grammar}
+use Rattle.ig_grammar.specs.Gathered.{listed_gathered}
 use Rattle.ig_syntax.specs.Rules as rule
 use Rattle.ig_syntax.specs.Rules.{IsKind, IsDeclKind, ReadsAlternatives, ReadsAssociativity, ReadsLevel, ReadsLevels, ReadsParameters, ReadsDeclaration, ReadsDeclarations, FollowsRules}
 use Rattle.ig_rules.specs.Machine.{associativity, alternative, alternatives_rest, levels_rest, parameters_rest}
@@ -23,13 +24,9 @@ use Rattle.ig_rules.proofs.OneExpression.{behind}
 use Rattle.ig_rules.proofs.OneSymbol.{alternatives_one}
 
 -- alternatives are given by their symbols
-listed-gathered : (xs : List Symbol) → listed (gathered xs) ≡ xs
-listed-gathered [] = refl
-listed-gathered (x ∷ xs) = ap (λ z. x ∷ z) (listed-gathered xs)
-
 list-gathered_alternatives : (alts : List Alt) → alternatives_list (gathered_alternatives alts) ≡ alts
 list-gathered_alternatives [] = refl
-list-gathered_alternatives (a ∷ others) = λ i. record { symbols = listed-gathered a.symbols i } ∷ list-gathered_alternatives others i
+list-gathered_alternatives (a ∷ others) = λ i. record { symbols = listed_gathered a.symbols i } ∷ list-gathered_alternatives others i
 
 gathered_one : (alts others : List Alt) → gathered_alternatives alts ≡ gathered_alternatives others → alts ≡ others
 gathered_one alts others e = sym (list-gathered_alternatives alts) ∙ ap alternatives_list e ∙ list-gathered_alternatives others

@@ -13,19 +13,12 @@ use Rattle.ig_grammar.specs.Symbol.{Symbol, Seq}
 use Rattle.ig_grammar.specs.Regular.{MayHaveFilters, MayHaveSign, MayHaveLabel, MayBeSeparated, pattern_of, IsPlaced, AlternativesStandWell, OfEachLevel}
 use Rattle.ig_grammar.specs.declared.filter.Filter.{Filter}
 use Rattle.ig_grammar.specs.declared.grammar.Grammar.{Grammar}
+use Rattle.ig_grammar.specs.Forms.{sign_of_filtered, separated_of_label}
 use Rattle.ig_syntax.specs.Rules as rule
 use Rattle.ig_syntax.specs.Rules.{IsPattern, IsSeparated, IsFilter, ReadsTerm, ReadsExpression, ReadsArguments, ReadsFilters, ReadsSign, FollowsRules}
 use Rattle.ig_rules.specs.Written.{HasText}
 use Rattle.ig_rules.proofs.Tails.{Facts, tail, head, behind, term_tail, expression_tail}
 use Rattle.ig_rules.proofs.Standing.{Gives, Fits, grammar_holds}
-
-may_have_sign : (x : Symbol) → MayHaveFilters x → MayHaveSign x
-may_have_sign (Seq xs) h = absurd h
-may_have_sign x h = h
-
-may_be_separated : (x : Symbol) → MayHaveLabel x → MayBeSeparated x
-may_be_separated (Seq xs) h = absurd h
-may_be_separated x h = h
 
 -- literals of expressions
 abbrev AreFull : List Pattern → Type 0
@@ -87,16 +80,16 @@ filters_full (rule.next_filter t u p f s r fs is ist d) h =
 
 sign_placed : {s r : List Token} {x y : Symbol} → ReadsSign s r x y → Fits MayHaveFilters x → IsPlaced x → IsPlaced y
 sign_placed (rule.once r x) f h = h
-sign_placed (rule.option r x) f h = (none_empty, (may_have_sign x f.0, f.1))
-sign_placed (rule.star r x) f h = (none_empty, (may_have_sign x f.0, f.1))
-sign_placed (rule.plus r x) f h = (none_empty, (may_have_sign x f.0, f.1))
+sign_placed (rule.option r x) f h = (none_empty, (sign_of_filtered x f.0, f.1))
+sign_placed (rule.star r x) f h = (none_empty, (sign_of_filtered x f.0, f.1))
+sign_placed (rule.plus r x) f h = (none_empty, (sign_of_filtered x f.0, f.1))
 
 separated_placed : {t : Token} {x y z : Symbol} → IsSeparated t x y z → Fits MayHaveLabel x → Fits MayHaveLabel y →
     IsPlaced z
 separated_placed (rule.separated_star x y) f g =
-    (none_empty, (may_be_separated x f.0, may_be_separated y g.0, f.1, g.1))
+    (none_empty, (separated_of_label x f.0, separated_of_label y g.0, f.1, g.1))
 separated_placed (rule.separated_plus x y) f g =
-    (none_empty, (may_be_separated x f.0, may_be_separated y g.0, f.1, g.1))
+    (none_empty, (separated_of_label x f.0, separated_of_label y g.0, f.1, g.1))
 
 placed : Gives HasText IsPlaced
 placed =

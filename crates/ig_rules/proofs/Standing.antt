@@ -15,22 +15,12 @@ use Rattle.ig_grammar.specs.declared.filter.Filter.{Filter}
 use Rattle.ig_grammar.specs.declared.declaration.Level.{Level}
 use Rattle.ig_grammar.specs.declared.declaration.Decl.{Decl}
 use Rattle.ig_grammar.specs.declared.grammar.Grammar.{Grammar}
+use Rattle.ig_grammar.specs.Forms.{mark_of_filtered, label_of_marked}
 use Rattle.ig_syntax.specs.Rules as rule
 use Rattle.ig_syntax.specs.Rules.{IsSeparated, ReadsExpression, ReadsArguments, ReadsFilters, ReadsSign, filtered}
 use Rattle.ig_syntax.specs.Rules.{ReadsSymbol, ReadsMarked, ReadsPost, ReadsAtom, ReadsAlternatives, ReadsAlternative}
 use Rattle.ig_syntax.specs.Rules.{ReadsLevel, ReadsLevels, ReadsDeclaration, ReadsDeclarations, FollowsRules}
 use Rattle.ig_rules.proofs.Tails.{Facts, tail, head, behind, ends_by, sign_tail, symbol_tail, marked_tail, atom_tail, alternative_tail, associativity_tail, level_tail, parameters_tail, declaration_tail}
-
--- what labels, marks, signs and filters may stand round
-may_have_mark : (x : Symbol) → MayHaveFilters x → MayHaveMark x
-may_have_mark (Filtered x filters) h = absurd h
-may_have_mark x h = h
-
-may_have_label : (x : Symbol) → MayHaveMark x → MayHaveLabel x
-may_have_label (Offside x) h = absurd h
-may_have_label (Ignore x) h = absurd h
-may_have_label (Align x) h = absurd h
-may_have_label x h = h
 
 abbrev pub Fits : (Symbol → Type 0) → Symbol → Type 0
 Fits May x = May x × BindsNothing x
@@ -53,7 +43,7 @@ separated_fits (rule.separated_star x y) = (tt, refl)
 separated_fits (rule.separated_plus x y) = (tt, refl)
 
 filtered_fits : (x : Symbol) (fs : List Filter) → Fits MayHaveFilters x → Fits MayHaveMark (filtered x fs)
-filtered_fits x [] h = (may_have_mark x h.0, h.1)
+filtered_fits x [] h = (mark_of_filtered x h.0, h.1)
 filtered_fits x (f ∷ fs) h = (tt, h.1)
 
 post_fits : {s r : List Token} {x : Symbol} → ReadsPost s r x → Fits MayHaveMark x
@@ -66,7 +56,7 @@ marked_fits : {s r : List Token} {x : Symbol} → ReadsMarked s r x → Fits May
 marked_fits (rule.offside s r x d) = (tt, (post_fits d).1)
 marked_fits (rule.ignore s r x d) = (tt, (post_fits d).1)
 marked_fits (rule.align s r x d) = (tt, (post_fits d).1)
-marked_fits (rule.unmarked s r x d) = let h = post_fits d in (may_have_label x h.0, h.1)
+marked_fits (rule.unmarked s r x d) = let h = post_fits d in (label_of_marked x h.0, h.1)
 
 -- what facts of tokens give for the symbols that they read as, each by itself
 pub record Gives (P : Token → Type 0) (Q : Symbol → Type 0) : Type 0 where

@@ -1,13 +1,14 @@
 -- Laws of the rules of the notation.
 use Rattle.std.specs.Prelude.{◌≡◌, ◌≢◌, ℕ, ◌<◌, List, [], ◌∷◌, Some, None, All, Contains, length}
+use Rattle.ig_text.specs.Limits.{numbers_end}
 use Rattle.ig_syntax.specs.Token.{Token}
 use Rattle.ig_syntax.specs.Rules.{FollowsRules}
 use Rattle.ig_syntax.specs.Stops.{Stops}
 use Rattle.ig_grammar.specs.Regular.{AlternativesStandWell, OfEachLevel, IsRegular}
-use Rattle.ig_grammar.specs.Counts.{HasFewerThan, counts_bound}
 use Rattle.ig_grammar.specs.declared.declaration.DeclKind.TheVariants.{Plain}
 use Rattle.ig_grammar.specs.declared.declaration.Decl.{Decl}
 use Rattle.ig_grammar.specs.declared.grammar.Grammar.{Grammar}
+use Rattle.ig_grammar.specs.Counts.{HasFewerThan}
 use Rattle.ig_rules.specs.Machine.{grammar, run}
 use Rattle.ig_rules.specs.Written.{AlternativesAreWritten, HasText}
 use Rattle.ig_rules.specs.Names.{HasName, HasNames}
@@ -55,4 +56,4 @@ ReadsAreCounted =
 -- so it is regular
 abbrev pub ReadsAreRegular : Type 0
 ReadsAreRegular =
-    (tokens : List Token) (g : Grammar) → FollowsRules tokens g → All HasText tokens → length tokens < counts_bound → IsRegular g
+    (tokens : List Token) (g : Grammar) → FollowsRules tokens g → All HasText tokens → length tokens < numbers_end → IsRegular g

@@ -1,7 +1,7 @@
 -- The numbers of places in a regular grammar fit in 32 bits.
 use Rattle.std.proofs.Common.{inl, inr, ◌≡◌, ℕ, zero, suc, ◌<◌, ◌≤◌, ◌+◌, List, [], ◌∷◌, ◌++◌, length, get_or, refl, ap, arith, length-append}
 use Rattle.std.specs.Prelude.{Contains, sum_by}
-use Rattle.std.proofs.lemmas.List.Sums.{sum_by-cons, sum_by-append}
+use Rattle.std.proofs.lemmas.List.Sums.{sum_by-cons, sum_by-append, sum_by-le-sum_by}
 use Rattle.std.proofs.lemmas.List.Elements.{Contains-append_cases}
 use Rattle.std.proofs.lemmas.List.Concat.{length-flat_map}
 use Rattle.ig_grammar.specs.Numbering.{alternatives}
@@ -16,6 +16,7 @@ use Rattle.ig_grammar.specs.declared.symbol.Alt.{Alt}
 use Rattle.ig_grammar.specs.declared.declaration.Level.{Level}
 use Rattle.ig_grammar.specs.declared.declaration.Decl.{Decl}
 use Rattle.ig_grammar.specs.declared.grammar.Grammar.{Grammar}
+use Rattle.ig_grammar.specs.Laws.{CountsByForm}
 use Rattle.ig_scope.specs.Places.{AreNumbered}
 use Rattle.ig_alternatives.specs.Told.{from}
 
@@ -59,17 +60,14 @@ mutual
       let r = length-append (subterms_of_symbols xs) (subterms_of_alternatives ys) in
       let h = as_many_in_sequence v xs in let k = as_many_in_choices v ys in omega arith
 
--- each symbol is one part at least
-own_part : (x : Symbol) → 1 ≤ own_parts x
-own_part (Filtered x filters) = omega arith
-own_part x = omega arith
+fewer_symbols : CountsByForm → (xs : List Symbol) → length xs ≤ sum_by own_parts xs
+fewer_symbols law [] = omega arith
+fewer_symbols law (x ∷ xs) =
+    let s = sum_by-cons own_parts x xs in let h = fewer_symbols law xs in let o = law.some_part x in omega arith
 
-fewer_symbols : (xs : List Symbol) → length xs ≤ sum_by own_parts xs
-fewer_symbols [] = omega arith
-fewer_symbols (x ∷ xs) = let s = sum_by-cons own_parts x xs in let h = fewer_symbols xs in let o = own_part x in omega arith
-
-sequence_parts : (v : Visible) (xs : Symbols) → length (inside_sequence v xs) ≤ parts_of_symbols xs
-sequence_parts v xs = let e = as_many_in_sequence v xs in let f = fewer_symbols (subterms_of_symbols xs) in omega arith
+sequence_parts : CountsByForm → (v : Visible) (xs : Symbols) → length (inside_sequence v xs) ≤ parts_of_symbols xs
+sequence_parts law v xs =
+    let e = as_many_in_sequence v xs in let f = fewer_symbols law (subterms_of_symbols xs) in omega arith
 
 member_sum : {X : Type 0} (f : X → ℕ) (xs : List X) (x : X) → Contains xs x → f x ≤ sum_by f xs
 member_sum f [] x m = let l = m.1 in let z : ⊥ = omega arith in absurd z
@@ -78,10 +76,6 @@ member_sum f (y ∷ xs) x m = go m.0 m.1 m.2 (member_sum f xs x)
     go : (k : ℕ) → k < length (y ∷ xs) → get_or (y ∷ xs) k x ≡ x → (Contains xs x → f x ≤ sum_by f xs) → f x ≤ sum_by f (y ∷ xs)
     go zero l e h = let s = sum_by-cons f y xs in let z : f y ≡ f x = ap f e in omega arith
     go (suc k) l e h = let s = sum_by-cons f y xs in let z = h (k, omega arith, e) in omega arith
-
-sum_less : {X : Type 0} (f g : X → ℕ) (xs : List X) → ((x : X) → f x ≤ g x) → sum_by f xs ≤ sum_by g xs
-sum_less f g [] h = omega arith
-sum_less f g (x ∷ xs) h = let a = sum_by-cons f x xs in let b = sum_by-cons g x xs in let c = sum_less f g xs h in let d = h x in omega arith
 
 numbered : (alts : List Alt) → number_of_alternatives (gathered_alternatives alts) ≡ length alts
 numbered [] = refl
@@ -115,19 +109,19 @@ parts_among (level ∷ levels) a m =
       | inr x ↦ (let h = parts_among levels a x in omega arith)
     ]
 
-pub are_numbered : (g : Grammar) → IsRegular g → AreNumbered g.decls
-are_numbered g r = record {
+pub are_numbered : CountsByForm → (g : Grammar) → IsRegular g → AreNumbered g.decls
+are_numbered law g r = record {
   declarations = r.counted.declarations;
   alternatives = λ decl m.
       let n = member_sum (λ (d : Decl). sum_by (λ level. alternatives_among (gathered_alternatives level.alts)) d.levels) g.decls decl m in
       let a = r.counted.alternatives in
       let l = length-flat_map (λ (level : Level). level.alts) decl.levels in
-      let s = sum_less (λ (level : Level). length level.alts) (λ (level : Level). alternatives_among (gathered_alternatives level.alts)) decl.levels (λ level. fewer level.alts) in
+      let s = sum_by-le-sum_by (λ (level : Level). length level.alts) (λ (level : Level). alternatives_among (gathered_alternatives level.alts)) decl.levels (λ level. fewer level.alts) in
       omega arith;
   symbols = λ decl m a k.
       let n = member_sum (λ (d : Decl). sum_by (λ level. parts_of_alternatives (gathered_alternatives level.alts)) d.levels) g.decls decl m in
       let p = r.counted.symbols in
       let q = parts_among decl.levels a k in
-      let s = sequence_parts (parameters decl.params) (gathered a.symbols) in
+      let s = sequence_parts law (parameters decl.params) (gathered a.symbols) in
       omega arith;
 }

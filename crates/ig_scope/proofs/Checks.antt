@@ -3,7 +3,6 @@ use Rattle.std.proofs.Common.{◌≡◌, ℕ, zero, suc, ◌<◌, ◌≤◌, ◌
 use Rattle.std.specs.Prelude.{slice_get}
 use Rattle.std.specs.Result.{IsErrAnd}
 use Rattle.std.proofs.lemmas.List.Sums.{count_by_more_yes, count_by_more_no}
-use Rattle.std.proofs.lemmas.Option.{slice_get-get_or}
 use Rattle.ig_grammar.specs.Numbering.{alternatives}
 use Rattle.ig_grammar.specs.Name.{is_name}
 use Rattle.ig_grammar.specs.Condition.{Condition, HeadMeets, StartMeets, too_many_parameters, TooMany, Parameters, most_parameters, named_parameters}
@@ -13,7 +12,7 @@ use Rattle.ig_grammar.specs.declared.declaration.Decl.{Decl}
 use Rattle.ig_grammar.specs.declared.grammar.Grammar.{Grammar}
 use Rattle.ig_grammar.specs.declared.place.Place.{Place}
 use Rattle.ig_conditions.specs.Causes.{condition_of, NoneHolds}
-use Rattle.std.proofs.lemmas.List.Folds.{list_any_more}
+use Rattle.std.proofs.lemmas.Option.{slice_get-get_or, slice_get_within}
 use Rattle.ig_conditions.specs.Room.{HasFewParameters}
 use Rattle.ig_conditions.specs.Heads.{count_names, is_layout, have_layout}
 use Rattle.ig_alternatives.specs.Told.{FirstIn, AlternativeFree, AlternativeCaught, OfAlternatives}
@@ -23,6 +22,7 @@ use Rattle.ig_alternatives.specs.declared.fault.ScopeFault.TheVariants.{Broken, 
 use Rattle.ig_text.proofs.Options.{one_value}
 use Rattle.ig_text.proofs.Orders.{below_or_at}
 use Rattle.ig_alternatives.specs.Firsts.{first_there, first_before, free_at}
+use Rattle.std.proofs.lemmas.List.Folds.{list_any_more}
 use Rattle.std.proofs.lemmas.Result.{err_from_is_err_and}
 
 module _ (decls : List Decl) (index : ℕ) (decl : Decl) where
@@ -145,16 +145,11 @@ module _ (g : Grammar) where
   pub grammar_told : (r : Result (Unit {0}) ScopeFault) → NoneHolds (StartMeets g) → TellsDeclarations g.decls r → TellsGrammar g r
   grammar_told (Ok done) n h = λ place c m. go place.decl place.alt place.symbol c m
     where
-      within : (decls : List Decl) (k : ℕ) (d : Decl) → slice_get decls k ≡ Some d → k < length decls
-      within [] k d e = cc
-      within (x ∷ decls) zero d e = omega arith
-      within (x ∷ decls) (suc k) d e = let w = within decls k d e in omega arith
-
       go : (d b t : ℕ) (c : Condition) → GrammarHas g d b t c → ⊥
       go zero zero zero c m = n c m
       go zero zero (suc t) c m = m
       go zero (suc b) t c m = m
-      go (suc j) b t c m = h j m.0 b t c (within g.decls j m.0 m.1) m.1 m.2
+      go (suc j) b t c m = h j m.0 b t c (slice_get_within g.decls j m.0 m.1) m.1 m.2
   grammar_told (Err (Broken cause place)) n h =
       subst (λ p. IsFirst g p (condition_of cause)) (place_is place (h.0 + 1) h.3 ∙ refl)
       (subst (λ k. IsFirst g (record { decl = k; alt = place.alt; symbol = place.symbol }) (condition_of cause)) (let z : suc h.0 ≡ h.0 + 1 = omega arith in z)

@@ -1,6 +1,6 @@
 ghost use Rattle.std.specs.Prelude.{◌≡◌, ◌+◌, ◌<◌, IfOk, IfErr};
+ghost use Rattle.ig_text.specs.Limits.{numbers_end};
 ghost use Rattle.ig_grammar.specs.Regular.{IsRegular};
-ghost use Rattle.ig_grammar.specs.Counts.{counts_bound};
 ghost use Rattle.ig_grammar.specs.WellScoped.{IsWellScoped};
 ghost use Rattle.ig_grammar.specs.Checked.{rules};
 ghost use Rattle.ig_conditions.specs.Heads.{is_layout};
@@ -61,6 +61,7 @@ fn check_declared(
         };
         return Err(ScopeFault::Broken { cause, place });
     }
+    ig_grammar::counts_by_form();
     check_declarations(alloc, declarations)
 }
 
@@ -91,7 +92,7 @@ fn check_declarations(alloc: Global, declarations: &Declarations) -> Result<(), 
 
 /// The first fault of the declaration, at its head or in an alternative.
 fn check_declaration(alloc: Global, head: &Head) -> Result<(), ScopeFault>
-    requires number { head.now.before + 1 < counts_bound }
+    requires number { head.now.before + 1 < numbers_end }
     requires alternatives { HaveNumberedAlternatives head.now.decl.now }
     requires symbols { HaveNumberedSymbols head.now.decl.now }
     ensures { TellsHead head.now result }

@@ -1,4 +1,5 @@
-//! The canonical text of a grammar, of its expressions and of its patterns. It reads back.
+//! The canonical text of a grammar, of its expressions and of its patterns. That of a grammar reads
+//! back, where any text reads as it.
 #![tactic(auto)]
 
 mod expressions;

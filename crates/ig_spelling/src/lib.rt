@@ -1,5 +1,5 @@
 //! How canonical texts spell single tokens: each has one spelling, which by the table of tokens is
-//! a spelling of that token.
+//! a spelling of that token, where it has any.
 //!
 //! `specs/Spelling.antt` is the spelling of each token, `specs/Pieces.antt` what a text of pieces
 //! is, and `specs/Signs.antt` which tokens stand for numbers, patterns, operators, functions, truth

@@ -4,7 +4,7 @@
 //! What reads symbols inside symbols is one cycle of calls, in `symbols.rt`; ig_parts reads what
 //! stands around them. Each function of the cycle promises what those of ig_readers and ig_parts
 //! do: that the tokens which it takes read as what it returns by the rules, and that the machine of
-//! ig_rules does the same on every stack; so where it stops, the tokens stop following the rules.
+//! ig_rules does the same on every stack, or where it stops.
 #![tactic(auto)]
 
 mod symbols;

@@ -2,7 +2,7 @@
 //! without a cost. Only these can be found once more.
 ghost use Rattle.std.specs.Prelude.{◌≡◌, ◌<◌, ◌≤◌, ◌+◌, [], ◌∷◌, ◌++◌};
 ghost use Rattle.std.specs.Prelude.{ℕ, IfNone, IfOk, IfSome, OnErr, OnOk, Contains};
-ghost use Rattle.ig_item.specs.Limits.{numbers_end};
+ghost use Rattle.ig_text.specs.Limits.{numbers_end};
 ghost use Rattle.ig_tables.specs.Returned.{bucket_of, entry};
 
 use ig_item::Item;

@@ -1,5 +1,6 @@
 -- Truth values.
-use Rattle.std.proofs.Common.{◌≡◌, ◌||◌, Bool, true, false, refl, ◌&&◌}
+use Rattle.std.proofs.Common.{◌≡◌, ◌||◌, Bool, true, false, refl, sym, ◌∙◌, ◌&&◌, true≢false}
+use Rattle.std.specs.Prelude.{◌↔◌, IsTrue}
 use Rattle.std.proofs.lemmas.Bool.{and_parts, or_parts}
 
 -- which of three stands first makes no difference
@@ -19,3 +20,11 @@ rest_true b c e = (and_parts b c e).1
 -- where neither of two holds, the second doesn't
 pub rest_false : (b c : Bool) → (b || c) ≡ false → c ≡ false
 rest_false b c e = (or_parts b c e).1
+
+-- no truth value is both
+pub not_both : (b : Bool) → b ≡ true → b ≡ false → ⊥
+not_both b e f = true≢false (sym e ∙ f)
+
+-- where a test fails, what it tells of doesn't hold
+pub refuted : {P : Type 0} (b : Bool) → IsTrue b ↔ P → b ≡ false → P → ⊥
+refuted b tells fails p = not_both b (tells.1 p) fails

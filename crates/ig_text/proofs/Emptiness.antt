@@ -1,6 +1,6 @@
 -- The test for an empty list.
 use Rattle.std.proofs.Common.{◌≡◌, ℕ, suc, List, [], ◌∷◌, Bool, true, false, length, refl, sym, ◌∙◌, arith, true≢false}
-use Rattle.std.specs.Prelude.{nat_eq}
+use Rattle.std.specs.Prelude.{◌≢◌, nat_eq}
 use Rattle.std.proofs.lemmas.Bool.Decides.{nat_tests}
 
 -- where the length is tested to be 0, the list is empty
@@ -20,3 +20,8 @@ is_something (x ∷ xs) ys b e t s n = let f : x ∷ xs ≡ [] = s ∙ n in cc
 pub emptied : {X : Type 0} (xs : List X) (n : ℕ) → n ≡ length xs → n ≡ 0 → xs ≡ []
 emptied [] n e z = refl
 emptied (x ∷ xs) n e z = absurd (omega (arith, e, z))
+
+-- a list that can't have a member is empty
+pub empty_unless : {X : Type 0} (xs : List X) → (xs ≢ [] → ⊥) → xs ≡ []
+empty_unless [] f = refl
+empty_unless (x ∷ xs) f = absurd (f (λ e. cc))

@@ -1,9 +1,9 @@
 -- Members and places of lists: of beginnings and ranges, of lists one behind the other, of mapped lists.
-use Rattle.std.proofs.Common.{◌≡◌, ◌⊎◌, ℕ, zero, suc, ◌+◌, ◌<◌, ◌≤◌, List, [], ◌∷◌, ◌++◌, Some, length, take, drop, get_or, Contains, slice_get, refl, sym, ap, ◌∙◌, inl, inr, ⊎_elim, arith, length-drop, ◌-◌, map, subst}
+use Rattle.std.proofs.Common.{◌≡◌, ◌⊎◌, ℕ, zero, suc, ◌+◌, ◌<◌, ◌≤◌, List, [], ◌∷◌, ◌++◌, Some, None, length, take, drop, get_or, Contains, slice_get, refl, sym, ap, ◌∙◌, inl, inr, ⊎_elim, arith, length-drop, ◌-◌, map, subst}
 use Rattle.std.specs.Prelude.{All, slice_range, option_map}
 use Rattle.std.specs.List.{AllByRecursion}
 use Rattle.std.proofs.lemmas.List.{append_assoc, take_more, drop-append-le, take-append-le}
-use Rattle.std.proofs.lemmas.List.Elements.{All-contains, Contains-push}
+use Rattle.std.proofs.lemmas.List.Elements.{All-contains, All-nil, All-cons, All-head, All-tail, Contains-push}
 use Rattle.std.proofs.lemmas.Option.{slice_get-get_or, same_Some, slice_get_within, get_or_from_slice_get, slice_get-map}
 use Rattle.std.proofs.Math.Seq.{take-length, drop-append_seam}
 
@@ -46,6 +46,17 @@ module _ {X : Type 0} where
   get_within [] k within = absurd (omega (arith, within))
   get_within (x ∷ xs) zero within = (x, refl)
   get_within (x ∷ xs) (suc k) within = get_within xs k (omega (arith, within))
+
+  -- a place that has nothing is behind the list
+  pub past_end : (xs : List X) (k : ℕ) → slice_get xs k ≡ None → length xs ≤ k
+  past_end [] k e = omega arith
+  past_end (x ∷ xs) zero e = cc
+  past_end (x ∷ xs) (suc k) e = omega (arith, past_end xs k e)
+
+  -- what a list of one has is its member
+  pub only_one : (x y : X) (k : ℕ) → slice_get (x ∷ []) k ≡ Some y → x ≡ y
+  only_one x y zero e = same_Some x y e
+  only_one x y (suc k) e = cc
 
   -- a place in a beginning is before its end, and a place of the whole
   pub within_take : (xs : List X) (n m : ℕ) (x : X) → slice_get (take n xs) m ≡ Some x →
@@ -190,6 +201,17 @@ module _ {X : Type 0} where
   -- behind the whole list is nothing
   pub at_end : (xs : List X) (n : ℕ) → n ≤ length xs → drop n xs ≡ [] → n ≡ length xs
   at_end xs n within e = omega (arith, within, length-drop n xs, ap length e)
+
+  -- what holds of all of two lists holds of all of each
+  pub halves : (P : X → Type 0) (xs ys : List X) → All P (xs ++ ys) → All P xs × All P ys
+  halves P [] ys all = (All-nil P, all)
+  halves P (x ∷ xs) ys all =
+      let rest = halves P xs ys (All-tail P x (xs ++ ys) all) in
+      (All-cons P x xs (All-head P x (xs ++ ys) all) rest.0, rest.1)
+
+  -- what holds of all apart holds of all together
+  pub all_both : (P Q : X → Type 0) (xs : List X) → All P xs → All Q xs → All (λ x. P x × Q x) xs
+  all_both P Q xs a b k d within = (a k d within, b k d within)
 
   -- what holds of all holds of the last
   pub last_of : (P : X → Type 0) (xs : List X) (y : X) → All P (xs ++ y ∷ []) → P y

@@ -24,7 +24,7 @@ pub more_parts : (s r : Tree) (ts us : Trees) → more s ts ≡ more r us → (s
 more_parts s r ts us e = (cc, cc)
 
 -- trees with one behind are not none
-never_none : (ts : Trees) (t : Tree) → join ts (one t) ≡ none → ⊥
+pub never_none : (ts : Trees) (t : Tree) → join ts (one t) ≡ none → ⊥
 never_none none t e = cc
 never_none (more s ts) t e = cc
 

@@ -3,6 +3,7 @@
 ghost use Rattle.std.specs.Prelude.{◌≡◌, ◌<◌, ◌^◌, ◌≤◌, ◌+◌, ◌-◌, ◌*◌, true, chars, pos};
 ghost use Rattle.std.specs.Prelude.{MatchOption, SomeIff};
 ghost use Rattle.ig_text.specs.Words.{is_digit};
+ghost use Rattle.ig_text.specs.Limits.{integers_end};
 ghost use Rattle.ig_expr.specs.Reading.{spelled};
 ghost use Rattle.ig_tokens.specs.Scanner.{numeral, number_token};
 ghost use Rattle.ig_tokens.specs.Steps.{Begins, Gives};
@@ -39,7 +40,7 @@ fn number<'a>(digits: &'a str, rest: &'a str) -> Step<'a>
 /// The number that the digits spell; `None` exactly where it is greater than
 /// 9,223,372,036,854,775,807. Takes no memory.
 pub fn number_of(digits: &str) -> Option<i64>
-    ensures { MatchOption result (2 ^ 63 ≤ spelled 0 (chars digits.now))
+    ensures { MatchOption result (integers_end ≤ spelled 0 (chars digits.now))
         (λ n. n ≡ pos (spelled 0 (chars digits.now))) }
 {
     digits_grow();

@@ -35,11 +35,6 @@ use Rattle.ig_tool.specs.Outcome.{never, for_names, HasFiles, Decided, usage, lo
 use Rattle.ig_tool.specs.Decisions as decisions
 use Rattle.ig_tool.specs.Decisions.{StopsRun, GivesText, RunsJob, Decides}
 
--- a stop that is passed on
-pub passed : {T : Type 0} (r : Result T Stop) (stop : Stop) → IsErrAnd r (λ s. s ≡ stop) → r ≡ Err stop
-passed (Ok x) stop h = absurd h
-passed (Err s) stop h = ap Err h
-
 -- the words are no command
 pub decides_usage : (words : List (List ℕ)) (shelf : ShelfState) (stop : Stop) →
     ((request : Request) → IsCommand words request → ⊥) → StopsWith status.Usage usage_note stop →

@@ -10,6 +10,7 @@ use Rattle.ig_text.specs.declared.text.TextFault.{TextFault}
 use Rattle.ig_text.specs.declared.text.TextFault.TheVariants as text_fault
 use Rattle.ig_outside.specs.States.{ShelfState, SinkState}
 use Rattle.ig_outside.specs.Told.{Told, silent, nothing, bytes}
+use Rattle.ig_text.proofs.Options.{one_value}
 use Rattle.ig_grammar.specs.declared.grammar.Grammar.{Grammar}
 use Rattle.ig_grammar.specs.WellScoped.{IsFirst}
 use Rattle.ig_notation.specs.Outcome.{too_many_bytes, OneReading, ReadOrRefused}
@@ -32,13 +33,9 @@ use Rattle.ig_jobs.specs.Tasks.{ok_text, shown_text, shown_core}
 use Rattle.ig_tool.specs.Outcome.{HasFiles, Decided, Answers, written, noted, unwritten, unnoted, no_memory}
 use Rattle.ig_tool.specs.Headline.{Asks, Outcome, over_budget, no_parse, parsed, Says, Headline, checks, shows, cores, GrammarCommands}
 
-one_value : (r q : Request) (found : Option Request) → found ≡ Some r → found ≡ Some q → r ≡ q
-one_value r q None a b = cc
-one_value r q (Some p) a b = let x : p ≡ r = cc in let y : p ≡ q = cc in sym x ∙ y
-
 -- the words are one command at most
 pub same_request : (words : List (List ℕ)) (r q : Request) → IsCommand words r → IsCommand words q → r ≡ q
-same_request words r q a b = one_value r q (request_of words) a b
+same_request words r q a b = one_value (request_of words) r q a b
 
 -- what the reader's laws say
 pub record Laws : Type 0 where

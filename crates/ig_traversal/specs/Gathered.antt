@@ -1,14 +1,10 @@
--- Sequences and choices as the program has them: the symbols of a list, gathered, are those of the list, and rewriting goes
--- through. This stands here with its proofs, for what the passes write; nothing of it has to be believed.
+-- Sequences and choices as the program has them: rewriting goes through what is gathered of a list. This stands here with its
+-- proofs, for what the passes write; nothing of it has to be believed.
 use Rattle.std.proofs.Common.{◌≡◌, ◌∙◌, List, [], ◌∷◌, map, refl, ap}
 use Rattle.ig_grammar.specs.Alternative.{gathered_alternatives}
-use Rattle.ig_grammar.specs.Symbol.{Symbol, next_symbol, next_alternative, gathered, listed}
 use Rattle.ig_grammar.specs.declared.symbol.Alt.{Alt}
+use Rattle.ig_grammar.specs.Symbol.{Symbol, next_symbol, next_alternative, gathered}
 use Rattle.ig_traversal.specs.Rewriting.{rewritten, rewritten_symbols, rewritten_choices, rewritten_alternative}
-
-pub listed_gathered : (xs : List Symbol) → listed (gathered xs) ≡ xs
-listed_gathered [] = refl
-listed_gathered (x ∷ xs) = ap (λ ys. x ∷ ys) (listed_gathered xs)
 
 module _ (own : Symbol → Symbol) where
   pub symbols_gathered : (xs : List Symbol) → gathered (map (rewritten own) xs) ≡ rewritten_symbols own (gathered xs)

@@ -1,5 +1,6 @@
-//! The program Iguana: it checks a grammar, shows it, prints the forest of a grammar and an input,
-//! lists the trees of that forest, or answers a question on it.
+//! The program Iguana: it checks a grammar, shows it or its core grammar, prints the forest of a
+//! grammar and an input, lists the trees of that forest, answers a question on it, or says how
+//! large the forest of a load is.
 //!
 //! `iguana forest GRAMMAR INPUT` reads the two files that it names. The forest goes to standard
 //! output, a note on why there is none to standard error, and the exit status says which it was.
@@ -8,7 +9,8 @@
 //! `iguana show GRAMMAR` the canonical text, and `iguana core GRAMMAR` the text of its core
 //! grammar. `iguana query GRAMMAR INPUT` answers what `--what` asks: whether the trees are
 //! ambiguous or cyclic, the spans of a declaration, or how far the input was read.
-//! `iguana load SIZE NUMBER` parses an input that it makes itself, and prints what that took.
+//! `iguana load SIZE NUMBER` parses an input that it makes itself, and prints how many items and
+//! nodes that has, and whether the forest is ambiguous or cyclic.
 //!
 //! What the program does with its words is the top call of `ig_tool`, over the files and streams of
 //! the system as `ig_files` has them.

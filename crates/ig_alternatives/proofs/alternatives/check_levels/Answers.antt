@@ -1,8 +1,8 @@
 use Rattle.std.proofs.Common.{◌≡◌, ◌<◌, ◌+◌, length, take, refl, sym, subst, ap, ◌∙◌, arith, Ok, Err}
 use Rattle.std.specs.Prelude.{Contains}
 use Rattle.std.proofs.lemmas.List.Elements.{All-nil}
+use Rattle.ig_text.specs.Limits.{numbers_end}
 use Rattle.ig_grammar.specs.Numbering.{alternatives}
-use Rattle.ig_grammar.specs.Counts.{counts_bound}
 use Rattle.ig_alternatives.specs.Told.{TellsLevel, AlternativeFree}
 use Rattle.ig_alternatives.proofs.Levels.{split_levels, more_levels, level_fits, level_within, levels_step, levels_stopped}
 use Rattle.ig_alternatives.proofs.alternatives.check_levels.Goals as goal
@@ -10,9 +10,9 @@ use Rattle.ig_alternatives.proofs.alternatives.check_levels.Goals as goal
 pub check_level-requires-clause-numbers : goal.check_level-requires-clause-numbers
 check_level-requires-clause-numbers c =
     let s = split_levels c.as_slice-level-items.result.now c.loop-level.level-index c.level-item.result c.loop-level-test.true c.level-item.is in
-    subst (λ z. c.loop-level.before + length z < counts_bound) (sym c.as_slice.ensures)
+    subst (λ z. c.loop-level.before + length z < numbers_end) (sym c.as_slice.ensures)
     (level_fits c.as_slice-level-items.result.now (take c.loop-level.level-index c.as_slice-level-items.result.now) c.level-item.result c.loop-level.before s (let e = c.loop-level.invariant.told.0 in let z : c.loop-level.before ≡ length (alternatives (take c.loop-level.level-index c.as_slice-level-items.result.now)) = omega arith in z)
-    (subst (λ z. length (alternatives z) < counts_bound) (sym c.as_slice-level-items.ensures) c.args.numbered.now.alternatives))
+    (subst (λ z. length (alternatives z) < numbers_end) (sym c.as_slice-level-items.ensures) c.args.numbered.now.alternatives))
 
 pub check_level-requires-clause-among : goal.check_level-requires-clause-among
 check_level-requires-clause-among c = λ a m.

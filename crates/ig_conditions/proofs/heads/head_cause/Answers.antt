@@ -1,6 +1,6 @@
 use Rattle.std.proofs.Common.{subst, sym}
+use Rattle.ig_text.proofs.Booleans.{refuted}
 use Rattle.ig_conditions.specs.Heads.{HasRepeated}
-use Rattle.ig_conditions.proofs.Members.{refuted}
 use Rattle.ig_conditions.proofs.HeadCauses.{head_duplicate, head_repeated, head_not_plain, head_limit}
 use Rattle.ig_conditions.proofs.heads.head_cause.Goals as goal
 

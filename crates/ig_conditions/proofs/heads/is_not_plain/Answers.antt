@@ -1,9 +1,9 @@
 use Rattle.std.proofs.Common.{◌<◌, length, subst, sym}
 use Rattle.std.specs.Prelude.{IsTrue, ◌↔◌}
 use Rattle.ig_text.proofs.Emptiness.{is_nothing}
+use Rattle.ig_text.proofs.Booleans.{refuted}
 use Rattle.ig_grammar.specs.Condition.{levels}
 use Rattle.ig_conditions.specs.Heads.{HaveAssociativity}
-use Rattle.ig_conditions.proofs.Members.{refuted}
 use Rattle.ig_conditions.proofs.HeadCauses.{plain_told, not_plain_second, not_plain_last}
 use Rattle.ig_conditions.proofs.heads.is_not_plain.Goals as goal
 

@@ -1,9 +1,10 @@
 use Rattle.std.proofs.Common.{sym, ap, ◌∙◌, subst, length}
+use Rattle.ig_text.proofs.Booleans.{refuted}
 use Rattle.ig_expr.specs.View.{expression_of}
 use Rattle.ig_conditions.specs.Symbols.{HasUnknown}
-use Rattle.ig_conditions.proofs.Members.{refuted, mapped_length}
 use Rattle.ig_conditions.proofs.SymbolCauses.{call_undeclared, call_arity, call_unknown, call_mismatched, call_syntax, call_free, mismatch_same}
 use Rattle.ig_conditions.proofs.symbols.call_cause.Goals as goal
+use Rattle.ig_conditions.proofs.Members.{mapped_length}
 
 pub returns-in_default : goal.returns-in_default
 returns-in_default c = call_undeclared c.args.declarations.now c.args.within c.args.variables.now c.args.name.now c.args.arguments.now c.in_default.ensures

@@ -1,8 +1,9 @@
 use Rattle.std.proofs.Common.{sym, subst}
+use Rattle.ig_text.proofs.Booleans.{refuted}
 use Rattle.ig_conditions.specs.Symbols.{HasUnknown, HasUnkinded}
-use Rattle.ig_conditions.proofs.Members.{refuted, bound_values}
 use Rattle.ig_conditions.proofs.SymbolCauses.{entry_unknown, entry_unkinded, entry_free}
 use Rattle.ig_conditions.proofs.symbols.entry_cause.Goals as goal
+use Rattle.ig_conditions.proofs.Members.{bound_values}
 
 pub returns-then-values_have_unknown : goal.returns-then-values_have_unknown
 returns-then-values_have_unknown c =

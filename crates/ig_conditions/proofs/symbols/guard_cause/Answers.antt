@@ -1,6 +1,6 @@
+use Rattle.ig_text.proofs.Booleans.{refuted}
 use Rattle.ig_expr.specs.View.{expression_of}
 use Rattle.ig_conditions.proofs.SymbolCauses.{guard_unknown, guard_mismatched, guard_free}
-use Rattle.ig_conditions.proofs.Members.{refuted}
 use Rattle.ig_conditions.proofs.symbols.guard_cause.Goals as goal
 
 pub returns-then-names_unknown : goal.returns-then-names_unknown

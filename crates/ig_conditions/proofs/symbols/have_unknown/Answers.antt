@@ -1,10 +1,11 @@
 use Rattle.std.proofs.Common.{refl}
 use Rattle.std.proofs.lemmas.List.{take_all}
 use Rattle.std.proofs.lemmas.List.Elements.{All-nil}
+use Rattle.ig_text.proofs.Booleans.{refuted}
 use Rattle.ig_expr.specs.View.{expression_of}
 use Rattle.ig_grammar.specs.Condition.{NamesUnknown}
-use Rattle.ig_conditions.proofs.Members.{found_none, member_found, all_more, refuted}
 use Rattle.ig_conditions.proofs.symbols.have_unknown.Goals as goal
+use Rattle.ig_conditions.proofs.Members.{found_none, member_found, all_more}
 
 pub returns : goal.returns
 returns c =

@@ -1,4 +1,4 @@
-use Rattle.ig_conditions.proofs.Members.{refuted}
+use Rattle.ig_text.proofs.Booleans.{refuted}
 use Rattle.ig_conditions.proofs.SymbolCauses.{label_twice, label_once}
 use Rattle.ig_conditions.proofs.symbols.label_cause.Goals as goal
 

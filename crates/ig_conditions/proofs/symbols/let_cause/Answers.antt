@@ -1,7 +1,8 @@
+use Rattle.ig_text.proofs.Booleans.{refuted}
 use Rattle.ig_expr.specs.View.{expression_of}
 use Rattle.ig_conditions.proofs.SymbolCauses.{let_unknown, let_twice, let_unkinded, let_free}
-use Rattle.ig_conditions.proofs.Members.{refuted, is_absent, is_present}
 use Rattle.ig_conditions.proofs.symbols.let_cause.Goals as goal
+use Rattle.ig_conditions.proofs.Members.{is_absent, is_present}
 
 pub returns-then-names_unknown : goal.returns-then-names_unknown
 returns-then-names_unknown c =

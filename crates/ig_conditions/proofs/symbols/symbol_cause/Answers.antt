@@ -1,9 +1,9 @@
 use Rattle.std.proofs.Common.{sym, ap, subst, Some}
+use Rattle.ig_text.proofs.Booleans.{refuted}
 use Rattle.ig_grammar.specs.View.{symbol_of}
 use Rattle.ig_grammar.specs.Condition.{SymbolMeets, IsListed}
 use Rattle.ig_conditions.specs.Causes.{Tells}
 use Rattle.ig_conditions.specs.declared.cause.ScopeCause.TheVariants.{AlignNotList}
-use Rattle.ig_conditions.proofs.Members.{refuted}
 use Rattle.ig_conditions.proofs.SymbolCauses.{tells_offside, tells_ignore, tells_align, align_unlisted}
 use Rattle.ig_conditions.proofs.symbols.symbol_cause.Goals as goal
 

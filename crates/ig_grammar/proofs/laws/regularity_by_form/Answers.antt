@@ -1,6 +1,6 @@
 use Rattle.ig_grammar.specs.Regular.{IsPlaced, IsNoMark}
-use Rattle.ig_grammar.proofs.ByForm.{holds, holds_from, symbols_hold, symbols_hold_from, alternatives_hold, alternatives_hold_from}
 use Rattle.ig_grammar.proofs.laws.regularity_by_form.Goals as goal
+use Rattle.ig_grammar.specs.ByForm.{holds, holds_from, symbols_hold, symbols_hold_from, alternatives_hold, alternatives_hold_from}
 
 pub returns : goal.returns
 returns c =

@@ -1,8 +1,9 @@
 use Rattle.std.proofs.Common.{subst, sym}
+use Rattle.ig_text.proofs.Options.{passed_on}
 use Rattle.ig_command.specs.Commands.{stored_listing}
 use Rattle.ig_pages.specs.Pages.{Lists}
-use Rattle.ig_pages.proofs.Starting.{passed, lists_lost, lists_made, start_named}
 use Rattle.ig_pages.proofs.listing.list.Goals as goal
+use Rattle.ig_pages.proofs.Starting.{lists_lost, lists_made, start_named}
 
 pub returns-in_default : goal.returns-in_default
 returns-in_default c = c.in_default.ensures
@@ -10,7 +11,7 @@ returns-in_default c = c.in_default.ensures
 pub returns-in_err-walker : goal.returns-in_err-walker
 returns-in_err-walker c =
     subst (Lists c.args.core.now c.args.forest.now (stored_listing c.args.listing))
-    (sym (passed c.from_residual-in_err-walker.result c.in_err-walker.field-0.0 c.from_residual-in_err-walker.ensures.1))
+    (sym (passed_on c.from_residual-in_err-walker.result c.in_err-walker.field-0.0 c.from_residual-in_err-walker.ensures.1))
     (lists_lost c.args.core.now c.args.forest.now (stored_listing c.args.listing) c.in-Some.depth c.in_err-walker.field-0.0
     c.in-Some.ensures c.in_err-walker.ensures)
 

@@ -1,10 +1,11 @@
 use Rattle.std.proofs.Common.{List, Option, ℕ, Err, ap, sym, subst}
 use Rattle.std.specs.Option.{option_copied}
+use Rattle.ig_text.proofs.Options.{passed_on}
 use Rattle.ig_forest.specs.Cursors.{IsShortCursor}
 use Rattle.ig_pages.specs.Faults.{fault_of_cursor, fault_of_walk}
 use Rattle.ig_pages.specs.Pages.{Starts}
-use Rattle.ig_pages.proofs.Starting.{passed, starts_first, starts_behind, starts_unread, starts_unwalked}
 use Rattle.ig_pages.proofs.listing.walker_at.Goals as goal
+use Rattle.ig_pages.proofs.Starting.{starts_first, starts_behind, starts_unread, starts_unwalked}
 
 pub returns-in_default : goal.returns-in_default
 returns-in_default c =
@@ -12,7 +13,7 @@ returns-in_default c =
 
 pub returns-in_err-cursor : goal.returns-in_err-cursor
 returns-in_err-cursor c =
-    let is = passed c.from_residual-in_err-cursor.result (fault_of_cursor c.in_err-cursor.field-0.0) c.from_residual-in_err-cursor.ensures.1 in
+    let is = passed_on c.from_residual-in_err-cursor.result (fault_of_cursor c.in_err-cursor.field-0.0) c.from_residual-in_err-cursor.ensures.1 in
     subst (Starts c.args.forest.now c.args.depth (option_copied c.args.after)) (sym is)
     (subst (λ (z : Option (List ℕ)). Starts c.args.forest.now c.args.depth z (Err (fault_of_cursor c.in_err-cursor.field-0.0)))
     (sym (ap option_copied c.in-Some.is))
@@ -20,7 +21,7 @@ returns-in_err-cursor c =
 
 pub returns-in_err-walker-2 : goal.returns-in_err-walker-2
 returns-in_err-walker-2 c =
-    let is = passed c.from_residual-in_err-walker-2.result (fault_of_walk c.in_err-walker-2.field-0.0) c.from_residual-in_err-walker-2.ensures.1 in
+    let is = passed_on c.from_residual-in_err-walker-2.result (fault_of_walk c.in_err-walker-2.field-0.0) c.from_residual-in_err-walker-2.ensures.1 in
     subst (Starts c.args.forest.now c.args.depth (option_copied c.args.after)) (sym is)
     (subst (λ (z : Option (List ℕ)). Starts c.args.forest.now c.args.depth z (Err (fault_of_walk c.in_err-walker-2.field-0.0)))
     (sym (ap option_copied c.in-Some.is))

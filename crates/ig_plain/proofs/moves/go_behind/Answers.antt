@@ -1,21 +1,22 @@
 use Rattle.std.proofs.Common.{◌≡◌, subst, ◌∙◌, ap}
 use Rattle.std.proofs.lemmas.Result.{on_ok_weaker}
+use Rattle.ig_text.proofs.Booleans.{refuted}
 use Rattle.ig_item.specs.Items.{past}
 use Rattle.ig_item.specs.declared.ways.Way.TheVariants.{Node}
 use Rattle.ig_plain.specs.Found.{Adds, means}
 use Rattle.ig_plain.specs.Trail.{By, Records}
-use Rattle.ig_plain.proofs.Additions.{adds_where, adds_nowhere, true_at, false_at}
 use Rattle.ig_plain.proofs.Recording.{records_where, records_nowhere}
 use Rattle.ig_plain.proofs.moves.go_behind.Goals as goal
+use Rattle.ig_plain.proofs.Additions.{adds_where, adds_nowhere, true_at}
 
 pub returns-then-not-matches_none-clause-adds : goal.returns-then-not-matches_none-clause-adds
 returns-then-not-matches_none-clause-adds c =
-    adds_nowhere c.args.end _ _ c.args.context.now.budget c.args.found.now (false_at c.matches_none.result _ c.matches_none.ensures c.if-not-matches_none.true)
+    adds_nowhere c.args.end _ _ c.args.context.now.budget c.args.found.now (refuted c.matches_none.result c.matches_none.ensures c.if-not-matches_none.true)
 
 pub returns-then-not-matches_none-clause-ways : goal.returns-then-not-matches_none-clause-ways
 returns-then-not-matches_none-clause-ways c =
     records_nowhere _ (Node c.args.from.number c.args.done) _ c.args.found.now c.args.trail.now
-    (false_at c.matches_none.result _ c.matches_none.ensures c.if-not-matches_none.true)
+    (refuted c.matches_none.result c.matches_none.ensures c.if-not-matches_none.true)
 
 pub go_behind_call-requires-clause-by_nodes : goal.go_behind_call-requires-clause-by_nodes
 go_behind_call-requires-clause-by_nodes c x e =

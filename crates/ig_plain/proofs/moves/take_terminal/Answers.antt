@@ -1,13 +1,14 @@
 use Rattle.std.proofs.Common.{◌≡◌, subst, ◌∙◌, ap}
 use Rattle.std.proofs.lemmas.Result.{on_ok_weaker}
+use Rattle.ig_text.proofs.Booleans.{refuted}
 use Rattle.ig_item.specs.Items.{past}
 use Rattle.ig_item.specs.declared.ways.Way.TheVariants.{Leaf}
 use Rattle.ig_plain.specs.Found.{Adds, AddsLater, means}
 use Rattle.ig_plain.specs.Trail.{By, Records, RecordsLater}
-use Rattle.ig_plain.proofs.Additions.{adds_where, true_at, false_at}
 use Rattle.ig_plain.proofs.Terminals.{no_match, excluded_match, match_here, match_later}
 use Rattle.ig_plain.proofs.Recording.{records_no_match, records_excluded, records_here, records_behind}
 use Rattle.ig_plain.proofs.moves.take_terminal.Goals as goal
+use Rattle.ig_plain.proofs.Additions.{adds_where, true_at}
 
 pub returns-in_default-clause-adds : goal.returns-in_default-clause-adds
 returns-in_default-clause-adds c = no_match c.args.context.now.text.now c.args.what.now c.args.qualifiers.now.label.now c.args.qualifiers.now.not.now c.args.context.now.budget c.args.from.item.position (means c.args.found.now c.args.from.item) c.args.found.now c.in_default.ensures
@@ -18,12 +19,12 @@ returns-in_default-clause-ways c = records_no_match c.args.context.now.text.now 
 pub returns-then-not-matches_none-clause-adds : goal.returns-then-not-matches_none-clause-adds
 returns-then-not-matches_none-clause-adds c =
     excluded_match c.args.context.now.text.now c.args.what.now c.args.qualifiers.now.label.now c.args.qualifiers.now.not.now c.args.context.now.budget c.args.from.item.position (means c.args.found.now c.args.from.item) c.args.found.now
-    c.in-Some.end c.in-Some.ensures (false_at c.matches_none.result _ c.matches_none.ensures c.if-not-matches_none.true)
+    c.in-Some.end c.in-Some.ensures (refuted c.matches_none.result c.matches_none.ensures c.if-not-matches_none.true)
 
 pub returns-then-not-matches_none-clause-ways : goal.returns-then-not-matches_none-clause-ways
 returns-then-not-matches_none-clause-ways c =
     records_excluded c.args.context.now.text.now c.args.what.now c.args.qualifiers.now.label.now c.args.qualifiers.now.not.now c.args.from.number (means c.args.found.now c.args.from.item) c.args.found.now c.args.trail.now
-    c.in-Some.end c.in-Some.ensures (false_at c.matches_none.result _ c.matches_none.ensures c.if-not-matches_none.true)
+    c.in-Some.end c.in-Some.ensures (refuted c.matches_none.result c.matches_none.ensures c.if-not-matches_none.true)
 
 pub go_on-requires-clause-new : goal.go_on-requires-clause-new
 go_on-requires-clause-new c x e =

@@ -6,7 +6,7 @@ use Rattle.ig_scope.proofs.Checks.{grammar_told}
 use Rattle.ig_scope.proofs.checking.check_declared.Goals as goal
 
 pub check_declarations-requires : goal.check_declarations-requires
-check_declarations-requires c = subst AreNumbered (sym c.requires.same) (are_numbered c.args.grammar.now c.requires.regular)
+check_declarations-requires c = subst AreNumbered (sym c.requires.same) (are_numbered c.counts_by_form.ensures c.args.grammar.now c.requires.regular)
 
 pub returns : goal.returns
 returns c =

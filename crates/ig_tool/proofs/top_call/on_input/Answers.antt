@@ -1,13 +1,14 @@
 use Rattle.std.proofs.Common.{subst, sym, ◌∙◌}
+use Rattle.ig_text.proofs.Options.{passed_on}
 use Rattle.ig_endings.specs.Change.{change}
 use Rattle.ig_jobs.specs.Jobs.{stored_job}
 use Rattle.ig_tool.specs.Decisions.{Decides}
-use Rattle.ig_tool.proofs.Deciding.{passed, grammar_of_job, decides_at_grammar, decides_at_dots, decides_job, loaded_is_buildable, still_unchanged}
 use Rattle.ig_tool.proofs.top_call.on_input.Goals as goal
+use Rattle.ig_tool.proofs.Deciding.{grammar_of_job, decides_at_grammar, decides_at_dots, decides_job, loaded_is_buildable, still_unchanged}
 
 pub returns-in_err-checked-clause-answer : goal.returns-in_err-checked-clause-answer
 returns-in_err-checked-clause-answer g c = λ words command.
-    subst (Decides words _) (sym (passed c.from_residual.result c.in_err-checked.field-0.0 c.from_residual.ensures.1))
+    subst (Decides words _) (sym (passed_on c.from_residual.result c.in_err-checked.field-0.0 c.from_residual.ensures.1))
     (decides_at_grammar words _ _ c.args.files.grammar.now c.in_err-checked.field-0.0 command
     (grammar_of_job (stored_job c.args.job) c.args.files.grammar.now c.args.files.input.now c.args.budget)
     c.in_err-checked.ensures.counted c.in_err-checked.ensures.answer)
@@ -23,7 +24,7 @@ parser_of-requires-clause-buildable g c =
 
 pub returns-in_err-parser-clause-answer : goal.returns-in_err-parser-clause-answer
 returns-in_err-parser-clause-answer g c = λ words command.
-    subst (Decides words _) (sym (passed c.from_residual-in_err-parser.result c.in_err-parser.field-0.0 c.from_residual-in_err-parser.ensures.1))
+    subst (Decides words _) (sym (passed_on c.from_residual-in_err-parser.result c.in_err-parser.field-0.0 c.from_residual-in_err-parser.ensures.1))
     (decides_at_dots words _ c.args.files.grammar.now c.in_ok-checked.checked c.in_ok-checked.ensures.counted c.in_ok-checked.ensures.answer
     _ c.in_err-parser.field-0.0 command
     (grammar_of_job (stored_job c.args.job) c.args.files.grammar.now c.args.files.input.now c.args.budget) c.in_err-parser.ensures)

@@ -1,15 +1,16 @@
 use Rattle.std.proofs.Common.{subst, sym}
+use Rattle.ig_text.proofs.Options.{passed_on}
 use Rattle.ig_endings.specs.Change.{change}
 use Rattle.ig_jobs.specs.Jobs.{stored_job}
 use Rattle.ig_tool.specs.Decisions.{RunsJob}
-use Rattle.ig_tool.proofs.Deciding.{passed, runs_at_input, runs_parse}
 use Rattle.ig_tool.proofs.top_call.run.Goals as goal
+use Rattle.ig_tool.proofs.Deciding.{runs_at_input, runs_parse}
 
 pub returns-in_err-input-clause-answer : goal.returns-in_err-input-clause-answer
 returns-in_err-input-clause-answer g c =
     let shelf = change (g.F.Shelf.state c.args.shelf.now) (g.F.Shelf.state c.load_input.new.shelf) in
     subst (RunsJob c.args.parser.now c.args.budget (stored_job c.args.job) shelf c.args.name.now)
-    (sym (passed c.from_residual.result c.in_err-input.field-0.0 c.from_residual.ensures.1))
+    (sym (passed_on c.from_residual.result c.in_err-input.field-0.0 c.from_residual.ensures.1))
     (runs_at_input c.args.parser.now c.args.budget (stored_job c.args.job) shelf c.args.name.now c.in_err-input.field-0.0 c.in_err-input.ensures.answer)
 
 pub returns-clause-answer : goal.returns-clause-answer

@@ -1,7 +1,12 @@
--- Which places of symbols allow what others allow. This stands here with its proofs, for what a pass puts into them; nothing
--- of it has to be believed.
+-- Which places of symbols allow what others allow. This stands here with its proofs, for what puts symbols into other ones;
+-- nothing of it has to be believed.
 use Rattle.ig_grammar.specs.Symbol.{Symbol, Offside, Ignore, Align, Filtered, Seq}
 use Rattle.ig_grammar.specs.Regular.{MayHaveLabel, MayHaveMark, MayHaveFilters, MayHaveSign, MayBeSeparated}
+
+-- what may have filters may have a mark
+pub mark_of_filtered : (x : Symbol) → MayHaveFilters x → MayHaveMark x
+mark_of_filtered (Filtered x filters) may = absurd may
+mark_of_filtered x may = may
 
 -- what may have a mark, or filters, may have a label
 pub label_of_marked : (x : Symbol) → MayHaveMark x → MayHaveLabel x
