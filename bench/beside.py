@@ -9,7 +9,7 @@
 Takes what is installed of Marpa (libmarpa-r2-perl), Bison (bison, gcc), Lark (python3-lark) and SWI-Prolog
 (swi-prolog-nox), and prints a table in Markdown: processor time of the whole command, user and system, from start to
 end, and its peak memory. The first row of each workload is an input so small that it shows the start alone. Memory of
-less than about 15 MB can't be told: that is what the measuring process itself has.
+less than about 12 MB can't be told: that is what the measuring process itself has.
 """
 
 import argparse
