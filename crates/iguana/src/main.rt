@@ -9,8 +9,8 @@
 //! `iguana show GRAMMAR` the canonical text, and `iguana core GRAMMAR` the text of its core
 //! grammar. `iguana query GRAMMAR INPUT` answers what `--what` asks: whether the trees are
 //! ambiguous or cyclic, the spans of a declaration, or how far the input was read.
-//! `iguana load SIZE NUMBER` parses an input that it makes itself, and prints how many items and
-//! nodes that has, and whether the forest is ambiguous or cyclic.
+//! `iguana load SIZE NUMBER` parses an input that it makes itself, and prints how many items are
+//! reachable, how many nodes the forest has, and whether it is ambiguous or cyclic.
 //!
 //! What the program does with its words is the top call of `ig_tool`, over the files and streams of
 //! the system as `ig_files` has them.
