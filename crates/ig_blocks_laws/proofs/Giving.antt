@@ -3,6 +3,7 @@ use Rattle.std.proofs.Common.{◌≡◌, ◌≢◌, ◌∙◌, ◌≤◌, ℕ, z
 use Rattle.std.specs.Prelude.{◌⊎◌, Contains, slice_get}
 use Rattle.std.proofs.lemmas.List.{append-nil, length-map}
 use Rattle.std.proofs.lemmas.Option.{same_Some}
+use Rattle.ig_text.proofs.Differing.{two_differ}
 use Rattle.ig_text.proofs.Lists.{at_from_contains, contains_from_at, none_in_nil, unmapped_in}
 use Rattle.ig_grammar.specs.Checked.{CheckedGrammar}
 use Rattle.ig_grammar.specs.Name.{is_name}
@@ -46,14 +47,8 @@ extra_name true m f (suc (suc k)) p e = absurd (cc)
 extra_name false m f k p e = absurd (cc)
 
 extra_distinct : (b : Bool) (m f : List ℕ) → m ≢ f → AreDistinct (parameter_names (extra_by b (int_param m) (int_param f)))
-extra_distinct false m f ne i j n p q = absurd (cc)
-extra_distinct true m f ne zero zero n p q = refl
-extra_distinct true m f ne zero (suc zero) n p q = absurd (ne (same_Some m n p ∙ sym (same_Some f n q)))
-extra_distinct true m f ne zero (suc (suc j)) n p q = absurd (cc)
-extra_distinct true m f ne (suc zero) zero n p q = absurd (ne (same_Some m n q ∙ sym (same_Some f n p)))
-extra_distinct true m f ne (suc zero) (suc zero) n p q = refl
-extra_distinct true m f ne (suc zero) (suc (suc j)) n p q = absurd (cc)
-extra_distinct true m f ne (suc (suc i)) j n p q = absurd (cc)
+extra_distinct false m f ne = λ i j n p q. absurd (cc)
+extra_distinct true m f ne = two_differ m f ne
 
 -- a grammar that is prepared is ready, since later passes add no names of variables
 pub ready_for : (c : CheckedGrammar) → IsPrepared c → IsReadyFor [] c.grammar

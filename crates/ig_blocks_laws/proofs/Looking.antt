@@ -1,14 +1,11 @@
 -- Looking up names in tables: environments, and variables with their kinds.
-use Rattle.std.proofs.Common.{◌≡◌, ◌≢◌, ◌⊎◌, ◌<◌, ◌∙◌, ℕ, suc, ◌+◌, Bool, true, false, if◌then◌else◌, List, [], ◌∷◌, ◌++◌, map, length, Option, Some, None, option_and_then, refl, sym, ap, ap₂, subst, inl, inr, arith, nat_lt}
-use Rattle.std.specs.Prelude.{slice_get, position}
+use Rattle.std.proofs.Common.{◌≡◌, ◌≢◌, ◌∙◌, ℕ, Bool, true, false, if◌then◌else◌, cond, List, [], ◌∷◌, ◌++◌, map, Option, Some, None, sym, ap, ap₂, subst, refl}
 use Rattle.std.specs.Cmp.Lexicographic.{bytes_decides}
-use Rattle.std.specs.List.{position_or_len}
 use Rattle.std.specs.Option.{option_or}
-use Rattle.std.proofs.lemmas.Bool.{lt-ltb}
-use Rattle.std.proofs.lemmas.Bool.Decides.{leb_tells}
 use Rattle.ig_text.specs.Words.{is_word}
 use Rattle.ig_text.proofs.Characters.{differs}
-use Rattle.ig_text.proofs.Fallbacks.{or_none}
+use Rattle.ig_text.proofs.Fallbacks.{or_none, or_cond}
+use Rattle.ig_text.proofs.Positions.{beside-cons}
 use Rattle.ig_expr.specs.Names.{look_up}
 
 -- names with what stands beside them
@@ -31,36 +28,9 @@ if_true b x y e = ap (λ z. if z then x else y) e
 pub if_false : {A : Type 0} (b : Bool) (x y : A) → b ≡ false → (if b then x else y) ≡ y
 if_false b x y e = ap (λ z. if z then x else y) e
 
-place_first : (x : List ℕ) (xs : List (List ℕ)) (y : List ℕ) → is_word x y ≡ true → position (λ n. is_word n y) (x ∷ xs) ≡ Some 0
-place_first x xs y e =
-    rw e (if_true (nat_lt 0 (suc (length xs))) (Some 0) None (lt-ltb 0 (suc (length xs)) (omega arith)))
-
-place_later : {A : Type 0} (x : List ℕ) (xs : List (List ℕ)) (y : List ℕ) (v : A) (vs : List A) → is_word x y ≡ false →
-    option_and_then (slice_get (v ∷ vs)) (position (λ n. is_word n y) (x ∷ xs)) ≡ option_and_then (slice_get vs) (position (λ n. is_word n y) xs)
-place_later x xs y v vs e = rw e (go (position_or_len (λ n. is_word n y) xs) (leb_tells (suc (position_or_len (λ n. is_word n y) xs)) (length xs)))
-  where
-    next : (k : ℕ) → slice_get (v ∷ vs) (1 + k) ≡ slice_get vs k
-    next k = let n : 1 + k ≡ suc k = omega arith in rw n refl
-
-    go : (k : ℕ) → ((nat_lt k (length xs) ≡ true) × (k < length xs)) ⊎ ((nat_lt k (length xs) ≡ false) × (length xs < suc k)) →
-        option_and_then (slice_get (v ∷ vs)) (if nat_lt (1 + k) (suc (length xs)) then Some (1 + k) else None) ≡
-        option_and_then (slice_get vs) (if nat_lt k (length xs) then Some k else None)
-    go k (inl h) =
-        let above : nat_lt (1 + k) (suc (length xs)) ≡ true = lt-ltb (1 + k) (suc (length xs)) (omega (arith, h.1)) in
-        ap (option_and_then (slice_get (v ∷ vs))) (if_true (nat_lt (1 + k) (suc (length xs))) (Some (1 + k)) None above) ∙ next k ∙
-        sym (ap (option_and_then (slice_get vs)) (if_true (nat_lt k (length xs)) (Some k) None h.0))
-    go k (inr h) =
-        let above : nat_lt (1 + k) (suc (length xs)) ≡ false = grind (arith, leb_tells (suc (1 + k)) (suc (length xs)), h.1) in
-        ap (option_and_then (slice_get (v ∷ vs))) (if_false (nat_lt (1 + k) (suc (length xs))) (Some (1 + k)) None above) ∙
-        sym (ap (option_and_then (slice_get vs)) (if_false (nat_lt k (length xs)) (Some k) None h.0))
-
 pub find_cons : {A : Type 0} (x : List ℕ) (v : A) (env : Table A) (y : List ℕ) →
     find ((x, v) ∷ env) y ≡ (if is_word x y then Some v else find env y)
-find_cons x v env y = go (is_word x y) refl
-  where
-    go : (b : Bool) → is_word x y ≡ b → find ((x, v) ∷ env) y ≡ (if is_word x y then Some v else find env y)
-    go true e = ap (option_and_then (slice_get (v ∷ members env))) (place_first x (keys env) y e) ∙ sym (if_true (is_word x y) (Some v) (find env y) e)
-    go false e = place_later x (keys env) y v (members env) e ∙ sym (if_false (is_word x y) (Some v) (find env y) e)
+find_cons x v env y = beside-cons (λ n. is_word n y) x (keys env) v (members env)
 
 pub same_word : (x y : List ℕ) → x ≡ y → is_word x y ≡ true
 same_word x y e = (bytes_decides x y).1 e
@@ -68,20 +38,17 @@ same_word x y e = (bytes_decides x y).1 e
 pub word_is : (x y : List ℕ) → is_word x y ≡ true → x ≡ y
 word_is x y e = (bytes_decides x y).0 e
 
+-- lookups in joined tables
+pub find_join : {A : Type 0} (env more : Table A) (y : List ℕ) → find (env ++ more) y ≡ option_or (find env y) (find more y)
+find_join [] more y = refl
+find_join ((x, v) ∷ env) more y =
+    find_cons x v (env ++ more) y ∙ ap (cond (is_word x y) (Some v)) (find_join env more y) ∙
+    or_cond (is_word x y) v (find env y) (find more y) ∙ ap (λ z. option_or z (find more y)) (sym (find_cons x v env y))
+
 -- what is bound last is found where nothing before has the name
 pub find_snoc : {A : Type 0} (env : Table A) (n : List ℕ) (v : A) (y : List ℕ) →
     find (env ++ (n, v) ∷ []) y ≡ option_or (find env y) (if is_word n y then Some v else None)
-find_snoc [] n v y = find_cons n v [] y
-find_snoc (pair ∷ env) n v y = go (find_snoc env n v y) (is_word pair.0 y) refl
-  where
-    go : find (env ++ (n, v) ∷ []) y ≡ option_or (find env y) (if is_word n y then Some v else None) → (b : Bool) → is_word pair.0 y ≡ b →
-        find (pair ∷ env ++ (n, v) ∷ []) y ≡ option_or (find (pair ∷ env) y) (if is_word n y then Some v else None)
-    go ih true e =
-        find_cons pair.0 pair.1 (env ++ (n, v) ∷ []) y ∙ if_true (is_word pair.0 y) _ _ e ∙
-        sym (ap (λ z. option_or z (if is_word n y then Some v else None)) (find_cons pair.0 pair.1 env y ∙ if_true (is_word pair.0 y) _ _ e))
-    go ih false e =
-        find_cons pair.0 pair.1 (env ++ (n, v) ∷ []) y ∙ if_false (is_word pair.0 y) _ _ e ∙ ih ∙
-        sym (ap (λ z. option_or z (if is_word n y then Some v else None)) (find_cons pair.0 pair.1 env y ∙ if_false (is_word pair.0 y) _ _ e))
+find_snoc env n v y = find_join env ((n, v) ∷ []) y ∙ ap (option_or (find env y)) (find_cons n v [] y)
 
 -- the table with the member in place of that of the same name, or at the end where the name is new
 abbrev pub put : {A : Type 0} → Table A → List ℕ → A → Table A

@@ -3,15 +3,15 @@ use Rattle.std.proofs.Common.{◌≡◌, ◌≢◌, ◌⊎◌, ℕ, Bool, true, 
 use Rattle.ig_expr.specs.Expression.{Expression}
 use Rattle.ig_grammar.specs.Symbol.{Symbol, Literal, OneOf, Call, Label, Guard, Let, Opt, Star, Plus, SepStar, SepPlus, Group, Offside, Ignore, Align, Filtered, Seq, Entry}
 use Rattle.ig_grammar.specs.Symbol.{Symbols, no_symbols, next_symbol, listed, Alternatives, no_alternatives, next_alternative}
-use Rattle.ig_grammar.specs.Laws.{RegularityByForm, OfInner}
-use Rattle.ig_grammar.specs.Regular.{IsPlaced, FitsRound, AlternativesStandWell, MayHaveMark, MayHaveFilters, MayHaveEntry}
+use Rattle.ig_grammar.specs.ByForm.{OfInner, own_part, inner_parts, symbols_hold, alternatives_hold}
+use Rattle.ig_grammar.specs.Regular.{IsPlaced, FitsRound, AlternativesStandWell, MayHaveMark, MayHaveEntry}
 use Rattle.ig_grammar.specs.Standing.{StandsWell, SymbolsStandWell}
 use Rattle.ig_grammar.specs.declared.declaration.DeclKind.{DeclKind}
 use Rattle.ig_grammar.specs.declared.declaration.DeclKind.TheVariants.{Syntax, Lexical, Layout, Plain}
 use Rattle.ig_blocks_laws.specs.Setting.{Setting, Pair, lacking, carried, opened, cleared, opened_by, cleared_by, inner, pair_bindings, column_bindings, guards, entered}
 use Rattle.ig_blocks_laws.proofs.Reading.{IsSteady, IsProper, bare, pair_in, is_aligned}
 use Rattle.ig_blocks_laws.proofs.Lowered as low
-use Rattle.ig_blocks_laws.proofs.Lowered.{Lowered, Placed, Item, Covered, Choices, IsHanded}
+use Rattle.ig_blocks_laws.proofs.Lowered.{Lowered, Item, Covered, Choices, IsHanded}
 use Rattle.ig_blocks_laws.specs.Body.{call_tests, tests_of, arguments_of, body_of, sequence_of, choices_of}
 use Rattle.ig_grammar.specs.Condition.{IsListed}
 use Rattle.ig_grammar.specs.Forms.{mark_of_filtered}
@@ -27,13 +27,13 @@ steady_inner carried = tt
 steady_inner (opened a b) = tt
 steady_inner cleared = tt
 
-module _ (forms : RegularityByForm) (s : Setting) (c : DeclKind) where
+module _ (s : Setting) (c : DeclKind) where
   -- what a symbol stands directly round, and what it has inside
   round : (x : Symbol) → StandsWell x → FitsRound x
-  round x well = let w = forms.stands x well in w.0.1
+  round x well = let own = own_part IsPlaced x well in own.1
 
   inside : (x : Symbol) → StandsWell x → OfInner IsPlaced x
-  inside x well = let w = forms.stands x well in w.1
+  inside = inner_parts IsPlaced
 
   suits_inner : (p : Pair) → Suits s c p → Suits s c (inner p)
   suits_inner p (inl h) = inl h
@@ -226,11 +226,11 @@ module _ (forms : RegularityByForm) (s : Setting) (c : DeclKind) where
     lowers_sequence no_symbols p h steady well fit = low.nothing p
     lowers_sequence (next_symbol x xs) p h steady well fit =
         low.next p x _ (listed xs) (listed (sequence_of s p xs))
-        (low.item false p x (body_of s false p x) _ (tests_of s p x) (lowers x p h (inl steady) (forms.symbols_stand (next_symbol x xs) well).0 fit.0) refl)
-        (lowers_sequence xs p h steady (forms.symbols_stand (next_symbol x xs) well).1 fit.1)
+        (low.item false p x (body_of s false p x) _ (tests_of s p x) (lowers x p h (inl steady) (symbols_hold IsPlaced (next_symbol x xs) well).0 fit.0) refl)
+        (lowers_sequence xs p h steady (symbols_hold IsPlaced (next_symbol x xs) well).1 fit.1)
 
     lowers_choices : (choices : Alternatives) (p : Pair) → Suits s c p → IsSteady p → AlternativesStandWell choices → AreFitChoices s c choices →
         Choices s c p choices (choices_of s p choices)
     lowers_choices no_alternatives p h steady well fit = low.no_choices p
     lowers_choices (next_alternative xs others) p h steady well fit =
-        low.next_choice p xs (sequence_of s p xs) others (choices_of s p others) (lowers_sequence xs p h steady (forms.alternatives_stand (next_alternative xs others) well).0 fit.0) (lowers_choices others p h steady (forms.alternatives_stand (next_alternative xs others) well).1 fit.1)
+        low.next_choice p xs (sequence_of s p xs) others (choices_of s p others) (lowers_sequence xs p h steady (alternatives_hold IsPlaced (next_alternative xs others) well).0 fit.0) (lowers_choices others p h steady (alternatives_hold IsPlaced (next_alternative xs others) well).1 fit.1)

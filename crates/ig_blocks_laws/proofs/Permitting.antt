@@ -3,7 +3,6 @@ use Rattle.std.proofs.Common.{◌≡◌, ℕ, Bool, true, false, List, [], ◌�
 use Rattle.std.specs.Prelude.{Contains}
 use Rattle.ig_text.proofs.Lists.{at_from_contains, contains_from_at}
 use Rattle.ig_grammar.specs.Checked.{CheckedGrammar}
-use Rattle.ig_grammar.specs.Laws.{RegularityByForm}
 use Rattle.ig_grammar.specs.declared.declaration.Decl.{Decl}
 use Rattle.ig_grammar.specs.declared.declaration.Level.{Level}
 use Rattle.ig_grammar.specs.declared.grammar.Grammar.{Grammar}
@@ -29,7 +28,6 @@ use Rattle.ig_blocks_laws.proofs.Readiness.{ready}
 
 -- what the proof takes from the crates below
 pub record Given : Type 0 where
-  pub forms : RegularityByForm
   pub in_order : SpansAreInOrder
   pub inverts : DerivationsInvert
   pub cleans : TreesWithoutOperatorsAreClean
@@ -90,7 +88,7 @@ lowered_permits given c prepared at =
     record {
       same = λ text t.
           same_trees (setting_of g.decls shapes) g (lowered_grammar g shapes) shapes shapes text t (apart g.decls shapes)
-          (takes given.forms given.in_order given.inverts g shapes is) (takes_root given.forms given.in_order given.inverts g shapes is)
+          (takes given.in_order given.inverts g shapes is) (takes_root given.in_order given.inverts g shapes is)
           ((λ k. given.cleans (lowered_grammar g shapes) (lowered_is_free g shapes prepared.free) t), (λ k. given.cleans g prepared.free t));
     }
 
@@ -102,5 +100,5 @@ lowered_keeps_values given c prepared at =
     record {
       values = λ text t u.
           same_values (setting_of g.decls shapes) g (lowered_grammar g shapes) shapes shapes text t u (apart g.decls shapes)
-          (takes given.forms given.in_order given.inverts g shapes is) (takes_root given.forms given.in_order given.inverts g shapes is);
+          (takes given.in_order given.inverts g shapes is) (takes_root given.in_order given.inverts g shapes is);
     }

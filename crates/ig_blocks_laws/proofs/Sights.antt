@@ -10,20 +10,7 @@ use Rattle.ig_expr.specs.declared.kind.Kind.TheVariants as kind
 use Rattle.ig_grammar.specs.Visible.{Visible, kind_at, with_kind}
 use Rattle.ig_blocks_laws.specs.Setting.{Setting, Pair, lacking, carried, opened, cleared, m_of, f_of, opened_by, cleared_by}
 use Rattle.ig_blocks_laws.proofs.Reading.{IsWritten, Reads}
-use Rattle.ig_blocks_laws.proofs.Looking.{find, find_cons, find_put, put, if_true, if_false}
-
--- lookups in joined lists
-pub find_join : (v b : Visible) (n : List ℕ) → find (v ++ b) n ≡ option_or (find v n) (find b n)
-find_join [] b n = refl
-find_join (pair ∷ v) b n = go (is_word pair.0 n) refl (find_join v b n)
-  where
-    go : (t : Bool) → is_word pair.0 n ≡ t → find (v ++ b) n ≡ option_or (find v n) (find b n) → find (pair ∷ v ++ b) n ≡ option_or (find (pair ∷ v) n) (find b n)
-    go true t ih =
-        find_cons pair.0 pair.1 (v ++ b) n ∙ if_true (is_word pair.0 n) _ _ t ∙
-        sym (ap (λ z. option_or z (find b n)) (find_cons pair.0 pair.1 v n ∙ if_true (is_word pair.0 n) _ _ t))
-    go false t ih =
-        find_cons pair.0 pair.1 (v ++ b) n ∙ if_false (is_word pair.0 n) _ _ t ∙ ih ∙
-        sym (ap (λ z. option_or z (find b n)) (find_cons pair.0 pair.1 v n ∙ if_false (is_word pair.0 n) _ _ t))
+use Rattle.ig_blocks_laws.proofs.Looking.{find, find_join, find_put, put}
 
 with_is_put : (v : Visible) (n : List ℕ) (k : Kind) → with_kind v n (Some k) ≡ put v n k
 with_is_put [] n k = refl

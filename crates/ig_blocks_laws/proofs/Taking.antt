@@ -9,7 +9,6 @@ use Rattle.ig_text.proofs.Lists.{get_within, mapped_at}
 use Rattle.ig_grammar.specs.Symbol.{Symbol, gathered}
 use Rattle.ig_grammar.specs.Numbering.{Levelled, by_level, Declares, HasShape, IsAlternative, layout_among, name_of_layout}
 use Rattle.ig_meaning.specs.Permitted.{IsRootAlternative, written, declared}
-use Rattle.ig_grammar.specs.Laws.{RegularityByForm}
 use Rattle.ig_meaning.specs.Laws.{SpansAreInOrder}
 use Rattle.ig_meaning.specs.Inversion.{DerivationsInvert}
 use Rattle.ig_grammar.specs.Standing.{SymbolsStandWell}
@@ -137,7 +136,7 @@ pub root_or_not : (shape : Shape) → (shape ≡ Root) ⊎ (is_root shape ≡ fa
 root_or_not Root = inl refl
 root_or_not shape = inr refl
 
-module _ (forms : RegularityByForm) (in_order : SpansAreInOrder) (inverts : DerivationsInvert) (g : Grammar) (shapes : List Shape) (ready : IsReady g shapes) where
+module _ (in_order : SpansAreInOrder) (inverts : DerivationsInvert) (g : Grammar) (shapes : List Shape) (ready : IsReady g shapes) where
   abbrev s : Setting
   s = setting_of g.decls shapes
 
@@ -157,7 +156,7 @@ module _ (forms : RegularityByForm) (in_order : SpansAreInOrder) (inverts : Deri
   covered_by : (c : DeclKind) (p : Pair) (xs : List Symbol) → Suits s c p → IsSteady p → SymbolsStandWell (gathered xs) → AreFit s c (gathered xs) →
       Covered s c p xs (symbols_by s p xs)
   covered_by c p xs h steady well fit =
-      subst (λ z. Covered s c p z (symbols_by s p xs)) (listed_gathered xs) (lowers_sequence forms s c (gathered xs) p h steady well fit)
+      subst (λ z. Covered s c p z (symbols_by s p xs)) (listed_gathered xs) (lowers_sequence s c (gathered xs) p h steady well fit)
 
   remade : (n : ℕ) (d : Decl) (k : ℕ) (a : Levelled) → slice_get g.decls n ≡ Some d → IsAlternative d k a →
       IsRemade s d (declaration_by s d) a (levelled_by s (pair_for s d.kind) a)

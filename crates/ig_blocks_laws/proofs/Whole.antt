@@ -31,12 +31,12 @@ use Rattle.ig_blocks_laws.specs.Setting.{Setting, lacking, carried, pair_for, pa
 use Rattle.ig_blocks_laws.specs.Blocks.{setting_of, int_param, alternative_by, declaration_by, root_by, lowered_declaration, lowered_declarations}
 use Rattle.ig_blocks_laws.proofs.Reading.{IsWritten, AreApart}
 use Rattle.ig_blocks_laws.proofs.Takes.{AreWritten}
-use Rattle.ig_blocks_laws.proofs.Looking.{find, find_cons, if_true, if_false, same_word}
+use Rattle.ig_blocks_laws.proofs.Looking.{find, find_cons, find_join, if_true, if_false, same_word}
 use Rattle.ig_blocks_laws.proofs.Choices.{gathered_by}
 use Rattle.ig_rewrite.specs.Throughout.{PlacedSymbols}
 use Rattle.ig_rewrite.specs.Throughout.{placed_symbols, of_placed_symbols}
 use Rattle.ig_blocks_laws.proofs.Suiting.{IsGood}
-use Rattle.ig_blocks_laws.proofs.Sights.{Sight, no_pair, handed_pair, find_join}
+use Rattle.ig_blocks_laws.proofs.Sights.{Sight, no_pair, handed_pair}
 use Rattle.ig_blocks_laws.proofs.Heads.{IsSoundAt}
 use Rattle.ig_blocks_laws.proofs.Sounding.{Info, symbols_sound}
 use Rattle.ig_blocks_laws.proofs.Located.{made_alternative}

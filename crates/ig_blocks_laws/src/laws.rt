@@ -9,7 +9,6 @@ ghost use Rattle.ig_blocks_laws.specs.Laws.{PairsTellOfBlocks};
 pub fn blocks_keep()
     ensures { BlocksKeep }
 {
-    ig_grammar::regularity_by_form();
     ig_meaning::spans_are_in_order();
     ig_meaning::derivations_invert();
     ig_meaning::trees_without_operators_are_clean();

@@ -1,6 +1,6 @@
--- Members of lists, and what a test refutes.
+-- What a loop over a list has found, or has refuted of each member so far, and what a look-up shows.
 use Rattle.std.proofs.Common.{Option, Some, None, ◌≡◌, ℕ, zero, suc, ◌<◌, List, [], ◌∷◌, ◌+◌, length, get_or, take, map, Bool, true, false, refl, sym, ◌∙◌, ap, subst, arith, true≢false}
-use Rattle.std.specs.Prelude.{All, Contains, IsTrue, ◌↔◌, is_some, not}
+use Rattle.std.specs.Prelude.{All, Contains, IsTrue, is_some, not}
 use Rattle.ig_expr.specs.View.{expression_of}
 use Rattle.ig_expr.specs.declared.expression.Expr.{Expr}
 use Rattle.ig_grammar.specs.Binding.{Binding, binding_of}

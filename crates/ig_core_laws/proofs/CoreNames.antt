@@ -1,10 +1,11 @@
 -- The names of the nonterminals of a core grammar differ.
-use Rattle.std.proofs.Common.{◌≡◌, ◌⊎◌, ℕ, zero, suc, List, [], ◌∷◌, map, Bool, true, false, if◌then◌else◌, Some, None, length, slice_get, refl, sym, ap, ◌∙◌, subst, arith, inl, inr}
+use Rattle.std.proofs.Common.{◌≡◌, ◌⊎◌, ℕ, suc, List, [], ◌∷◌, map, Bool, true, false, if◌then◌else◌, Some, None, length, slice_get, refl, sym, ap, ◌∙◌, subst, arith, inl, inr}
 use Rattle.std.specs.Prelude.{◌≢◌}
 use Rattle.std.specs.Option.{unwrap_or}
 use Rattle.std.proofs.lemmas.Option.{same_Some}
 use Rattle.std.proofs.Math.Nat.{suc_inj}
-use Rattle.ig_text.proofs.Lists.{unmapped_at, mapped_at}
+use Rattle.ig_text.proofs.Differing.{one_differs, both_differ}
+use Rattle.ig_text.proofs.Lists.{at_from_contains, contains_one, unmapped_at, mapped_at}
 use Rattle.ig_grammar.specs.Names.{names, AreDistinct}
 use Rattle.ig_grammar.specs.declared.grammar.Grammar.{Grammar}
 use Rattle.ig_grammar.specs.declared.declaration.Decl.{Decl}
@@ -44,10 +45,9 @@ kept_at decls shapes i name e =
 
 -- a list where nothing stands twice, and one more in front that isn't in it
 one_more : (x : List ℕ) (xs : List (List ℕ)) → ((j : ℕ) → slice_get xs j ≡ Some x → ⊥) → NoneTwice xs → NoneTwice (x ∷ xs)
-one_more x xs fresh none zero zero y e f = refl
-one_more x xs fresh none zero (suc j) y e f = absurd (fresh j (f ∙ ap Some (sym (same_Some x y e))))
-one_more x xs fresh none (suc i) zero y e f = absurd (fresh i (e ∙ ap Some (sym (same_Some x y f))))
-one_more x xs fresh none (suc i) (suc j) y e f = ap suc (none i j y e f)
+one_more x xs fresh none =
+    both_differ (x ∷ []) xs (one_differs x) none
+    (λ y c d. let at = at_from_contains xs y d in fresh at.0 (at.1 ∙ ap Some (contains_one x y c)))
 
 others_differ : (decls : List Decl) (shapes : List Shape) → AreDistinct (names decls) →
     NoneTwice (map row_name (unrooted decls shapes))

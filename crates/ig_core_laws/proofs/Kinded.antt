@@ -1,5 +1,5 @@
 -- The steps of a well-scoped alternative fit what is visible.
-use Rattle.std.proofs.Common.{◌≡◌, ℕ, zero, suc, ◌+◌, List, [], ◌∷◌, ◌++◌, All, Option, Some, None, length, map, slice_get, Contains, refl, sym, ap, ap₂, ◌∙◌, subst, arith, inl, inr, append_assoc}
+use Rattle.std.proofs.Common.{◌≡◌, ℕ, suc, ◌+◌, List, [], ◌∷◌, ◌++◌, All, Option, Some, None, length, map, slice_get, Contains, refl, sym, ap, ap₂, ◌∙◌, subst, arith, inl, inr, append_assoc}
 use Rattle.std.specs.Prelude.{◌≢◌, ◌⊎◌, option_map}
 use Rattle.std.specs.List.{flat_map}
 use Rattle.std.proofs.lemmas.List.{map-append, append-nil}
@@ -30,7 +30,8 @@ use Rattle.ig_rewrite.specs.Remaining.{IsTerm, IsExcluding, Remains, unfiltered,
 use Rattle.ig_core_laws.specs.Steps.{step_with, step_of, steps_of}
 use Rattle.ig_core_laws.specs.CoreOf.{number_of, nonterminal_of, core_of}
 use Rattle.ig_rewrite.specs.Remaining.{IsRemaining}
-use Rattle.ig_text.proofs.Lists.{contains_first, sides, contains_from_at, mapped_at}
+use Rattle.ig_text.proofs.Differing.{pushed_differ}
+use Rattle.ig_text.proofs.Lists.{contains_first, mapped_at}
 use Rattle.ig_core_laws.proofs.Lookups.{declared_named}
 use Rattle.ig_core_laws.proofs.Scoped.{Any, main_in, Each, Fine, may_call, has_core, distinct_names}
 use Rattle.ig_core_laws.proofs.Law.{callee}
@@ -39,12 +40,7 @@ kind_cases : (a b : Kind) → (a ≡ b) ⊎ (a ≢ b)
 kind_cases Int Int = inl refl
 kind_cases Bool Bool = inl refl
 kind_cases Span Span = inl refl
-kind_cases Int Bool = inr (λ e. cc)
-kind_cases Int Span = inr (λ e. cc)
-kind_cases Bool Int = inr (λ e. cc)
-kind_cases Bool Span = inr (λ e. cc)
-kind_cases Span Int = inr (λ e. cc)
-kind_cases Span Bool = inr (λ e. cc)
+kind_cases a b = inr (λ e. cc)
 
 kind_unless : (o : Option Kind) (k : Kind) → (o ≢ Some k → ⊥) → o ≡ Some k
 kind_unless None k f = absurd (f (λ e. cc))
@@ -68,20 +64,6 @@ args_fit f (e ∷ es) [] same each = cc
 args_fit f (e ∷ es) (p ∷ ps) same each =
     let h : suc (length ps) ≡ suc (length es) = same in
     ap₂ (λ x xs. x ∷ xs) (each 0 e p refl refl) (args_fit f es ps (omega (arith, h)) (λ k x q a b. each (suc k) x q a b))
-
-pub pushed : (ns : List (List ℕ)) (n : List ℕ) → NoneTwice ns → (Contains ns n → ⊥) → NoneTwice (ns ++ n ∷ [])
-pushed ns n none fresh i j x at_i at_j = go (sides ns (n ∷ []) i x at_i) (sides ns (n ∷ []) j x at_j)
-  where
-    new : (m : ℕ) → slice_get (n ∷ []) m ≡ Some x → (n ≡ x) × (m ≡ 0)
-    new zero e = (same_Some n x e, refl)
-    new (suc m) e = cc
-
-    go : (slice_get ns i ≡ Some x) ⊎ ((m : ℕ) × (i ≡ length ns + m) × (slice_get (n ∷ []) m ≡ Some x)) →
-        (slice_get ns j ≡ Some x) ⊎ ((m : ℕ) × (j ≡ length ns + m) × (slice_get (n ∷ []) m ≡ Some x)) → i ≡ j
-    go (inl a) (inl b) = none i j x a b
-    go (inl a) (inr b) = absurd (fresh (subst (λ z. Contains ns z) (sym (new b.0 b.2).0) (contains_from_at ns i x a)))
-    go (inr a) (inl b) = absurd (fresh (subst (λ z. Contains ns z) (sym (new a.0 a.2).0) (contains_from_at ns j x b)))
-    go (inr a) (inr b) = let p = a.1 in let q = b.1 in let r = (new a.0 a.2).1 in let s = (new b.0 b.2).1 in omega (arith, p, q, r, s)
 
 module _ (g : Grammar) (shapes : List Shape) (scoped : IsWellScoped g) (fit : FitShapes g shapes) (remaining : IsRemaining g) where
   abbrev number : List ℕ → ℕ
@@ -149,16 +131,16 @@ module _ (g : Grammar) (shapes : List Shape) (scoped : IsWellScoped g) (fit : Fi
     label_fits : (v : Visible) (n : List ℕ) (m : Symbol) (excluded : List Pattern) → IsTerm Any m → Fine g shapes decl (at v m) → (Contains (names v) n → ⊥) →
         FitsHere v (step_with number (Some n) excluded m) ((n, Span) ∷ [])
     label_fits v n (Literal w) excluded ok fine fresh =
-        record { expressions = tt; call = tt; bound_names = refl; bound_kinds = refl; differ = λ none. pushed (names v) n none fresh }
+        record { expressions = tt; call = tt; bound_names = refl; bound_kinds = refl; differ = λ none. pushed_differ (names v) n none fresh }
     label_fits v n (OneOf w) excluded ok fine fresh =
-        record { expressions = tt; call = tt; bound_names = refl; bound_kinds = refl; differ = λ none. pushed (names v) n none fresh }
+        record { expressions = tt; call = tt; bound_names = refl; bound_kinds = refl; differ = λ none. pushed_differ (names v) n none fresh }
     label_fits v n (Call name arguments) excluded ok fine fresh =
         record {
           expressions = tt;
           call = arguments_fit v name arguments fine (Some n) excluded;
           bound_names = refl;
           bound_kinds = refl;
-          differ = λ none. pushed (names v) n none fresh;
+          differ = λ none. pushed_differ (names v) n none fresh;
         }
     label_fits v n m excluded ok fine fresh = absurd ok
 
@@ -207,7 +189,7 @@ module _ (g : Grammar) (shapes : List Shape) (scoped : IsWellScoped g) (fit : Fi
           bound_names = ap (λ o. names (bound n o)) (sym kind.1);
           bound_kinds =
               ap (option_map (λ (z : Kind). z ∷ [])) kind.1 ∙ ap (λ o. Some (kinds (bound n o))) (sym kind.1);
-          differ = λ none. pushed (names v) n none (λ among. here.unmet condition.DuplicateVariable (duplicate_let n e among));
+          differ = λ none. pushed_differ (names v) n none (λ among. here.unmet condition.DuplicateVariable (duplicate_let n e among));
         }
     fits_here v (Label n x) ok fine =
         subst (FitsHere v (step_of number (Label n x))) (sym (ap (λ z. z ++ (n, Span) ∷ []) (no_binds v x ok)))

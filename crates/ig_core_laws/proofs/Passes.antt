@@ -2,7 +2,6 @@
 use Rattle.std.proofs.Common.{◌≡◌, ℕ, List, ◌∷◌, ap, arith}
 use Rattle.std.specs.Prelude.{◌≢◌}
 use Rattle.ig_grammar.specs.Checked.{CheckedGrammar}
-use Rattle.ig_grammar.specs.Laws.{RegularityByForm}
 use Rattle.ig_meaning.specs.Laws.{TreesWithoutOperatorsAreClean}
 use Rattle.ig_rewrite.specs.Added.{left_name, right_name, margin_name, first_name, column_name}
 use Rattle.ig_rewrite.specs.Rooted.{RootedIsTheSame}
@@ -32,7 +31,6 @@ pub record Before : Type 0 where
   pub blocks : BlocksKeep
   pub layout : LayoutKeeps
   pub filters : FiltersKeep
-  pub forms : RegularityByForm
   pub root : RootedIsTheSame
 
 -- names that begin with a dot differ where the characters behind it do
@@ -70,7 +68,7 @@ module _ (law : Before) (c : CheckedGrammar) (can : IsBuildable c) where
   column = levels.unbound column_name column_is_new.0 column_is_new.1 can.column
 
   plain : PlainIsUnmarked (LevelsOf c).grammar
-  plain = levels_plain law.forms law.root c can.sound can.plain
+  plain = levels_plain law.root c can.sound can.plain
 
   blocks : KeptByBlocks (LevelsOf c)
   blocks = law.blocks (LevelsOf c) levels.sound levels.free margin first column plain

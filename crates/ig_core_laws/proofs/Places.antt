@@ -25,13 +25,7 @@ none_after s shapes k free r at = let h : suc k < suc r = free (suc r) at in ome
 
 root_is : (s : Shape) → is_root s ≡ true → s ≡ Root
 root_is Root e = refl
-root_is Rule e = cc
-root_is Opt e = cc
-root_is Star e = cc
-root_is Plus e = cc
-root_is SepPlus e = cc
-root_is SepStar e = cc
-root_is Group e = cc
+root_is s e = absurd (cc)
 
 no_root : (s : Shape) → is_root s ≡ false → s ≢ Root
 no_root s e same = let h : is_root s ≡ true = ap is_root same in cc

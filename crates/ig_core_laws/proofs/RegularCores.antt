@@ -10,7 +10,7 @@ use Rattle.ig_text.specs.Pattern.{HasNoEmptyLiteral}
 use Rattle.ig_expr.specs.Expression.{Expression, patterns_in}
 use Rattle.ig_grammar.specs.Symbol.{Symbol, Literal, OneOf, Call, Label, Guard, Let, Filtered, gathered, next_symbol}
 use Rattle.ig_grammar.specs.Numbering.{alternatives, IsAlternative}
-use Rattle.ig_grammar.specs.Laws.{RegularityByForm}
+use Rattle.ig_grammar.specs.ByForm.{own_part, inner_parts, symbols_hold}
 use Rattle.ig_grammar.specs.Regular.{pattern_of, IsPlaced, AlternativesStandWell, OfEachLevel}
 use Rattle.ig_grammar.specs.Standing.{StandsWell, SymbolsStandWell}
 use Rattle.ig_grammar.specs.declared.filter.Filter.{Filter}
@@ -46,24 +46,24 @@ excluded_have (f ∷ filters) all =
 alone : (e : Expression) → All HasNoEmptyLiteral (flat_map patterns_in (e ∷ [])) → All HasNoEmptyLiteral (patterns_in e)
 alone e all = subst (All HasNoEmptyLiteral) (append-nil (patterns_in e)) all
 
-module _ (law : RegularityByForm) (number : List ℕ → ℕ) where
+module _ (number : List ℕ → ℕ) where
   -- the step of a literal, a class or a call
   term_regular : (label : Option (List ℕ)) (excluded : List Pattern) (x : Symbol) → IsTerm Any x → StandsWell x →
       All HasNoEmptyLiteral excluded → IsRegularStep (step_with number label excluded x)
   term_regular label excluded (Literal word) is well all =
       All-cons HasNoEmptyLiteral (pattern.Literal word) excluded
-      (All-head HasNoEmptyLiteral (pattern.Literal word) [] (law.stands (Literal word) well).0.0) all
+      (All-head HasNoEmptyLiteral (pattern.Literal word) [] (own_part IsPlaced (Literal word) well).0) all
   term_regular label excluded (OneOf class) is well all = All-cons HasNoEmptyLiteral (pattern.OneOf class) excluded tt all
   term_regular label excluded (Call name arguments) is well all =
-      All-append HasNoEmptyLiteral (flat_map patterns_in arguments) excluded (law.stands (Call name arguments) well).0.0 all
+      All-append HasNoEmptyLiteral (flat_map patterns_in arguments) excluded (own_part IsPlaced (Call name arguments) well).0 all
   term_regular label excluded x is well all = absurd is
 
   -- maybe with exclusions
   excluding_regular : (label : Option (List ℕ)) (x : Symbol) → IsExcluding Any x → StandsWell x →
       IsRegularStep (step_with number label (excluded_of x) (unfiltered x))
   excluding_regular label (Filtered x filters) is well =
-      let by = law.stands (Filtered x filters) well in
-      term_regular label (exclusions filters) x is.1 by.1 (excluded_have filters by.0.0)
+      term_regular label (exclusions filters) x is.1 (inner_parts IsPlaced (Filtered x filters) well)
+      (excluded_have filters (own_part IsPlaced (Filtered x filters) well).0)
   excluding_regular label (Literal word) is well = term_regular label [] (Literal word) tt well (All-nil HasNoEmptyLiteral)
   excluding_regular label (OneOf class) is well = term_regular label [] (OneOf class) tt well (All-nil HasNoEmptyLiteral)
   excluding_regular label (Call name arguments) is well =
@@ -72,9 +72,9 @@ module _ (law : RegularityByForm) (number : List ℕ → ℕ) where
 
   -- the step of a symbol that remains
   step_regular : (x : Symbol) → Remains Any x → StandsWell x → IsRegularStep (step_of number x)
-  step_regular (Label name x) is well = excluding_regular (Some name) x is (law.stands (Label name x) well).1
-  step_regular (Guard condition) is well = alone condition (law.stands (Guard condition) well).0.0
-  step_regular (Let name value) is well = alone value (law.stands (Let name value) well).0.0
+  step_regular (Label name x) is well = excluding_regular (Some name) x is (inner_parts IsPlaced (Label name x) well)
+  step_regular (Guard condition) is well = alone condition (own_part IsPlaced (Guard condition) well).0
+  step_regular (Let name value) is well = alone value (own_part IsPlaced (Let name value) well).0
   step_regular (Filtered x filters) is well = excluding_regular None (Filtered x filters) is well
   step_regular (Literal word) is well = excluding_regular None (Literal word) is well
   step_regular (OneOf class) is well = excluding_regular None (OneOf class) is well
@@ -86,12 +86,12 @@ module _ (law : RegularityByForm) (number : List ℕ → ℕ) where
       All IsRegularStep (steps_of number xs)
   steps_regular [] all well = All-nil IsRegularStep
   steps_regular (x ∷ xs) all well =
-      let by = law.symbols_stand (next_symbol x (gathered xs)) well in
+      let by = symbols_hold IsPlaced (next_symbol x (gathered xs)) well in
       All-cons IsRegularStep (step_of number x) (steps_of number xs)
       (step_regular x (All-head (Remains Any) x xs all) by.0)
       (steps_regular xs (All-tail (Remains Any) x xs all) by.1)
 
-module _ (law : RegularityByForm) (g : Grammar) (shapes : List Shape) (ready : IsReady g shapes) (well : OfEachLevel AlternativesStandWell g) where
+module _ (g : Grammar) (shapes : List Shape) (ready : IsReady g shapes) (well : OfEachLevel AlternativesStandWell g) where
   abbrev number_here : List ℕ → ℕ
   number_here = number_of g shapes
 
@@ -104,7 +104,7 @@ module _ (law : RegularityByForm) (g : Grammar) (shapes : List Shape) (ready : I
       contains_from_at (alternatives m.x.decl.levels) m.of.numbered.0 m.of.a.alternative
       (without_level m.x.decl.levels m.of.numbered.0 m.of.a m.of.numbered.2) in
       subst (All IsRegularStep) (sym (ap (λ (z : CoreAlt). z.steps) m.of.same))
-      (steps_regular law number_here m.of.a.alternative.symbols
+      (steps_regular number_here m.of.a.alternative.symbols
       (ready.remaining.forms m.x.decl m.of.a.alternative (contains_from_at g.decls k m.x.decl at) a_in)
       (everywhere IsPlaced g well k a m.x.decl m.of.a at m.of.numbered))
   alternative_regular n a nonterminal alternative m (made_row is none) =
@@ -117,15 +117,15 @@ module _ (law : RegularityByForm) (g : Grammar) (shapes : List Shape) (ready : I
       (All-cons IsRegularStep (step_of number_here (Call has.started.0 [])) [] (All-nil HasNoEmptyLiteral) (All-nil IsRegularStep))
 
 -- the core grammar of what all passes leave
-left_regular : RegularityByForm → (g : Grammar) (shapes : List Shape) → IsReady g shapes → OfEachLevel AlternativesStandWell g →
+left_regular : (g : Grammar) (shapes : List Shape) → IsReady g shapes → OfEachLevel AlternativesStandWell g →
     IsRegular (core_of g shapes)
-left_regular law g shapes ready well n a nonterminal alternative is =
+left_regular g shapes ready well n a nonterminal alternative is =
     let m = member g shapes ready.scoped ready.fit ready.remaining n a nonterminal alternative is in
-    alternative_regular law g shapes ready well n a nonterminal alternative m
+    alternative_regular g shapes ready well n a nonterminal alternative m
     (row g shapes ready.scoped ready.fit ready.remaining n m.x m.at)
 
-pub cores_regular : RegularityByForm → PassesKeep → CoresAreRegular
+pub cores_regular : PassesKeep → CoresAreRegular
 unfolding CoreOf
-cores_regular law keep c can numbered =
+cores_regular keep c can numbered =
     let left = keep c can numbered in
-    left_regular law (Lowered c).grammar (Lowered c).shapes left.ready left.well
+    left_regular (Lowered c).grammar (Lowered c).shapes left.ready left.well

@@ -4,7 +4,7 @@ use Rattle.std.specs.Prelude.{All}
 use Rattle.std.proofs.lemmas.List.Elements.{All-head, All-tail}
 use Rattle.ig_text.specs.Limits.{numbers_end}
 use Rattle.ig_grammar.specs.Checked.{CheckedGrammar}
-use Rattle.ig_grammar.specs.Laws.{RegularityByForm}
+use Rattle.ig_grammar.specs.ByForm.{holds_from, symbols_hold_from}
 use Rattle.ig_grammar.specs.Regular.{AlternativesStandWell, OfEachLevel, IsNoMark, IsRegular}
 use Rattle.ig_grammar.specs.Standing.{HasNoMark, SymbolsHaveNoMark}
 use Rattle.ig_grammar.specs.Symbol.{Symbol, Literal, OneOf, Call, Label, Guard, Let, Filtered, gathered}
@@ -49,32 +49,31 @@ with_more m n g h few =
     }
 
 -- the forms that remain have no mark
-module _ (law : RegularityByForm) where
-  term_unmarked : (May : List ℕ → ℕ → Type 0) (x : Symbol) → IsTerm May x → HasNoMark x
-  term_unmarked May (Literal word) h = law.unmarked_from (Literal word) tt tt
-  term_unmarked May (OneOf class) h = law.unmarked_from (OneOf class) tt tt
-  term_unmarked May (Call name arguments) h = law.unmarked_from (Call name arguments) tt tt
-  term_unmarked May x h = absurd h
+term_unmarked : (May : List ℕ → ℕ → Type 0) (x : Symbol) → IsTerm May x → HasNoMark x
+term_unmarked May (Literal word) h = holds_from IsNoMark (Literal word) tt tt
+term_unmarked May (OneOf class) h = holds_from IsNoMark (OneOf class) tt tt
+term_unmarked May (Call name arguments) h = holds_from IsNoMark (Call name arguments) tt tt
+term_unmarked May x h = absurd h
 
-  excluding_unmarked : (May : List ℕ → ℕ → Type 0) (x : Symbol) → IsExcluding May x → HasNoMark x
-  excluding_unmarked May (Filtered x filters) h = law.unmarked_from (Filtered x filters) tt (term_unmarked May x h.1)
-  excluding_unmarked May x h = term_unmarked May x h
+excluding_unmarked : (May : List ℕ → ℕ → Type 0) (x : Symbol) → IsExcluding May x → HasNoMark x
+excluding_unmarked May (Filtered x filters) h = holds_from IsNoMark (Filtered x filters) tt (term_unmarked May x h.1)
+excluding_unmarked May x h = term_unmarked May x h
 
-  remaining_unmarked : (May : List ℕ → ℕ → Type 0) (x : Symbol) → Remains May x → HasNoMark x
-  remaining_unmarked May (Label name x) h = law.unmarked_from (Label name x) tt (excluding_unmarked May x h)
-  remaining_unmarked May (Guard e) h = law.unmarked_from (Guard e) tt tt
-  remaining_unmarked May (Let name e) h = law.unmarked_from (Let name e) tt tt
-  remaining_unmarked May x h = excluding_unmarked May x h
+remaining_unmarked : (May : List ℕ → ℕ → Type 0) (x : Symbol) → Remains May x → HasNoMark x
+remaining_unmarked May (Label name x) h = holds_from IsNoMark (Label name x) tt (excluding_unmarked May x h)
+remaining_unmarked May (Guard e) h = holds_from IsNoMark (Guard e) tt tt
+remaining_unmarked May (Let name e) h = holds_from IsNoMark (Let name e) tt tt
+remaining_unmarked May x h = excluding_unmarked May x h
 
-  symbols_unmarked : (May : List ℕ → ℕ → Type 0) (xs : List Symbol) → All (Remains May) xs → SymbolsHaveNoMark (gathered xs)
-  symbols_unmarked May [] h = law.symbols_unmarked_from (gathered []) tt
-  symbols_unmarked May (x ∷ xs) h =
-      law.symbols_unmarked_from (gathered (x ∷ xs))
-      (remaining_unmarked May x (All-head (Remains May) x xs h), symbols_unmarked May xs (All-tail (Remains May) x xs h))
+symbols_unmarked : (May : List ℕ → ℕ → Type 0) (xs : List Symbol) → All (Remains May) xs → SymbolsHaveNoMark (gathered xs)
+symbols_unmarked May [] h = symbols_hold_from IsNoMark (gathered []) tt
+symbols_unmarked May (x ∷ xs) h =
+    symbols_hold_from IsNoMark (gathered (x ∷ xs))
+    (remaining_unmarked May x (All-head (Remains May) x xs h), symbols_unmarked May xs (All-tail (Remains May) x xs h))
 
-  remaining_is_unmarked : (g : Grammar) → IsRemaining g → IsUnmarked g
-  remaining_is_unmarked g remaining =
-      of_each_level IsNoMark g (λ decl a d m. symbols_unmarked (λ name n. Unit {0}) a.symbols (remaining.forms decl a d m))
+remaining_is_unmarked : (g : Grammar) → IsRemaining g → IsUnmarked g
+remaining_is_unmarked g remaining =
+    of_each_level IsNoMark g (λ decl a d m. symbols_unmarked (λ name n. Unit {0}) a.symbols (remaining.forms decl a d m))
 
 -- with so many before the passes, fewer than so many behind each
 abbrev behind_levels : ℕ
@@ -103,10 +102,10 @@ nowhere_marked g unmarked decl among plain = unmarked
 numbered : ListsAreFew → (g : Grammar) → HasFewerThan behind_filters g → HasFewLists g
 numbered law g few decl among = let h : _ < 2 * behind_filters = law g behind_filters few decl among in omega (arith, h)
 
-behind : RegularityByForm → Multiply → (c : CheckedGrammar) → ArePassed c →
+behind : Multiply → (c : CheckedGrammar) → ArePassed c →
     HasFewerThan counts_before_passes c.grammar → AreRegular c
 unfolding BeforeLists Lowered
-behind forms law c at few =
+behind law c at few =
     let levels = law.levels c counts_before_passes few in
     let blocks = law.blocks (LevelsOf c) behind_levels levels in
     let layout = law.layout (BlocksOf (LevelsOf c)) behind_blocks blocks in
@@ -128,9 +127,9 @@ behind forms law c at few =
       numbered = named;
       lists =
           regular (Lowered c).grammar behind_lists (omega arith) last.well
-          (nowhere_marked (Lowered c).grammar (remaining_is_unmarked forms (Lowered c).grammar last.remaining)) lists;
+          (nowhere_marked (Lowered c).grammar (remaining_is_unmarked (Lowered c).grammar last.remaining)) lists;
     }
 
 -- where the counts are small
-pub passes_are_regular : RegularityByForm → Multiply → PassesInTurn → PassesAreRegular
-passes_are_regular forms law turn c can few = behind forms law c (turn c can) few
+pub passes_are_regular : Multiply → PassesInTurn → PassesAreRegular
+passes_are_regular law turn c can few = behind law c (turn c can) few

@@ -1,5 +1,5 @@
 -- A checked grammar of forms that remain has a core grammar.
-use Rattle.std.proofs.Common.{◌≡◌, ℕ, suc, ◌<◌, List, [], ◌∷◌, ◌++◌, All, Option, Some, None, length, slice_get, Contains, refl, sym, ap, ◌∙◌, subst, inl, inr, take}
+use Rattle.std.proofs.Common.{◌≡◌, ℕ, suc, List, [], ◌∷◌, ◌++◌, All, Option, Some, None, length, slice_get, Contains, refl, sym, ap, ◌∙◌, subst, inl, inr, take}
 use Rattle.std.specs.Prelude.{◌≢◌, ◌⊎◌}
 use Rattle.std.proofs.lemmas.List.{take-map}
 use Rattle.std.proofs.lemmas.Option.{same_Some}
@@ -13,7 +13,6 @@ use Rattle.ig_grammar.specs.Condition.{Condition, SymbolMeets, declaration_of, s
 use Rattle.ig_grammar.specs.Condition as condition
 use Rattle.ig_grammar.specs.WellScoped.{IsWellScoped}
 use Rattle.ig_grammar.specs.Checked.{FitShapes, IsRoot}
-use Rattle.ig_grammar.specs.declared.declaration.Param.{Param}
 use Rattle.ig_grammar.specs.declared.declaration.Decl.{Decl}
 use Rattle.ig_grammar.specs.declared.symbol.Alt.{Alt}
 use Rattle.ig_grammar.specs.declared.grammar.Grammar.{Grammar}
@@ -23,8 +22,9 @@ use Rattle.ig_rewrite.specs.Remaining.{IsTerm, IsExcluding, Remains, main_of, un
 use Rattle.ig_core_laws.proofs.Premises.{IsCalled, HasCore}
 use Rattle.ig_core_laws.specs.Ready.{IsReady}
 use Rattle.ig_rewrite.specs.Remaining.{IsRemaining}
-use Rattle.ig_text.proofs.Lists.{contains_first, contains_later, contains_from_at, at_from_contains, unmapped_at, in_take, mapped_at}
-use Rattle.ig_text.proofs.Orders.{neither_below, equal_unless}
+use Rattle.ig_text.proofs.Differing.{all_differ}
+use Rattle.ig_text.proofs.Lists.{contains_first, contains_later, at_from_contains, unmapped_at, mapped_at}
+use Rattle.ig_text.proofs.Orders.{equal_unless}
 use Rattle.ig_text.proofs.Pairwise.{beside}
 use Rattle.ig_text.proofs.Emptiness.{empty_unless}
 use Rattle.ig_core_laws.proofs.Lookups.{declared_named}
@@ -88,19 +88,16 @@ pub record Fine (g : Grammar) (shapes : List Shape) (decl : Decl) (o : Occurrenc
       o.symbol ≢ Call root.name arguments
 
 module _ (g : Grammar) (shapes : List Shape) (scoped : IsWellScoped g) (fit : FitShapes g shapes) (remaining : IsRemaining g) where
-  not_again : (i j : ℕ) (name : List ℕ) → i < j → slice_get (names g.decls) i ≡ Some name →
-      slice_get (names g.decls) j ≡ Some name → ⊥
-  not_again i j name l e f =
-      let d = unmapped_at (λ (x : Decl). x.name) g.decls j name f in
-      let earlier : Contains (names (take j g.decls)) name =
-      subst (λ (z : List (List ℕ)). Contains z name) (take-map (λ (x : Decl). x.name) j g.decls)
-      (contains_from_at (take j (names g.decls)) i name (in_take (names g.decls) j i name l e)) in
-      scoped (record { decl = suc j; alt = 0; symbol = 0 }) condition.DuplicateName
-      (d.0, d.1, duplicate_name (subst (λ (z : List ℕ). Contains (names (take j g.decls)) z) (sym d.2) earlier))
-
   pub distinct_names : AreDistinct (names g.decls)
-  distinct_names i j name e f =
-      neither_below i j (λ before. not_again i j name before e f) (λ behind. not_again j i name behind f e)
+  distinct_names =
+      all_differ (names g.decls) (λ k name e earlier.
+      let d = unmapped_at (λ (x : Decl). x.name) g.decls k name e in
+      scoped (record { decl = suc k; alt = 0; symbol = 0 }) condition.DuplicateName (
+        d.0,
+        d.1,
+        duplicate_name (subst (λ (z : List (List ℕ)). Contains z d.0.name) (take-map (λ (x : Decl). x.name) k g.decls)
+            (subst (Contains (take k (names g.decls))) (sym d.2) earlier)),
+      ))
 
   pub root_at : (k : ℕ) (decl : Decl) → slice_get g.decls k ≡ Some decl → slice_get shapes k ≡ Some Root → IsRoot g shapes k decl
   root_at k decl e f = (fit.each k decl Root e f).root refl

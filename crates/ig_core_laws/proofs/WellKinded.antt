@@ -8,8 +8,8 @@ use Rattle.std.proofs.lemmas.List.Elements.{All-head, All-tail}
 use Rattle.ig_text.specs.declared.tag.Tag.{Tag}
 use Rattle.ig_text.specs.declared.tag.Tag.TheVariants as tag
 use Rattle.ig_text.specs.TagNumber as tag_number
-use Rattle.ig_text.proofs.Lists.{contains_from_at, at_from_contains, in_take}
-use Rattle.ig_text.proofs.Orders.{neither_below}
+use Rattle.ig_text.proofs.Differing.{all_differ}
+use Rattle.ig_text.proofs.Lists.{contains_from_at, at_from_contains}
 use Rattle.ig_text.proofs.Numbers.{from_zero}
 use Rattle.ig_grammar.specs.Symbol.{Symbol, Call, Seq}
 use Rattle.ig_grammar.specs.Visible.{names, kinds, parameters}
@@ -154,19 +154,16 @@ module _ (g : Grammar) (shapes : List Shape) (scoped : IsWellScoped g) (fit : Fi
   row (suc m) x e = let o = origin g.decls shapes m x e in declared_row o.k o.decl_at o.shape_at
 
   -- parameters differ
-  not_again : (k : ℕ) (decl : Decl) → slice_get g.decls k ≡ Some decl → (i j : ℕ) (name : List ℕ) → i < j →
-      slice_get (names (parameters decl.params)) i ≡ Some name → slice_get (names (parameters decl.params)) j ≡ Some name → ⊥
-  not_again k decl at i j name l e f =
-      let p = param_at decl.params j name f in
-      let earlier : Contains (names (parameters (take j decl.params))) name =
-      subst (λ (z : List (List ℕ)). Contains z name) (taken_names decl.params j)
-      (contains_from_at (take j (names (parameters decl.params))) i name (in_take (names (parameters decl.params)) j i name l e)) in
-      scoped (record { decl = suc k; alt = 0; symbol = 0 }) condition.DuplicateVariable
-      (decl, at, duplicate_parameter j p.0 p.1 (subst (λ (z : List ℕ). Contains (names (parameters (take j decl.params))) z) (sym p.2) earlier))
-
   parameters_differ : (k : ℕ) (decl : Decl) → slice_get g.decls k ≡ Some decl → NoneTwice (names (parameters decl.params))
-  parameters_differ k decl at i j name e f =
-      neither_below i j (λ before. not_again k decl at i j name before e f) (λ behind. not_again k decl at j i name behind f e)
+  parameters_differ k decl at =
+      all_differ (names (parameters decl.params)) (λ j name e earlier.
+      let p = param_at decl.params j name e in
+      scoped (record { decl = suc k; alt = 0; symbol = 0 }) condition.DuplicateVariable (
+        decl,
+        at,
+        duplicate_parameter j p.0 p.1 (subst (λ (z : List (List ℕ)). Contains z p.0.name) (taken_names decl.params j)
+            (subst (Contains (take j (names (parameters decl.params)))) (sym p.2) earlier)),
+      ))
 
   -- an alternative of the core grammar
   pub record Member (n a : ℕ) (nonterminal : Nonterminal) (alternative : CoreAlt) : Type 0 where

@@ -9,7 +9,6 @@ ghost use Rattle.ig_core_laws.specs.Laws.{TagsRiseInCores, ValuesAreThoseOfCore}
 
 use ig_blocks_laws::{blocks_keep, blocks_multiply};
 use ig_ebnf_laws::{lists_are_few, lists_keep, lists_multiply};
-use ig_grammar::regularity_by_form;
 use ig_item::{names_differ, steps_fit};
 use ig_levels_laws::{levels_keep, levels_multiply};
 use ig_lexical_laws::{filters_keep, filters_multiply, layout_keeps, layout_multiplies};
@@ -26,7 +25,6 @@ pub fn passes_in_turn()
     layout_keeps();
     filters_keep();
     lists_keep();
-    regularity_by_form();
     rooted_is_the_same();
 }
 
@@ -43,7 +41,6 @@ pub fn passes_are_regular()
     filters_multiply();
     lists_multiply();
     lists_are_few();
-    regularity_by_form();
 }
 
 /// What the passes leave of a grammar permits the same trees, binds the same values in them, has
@@ -86,7 +83,6 @@ pub fn cores_are_well_kinded()
 pub fn cores_are_regular()
     ensures { CoresAreRegular }
 {
-    regularity_by_form();
     passes_keep();
 }
 

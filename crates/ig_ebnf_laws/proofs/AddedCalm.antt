@@ -1,6 +1,6 @@
 -- The symbols of the declarations that are added get what they ask.
 use Rattle.std.proofs.Common.{◌≡◌, ℕ, suc, ◌+◌, Bool, true, false, List, [], ◌∷◌, ◌++◌, map, refl, sym, ◌∙◌, ap}
-use Rattle.std.proofs.Common.{subst, cond}
+use Rattle.std.proofs.Common.{subst, cond, Some}
 use Rattle.std.specs.Prelude.{◌||◌, option_map}
 use Rattle.std.proofs.lemmas.List.{append-nil, map-append}
 use Rattle.std.proofs.lemmas.Bool.{or_left, or_right}
@@ -12,7 +12,8 @@ use Rattle.ig_ebnf_laws.proofs.Definitions.{has}
 use Rattle.ig_text.specs.Words.{is_word}
 use Rattle.ig_text.proofs.Characters.{itself}
 use Rattle.ig_rewrite.specs.Needs.{is_added}
-use Rattle.std.specs.Prelude.{◌&&◌, not}
+use Rattle.std.specs.Prelude.{◌&&◌, not, slice_get}
+use Rattle.ig_grammar.specs.declared.declaration.Decl.{Decl}
 use Rattle.ig_ebnf_laws.specs.Lists.{keep}
 use Rattle.ig_ebnf_laws.proofs.VisibleKinds.{narrower, entered_narrow}
 use Rattle.ig_ebnf_laws.proofs.Occurrences.{Calm, AllCalm, of_first, of_second}
@@ -26,7 +27,6 @@ use Rattle.ig_ebnf_laws.specs.Lists.{sep_plus_alternatives, new_declaration, add
 use Rattle.ig_ebnf_laws.specs.Lists.{Element, element, elements}
 use Rattle.ig_ebnf_laws.specs.Lists.{all_elements, count, count_symbols}
 use Rattle.ig_grammar.specs.Condition.{IsInLexical, declaration_of}
-use Rattle.ig_grammar.specs.Names.{names, AreDistinct}
 use Rattle.ig_grammar.specs.Symbol.{Symbol, Literal, OneOf, Call, Label, Guard, Let, Opt, Star, Plus, SepStar}
 use Rattle.ig_grammar.specs.Symbol.{SepPlus, Group, Offside, Ignore, Align}
 use Rattle.ig_grammar.specs.Symbol.{Filtered, Seq, Entry, gathered, Symbols, no_symbols, next_symbol, Alternatives}
@@ -100,7 +100,7 @@ module _ (g' : Grammar) where
 module _ (elsewhere : AsksElsewhere) (g g' : Grammar) (shapes' : List Shape) (k : DeclKind) (May : List ℕ → Type 0)
     (declared : (name : List ℕ) → May name →
     declaration_of g'.decls name ≡ option_map new_declaration (declaration_of g.decls name))
-    (distinct : AreDistinct (names g'.decls)) (of : List ℕ) where
+    (each_found : (k : ℕ) (decl : Decl) → slice_get g'.decls k ≡ Some decl → declaration_of g'.decls decl.name ≡ Some decl) (of : List ℕ) where
   abbrev IsReady : Visible → List Element → Visible → Type 0
   IsReady = Ready g' shapes' May of
 
@@ -115,7 +115,7 @@ module _ (elsewhere : AsksElsewhere) (g g' : Grammar) (shapes' : List Shape) (k 
   alt_calm es v u wanted r calm sub =
       subst (λ z. AllCalm g' Plain (inside_sequence z (gathered (map (new_element of) es))))
       (sym (same_parameters (params_for v wanted)))
-      (elements_calm elsewhere g g' shapes' k Plain lexical May declared distinct of es v (params_for v wanted) u r calm
+      (elements_calm elsewhere g g' shapes' k Plain lexical May declared each_found of es v (params_for v wanted) u r calm
       (narrower (entered_narrow v wanted) sub))
 
   need_first : (n : List ℕ) (x : Symbol) (es : List Element) (wanted : Bool) →

@@ -1,7 +1,8 @@
 -- The names of added declarations: `A#k`, numbered in preorder.
 use Rattle.ig_ebnf_laws.proofs.OfAdded.{OfAdded, of_added_both}
 use Rattle.ig_rewrite.specs.Added.{AddedNamesAreNew, HasNoSign}
-use Rattle.ig_text.proofs.Lists.{either_place, mapped_at}
+use Rattle.ig_text.proofs.Differing.{both_differ}
+use Rattle.ig_text.proofs.Lists.{at_from_contains, either_place, mapped_at}
 use Rattle.std.proofs.Common.{◌≡◌, ℕ, suc, ◌+◌, ◌<◌, List, [], ◌∷◌, ◌++◌, map, length, refl, sym, ◌∙◌, ap, subst}
 use Rattle.std.proofs.Common.{Some, inl, inr, arith}
 use Rattle.std.specs.Prelude.{◌≢◌, ◌⊎◌, slice_get, ◌^◌}
@@ -257,18 +258,6 @@ all_plain [] = tt
 all_plain (d ∷ ds) =
     plain_append (added_by d) (all_added ds) (levels_plainly d.name (parameters d.params) 1 d.levels) (all_plain ds)
 
--- lists without repeats
-pub distinct_append : (xs ys : List (List ℕ)) → AreDistinct xs → AreDistinct ys →
-    ((i j : ℕ) (name : List ℕ) → slice_get xs i ≡ Some name → slice_get ys j ≡ Some name → ⊥) → AreDistinct (xs ++ ys)
-distinct_append xs ys p q apart i j name e f = go (either_place xs ys i name e) (either_place xs ys j name f)
-  where
-    go : (slice_get xs i ≡ Some name) ⊎ ((m : ℕ) × (slice_get ys m ≡ Some name) × (i ≡ length xs + m)) →
-        (slice_get xs j ≡ Some name) ⊎ ((m : ℕ) × (slice_get ys m ≡ Some name) × (j ≡ length xs + m)) → i ≡ j
-    go (inl a) (inl b) = p i j name a b
-    go (inl a) (inr b) = absurd (apart i b.0 name a b.1)
-    go (inr a) (inl b) = absurd (apart j a.0 name b a.1)
-    go (inr a) (inr b) = let same : a.0 ≡ b.0 = q a.0 b.0 name a.1 b.1 in a.2 ∙ ap (λ z. length xs + z) same ∙ sym b.2
-
 -- where an added name comes from
 pub record TitleAt (ds : List Decl) (name : List ℕ) : Type 0 where
   pub place : ℕ
@@ -318,9 +307,10 @@ pub titles_distinct : AddedNamesAreNew → (ds : List Decl) →
 titles_distinct new [] unsigned few distinct = λ i j name e f. absurd (cc)
 titles_distinct new (d ∷ ds) unsigned few distinct =
     subst AreDistinct (sym (map-append (λ (m : Made). m.decl.name) (added_by d) (all_added ds)))
-    (distinct_append (titles (added_by d)) (titles (all_added ds)) own
+    (both_differ (titles (added_by d)) (titles (all_added ds)) own
     (titles_distinct new ds (λ n decl. unsigned (suc n) decl) (λ n decl. few (suc n) decl)
-    (λ i j name p q. let e : suc i ≡ suc j = distinct (suc i) (suc j) name p q in omega (arith, e))) apart)
+    (λ i j name p q. let e : suc i ≡ suc j = distinct (suc i) (suc j) name p q in omega (arith, e)))
+    (λ name c d. let i = at_from_contains _ name c in let j = at_from_contains _ name d in apart i.0 j.0 name i.1 j.1))
   where
     at : (i : ℕ) (name : List ℕ) → slice_get (titles (added_by d)) i ≡ Some name →
         (name ≡ added_name d.name (1 + i)) × (i < count_levels d.levels)

@@ -10,7 +10,6 @@ use Rattle.ig_ebnf_laws.proofs.Environments.{has_params}
 use Rattle.ig_ebnf_laws.proofs.VisibleKinds.{look, look_cons, Narrow, narrower, narrow_more, Entries, entries_params}
 use Rattle.ig_ebnf_laws.proofs.VisibleKinds.{call_fits}
 use Rattle.ig_ebnf_laws.proofs.Occurrences.{Calm, AllCalm, of_both}
-use Rattle.ig_ebnf_laws.proofs.Declarations.{declared_by}
 use Rattle.ig_ebnf_laws.proofs.Elements.{elements_need}
 use Rattle.ig_rewrite.specs.Asked.{IsNew, Fit, AsksElsewhere}
 use Rattle.ig_rewrite.specs.Needs.{uses, any_uses}
@@ -29,7 +28,6 @@ use Rattle.ig_expr.specs.Expression.{Expression}
 use Rattle.ig_expr.specs.declared.kind.Kind.{Kind}
 use Rattle.ig_grammar.specs.Binding.{Binding}
 use Rattle.ig_grammar.specs.Condition.{IsInLexical, declaration_of}
-use Rattle.ig_grammar.specs.Names.{names, AreDistinct}
 use Rattle.ig_grammar.specs.Numbering.{Declares}
 use Rattle.ig_grammar.specs.Symbol.{Symbol, Literal, OneOf, Call, Label, Guard, Let, Opt, Star, Plus, SepStar}
 use Rattle.ig_grammar.specs.Symbol.{SepPlus, Group, Offside, Ignore, Align}
@@ -125,7 +123,7 @@ module _ (elsewhere : AsksElsewhere) (g g' : Grammar) (shapes' : List Shape) (k 
     (May : List ℕ → Type 0)
     (declared : (name : List ℕ) → May name →
     declaration_of g'.decls name ≡ option_map new_declaration (declaration_of g.decls name))
-    (distinct : AreDistinct (names g'.decls)) where
+    (each_found : (k : ℕ) (decl : Decl) → slice_get g'.decls k ≡ Some decl → declaration_of g'.decls decl.name ≡ Some decl) where
   record Head (of : List ℕ) (v : Visible) (m : ℕ) (x : Symbol) : Type 0 where
     sh : Shape
     alts : List (List Symbol)
@@ -168,7 +166,7 @@ module _ (elsewhere : AsksElsewhere) (g g' : Grammar) (shapes' : List Shape) (k 
       let decl : Decl = (made (added_name of m) (params_for v (λ n. needs n x)) h.sh h.alts).decl in
       record {
         callee = decl;
-        declared = declared_by g'.decls distinct h.head.1.numbered.0 decl h.head.1.numbered.2;
+        declared = each_found h.head.1.numbered.0 decl h.head.1.numbered.2;
         fit = fits;
         allowed = λ l e. absurd (cc);
       }

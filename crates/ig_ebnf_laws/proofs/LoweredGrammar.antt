@@ -1,5 +1,6 @@
 -- The pass's grammar has what the induction uses.
-use Rattle.ig_text.proofs.Lists.{left_at, mapped_at, either_place, from_map}
+use Rattle.ig_text.proofs.Differing.{both_differ}
+use Rattle.ig_text.proofs.Lists.{at_from_contains, left_at, mapped_at, either_place, from_map}
 use Rattle.std.proofs.lemmas.Option.{same_Some}
 use Rattle.std.proofs.Common.{◌≡◌, ℕ, suc, ◌+◌, ◌<◌, List, [], ◌∷◌, ◌++◌, map, length, refl, sym, ◌∙◌, ap, subst}
 use Rattle.std.proofs.Common.{Some, None, inl, inr, arith}
@@ -7,7 +8,7 @@ use Rattle.std.specs.Prelude.{◌⊎◌, slice_get}
 use Rattle.std.proofs.lemmas.Option.{slice_get_within}
 use Rattle.std.proofs.lemmas.List.{length-map, map-append}
 use Rattle.ig_ebnf_laws.proofs.Definitions.{AllDeclared, Takes, DeclaredAs, NumberedTo, NumberedFrom, IsOld, MayBeLowered}
-use Rattle.ig_ebnf_laws.proofs.AddedNames.{distinct_append, titles, titles_distinct, AllPlain, all_plain}
+use Rattle.ig_ebnf_laws.proofs.AddedNames.{titles, titles_distinct, AllPlain, all_plain}
 use Rattle.ig_ebnf_laws.proofs.Elements.{declared_first, declared_second}
 use Rattle.ig_ebnf_laws.specs.Lists.{lowered_grammar, Made, new_symbols, added_symbols, new_alts, added_alts, new_levels}
 use Rattle.ig_ebnf_laws.specs.Lists.{added_levels, count_symbols}
@@ -229,8 +230,8 @@ module _ (g : Grammar) (shapes : List Shape) (may : MayBeLowered g shapes) where
   pub distinct : AreDistinct (names g'.decls)
   distinct =
       subst AreDistinct (sym names_all)
-      (distinct_append (names g.decls) (titles made) may.distinct
-      (titles_distinct may.new g.decls may.unsigned may.few may.distinct) apart)
+      (both_differ (names g.decls) (titles made) may.distinct (titles_distinct may.new g.decls may.unsigned may.few may.distinct)
+      (λ name c d. let i = at_from_contains _ name c in let j = at_from_contains _ name d in apart i.0 j.0 name i.1 j.1))
     where
       apart : (i j : ℕ) (name : List ℕ) → slice_get (names g.decls) i ≡ Some name →
           slice_get (titles made) j ≡ Some name → ⊥

@@ -151,7 +151,7 @@ module _ (c : CheckedGrammar) (given : Given c) where
       (calm_alternative c given n decl m from.a e from.there)
       (clear_alternative c given n decl m from.a e from.there) in
       subst (λ z. AllCalm h decl.kind (inside_sequence v (gathered z))) (sym from.same)
-      (elements_calm given.elsewhere g h shapes' decl.kind decl.kind (λ l. l) (IsOld g) (declared_old g) once decl.name
+      (elements_calm given.elsewhere g h shapes' decl.kind decl.kind (λ l. l) (IsOld g) (declared_old g) (given.found.itself h.decls once) decl.name
       (all_elements v from.k xs) v v _
       (all_ready h shapes' (IsOld g) decl.name xs v from.k proper from.present) source.0
       (record { at = λ n u. refl; less = λ n u. u }))
@@ -165,7 +165,7 @@ module _ (c : CheckedGrammar) (given : Given c) where
           AllDeclared h shapes' (added_symbols decl.name (parameters decl.params) k (gathered a.symbols)) →
           OfAdded (IsCalm h) (added_symbols decl.name (parameters decl.params) k (gathered a.symbols))
       by_alternative n decl e m a f k d =
-          symbols_calm given.elsewhere g h shapes' decl.kind (IsOld g) (declared_old g) once decl.name (gathered a.symbols)
+          symbols_calm given.elsewhere g h shapes' decl.kind (IsOld g) (declared_old g) (given.found.itself h.decls once) decl.name (gathered a.symbols)
           (parameters decl.params) k
           (proper_alternative c given n decl m a e f) d (distinct_source n decl e)
           (calm_alternative c given n decl m a e f)

@@ -4,7 +4,7 @@ use Rattle.std.proofs.Common.{length, Some, refl, sym, ap, subst, arith, length-
 use Rattle.std.specs.Prelude.{◌≢◌, All, Contains, slice_get, if◌then◌else◌}
 use Rattle.std.proofs.lemmas.Option.{same_Some, slice_get_within}
 use Rattle.std.proofs.lemmas.List.{length-map, map-append}
-use Rattle.std.proofs.lemmas.List.Elements.{All-nil, All-cons, All-head, All-tail}
+use Rattle.std.proofs.lemmas.List.Elements.{All-append, All-nil, All-cons, All-head, All-tail}
 use Rattle.ig_expr.specs.Expression.{Expression}
 use Rattle.ig_text.proofs.Lists.{at_from_contains, contains_from_at, mapped_at, either_place, from_map}
 use Rattle.ig_grammar.specs.Names.{names}
@@ -78,10 +78,6 @@ call_of_calls (Filtered x fs) h = absurd h
 call_of_calls (Seq xs) h = absurd h
 call_of_calls (Entry bs x) h = absurd h
 
-all_both : (P : Symbol → Type 0) (xs ys : List Symbol) → All P xs → All P ys → All P (xs ++ ys)
-all_both P [] ys h i = i
-all_both P (x ∷ xs) ys h i = All-cons P x (xs ++ ys) (All-head P x xs h) (all_both P xs ys (All-tail P x xs h) i)
-
 module _ (of : List ℕ) where
   one_call : (x : Symbol) (v : Visible) (k : ℕ) → IsCall x → All IsOfCalls (new of v k x)
   one_call (Call m es) v k h = All-cons IsOfCalls (Call m es) [] tt (All-nil IsOfCalls)
@@ -110,7 +106,7 @@ module _ (of : List ℕ) where
   by_symbols P each (next_symbol x xs) v k h =
       let u = v ++ binds v x in
       subst (All IsOfCalls) (sym (map-append (new_element of) (elements v k x) (all_elements u (k + count x) xs)))
-      (all_both IsOfCalls (new of v k x) (new_symbols of u (k + count x) xs) (each x v k (All-head P x (listed xs) h))
+      (All-append IsOfCalls (new of v k x) (new_symbols of u (k + count x) xs) (each x v k (All-head P x (listed xs) h))
       (by_symbols P each xs u (k + count x) (All-tail P x (listed xs) h)))
 
   of_calls : (x : Symbol) (v : Visible) (k : ℕ) → IsOfCalls x → All IsOfCalls (new of v k x)

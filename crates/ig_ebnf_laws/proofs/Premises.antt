@@ -31,7 +31,6 @@ use Rattle.ig_rewrite.specs.Sound.{IsSound, IsFree, IsUnmarked, HasExclusionsAlo
 use Rattle.ig_ebnf_laws.specs.Lists.{Made, HasFewLists, count_levels, all_added}
 use Rattle.ig_ebnf_laws.proofs.Definitions.{IsOld, MayBeLowered, Small, SymbolsProper}
 use Rattle.ig_ebnf_laws.proofs.AddedNames.{title_at}
-use Rattle.ig_ebnf_laws.proofs.Declarations.{declared_by, named_by}
 use Rattle.ig_ebnf_laws.proofs.Occurrences.{Calm, AllCalm, of_all}
 use Rattle.ig_ebnf_laws.proofs.ClearSymbols.{IsFit, SymbolsClear, clear_at}
 use Rattle.ig_ebnf_laws.proofs.ProperSymbols.{symbols_proper}
@@ -103,7 +102,11 @@ module _ (c : CheckedGrammar) (given : Given c) where
   old n decl e = old_of decl.name (given.sound.unsigned decl (contains_from_at g.decls n decl e))
 
   called : (name : List ℕ) → (declaration_of g.decls name ≡ None → ⊥) → IsOld g name
-  called name some = let at = named_by g.decls name some in subst (IsOld g) at.named (old at.place at.decl at.there)
+  called name some = go (declaration_of g.decls name) refl
+    where
+      go : (o : Option Decl) → declaration_of g.decls name ≡ o → IsOld g name
+      go None e = absurd (some e)
+      go (Some d) e = let at = given.found.place g.decls name d e in subst (IsOld g) at.2 (old at.0 d at.1)
 
   started : (start : List ℕ) × (g.start ≡ Some start) × IsOld g start
   started = go g.start refl
@@ -127,7 +130,7 @@ module _ (c : CheckedGrammar) (given : Given c) where
       go [] is = is
       go (p ∷ ps) is =
           absurd (given.sound.scoped (record { decl = 0; alt = 0; symbol = 0 }) condition.StartHasParameters
-          (condition.start_has_parameters decl.name decl starts (declared_by g.decls distinct_names n decl e)
+          (condition.start_has_parameters decl.name decl starts (given.found.itself g.decls distinct_names n decl e)
           (λ none. let bad : p ∷ ps ≡ [] = sym is ∙ none in absurd (cc))))
 
   free_at : (n : ℕ) (decl : Decl) → slice_get g.decls n ≡ Some decl → HasNoOperators decl.levels

@@ -5,6 +5,5 @@ pub mod Sought
 pub mod Numbers
 pub mod KindsOfValues
 pub mod Worked
-pub mod Orders
 pub mod TreeOrder
 pub mod Transitivity

@@ -1,17 +1,16 @@
 -- The tests of a match decide whether there is one.
-use Rattle.std.proofs.Common.{◌≡◌, ℕ, ◌+◌, ◌-◌, ◌≤◌, List, Bool, true, not, Option, Some, None, length, take, drop, refl, sym, ap, subst, arith, leb, length-drop}
+use Rattle.std.proofs.Common.{◌≡◌, ℕ, ◌+◌, ◌-◌, ◌≤◌, List, Bool, true, not, Option, Some, None, length, refl, sym, subst, arith, leb}
 use Rattle.std.specs.Prelude.{slice_range, slice_get, MatchOption, is_some}
 use Rattle.std.specs.Bool.{Decides}
-use Rattle.std.proofs.Math.ListN.{length-take}
 use Rattle.std.specs.Cmp.Lexicographic.{bytes_decides}
 use Rattle.std.proofs.lemmas.Bool.Decides.{same_from_decides, Decides-and, Decides-not, Decides-like, nat_tests}
 use Rattle.ig_text.specs.Class.{is_in_class}
-use Rattle.ig_text.specs.Place.{Spells}
 use Rattle.ig_text.specs.Pattern.{Matches}
 use Rattle.ig_text.specs.declared.class.Class.{Class}
 use Rattle.ig_text.specs.declared.pattern.Pattern.{Pattern}
 use Rattle.ig_text.specs.declared.pattern.Pattern.TheVariants.{Literal, OneOf}
 use Rattle.ig_text.specs.Words.{is_word}
+use Rattle.ig_text.proofs.Matching.{spelled_width}
 use Rattle.ig_expr.specs.Matching.{width, is_some_of, matches_at, matches_before}
 
 -- a match begins at p
@@ -25,21 +24,13 @@ Ends text pattern p = (i : ℕ) × Matches text pattern i p
 Decides-leb : (a b : ℕ) → Decides (leb a b) (a ≤ b)
 Decides-leb a b = (λ h. grind (arith, nat_tests), λ h. grind (arith, nat_tests))
 
--- a match of a word is as long as the word
-spell_width : (text word : List ℕ) (i j : ℕ) → Spells text word i j → j ≡ i + length word
-spell_width text word i j s =
-    let len : length (take (j - i) (drop i text)) ≡ length word = ap length s.letters in
-    let onward = s.onward in
-    let within = s.within in
-    omega (arith, len, length-take (j - i) (drop i text), length-drop i text)
-
 literal_begins : (text word : List ℕ) (p : ℕ) → Decides (matches_at text (Literal word) p) (Begins text (Literal word) p)
 literal_begins text word p =
     Decides-like (matches_at text (Literal word) p)
     (λ h. (p + length word, record { onward = omega arith; within = h.0; letters = h.1 }))
     (λ (j, s). (
-      subst (λ (z : ℕ). z ≤ length text) (spell_width text word p j s) s.within,
-      subst (λ (z : ℕ). slice_range text p z ≡ word) (spell_width text word p j s) s.letters,
+      subst (λ (z : ℕ). z ≤ length text) (spelled_width text word p j s) s.within,
+      subst (λ (z : ℕ). slice_range text p z ≡ word) (spelled_width text word p j s) s.letters,
     ))
     (Decides-and (leb (p + length word) (length text)) (is_word (slice_range text p (p + length word)) word) (Decides-leb (p + length word) (length text)) (bytes_decides (slice_range text p (p + length word)) word))
 
@@ -66,7 +57,7 @@ matches_at_is text pattern p (Some j) b e h =
 
 -- a match is as long as the pattern says
 pub match_width : (text : List ℕ) (pattern : Pattern) (i j : ℕ) → Matches text pattern i j → j ≡ i + width pattern
-match_width text (Literal word) i j m = spell_width text word i j m
+match_width text (Literal word) i j m = spelled_width text word i j m
 match_width text (OneOf class) i j m = m.next
 
 pub ends : (text : List ℕ) (pattern : Pattern) (p : ℕ) → Decides (matches_before text pattern p) (Ends text pattern p)

@@ -13,6 +13,7 @@ pub mod Blocks
 pub mod Evaluation
 pub mod Laws
 pub mod ValueOrder
+pub mod Ordered
 pub mod ValuedTree
 pub mod JoinedTrees
 pub mod TreeOrder

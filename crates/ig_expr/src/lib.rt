@@ -29,4 +29,4 @@ pub use expression::{Expr, Exprs, Operand};
 pub use kind::{Kind, Kinds, kind_of};
 pub use operator::{Function, Op};
 pub use tree_order::{last_child_starts_decide, trees_are_ordered};
-pub use value::{Value, Values, values_are_ordered};
+pub use value::{Value, Values, equal_values_are_one, values_are_ordered};

@@ -1,4 +1,5 @@
-ghost use Rattle.std.specs.Prelude.{◌≡◌, ◌↔◌, [], ◌∷◌, ◌++◌, IsTrue, OnOk, OnErr, IfErr};
+ghost use Rattle.std.specs.Bool.{Decides};
+ghost use Rattle.std.specs.Prelude.{◌≡◌, ◌↔◌, List, [], ◌∷◌, ◌++◌, IsTrue, OnOk, OnErr, IfErr};
 ghost use Rattle.ig_expr.specs.ValueOrder.{value_cmp, values_cmp};
 
 use ig_text::{Copied, Span};
@@ -154,6 +155,12 @@ impl Ord for Values {
         self.as_slice().cmp(other.as_slice())
     }
 }
+
+/// Lists of values are `==` exactly where they are equal. This law, proved for all lists, computes
+/// nothing.
+pub fn equal_values_are_one()
+    ensures { (xs ys : List Value) → Decides (⟦<Values as PartialEq>⟧.eq xs ys) (xs ≡ ys) }
+{}
 
 /// `cmp` at values, as derived, is the order of `specs/ValueOrder.antt`. This law, proved
 /// for all values, computes nothing.

@@ -15,7 +15,7 @@ use ig_grammar::{Checked, Decl, Filter, Filters, Inner, Symbol, Symbols};
 use ig_lexical_laws::filters_keep;
 use ig_rooting::{copy_of_shapes, has_root, root};
 use ig_text::{Copied, Word};
-use ig_traversal::{OwnRule, push_symbol, rewrite_grammar};
+use ig_traversal::{OwnRule, push_symbol, relabelled, rewrite_grammar};
 use std::alloc::{AllocError, Global};
 
 /// The grammar with its follow and precede filters as guards, exactly as `ig_lexical_laws` says;
@@ -85,14 +85,6 @@ fn attach_labelled(alloc: Global, name: Word, symbol: Symbol) -> Result<Symbol, 
         }
         other => relabelled(alloc, name, other),
     }
-}
-
-/// The symbol with the label. Refused for want of memory alone.
-pub fn relabelled(alloc: Global, name: Word, inside: Symbol) -> Result<Symbol, AllocError>
-    ensures { IfOk result (λ r. symbol_of r ≡ Label name (symbol_of inside)) }
-{
-    let inner = Inner::new(alloc, inside)?;
-    Ok(Symbol::Label(name, inner))
 }
 
 /// The symbol with the exclusions among the filters, where there are any.

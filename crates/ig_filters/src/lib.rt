@@ -1,10 +1,9 @@
 //! Follow and precede filters as guards, as a pass from grammars to grammars with the same trees.
 //!
 //! `ig_lexical_laws` says what the pass is, and what it keeps; [`attach_filters`] is exactly that.
-//! [`relabelled`] puts a label round what a pass made of the symbol inside it. Both are refused for
-//! want of memory alone.
+//! It is refused for want of memory alone.
 #![tactic(auto)]
 
 mod filters;
 
-pub use filters::{attach_filters, relabelled};
+pub use filters::attach_filters;

@@ -20,7 +20,7 @@ use Rattle.ig_expr.specs.ValueOrder.{values_cmp}
 use Rattle.ig_forest.specs.CodeDone.{StandsLast}
 use Rattle.ig_live.specs.declared.rows.ItemRow.{ItemRow}
 use Rattle.ig_forest.proofs.Uniqueness.{same_key}
-use Rattle.ig_forest.proofs.CodeOrders.{list_total}
+use Rattle.ig_expr.specs.Ordered.{list_total}
 use Rattle.std.specs.List.Sorted.{IsStrictlySortedBy}
 
 abbrev pub complete_from_last : (core : List Nonterminal) (lists : List (List Value)) (row : ItemRow) → StandsLast core row → IsComplete core (item_by lists row)

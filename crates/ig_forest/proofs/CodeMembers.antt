@@ -3,7 +3,7 @@ use Rattle.std.proofs.Common.{◌≡◌, inl, inr, ℕ, ◌<◌, List, [], Equal
 use Rattle.std.specs.declared.cmp.Ordering.{Ordering}
 use Rattle.std.specs.List.Sorted.{IsStrictlySortedBy}
 use Rattle.std.specs.Ordering.{nat_cmp, ordering_then, ordering_reverse}
-use Rattle.std.proofs.lemmas.Cmp.{tied_itself, nat_cmp_total}
+use Rattle.std.proofs.lemmas.Cmp.{tied_itself}
 use Rattle.std.proofs.lemmas.Option.{slice_get-get_or}
 use Rattle.std.proofs.lemmas.Bool.{cases_order}
 use Rattle.ig_text.proofs.Lists.{mapped_in, unmapped_in}
@@ -22,7 +22,7 @@ use Rattle.ig_live.specs.Rows.{row_cmp}
 use Rattle.ig_forest.specs.CodeDone.{AreNodesOf}
 use Rattle.ig_live.specs.declared.rows.ItemRow.{ItemRow}
 use Rattle.ig_forest.specs.declared.node_rows.NodeRow.{NodeRow}
-use Rattle.ig_forest.proofs.CodeOrders.{list_total}
+use Rattle.ig_expr.specs.Ordered.{list_total}
 use Rattle.ig_forest.proofs.CodeSorted.{strict_map}
 use Rattle.ig_forest.proofs.CodeGives.{complete_from_last, last_from_complete}
 

@@ -7,8 +7,7 @@ use Rattle.std.specs.Ordering.{nat_cmp, ordering_then, ordering_reverse}
 use Rattle.std.specs.declared.cmp.Ordering.{Ordering}
 use Rattle.std.specs.declared.cmp.Ordering.TheVariants as ordering
 use Rattle.std.proofs.lemmas.Bool.{cases_order}
-use Rattle.std.proofs.lemmas.Cmp.{nat_cmp_total, lists_total, tied_itself}
-use Rattle.std.proofs.lemmas.Bool.Decides.{nat_tests}
+use Rattle.std.proofs.lemmas.Cmp.{tied_itself}
 use Rattle.std.proofs.lemmas.Map.Lookups.{exact_unsigned}
 use Rattle.ig_text.proofs.Options.{then_assoc, then_nothing}
 use Rattle.ig_text.proofs.Rising.{rises}
@@ -21,7 +20,7 @@ use Rattle.ig_forest.specs.Cursors as order
 use Rattle.ig_forest.specs.Orders.{item_cmp}
 use Rattle.ig_forest.specs.Unfold.{noted}
 use Rattle.ig_forest.proofs.Targets.{Alike}
-use Rattle.ig_forest.proofs.TotalOrders.{value_total}
+use Rattle.ig_expr.specs.Ordered.{value_total, list_total}
 
 -- what decides first decides alike, and what comes behind it matters only where nothing is decided
 pub decides : (o p q : Ordering) → (o ≡ ordering.Equal → p ≡ q) → ordering_then o p ≡ ordering_then o q
@@ -127,7 +126,7 @@ same_beginning (u ∷ us) (v ∷ vs) rest others long e =
 -- nothing differs in equal lists of values
 tied_values : (us vs : List Value) → us ≡ vs → values_cmp us vs ≡ ordering.Equal
 tied_values us vs e =
-    subst (λ (zs : List Value). values_cmp us zs ≡ ordering.Equal) e (tied_itself (lists_total value_total) us)
+    subst (λ (zs : List Value). values_cmp us zs ≡ ordering.Equal) e (tied_itself list_total us)
 
 -- items at the same dot with the same environment compare as their positions do
 pub alike_cmp : (x y : Item) → Alike x y → x.env ≡ y.env → item_cmp x y ≡ nat_cmp x.position y.position

@@ -1,14 +1,12 @@
 -- The reduced forest is a forest, and its items stand behind the previous ones.
-use Rattle.std.proofs.Common.{◌≡◌, ◌⊎◌, inl, inr, ℕ, zero, suc, ◌+◌, ◌<◌, ◌≤◌, List, [], ◌∷◌, Some, slice_get, refl, sym, ap, ◌∙◌, subst, arith}
+use Rattle.std.proofs.Common.{◌≡◌, ◌⊎◌, inl, inr, ℕ, zero, suc, ◌<◌, ◌≤◌, List, [], ◌∷◌, Some, slice_get, refl, sym, ap, ◌∙◌, subst, arith}
 use Rattle.std.specs.Ordering.{nat_cmp, ordering_then}
 use Rattle.std.specs.declared.cmp.Ordering.{Ordering}
 use Rattle.std.specs.declared.cmp.Ordering.TheVariants.{Less, Equal}
-use Rattle.std.proofs.lemmas.Cmp.{nat_cmp_total, lists_total, tied_itself}
+use Rattle.std.proofs.lemmas.Cmp.{tied_itself}
 use Rattle.std.proofs.lemmas.Option.{slice_get_within, same_Some}
-use Rattle.ig_text.specs.Pattern.{Matches}
-use Rattle.ig_text.specs.declared.pattern.Pattern.{Pattern}
-use Rattle.ig_text.specs.declared.pattern.Pattern.TheVariants.{Literal, OneOf}
 use Rattle.ig_text.proofs.Lists.{at_from_contains, contains_from_at}
+use Rattle.ig_text.proofs.Matching.{match_goes}
 use Rattle.ig_text.proofs.Pairwise.{key_at, partner, same_length}
 use Rattle.ig_text.proofs.Rising.{same_members, one_sorted, stands_before}
 use Rattle.ig_text.proofs.Sorted.{less_number, equal_number}
@@ -21,18 +19,14 @@ use Rattle.ig_item.specs.Gives as rules
 use Rattle.ig_item.specs.Gives.{Taken}
 use Rattle.ig_live.specs.Live.{Gives, root_key}
 use Rattle.ig_expr.specs.ValueOrder.{values_cmp}
+use Rattle.ig_expr.specs.Ordered.{list_total}
 use Rattle.ig_forest.specs.Orders.{item_cmp, entry_cmp}
 use Rattle.ig_forest.specs.Reduced as reduced
 use Rattle.ig_forest.specs.Reduced.{IsReduced, IsEntry, IsItemNode}
 use Rattle.ig_forest.specs.declared.entry.Entry.{Entry}
 use Rattle.ig_forest.specs.declared.entry.Entry.TheVariants.{Begin}
-use Rattle.ig_forest.proofs.TotalOrders.{value_total, item_total, entry_total}
+use Rattle.ig_forest.proofs.TotalOrders.{item_total, entry_total}
 use Rattle.ig_forest.proofs.Steps.{given_dot}
-
--- a match goes onward
-onward : (text : List ℕ) (pattern : Pattern) (i j : ℕ) → Matches text pattern i j → i ≤ j
-onward text (Literal word) i j m = m.onward
-onward text (OneOf class) i j m = let next : j ≡ i + 1 = m.next in omega (arith, next)
 
 then_tied : (a b : Ordering) → a ≡ Equal → b ≡ Less → ordering_then a b ≡ Less
 then_tied a b p q = ap (λ (o : Ordering). ordering_then o b) p ∙ q
@@ -47,7 +41,7 @@ tied_or_lower a b h = grind arith
 below_past : (x : Item) (bound : List Value) (j : ℕ) → x.position ≤ j → item_cmp x (past x bound j) ≡ Less
 below_past x bound j h =
     let dots = then_lower (nat_cmp x.dot (suc x.dot)) (values_cmp x.env (past x bound j).env) (less_number x.dot (suc x.dot) (omega arith)) in
-    let rest = then_tied _ _ (equal_number x.instance.nonterminal x.instance.nonterminal refl) (then_tied _ _ (tied_itself (lists_total value_total) x.instance.values) (then_tied _ _ (equal_number x.alternative x.alternative refl) dots)) in
+    let rest = then_tied _ _ (equal_number x.instance.nonterminal x.instance.nonterminal refl) (then_tied _ _ (tied_itself list_total x.instance.values) (then_tied _ _ (equal_number x.alternative x.alternative refl) dots)) in
     then_tied _ _ (equal_number x.instance.start x.instance.start refl)
     (elim (tied_or_lower x.position j h) [
       | inl lt ↦ then_lower _ _ (less_number x.position j lt)
@@ -62,7 +56,7 @@ module _ (in_text : ItemsAreInText) (core : List Nonterminal) (text : List ℕ) 
       subst (λ (y : Item). item_cmp prev y ≡ Less) (sym is) (below_past prev (v ∷ []) prev.position (omega arith))
   below_given (rules.terminal prev names what label excluded j taken x reachable before matches free t is) =
       subst (λ (y : Item). item_cmp prev y ≡ Less) (sym is)
-      (below_past prev _ j (onward text what prev.position j matches))
+      (below_past prev _ j (match_goes text what prev.position j matches).0)
   below_given (rules.return prev done label excluded key x reachable r calls c free is) =
       let h = (in_text core text done r).onward in
       let start : done.instance.start ≡ key.instance.start = ap (λ i. i.start) c.instance in

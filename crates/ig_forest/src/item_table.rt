@@ -1,7 +1,6 @@
 //! Item nodes as they are kept: the entries of all of them side by side in one vector.
 ghost use Rattle.std.specs.Prelude.{◌≡◌, [], ◌∷◌, ◌++◌, IfOk, OnOk, length, option_map};
 ghost use Rattle.std.specs.Prelude.{slice_get};
-ghost use Rattle.ig_text.specs.Limits.{numbers_end};
 ghost use Rattle.ig_forest.specs.CodeParts.{IsPartOf, entries_in, stored_view};
 
 use crate::entry::Entry;

@@ -1,12 +1,36 @@
--- A fact of all symbols in a symbol is one of the symbol itself, and of all symbols directly inside it. This stands here with its
--- proofs, since a clause ranges over no properties; nothing of it has to be believed.
+-- A fact of all symbols in a symbol is one of the symbol itself, and of all symbols in those directly inside it. This stands here
+-- with its proofs, since a clause ranges over no properties; nothing of it has to be believed.
 use Rattle.std.specs.Prelude.{List, [], ◌∷◌, ◌++◌, All}
 use Rattle.std.proofs.lemmas.List.Elements.{All-nil, All-cons, All-head, All-tail, All-append}
 use Rattle.ig_text.proofs.Lists.{halves}
 use Rattle.ig_grammar.specs.Symbol.{Symbol, Literal, OneOf, Call, Label, Guard, Let, Opt, Star, Plus, SepStar, SepPlus, Group, Offside, Ignore, Align, Filtered, Seq, Entry}
 use Rattle.ig_grammar.specs.Symbol.{Symbols, no_symbols, next_symbol, Alternatives, no_alternatives, next_alternative}
 use Rattle.ig_grammar.specs.Subterms.{subterms, subterms_of_symbols, subterms_of_alternatives}
-use Rattle.ig_grammar.specs.Laws.{OfInner, OfSymbols, OfAlternatives}
+
+-- a fact of each symbol in those directly inside a symbol
+abbrev pub OfInner : (Symbol → Type 0) → Symbol → Type 0
+OfInner P (Label name x) = All P (subterms x)
+OfInner P (Opt x) = All P (subterms x)
+OfInner P (Star x) = All P (subterms x)
+OfInner P (Plus x) = All P (subterms x)
+OfInner P (SepStar x separator) = All P (subterms x) × All P (subterms separator)
+OfInner P (SepPlus x separator) = All P (subterms x) × All P (subterms separator)
+OfInner P (Group choices) = All P (subterms_of_alternatives choices)
+OfInner P (Offside x) = All P (subterms x)
+OfInner P (Ignore x) = All P (subterms x)
+OfInner P (Align x) = All P (subterms x)
+OfInner P (Filtered x filters) = All P (subterms x)
+OfInner P (Seq xs) = All P (subterms_of_symbols xs)
+OfInner P (Entry bindings x) = All P (subterms x)
+OfInner P x = Unit {0}
+
+abbrev pub OfSymbols : (Symbol → Type 0) → Symbols → Type 0
+OfSymbols P no_symbols = Unit {0}
+OfSymbols P (next_symbol x xs) = All P (subterms x) × All P (subterms_of_symbols xs)
+
+abbrev pub OfAlternatives : (Symbol → Type 0) → Alternatives → Type 0
+OfAlternatives P no_alternatives = Unit {0}
+OfAlternatives P (next_alternative xs others) = All P (subterms_of_symbols xs) × All P (subterms_of_alternatives others)
 
 module _ (P : Symbol → Type 0) where
   pub symbols_hold : (xs : Symbols) → All P (subterms_of_symbols xs) → OfSymbols P xs

@@ -1,5 +1,5 @@
--- Lists of symbols as the program has them: what is gathered of a list, listed, is the list. This stands here with its proofs,
--- for what speaks of both; nothing of it has to be believed.
+-- What is gathered of a list of symbols and listed again is the list. This stands here with its proofs, for what speaks of both
+-- forms; nothing of it has to be believed.
 use Rattle.std.proofs.Common.{◌≡◌, List, [], ◌∷◌, refl, ap}
 use Rattle.ig_grammar.specs.Symbol.{Symbol, Symbols, no_symbols, next_symbol, gathered, listed}
 

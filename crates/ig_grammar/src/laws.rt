@@ -1,16 +1,9 @@
-//! Laws of regular grammars. The functions compute nothing: their contracts are the laws.
+//! The law of counts. Its function computes nothing: its contract is the law.
 
-ghost use Rattle.ig_grammar.specs.Laws.{CountsByForm, RegularityByForm};
+ghost use Rattle.ig_grammar.specs.Laws.{CountsByForm};
 
-/// Where every symbol in a symbol stands well, or is no mark, this holds of the symbol itself and
-/// of those in the symbols directly inside it, and the other way about. This law, proved of all
-/// symbols, computes nothing.
-pub fn regularity_by_form()
-    ensures { RegularityByForm }
-{}
-
-/// The counts of a symbol are its own and those of the symbols directly inside it. This law,
-/// proved of all symbols, computes nothing.
+/// The counts of a symbol are its own and those of the symbols directly inside it, and each symbol
+/// has one part at least. This law, proved of all symbols, computes nothing.
 pub fn counts_by_form()
     ensures { CountsByForm }
 {}

@@ -24,7 +24,7 @@ pub use declaration::{Assoc, Decl, DeclKind, Decls, Level, Levels, Param, Params
 pub use filter::{Filter, Filters};
 pub use grammar::Grammar;
 pub use keywords::{is_keyword, is_name};
-pub use laws::{counts_by_form, regularity_by_form};
+pub use laws::counts_by_form;
 pub use lets::Lets;
 pub use place::{Place, Shape, Shapes};
 pub use symbol::{Alt, Alts, Inner, Symbol, Symbols};

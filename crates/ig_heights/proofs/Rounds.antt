@@ -1,20 +1,23 @@
 -- What a look at a rule, and the taking of a part, do to the work list.
-use Rattle.std.proofs.Common.{◌≡◌, ◌⊎◌, inl, inr, ℕ, suc, ◌+◌, ◌*◌, ◌<◌, ◌≤◌, List, [], ◌∷◌, ◌++◌, length, get_or, set, drop, Contains, sym, ap, ◌∙◌, subst, arith}
+use Rattle.std.proofs.Common.{◌≡◌, ◌⊎◌, inl, inr, ℕ, suc, ◌+◌, ◌*◌, ◌<◌, ◌≤◌, List, [], ◌∷◌, ◌++◌, Some, length, get_or, set, slice_get, Contains, refl, sym, ap, ◌∙◌, subst, arith}
 use Rattle.std.proofs.lemmas.List.Elements.{Contains-append_left, Contains-push, Contains-push_cases}
-use Rattle.std.proofs.lemmas.Option.{slice_get-get_or, get_or_from_slice_get}
-use Rattle.std.proofs.lemmas.List.{drop_all, drop_more}
+use Rattle.std.proofs.lemmas.Option.{slice_get_read, slice_get_within}
+use Rattle.ig_text.proofs.Lists.{at_from_contains, contains_from_at}
 use Rattle.ig_heights.specs.Fits.{FitsRule}
 use Rattle.ig_heights.specs.Rules.{rise, height_at}
-use Rattle.ig_heights.specs.Work.{unset, IsWork, Works, Fires, Looks, UseAll, weight}
+use Rattle.ig_heights.specs.Uses.{HasSource, IsUse, IsLast, AreUsesOf, IsBefore}
+use Rattle.ig_heights.specs.Work.{unset, IsWork, Works, Looks, NoRule, weight}
 use Rattle.ig_heights.specs.Work as work
 use Rattle.ig_heights.specs.declared.rule.Rule.{Rule}
 use Rattle.ig_heights.specs.declared.rule.Table.{Table}
+use Rattle.ig_heights.specs.declared.uses.Uses.{Uses}
 use Rattle.ig_heights.specs.declared.work.Work.{Work}
 use Rattle.ig_heights.proofs.Numbers.{rise_one, rise_none, long_push}
-use Rattle.ig_heights.proofs.Working.{idle_look, settles, lighter, round_kept}
+use Rattle.ig_heights.proofs.Using.{use_cases, before_last}
+use Rattle.ig_heights.proofs.Working.{fewer, idle_look, settles, lighter, round_kept}
 
 -- what holds while the rules that use a part are looked at
-pub record Visits (t : Table) (part : ℕ) (before after : Work) (rest : List Rule) : Type 0 where
+pub record Visits (t : Table) (part : ℕ) (before after : Work) (rest : Rule → Type 0) : Type 0 where
   pub works : Works t after rest
   pub round : height_at after.heights.items part ≡ after.height
   pub less : weight t after ≤ weight t before
@@ -35,8 +38,9 @@ kept_list xs ys y e c = subst (λ (z : List _). Contains z y) (sym e) c
 of_kept : {X : Type 0} (xs ys : List X) (y : X) → ys ≡ xs → Contains ys y → Contains xs y
 of_kept xs ys y e c = subst (λ (z : List _). Contains z y) e c
 
-module _ (t : Table) (part : ℕ) (start b a : Work) (rule : Rule) (rest : List Rule) (visits : Visits t part start b (rule ∷ rest))
-    (used : (rule.left ≡ part) ⊎ (rule.right ≡ part)) (among : Contains t.rules.items rule) (fits : FitsRule t.parts rule) where
+module _ (t : Table) (part : ℕ) (start b a : Work) (rule : Rule) (more rest : Rule → Type 0)
+    (only : (r : Rule) → more r → rest r ⊎ (r ≡ rule)) (visits : Visits t part start b more) (used : HasSource part rule)
+    (among : Contains t.rules.items rule) (fits : FitsRule t.parts rule) where
   abbrev hs : List ℕ
   hs = b.heights.items
 
@@ -64,7 +68,7 @@ module _ (t : Table) (part : ℕ) (start b a : Work) (rule : Rule) (rest : List 
   pub looked : Looks t.nodes rule b a → Visits t part start a rest
   looked (work.idle never same) =
       let law =
-      idle_look t hs b.current.items b.next.items b.height part rule rest visits.works used visits.round
+      idle_look t hs b.current.items b.next.items b.height part rule more rest only visits.works used visits.round
       (λ l r n. never (record { left = l; right = r; target = n })) in
       subst (λ (z : Work). Visits t part start z rest) (sym same) (record { works = law; round = visits.round; less = visits.less })
   looked (work.node fires node heights current next same) =
@@ -82,11 +86,11 @@ module _ (t : Table) (part : ℕ) (start b a : Work) (rule : Rule) (rest : List 
       let old_next : (p : ℕ) → Contains a.next.items p → Contains b.next.items p ⊎ ((p ≡ rule.target) × (w ≡ 1)) =
       λ p c. elim (of_pushed _ _ _ p next c) [ inl old ↦ inl old | inr new ↦ inr (new, one) ] in
       settled (set hs rule.target (suc b.height)) e heights same
-      (settles t hs b.current.items b.next.items b.height part rule rest visits.works used visits.round a.current.items a.next.items
+      (settles t hs b.current.items b.next.items b.height part rule more rest only visits.works used visits.round a.current.items a.next.items
       among fits fires.left fires.right fires.target more_current more_next (inr there) (λ is. there) old_current old_next longer)
-      (round_kept t hs b.current.items b.next.items b.height part rule rest visits.works used visits.round a.current.items a.next.items
+      (round_kept t hs b.current.items b.next.items b.height part rule more rest only visits.works used visits.round a.current.items a.next.items
       among fits fires.left fires.right fires.target more_current more_next (inr there) (λ is. there) old_current old_next longer)
-      (lighter t hs b.current.items b.next.items b.height part rule rest visits.works used visits.round a.current.items a.next.items
+      (lighter t hs b.current.items b.next.items b.height part rule more rest only visits.works used visits.round a.current.items a.next.items
       among fits fires.left fires.right fires.target more_current more_next (inr there) (λ is. there) old_current old_next longer)
       (omega (arith, len, cur))
   looked (work.item fires item heights current next same) =
@@ -105,39 +109,96 @@ module _ (t : Table) (part : ℕ) (start b a : Work) (rule : Rule) (rest : List 
       let old_next : (p : ℕ) → Contains a.next.items p → Contains b.next.items p ⊎ ((p ≡ rule.target) × (w ≡ 1)) =
       λ p c. inl (of_kept _ _ p next c) in
       settled (set hs rule.target b.height) e heights same
-      (settles t hs b.current.items b.next.items b.height part rule rest visits.works used visits.round a.current.items a.next.items
+      (settles t hs b.current.items b.next.items b.height part rule more rest only visits.works used visits.round a.current.items a.next.items
       among fits fires.left fires.right fires.target more_current more_next (inl there) to_next old_current old_next longer)
-      (round_kept t hs b.current.items b.next.items b.height part rule rest visits.works used visits.round a.current.items a.next.items
+      (round_kept t hs b.current.items b.next.items b.height part rule more rest only visits.works used visits.round a.current.items a.next.items
       among fits fires.left fires.right fires.target more_current more_next (inl there) to_next old_current old_next longer)
-      (lighter t hs b.current.items b.next.items b.height part rule rest visits.works used visits.round a.current.items a.next.items
+      (lighter t hs b.current.items b.next.items b.height part rule more rest only visits.works used visits.round a.current.items a.next.items
       among fits fires.left fires.right fires.target more_current more_next (inl there) to_next old_current old_next longer)
       (omega (arith, len, nex))
 
-pub few_rounds : (t : Table) (b : Work) (rest : List Rule) → t.nodes < 4294967296 → Works t b rest → b.height < 4294967296
+pub few_rounds : (t : Table) (b : Work) (rest : Rule → Type 0) → t.nodes < 4294967296 → Works t b rest → b.height < 4294967296
 few_rounds t b rest few law = let r = law.room in omega (arith, few, r)
 
-module _ (t : Table) (part : ℕ) (uses : List Rule) (all : UseAll t part uses) where
-  pub visit_none : (b : Work) → Works t b uses → height_at b.heights.items part ≡ b.height → Visits t part b b uses
-  visit_none b law round = record { works = law; round = round; less = omega arith }
+-- what holds along the chain of the part
+pub record Walks (t : Table) (part behind : ℕ) (before after : Work) : Type 0 where
+  pub visits : Visits t part before after (IsUse t.rules.items part behind)
+  pub low : behind ≤ length t.rules.items
+  pub source : (k : ℕ) (rule : Rule) → behind ≡ suc k → slice_get t.rules.items k ≡ Some rule → HasSource part rule
 
-  read : (i : ℕ) (d : Rule) → i < length uses → get_or uses i (get_or uses i d) ≡ get_or uses i d
-  read i d less = get_or_from_slice_get uses i (get_or uses i d) (get_or uses i d) (slice_get-get_or uses i d less)
+module _ (t : Table) (uses : Uses) (are : AreUsesOf t uses) (part : ℕ) where
+  pub walk_begins : (b : Work) (behind : ℕ) → part < t.parts → behind ≡ get_or uses.last.items part 0 →
+      height_at b.heights.items part ≡ b.height → Works t b (HasSource part) → Walks t part behind b b
+  walk_begins b behind there is round law =
+      record {
+        visits =
+            record {
+              works = fewer t b.heights.items b.current.items b.next.items b.height (HasSource part) (IsUse t.rules.items part behind) waits law;
+              round = round;
+              less = omega arith;
+            };
+        low = last.low;
+        source = last.source;
+      }
+    where
+      last : IsLast t.rules.items (length t.rules.items) part behind
+      last = subst (IsLast t.rules.items (length t.rules.items) part) (sym is) (are.last part there)
 
-  pub rule_fits : (b a : Work) (rest : List Rule) (i : ℕ) (d : Rule) → Visits t part b a rest → i < length uses →
-      FitsRule (length a.heights.items) (get_or uses i d)
-  rule_fits b a rest i d visits less =
-      subst (λ (n : ℕ). FitsRule n (get_or uses i d)) (sym visits.works.long)
-      (t.fit (get_or uses i d) ((all (get_or uses i d) (i, less, read i d less)).0))
+      waits : (r : Rule) → Contains t.rules.items r → HasSource part r → IsUse t.rules.items part behind r
+      waits r c source =
+          let a = at_from_contains t.rules.items r c in
+          last.all r (record { number = a.0; low = slice_get_within t.rules.items a.0 r a.1; at = a.1; source = source })
 
-  pub visit_next : (start b a : Work) (i : ℕ) (d : Rule) → i < length uses → Visits t part start b (drop i uses) →
-      Looks t.nodes (get_or uses i d) b a → Visits t part start a (drop (i + 1) uses)
-  visit_next start b a i d less visits looks =
-      let rule : Rule = get_or uses i d in
-      let e : drop i uses ≡ rule ∷ drop (i + 1) uses = drop_more uses i d less in
-      let among = all rule (i, less, read i d less) in
-      looked t part start b a rule (drop (i + 1) uses) (subst (λ (z : List Rule). Visits t part start b z) e visits) among.1 among.0
-      (t.fit rule among.0) looks
+  module _ (start b : Work) (behind : ℕ) (walks : Walks t part behind start b) where
+    module _ (k : ℕ) (rule : Rule) (behind_is : behind ≡ suc k) (rule_is : rule ≡ get_or t.rules.items k rule) where
+      in_table : k < length t.rules.items
+      in_table = let l = walks.low in omega (arith, l, behind_is)
 
-  pub visit_end : (start b : Work) (i : ℕ) → length uses ≤ i → Visits t part start b (drop i uses) →
-      Visits t part start b []
-  visit_end start b i past visits = subst (λ (z : List Rule). Visits t part start b z) (drop_all i uses past) visits
+      at : slice_get t.rules.items k ≡ Some rule
+      at = slice_get_read t.rules.items (length t.rules.items) k rule refl in_table rule_is
+
+      used : HasSource part rule
+      used = walks.source k rule behind_is at
+
+      among : Contains t.rules.items rule
+      among = contains_from_at t.rules.items k rule at
+
+      pub rule_fits : FitsRule (length b.heights.items) rule
+      rule_fits = subst (λ (n : ℕ). FitsRule n rule) (sym walks.visits.works.long) (t.fit rule among)
+
+      pub walk_falls : (next : ℕ) → IsBefore uses.earlier.items k rule part next → next < behind
+      walk_falls next before =
+          let l = (before_last t.rules.items t.parts (length t.rules.items) uses k part next rule are at used before).low in
+          omega (arith, l, behind_is)
+
+      pub walk_goes : (a : Work) (next : ℕ) → IsBefore uses.earlier.items k rule part next → Looks t.nodes rule b a →
+          Walks t part next start a
+      walk_goes a next before looks =
+          record {
+            visits =
+                looked t part start b a rule (IsUse t.rules.items part behind) (IsUse t.rules.items part next) only walks.visits used among
+                (t.fit rule among) looks;
+            low = (let l = walks.low in let m = last.low in omega (arith, l, m, behind_is));
+            source = last.source;
+          }
+        where
+          last : IsLast t.rules.items k part next
+          last = before_last t.rules.items t.parts (length t.rules.items) uses k part next rule are at used before
+
+          only : (r : Rule) → IsUse t.rules.items part behind r → IsUse t.rules.items part next r ⊎ (r ≡ rule)
+          only r u =
+              elim (use_cases t.rules.items part k behind rule r at behind_is u) [
+                | inl old ↦ inl (last.all r old)
+                | inr e ↦ inr e
+              ]
+
+    pub walk_ends : behind ≤ 0 → Visits t part start b NoRule
+    walk_ends end =
+        let v = walks.visits in
+        record {
+          works =
+              fewer t b.heights.items b.current.items b.next.items b.height (IsUse t.rules.items part behind) NoRule
+              (λ r c u. let l = u.low in absurd (omega (arith, l, end))) v.works;
+          round = v.round;
+          less = v.less;
+        }

@@ -1,5 +1,5 @@
 -- How the work list begins, goes on from part to part, and ends.
-use Rattle.std.proofs.Common.{◌≡◌, ◌⊎◌, inl, inr, ℕ, zero, suc, ◌+◌, ◌<◌, ◌≤◌, List, [], ◌∷◌, ◌++◌, Option, Some, None, length, get_or, set, replicate, Contains, refl, sym, ap, ◌∙◌, subst, arith, length-set}
+use Rattle.std.proofs.Common.{◌≡◌, ◌⊎◌, inl, inr, ℕ, zero, suc, ◌+◌, ◌<◌, ◌≤◌, List, [], ◌∷◌, ◌++◌, Option, Some, None, length, set, replicate, Contains, refl, sym, ap, ◌∙◌, subst, arith, length-set}
 use Rattle.std.proofs.lemmas.List.{get_or-replicate, length-replicate, get_or-set_same}
 use Rattle.std.proofs.lemmas.List.Elements.{Contains-append_left, Contains-push, Contains-push_cases}
 use Rattle.std.proofs.lemmas.Option.{same_Some}
@@ -10,7 +10,8 @@ use Rattle.ig_text.proofs.Emptiness.{emptied}
 use Rattle.ig_text.proofs.Lists.{none_in_nil}
 use Rattle.ig_text.proofs.Orders.{le_or_lt}
 use Rattle.ig_heights.specs.Rules.{height_at, need, AreLeast}
-use Rattle.ig_heights.specs.Work.{unset, Waits, IsWork, Works, AreUses, UseAll, Takes, Pops, weight}
+use Rattle.ig_heights.specs.Uses.{HasSource}
+use Rattle.ig_heights.specs.Work.{unset, Waits, IsWork, Works, NoRule, Takes, Pops, weight}
 use Rattle.ig_heights.specs.Work as work
 use Rattle.ig_heights.specs.declared.rule.Rule.{Rule}
 use Rattle.ig_heights.specs.declared.rule.Table.{Table}
@@ -60,7 +61,7 @@ module _ (t : Table) where
         ]
 
     obeyed_first : (r : Rule) → Contains t.rules.items r →
-        (height_at hs r.target ≤ need t.nodes hs r) ⊎ Waits (t.bottom ∷ []) [] [] r
+        (height_at hs r.target ≤ need t.nodes hs r) ⊎ Waits (t.bottom ∷ []) [] NoRule r
     obeyed_first r c = elim (kind r.left) [
       | is_bottom e h ↦ inr (work.left_current (zero, omega arith, sym e))
       | is_blank h ↦ elim (kind r.target) [
@@ -74,7 +75,7 @@ module _ (t : Table) where
     low_first : (p : ℕ) → height_at hs p ≤ t.nodes → height_at hs p ≡ 0
     low_first p low = elim (kind p) [ is_bottom e h ↦ h | is_blank h ↦ absurd (omega (arith, h, low)) | is_absent past h ↦ h ]
 
-    pub begins : IsWork t hs (t.bottom ∷ []) [] 0 []
+    pub begins : IsWork t hs (t.bottom ∷ []) [] 0 NoRule
     begins =
         record {
           long = long_first;
@@ -98,7 +99,7 @@ module _ (t : Table) where
         in_bottom p (suc k, within, same) = absurd (omega (arith, within))
 
   -- the next round
-  turns : (hs ns : List ℕ) (h : ℕ) → IsWork t hs [] ns h [] → 1 ≤ length ns → IsWork t hs ns [] (suc h) []
+  turns : (hs ns : List ℕ) (h : ℕ) → IsWork t hs [] ns h NoRule → 1 ≤ length ns → IsWork t hs ns [] (suc h) NoRule
   turns hs ns h law some =
       record {
         long = law.long;
@@ -113,24 +114,22 @@ module _ (t : Table) where
         room = (let r = law.room in omega (arith, r, some));
       }
     where
-      moved : (r : Rule) → Waits [] ns [] r → Waits ns [] [] r
+      moved : (r : Rule) → Waits [] ns NoRule r → Waits ns [] NoRule r
       moved r (work.left_current c) = absurd (none_in_nil r.left c)
       moved r (work.right_current c) = absurd (none_in_nil r.right c)
       moved r (work.left_next c) = work.left_current c
       moved r (work.right_next c) = work.right_current c
-      moved r (work.itself c) = absurd (none_in_nil r c)
+      moved r (work.itself never) = absurd never
 
   -- a part is taken, and the rules that use it are looked at next
-  takes : (hs cs ns : List ℕ) (h part : ℕ) (uses : List Rule) → IsWork t hs (cs ++ part ∷ []) ns h [] →
-      ((r : Rule) → Contains t.rules.items r → r.left ≡ part → Contains uses r) →
-      ((r : Rule) → Contains t.rules.items r → r.right ≡ part → Contains uses r) → IsWork t hs cs ns h uses
-  takes hs cs ns h part uses law lefts rights =
+  takes : (hs cs ns : List ℕ) (h part : ℕ) → IsWork t hs (cs ++ part ∷ []) ns h NoRule → IsWork t hs cs ns h (HasSource part)
+  takes hs cs ns h part law =
       record {
         long = law.long;
         bounded = law.bounded;
         bottom = law.bottom;
         given = law.given;
-        obeyed = λ r c. elim (law.obeyed r c) [ inl low ↦ inl low | inr waits ↦ inr (moved r c waits) ];
+        obeyed = λ r c. elim (law.obeyed r c) [ inl low ↦ inl low | inr waits ↦ inr (moved r waits) ];
         low = law.low;
         ahead = law.ahead;
         in_round = λ p c. law.in_round p (Contains-append_left cs (part ∷ []) p c);
@@ -138,17 +137,17 @@ module _ (t : Table) where
         room = law.room;
       }
     where
-      moved : (r : Rule) → Contains t.rules.items r → Waits (cs ++ part ∷ []) ns [] r → Waits cs ns uses r
-      moved r a (work.left_current c) =
-          elim (Contains-push_cases cs part r.left c) [ inl old ↦ work.left_current old | inr e ↦ work.itself (lefts r a (sym e)) ]
-      moved r a (work.right_current c) =
-          elim (Contains-push_cases cs part r.right c) [ inl old ↦ work.right_current old | inr e ↦ work.itself (rights r a (sym e)) ]
-      moved r a (work.left_next c) = work.left_next c
-      moved r a (work.right_next c) = work.right_next c
-      moved r a (work.itself c) = absurd (none_in_nil r c)
+      moved : (r : Rule) → Waits (cs ++ part ∷ []) ns NoRule r → Waits cs ns (HasSource part) r
+      moved r (work.left_current c) =
+          elim (Contains-push_cases cs part r.left c) [ inl old ↦ work.left_current old | inr e ↦ work.itself (inl (sym e)) ]
+      moved r (work.right_current c) =
+          elim (Contains-push_cases cs part r.right c) [ inl old ↦ work.right_current old | inr e ↦ work.itself (inr (sym e)) ]
+      moved r (work.left_next c) = work.left_next c
+      moved r (work.right_next c) = work.right_next c
+      moved r (work.itself never) = absurd never
 
   -- where nothing waits the heights are the least ones
-  ends : (hs : List ℕ) (h : ℕ) → IsWork t hs [] [] h [] → AreLeast t hs
+  ends : (hs : List ℕ) (h : ℕ) → IsWork t hs [] [] h NoRule → AreLeast t hs
   ends hs h law =
       record {
         long = law.long;
@@ -172,12 +171,12 @@ module _ (t : Table) where
             ];
       }
     where
-      no_wait : (r : Rule) → Waits [] [] [] r → ⊥
+      no_wait : (r : Rule) → Waits [] [] NoRule r → ⊥
       no_wait r (work.left_current c) = none_in_nil r.left c
       no_wait r (work.right_current c) = none_in_nil r.right c
       no_wait r (work.left_next c) = none_in_nil r.left c
       no_wait r (work.right_next c) = none_in_nil r.right c
-      no_wait r (work.itself c) = none_in_nil r c
+      no_wait r (work.itself never) = never
 
       obeyed_now : (r : Rule) → Contains t.rules.items r → height_at hs r.target ≤ need t.nodes hs r
       obeyed_now r c = elim (law.obeyed r c) [ inl low ↦ low | inr waits ↦ absurd (no_wait r waits) ]
@@ -187,87 +186,64 @@ module _ (t : Table) where
           elim (le_or_lt (height_at hs p) h) [ inl low ↦ low | inr high ↦ absurd (none_in_nil p (law.ahead p known high)) ]
 
   -- what the taking of a part hands on
-  pub record Taken (b a : Work) (part : ℕ) (uses : List Rule) : Type 0 where
-    pub works : Works t a uses
+  pub record Taken (b a : Work) (part : ℕ) : Type 0 where
+    pub works : Works t a (HasSource part)
     pub round : height_at a.heights.items part ≡ a.height
     pub less : weight t a < weight t b
     pub inside : part < t.parts
 
-  module _ (rows : List (List Rule)) (are : AreUses t.rules.items t.parts rows) where
-    pub use_all : (part : ℕ) → UseAll t part (get_or rows part [])
-    use_all part r c = are.sound part r c
+  handed : (b a : Work) (part : ℕ) (law : IsWork t a.heights.items (a.current.items ++ part ∷ []) a.next.items a.height NoRule) →
+      weight t a < weight t b → Taken b a part
+  handed b a part law less =
+      let l = law.in_round part (Contains-push a.current.items part) in
+      record {
+        works = takes a.heights.items a.current.items a.next.items a.height part law;
+        round = l.1;
+        less = less;
+        inside = l.0;
+      }
 
-    lefts : (part : ℕ) (r : Rule) → Contains t.rules.items r → r.left ≡ part → Contains (get_or rows part []) r
-    lefts part r c e = subst (λ (n : ℕ). Contains (get_or rows n []) r) e (are.left r c)
+  pub taken : (b a : Work) (part : ℕ) (some : Option ℕ) → some ≡ Some part → Works t b NoRule → Takes b a some → Taken b a part
+  taken b a part _ is law (work.here other current heights next same) =
+      let p : other ≡ part = same_Some other part is in
+      let cur : b.current.items ≡ a.current.items ++ part ∷ [] = current ∙ ap (λ (n : ℕ). a.current.items ++ n ∷ []) p in
+      let len = ap length cur ∙ long_push a.current.items part in
+      let u = ap (unset t.nodes t.parts) heights in let n = ap length next in
+      handed b a part
+      (subst (λ (z : ℕ). IsWork t a.heights.items (a.current.items ++ part ∷ []) a.next.items z NoRule) (sym same)
+      (subst (λ (z : List ℕ). IsWork t a.heights.items (a.current.items ++ part ∷ []) z b.height NoRule) (sym next)
+      (subst (λ (z : List ℕ). IsWork t z (a.current.items ++ part ∷ []) b.next.items b.height NoRule) (sym heights)
+      (subst (λ (z : List ℕ). IsWork t b.heights.items z b.next.items b.height NoRule) cur law))))
+      (omega (arith, len, u, n))
+  taken b a part _ is law (work.turn other current next heights empty same) =
+      let p : other ≡ part = same_Some other part is in
+      let cur : b.next.items ≡ a.current.items ++ part ∷ [] = next ∙ ap (λ (n : ℕ). a.current.items ++ n ∷ []) p in
+      let len = ap length cur ∙ long_push a.current.items part in
+      let u = ap (unset t.nodes t.parts) heights in let n = ap length empty in
+      handed b a part
+      (subst (λ (z : ℕ). IsWork t a.heights.items (a.current.items ++ part ∷ []) a.next.items z NoRule) (sym same)
+      (subst (λ (z : List ℕ). IsWork t a.heights.items (a.current.items ++ part ∷ []) z (suc b.height) NoRule) (sym empty)
+      (subst (λ (z : List ℕ). IsWork t z (a.current.items ++ part ∷ []) [] (suc b.height) NoRule) (sym heights)
+      (subst (λ (z : List ℕ). IsWork t b.heights.items z [] (suc b.height) NoRule) cur
+      (turns b.heights.items b.next.items b.height
+      (subst (λ (z : List ℕ). IsWork t b.heights.items z b.next.items b.height NoRule) current law) (omega (arith, len)))))))
+      (omega (arith, len, u, n))
+  taken b a part _ is law (work.rest current next heights) = absurd (none_some is)
 
-    rights : (part : ℕ) (r : Rule) → Contains t.rules.items r → r.right ≡ part → Contains (get_or rows part []) r
-    rights part r c e = subst (λ (n : ℕ). Contains (get_or rows n []) r) e (are.right r c)
-
-    handed : (b a : Work) (part : ℕ) (law : IsWork t a.heights.items (a.current.items ++ part ∷ []) a.next.items a.height []) →
-        weight t a < weight t b → Taken b a part (get_or rows part [])
-    handed b a part law less =
-        let l = law.in_round part (Contains-push a.current.items part) in
-        record {
-          works = takes a.heights.items a.current.items a.next.items a.height part (get_or rows part []) law (lefts part) (rights part);
-          round = l.1;
-          less = less;
-          inside = l.0;
-        }
-
-    pub taken : (b a : Work) (part : ℕ) (some : Option ℕ) → some ≡ Some part → Works t b [] → Takes b a some →
-        Taken b a part (get_or rows part [])
-    taken b a part _ is law (work.here other current heights next same) =
-        let p : other ≡ part = same_Some other part is in
-        let cur : b.current.items ≡ a.current.items ++ part ∷ [] = current ∙ ap (λ (n : ℕ). a.current.items ++ n ∷ []) p in
-        let len = ap length cur ∙ long_push a.current.items part in
-        let u = ap (unset t.nodes t.parts) heights in let n = ap length next in
-        handed b a part
-        (subst (λ (z : ℕ). IsWork t a.heights.items (a.current.items ++ part ∷ []) a.next.items z []) (sym same)
-        (subst (λ (z : List ℕ). IsWork t a.heights.items (a.current.items ++ part ∷ []) z b.height []) (sym next)
-        (subst (λ (z : List ℕ). IsWork t z (a.current.items ++ part ∷ []) b.next.items b.height []) (sym heights)
-        (subst (λ (z : List ℕ). IsWork t b.heights.items z b.next.items b.height []) cur law))))
-        (omega (arith, len, u, n))
-    taken b a part _ is law (work.turn other current next heights empty same) =
-        let p : other ≡ part = same_Some other part is in
-        let cur : b.next.items ≡ a.current.items ++ part ∷ [] = next ∙ ap (λ (n : ℕ). a.current.items ++ n ∷ []) p in
-        let len = ap length cur ∙ long_push a.current.items part in
-        let u = ap (unset t.nodes t.parts) heights in let n = ap length empty in
-        handed b a part
-        (subst (λ (z : ℕ). IsWork t a.heights.items (a.current.items ++ part ∷ []) a.next.items z []) (sym same)
-        (subst (λ (z : List ℕ). IsWork t a.heights.items (a.current.items ++ part ∷ []) z (suc b.height) []) (sym empty)
-        (subst (λ (z : List ℕ). IsWork t z (a.current.items ++ part ∷ []) [] (suc b.height) []) (sym heights)
-        (subst (λ (z : List ℕ). IsWork t b.heights.items z [] (suc b.height) []) cur
-        (turns b.heights.items b.next.items b.height
-        (subst (λ (z : List ℕ). IsWork t b.heights.items z b.next.items b.height []) current law) (omega (arith, len)))))))
-        (omega (arith, len, u, n))
-    taken b a part _ is law (work.rest current next heights) = absurd (none_some is)
-
-  pub ended : (b a : Work) (none : Option ℕ) → none ≡ None → Works t b [] → Takes b a none → AreLeast t a.heights.items
+  pub ended : (b a : Work) (none : Option ℕ) → none ≡ None → Works t b NoRule → Takes b a none → AreLeast t a.heights.items
   ended b a _ is law (work.here part current heights next same) = absurd (none_some (sym is))
   ended b a _ is law (work.turn part current next heights empty same) = absurd (none_some (sym is))
   ended b a _ is law (work.rest current next heights) =
       subst (AreLeast t) (sym heights)
       (ends b.heights.items b.height
-      (subst (λ (z : List ℕ). IsWork t b.heights.items [] z b.height []) next
-      (subst (λ (z : List ℕ). IsWork t b.heights.items z b.next.items b.height []) current law)))
-
-  -- the same, as the code has it
-  module _ (rows slice : List (List Rule)) (same : slice ≡ rows) (are : AreUses t.rules.items t.parts rows) (b a : Work) (part : ℕ)
-      (row : List Rule) (is : row ≡ get_or slice part []) where
-    row_is : get_or rows part [] ≡ row
-    row_is = ap (λ (z : List (List Rule)). get_or z part []) (sym same) ∙ sym is
-
-    pub taken_code : Works t b [] → Takes b a (Some part) → Taken b a part row
-    taken_code law took = subst (Taken b a part) row_is (taken rows are b a part (Some part) refl law took)
-
-    pub row_code : UseAll t part row
-    row_code = subst (UseAll t part) row_is (use_all rows are part)
+      (subst (λ (z : List ℕ). IsWork t b.heights.items [] z b.height NoRule) next
+      (subst (λ (z : List ℕ). IsWork t b.heights.items z b.next.items b.height NoRule) current law)))
 
   pub begun_code : (heights current next : List ℕ) → heights ≡ set (replicate t.parts (suc t.nodes)) t.bottom 0 →
-      current ≡ t.bottom ∷ [] → next ≡ [] → IsWork t heights current next 0 []
+      current ≡ t.bottom ∷ [] → next ≡ [] → IsWork t heights current next 0 NoRule
   begun_code heights current next heights_are current_is next_is =
-      subst (λ (z : List ℕ). IsWork t heights current z 0 []) (sym next_is)
-      (subst (λ (z : List ℕ). IsWork t heights z [] 0 []) (sym current_is) (begins heights heights_are))
+      subst (λ (z : List ℕ). IsWork t heights current z 0 NoRule) (sym next_is)
+      (subst (λ (z : List ℕ). IsWork t heights z [] 0 NoRule) (sym current_is) (begins heights heights_are))
 
 pub pops : (xs ys : List ℕ) (r : Option ℕ) (n m : ℕ) → n ≡ length xs → m ≡ length ys → xs ≡ ys ++ option_to_list r →
     MatchOption r ((n ≡ 0) × (m ≡ 0)) (λ _. m + 1 ≡ n) → Pops xs ys r

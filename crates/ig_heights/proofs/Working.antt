@@ -1,11 +1,11 @@
 -- One look at a rule keeps the work list lawful.
-use Rattle.std.proofs.Common.{◌≡◌, ◌⊎◌, inl, inr, ℕ, suc, ◌+◌, ◌*◌, ◌<◌, ◌≤◌, List, ◌∷◌, length, set, Contains, sym, ap, ◌∙◌, subst, arith, length-set}
+use Rattle.std.proofs.Common.{◌≡◌, ◌⊎◌, inl, inr, ℕ, suc, ◌+◌, ◌*◌, ◌<◌, ◌≤◌, List, length, set, Contains, sym, ap, ◌∙◌, subst, arith, length-set}
 use Rattle.std.proofs.lemmas.List.{get_or-set_same}
 use Rattle.std.proofs.lemmas.Bool.{cases_eq}
-use Rattle.ig_text.proofs.Lists.{in_rest}
 use Rattle.ig_text.proofs.Orders.{le_or_lt}
 use Rattle.ig_heights.specs.Fits.{FitsRule}
 use Rattle.ig_heights.specs.Rules.{rise, height_at, need, IsGiven}
+use Rattle.ig_heights.specs.Uses.{HasSource}
 use Rattle.ig_heights.specs.Work.{unset, Waits, IsWork}
 use Rattle.ig_heights.specs.Work as work
 use Rattle.ig_heights.specs.declared.rule.Rule.{Rule}
@@ -13,21 +13,46 @@ use Rattle.ig_heights.specs.declared.rule.Table.{Table}
 use Rattle.ig_heights.proofs.Numbers.{rise_cases, rise_low, rise_one, set_there, unset_set, unset_some}
 
 -- a rule that uses a part of the round's height needs that height at least
-needs_round : (nodes height part : ℕ) (heights : List ℕ) (rule : Rule) → (rule.left ≡ part) ⊎ (rule.right ≡ part) →
-    height_at heights part ≡ height → height + rise nodes rule.target ≤ need nodes heights rule
+needs_round : (nodes height part : ℕ) (heights : List ℕ) (rule : Rule) → HasSource part rule → height_at heights part ≡ height →
+    height + rise nodes rule.target ≤ need nodes heights rule
 needs_round nodes height part heights rule (inl e) is =
     let h = ap (height_at heights) e ∙ is in omega (arith, h)
 needs_round nodes height part heights rule (inr e) is =
     let h = ap (height_at heights) e ∙ is in omega (arith, h)
 
-module _ (t : Table) (hs cs ns : List ℕ) (h part : ℕ) (rule : Rule) (rest : List Rule) (law : IsWork t hs cs ns h (rule ∷ rest))
-    (used : (rule.left ≡ part) ⊎ (rule.right ≡ part)) (round : height_at hs part ≡ h) where
-  waits_still : (r : Rule) → Waits cs ns (rule ∷ rest) r → Waits cs ns rest r ⊎ (r ≡ rule)
+-- where fewer rules are to be looked at
+pub fewer : (t : Table) (hs cs ns : List ℕ) (h : ℕ) (more rest : Rule → Type 0) →
+    ((r : Rule) → Contains t.rules.items r → more r → rest r) → IsWork t hs cs ns h more → IsWork t hs cs ns h rest
+fewer t hs cs ns h more rest still law =
+    record {
+      long = law.long;
+      bounded = law.bounded;
+      bottom = law.bottom;
+      given = law.given;
+      obeyed = λ r c. elim (law.obeyed r c) [ inl low ↦ inl low | inr waits ↦ inr (moved r c waits) ];
+      low = law.low;
+      ahead = law.ahead;
+      in_round = law.in_round;
+      in_next = law.in_next;
+      room = law.room;
+    }
+  where
+    moved : (r : Rule) → Contains t.rules.items r → Waits cs ns more r → Waits cs ns rest r
+    moved r a (work.left_current c) = work.left_current c
+    moved r a (work.right_current c) = work.right_current c
+    moved r a (work.left_next c) = work.left_next c
+    moved r a (work.right_next c) = work.right_next c
+    moved r a (work.itself c) = work.itself (still r a c)
+
+module _ (t : Table) (hs cs ns : List ℕ) (h part : ℕ) (rule : Rule) (more rest : Rule → Type 0)
+    (only : (r : Rule) → more r → rest r ⊎ (r ≡ rule)) (law : IsWork t hs cs ns h more) (used : HasSource part rule)
+    (round : height_at hs part ≡ h) where
+  waits_still : (r : Rule) → Waits cs ns more r → Waits cs ns rest r ⊎ (r ≡ rule)
   waits_still r (work.left_current c) = inl (work.left_current c)
   waits_still r (work.right_current c) = inl (work.right_current c)
   waits_still r (work.left_next c) = inl (work.left_next c)
   waits_still r (work.right_next c) = inl (work.right_next c)
-  waits_still r (work.itself c) = elim (in_rest rule rest r c) [ inl e ↦ inr (sym e) | inr o ↦ inl (work.itself o) ]
+  waits_still r (work.itself c) = elim (only r c) [ inl o ↦ inl (work.itself o) | inr e ↦ inr e ]
 
   -- what is higher than the round waits, or has no height
   beyond : (p : ℕ) → h < height_at hs p → (height_at hs p ≡ suc t.nodes) ⊎ Contains ns p

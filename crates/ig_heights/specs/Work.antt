@@ -1,5 +1,5 @@
 -- The work list of least heights: what holds between two steps.
-use Rattle.std.specs.Prelude.{◌≡◌, ◌⊎◌, ℕ, zero, suc, ◌+◌, ◌*◌, ◌<◌, ◌≤◌, List, [], ◌∷◌, ◌++◌, Option, Some, None, length, get_or, set, Contains}
+use Rattle.std.specs.Prelude.{◌≡◌, ◌⊎◌, ℕ, zero, suc, ◌+◌, ◌*◌, ◌<◌, ◌≤◌, List, [], ◌∷◌, ◌++◌, Option, Some, None, length, set, Contains}
 use Rattle.ig_heights.specs.Rules.{rise, height_at, need, IsGiven}
 use Rattle.ig_heights.specs.declared.rule.Rule.{Rule}
 use Rattle.ig_heights.specs.declared.rule.Table.{Table}
@@ -11,29 +11,20 @@ unset limit zero heights = 0
 unset limit (suc n) [] = 0
 unset limit (suc n) (h ∷ heights) = rise h limit + unset limit n heights
 
--- the rules that use a part, for each part
-pub record AreUses (rules : List Rule) (parts : ℕ) (rows : List (List Rule)) : Type 0 where
-  pub long : length rows ≡ parts
-  pub sound : (part : ℕ) (rule : Rule) → Contains (get_or rows part []) rule →
-      Contains rules rule × ((rule.left ≡ part) ⊎ (rule.right ≡ part))
-  pub left : (rule : Rule) → Contains rules rule → Contains (get_or rows rule.left []) rule
-  pub right : (rule : Rule) → Contains rules rule → Contains (get_or rows rule.right []) rule
-
--- each of these is a rule that uses the part
-abbrev pub UseAll : Table → ℕ → List Rule → Type 0
-UseAll table part uses =
-    (rule : Rule) → Contains uses rule → Contains table.rules.items rule × ((rule.left ≡ part) ⊎ (rule.right ≡ part))
+-- none of the rules
+abbrev pub NoRule : Rule → Type 0
+NoRule rule = ⊥
 
 -- the rule is still to be looked at
-pub data Waits (current next : List ℕ) (rest : List Rule) (rule : Rule) : Type 0 where
+pub data Waits (current next : List ℕ) (rest : Rule → Type 0) (rule : Rule) : Type 0 where
   left_current : Contains current rule.left → Waits current next rest rule
   right_current : Contains current rule.right → Waits current next rest rule
   left_next : Contains next rule.left → Waits current next rest rule
   right_next : Contains next rule.right → Waits current next rest rule
-  itself : Contains rest rule → Waits current next rest rule
+  itself : rest rule → Waits current next rest rule
 
 -- the parts in `current` have the height of the round, those in `next` one more; a rule is obeyed, or waits
-pub record IsWork (table : Table) (heights current next : List ℕ) (height : ℕ) (rest : List Rule) : Type 0 where
+pub record IsWork (table : Table) (heights current next : List ℕ) (height : ℕ) (rest : Rule → Type 0) : Type 0 where
   pub long : length heights ≡ table.parts
   pub bounded : (part : ℕ) → height_at heights part ≤ suc table.nodes
   pub bottom : height_at heights table.bottom ≡ 0
@@ -49,7 +40,7 @@ pub record IsWork (table : Table) (heights current next : List ℕ) (height : �
   pub in_next : (part : ℕ) → Contains next part → (part < table.parts) × (height_at heights part ≡ suc height)
   pub room : height + unset table.nodes table.nodes heights + length next ≤ table.nodes
 
-abbrev pub Works : Table → Work → List Rule → Type 0
+abbrev pub Works : Table → Work → (Rule → Type 0) → Type 0
 Works table work rest = IsWork table work.heights.items work.current.items work.next.items work.height rest
 
 -- the rule makes its target now
@@ -90,7 +81,3 @@ pub data Takes (before after : Work) : Option ℕ → Type 0 where
 abbrev pub weight : Table → Work → ℕ
 weight table work =
     3 * unset table.nodes table.parts work.heights.items + length work.current.items + 2 * length work.next.items
-
-pub record AreNoRows (count : ℕ) (rows : List (List Rule)) : Type 0 where
-  pub long : length rows ≡ count
-  pub none : (part : ℕ) → get_or rows part [] ≡ []

@@ -37,13 +37,17 @@ impl Heights {
         trim_forest_has_trees();
         let root = forest.root();
         let least = least_rules(alloc, forest)?;
+        let count = least.nodes;
         let least_table = least_heights(alloc, &least)?;
         let low = least_table.as_slice();
-        let whole = whole_rules(alloc, &least)?;
-        let whole_table = least_heights(alloc, &whole)?;
         let nodes = part_of(alloc, low, 0, forest.nodes())?;
-        let items = part_of(alloc, low, least.nodes, forest.items())?;
-        let cyclic = is_above(whole_table.as_slice(), root, least.nodes);
+        let items = part_of(alloc, low, count, forest.items())?;
+        // A table is let go as soon as it is not wanted, before the next one grows.
+        drop(least_table);
+        let whole = whole_rules(alloc, &least)?;
+        drop(least);
+        let whole_table = least_heights(alloc, &whole)?;
+        let cyclic = is_above(whole_table.as_slice(), root, count);
         Ok(Heights {
             nodes,
             items,

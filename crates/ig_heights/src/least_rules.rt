@@ -15,7 +15,7 @@ pub(crate) fn least_rules(alloc: Global, forest: &Forest) -> Result<Table, Alloc
     let _ = forest.root();
     let nodes = forest.nodes();
     let bottom = nodes as usize + forest.items() as usize;
-    let mut rules = Vec::new(alloc);
+    let mut rules = Vec::with_capacity(alloc, bottom)?;
     add_nodes(&mut rules, forest, bottom)?;
     add_items(&mut rules, forest, nodes, bottom)?;
     Ok(Table {

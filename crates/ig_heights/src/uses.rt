@@ -1,49 +1,77 @@
 //! The rules that use a part.
-ghost use Rattle.std.specs.Prelude.{◌≡◌, ◌<◌, ◌++◌, ◌∷◌, [], IfOk, OnOk, length, get_or, set};
-ghost use Rattle.ig_heights.specs.Work.{AreNoRows, AreUses};
+ghost use Rattle.std.specs.Prelude.{◌≡◌, ◌<◌, IfOk, OnOk, get_or, length};
+ghost use Rattle.ig_heights.specs.Fits.{FitsRule};
+ghost use Rattle.ig_heights.specs.Uses.{AreUsesOf, IsAdded, IsBefore};
 
 use crate::rule::{Rule, Table};
-use ig_text::Sequence;
 use std::alloc::{AllocError, Global};
 
-/// The rules that use a part, for each part.
-pub(crate) fn uses_of(alloc: Global, table: &Table) -> Result<Vec<Sequence<Rule>>, AllocError>
-    ensures { IfOk result (λ rows. AreUses table.now.rules.items table.now.parts rows.items) }
+/// For each part the rules that use it, as a chain from the last one to the first. A rule of a
+/// chain is told by the number behind its own; 0 stands for none.
+#[derive(Drop)]
+pub(crate) struct Uses {
+    last: Vec<u32>,
+    earlier: Vec<Earlier>,
+}
+
+/// Of a rule, the last rules before it that use its left and its right source.
+#[derive(Clone, Copy)]
+struct Earlier {
+    left: u32,
+    right: u32,
+}
+
+/// The rules of the table that use a part, for each part. Refused for want of memory, or of a
+/// number of 32 bits.
+pub(crate) fn uses_of(alloc: Global, table: &Table) -> Result<Uses, AllocError>
+    ensures { IfOk result (AreUsesOf table.now) }
 {
-    let mut rows = no_rows(alloc, table.parts)?;
+    let last = vec![in alloc; 0; table.parts]?;
+    let earlier = Vec::with_capacity(alloc, table.rules.len())?;
+    let mut uses = Uses { last, earlier };
     for rule in &table.rules {
-        add(&mut rows, rule.left, *rule)?;
-        add(&mut rows, rule.right, *rule)?;
+        uses.add(*rule)?;
     }
-    Ok(rows)
+    Ok(uses)
 }
 
-/// The rules of a row; none where the row isn't there.
-pub(crate) fn uses_at(uses: &[Sequence<Rule>], part: usize) -> &[Rule]
-    ensures { result.now ≡ get_or uses.now part [] }
-{
-    match uses.get(part) {
-        Some(row) => row.as_slice(),
-        None => &[],
+impl Uses {
+    /// Adds the next rule to the chains of both its sources.
+    fn add(&mut self, rule: Rule) -> Result<(), AllocError>
+        requires { FitsRule (length self.old.last.items) rule }
+        ensures { OnOk result (IsAdded rule self.old self.new) }
+    {
+        self.earlier.push(Earlier {
+            left: self.last[rule.left],
+            right: self.last[rule.right],
+        })?;
+        let Ok(behind) = u32::try_from(self.earlier.len()) else {
+            return Err(AllocError);
+        };
+        self.last[rule.left] = behind;
+        self.last[rule.right] = behind;
+        Ok(())
     }
-}
 
-/// So many empty rows.
-fn no_rows(alloc: Global, count: usize) -> Result<Vec<Sequence<Rule>>, AllocError>
-    ensures { IfOk result (λ rows. AreNoRows count rows.items) }
-{
-    let mut rows = Vec::with_capacity(alloc, count)?;
-    for _ in 0..count {
-        rows.push(Sequence::new(alloc))?;
+    /// The number behind the last rule that uses the part.
+    pub fn last(&self, part: usize) -> usize
+        requires { part < length self.now.last.items }
+        ensures { result ≡ get_or self.now.last.items part 0 }
+    {
+        self.last[part] as usize
     }
-    Ok(rows)
-}
 
-/// Adds the rule at the end of a row.
-fn add(rows: &mut Vec<Sequence<Rule>>, part: usize, rule: Rule) -> Result<(), AllocError>
-    requires part { part < length rows.old.items }
-    ensures { OnOk result (rows.new.items ≡ set rows.old.items part
-        (get_or rows.old.items part [] ++ rule ∷ [])) }
-{
-    rows[part].push(rule).map_err(|(_, error)| error)
+    /// Of the rule of that number, which uses the part: the number behind the last rule before it
+    /// that does, too.
+    pub fn before(&self, number: usize, rule: Rule, part: usize) -> usize
+        requires { number < length self.now.earlier.items }
+        ensures { IsBefore self.now.earlier.items number rule part result }
+    {
+        let earlier = self.earlier[number];
+        if rule.left == part {
+            earlier.left as usize
+        } else {
+            earlier.right as usize
+        }
+    }
 }

@@ -12,7 +12,12 @@ pub(crate) fn whole_rules(alloc: Global, least: &Table) -> Result<Table, AllocEr
     requires parts { least.now.parts ≡ suc least.now.bottom }
     ensures { IfOk result (IsWholeTable least.now) }
 {
-    let mut rules = Vec::new(alloc);
+    let count = least
+        .rules
+        .len()
+        .saturating_mul(2)
+        .saturating_add(least.bottom);
+    let mut rules = Vec::with_capacity(alloc, count)?;
     let last = add_links(alloc, &mut rules, least)?;
     let parts = least.bottom + 1 + rules.len();
     add_lasts(&mut rules, last.as_slice(), least.bottom)?;

@@ -1,12 +1,13 @@
 //! Least heights by a work list.
-ghost use Rattle.std.specs.Prelude.{◌≡◌, ◌<◌, ◌≤◌, ◌↔◌, [], suc, IfOk, IsTrue, OnOk, length};
+ghost use Rattle.std.specs.Prelude.{◌≡◌, ◌<◌, ◌≤◌, ◌↔◌, suc, IfOk, IsTrue, OnOk, length};
 ghost use Rattle.ig_text.specs.Limits.{numbers_end};
 ghost use Rattle.ig_heights.specs.Fits.{FitsRule};
 ghost use Rattle.ig_heights.specs.Rules.{AreLeast, height_at};
-ghost use Rattle.ig_heights.specs.Work.{Fires, Looks, Pops, Takes, UseAll, Works, weight};
+ghost use Rattle.ig_heights.specs.Uses.{AreUsesOf, HasSource};
+ghost use Rattle.ig_heights.specs.Work.{Fires, Looks, NoRule, Pops, Takes, Works, weight};
 
 use crate::rule::{Rule, Table};
-use crate::uses::{uses_at, uses_of};
+use crate::uses::{Uses, uses_of};
 use std::alloc::{AllocError, Global};
 
 /// The heights so far, by part; one above the number of nodes stands for none. The parts in
@@ -25,18 +26,17 @@ pub(crate) struct Work {
 pub(crate) fn least_heights(alloc: Global, table: &Table) -> Result<Vec<usize>, AllocError>
     ensures { IfOk result (λ heights. AreLeast table.now heights.items) }
 {
-    let use_table = uses_of(alloc, table)?;
-    let uses = use_table.as_slice();
+    let uses = uses_of(alloc, table)?;
     let mut work = begun(alloc, table)?;
     while let Some(part) = work.take() {
-        work.visit(table, part, uses_at(uses, part))?;
+        work.visit(table, &uses, part)?;
     }
     Ok(work.heights)
 }
 
 /// Nothing has a height but the bottom.
 fn begun(alloc: Global, table: &Table) -> Result<Work, AllocError>
-    ensures { IfOk result (λ work. Works table.now work []) }
+    ensures { IfOk result (λ work. Works table.now work NoRule) }
 {
     let mut heights = vec![in alloc; table.nodes + 1; table.parts]?;
     heights[table.bottom] = 0;
@@ -83,15 +83,20 @@ impl Work {
     }
 
     /// Looks at each rule that uses the part.
-    fn visit(&mut self, table: &Table, part: usize, uses: &[Rule]) -> Result<(), AllocError>
-        requires uses { UseAll table.now part uses.now }
+    fn visit(&mut self, table: &Table, uses: &Uses, part: usize) -> Result<(), AllocError>
+        requires uses { AreUsesOf table.now uses.now }
+        requires there { part < table.now.parts }
         requires part { height_at self.old.heights.items part ≡ self.old.height }
-        requires work { Works table.now self.old uses.now }
-        ensures work { OnOk result (Works table.now self.new []) }
+        requires work { Works table.now self.old (HasSource part) }
+        ensures work { OnOk result (Works table.now self.new NoRule) }
         ensures less { OnOk result (weight table.now self.new ≤ weight table.now self.old) }
     {
-        for rule in uses {
-            self.look(table.nodes, *rule)?;
+        let mut behind = uses.last(part);
+        while behind > 0 {
+            let number = behind - 1;
+            let rule = table.rules[number];
+            self.look(table.nodes, rule)?;
+            behind = uses.before(number, rule, part);
         }
         Ok(())
     }

@@ -3,6 +3,7 @@ use Rattle.std.proofs.Common.{◌≡◌, ℕ, zero, suc, List, [], ◌∷◌, �
 use Rattle.std.specs.Prelude.{slice_get, codes}
 use Rattle.std.proofs.lemmas.Option.{same_Some}
 use Rattle.ig_text.specs.declared.tag.Tag.TheVariants.{Rule}
+use Rattle.ig_text.proofs.Differing.{one_differs, two_differ}
 use Rattle.ig_expr.specs.declared.kind.Kind.{Kind}
 use Rattle.ig_expr.specs.declared.kind.Kind.TheVariants.{Span}
 use Rattle.ig_item.specs.Step.{Step, names_of}
@@ -18,20 +19,6 @@ use Rattle.ig_item.proofs.Fitting.{each_fits, differ_at, of_each, of_members}
 
 pub no_names : {A : Type 0} → NoneTwice {X = A} []
 no_names i j x at_i at_j = cc
-
-pub one_name : {A : Type 0} (a : A) → NoneTwice (a ∷ [])
-one_name a zero zero x at_i at_j = refl
-one_name a zero (suc j) x at_i at_j = cc
-one_name a (suc i) j x at_i at_j = cc
-
-pub two_names : {A : Type 0} (a b : A) → (a ≡ b → ⊥) → NoneTwice (a ∷ b ∷ [])
-two_names a b ne zero zero x at_i at_j = refl
-two_names a b ne zero (suc zero) x at_i at_j = absurd (ne (same_Some a x at_i ∙ sym (same_Some b x at_j)))
-two_names a b ne (suc zero) zero x at_i at_j = absurd (ne (same_Some a x at_j ∙ sym (same_Some b x at_i)))
-two_names a b ne (suc zero) (suc zero) x at_i at_j = refl
-two_names a b ne zero (suc (suc j)) x at_i at_j = cc
-two_names a b ne (suc zero) (suc (suc j)) x at_i at_j = cc
-two_names a b ne (suc (suc i)) j x at_i at_j = cc
 
 pub root_fits : (core : List Nonterminal) (others : List Nonterminal) → core ≡ root ∷ others → HasRoot core
 root_fits core others e =
@@ -125,8 +112,8 @@ countdown_is_well_kinded =
               (differ_at (start counting) counting no_names, tt),
               (
                 (
-                  differ_at counted at_zero (one_name _),
-                  (differ_at counted letter_and_less (two_names (codes "n") (codes "x") n_is_not_x), tt),
+                  differ_at counted at_zero (one_differs _),
+                  (differ_at counted letter_and_less (two_differ (codes "n") (codes "x") n_is_not_x), tt),
                 ),
                 tt,
               ),

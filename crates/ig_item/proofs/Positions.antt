@@ -1,26 +1,11 @@
 -- Where the items of a text stand.
-use Rattle.std.proofs.Common.{◌≡◌, ℕ, ◌+◌, ◌<◌, ◌≤◌, List, length, sym, subst, arith}
-use Rattle.std.proofs.lemmas.Option.{slice_get_within}
-use Rattle.ig_text.specs.Pattern.{Matches}
-use Rattle.ig_text.specs.declared.pattern.Pattern.{Pattern}
-use Rattle.ig_text.specs.declared.pattern.Pattern.TheVariants.{Literal, OneOf}
+use Rattle.std.proofs.Common.{ℕ, List, sym, subst, arith}
+use Rattle.ig_text.proofs.Matching.{match_goes}
 use Rattle.ig_item.specs.Items as items
 use Rattle.ig_item.specs.Items.{Item, Follows}
 use Rattle.ig_item.specs.Laws.{IsInText, ItemsAreInText}
 use Rattle.ig_item.specs.declared.core_grammar.Nonterminal.{Nonterminal}
 use Rattle.ig_item.specs.Induction.{kept}
-
--- a match goes onward within the text
-pub record IsOnward (text : List ℕ) (i j : ℕ) : Type 0 where
-  pub onward : i ≤ j
-  pub within : j ≤ length text
-
-pub match_is_onward : (text : List ℕ) (pattern : Pattern) (i j : ℕ) → Matches text pattern i j → IsOnward text i j
-match_is_onward text (Literal word) i j m = record { onward = m.onward; within = m.within }
-match_is_onward text (OneOf class) i j m =
-    let here : i < length text = slice_get_within text i m.character m.there in
-    let next : j ≡ i + 1 = m.next in
-    record { onward = omega (arith, next); within = omega (arith, next, here) }
 
 module _ (core : List Nonterminal) (text : List ℕ) where
   rule : (x : Item) → Follows core text (IsInText text) x → IsInText text x
@@ -30,8 +15,8 @@ module _ (core : List Nonterminal) (text : List ℕ) where
   rule _ (items.bind it names name c v x k before has e) =
       subst (IsInText text) (sym e) (record { onward = k.onward; within = k.within })
   rule _ (items.terminal it names what label excluded j x k before matches free e) =
-      let m = match_is_onward text what it.position j matches in
-      subst (IsInText text) (sym e) (record { onward = omega (arith, k.onward, m.onward); within = m.within })
+      let m = match_goes text what it.position j matches in
+      subst (IsInText text) (sym e) (record { onward = omega (arith, k.onward, m.0); within = m.1 })
   rule _ (items.call it callee label excluded nonterminal a alternative x k calls at e) =
       subst (IsInText text) (sym e) (record { onward = omega arith; within = omega (arith, calls.here, k.within) })
   rule _ (items.return it done label excluded x k l calls complete free e) =

@@ -5,6 +5,7 @@ use Rattle.ig_grammar.specs.Checked.{CheckedGrammar}
 use Rattle.ig_grammar.specs.declared.grammar.Grammar.{Grammar}
 use Rattle.ig_item.specs.Core.{dots}
 use Rattle.ig_item.specs.Limits.{most_dots}
+use Rattle.ig_item.specs.declared.run_fault.RunFault.TheVariants.{Budget}
 use Rattle.ig_core_laws.specs.Lowered.{CoreOf}
 use Rattle.ig_core_laws.specs.Notation.{unchanged}
 use Rattle.ig_forest.specs.Forest.{Forest}
@@ -13,7 +14,6 @@ use Rattle.ig_forest_text.specs.ForestText.{forest_text}
 use Rattle.ig_print.specs.declared.report.Report.{Report}
 use Rattle.ig_print.specs.ReportText.{IsPlace}
 use Rattle.ig_load.specs.Summary.{Loads}
-use Rattle.ig_load.specs.declared.fault.LoadFault.TheVariants.{Budget}
 use Rattle.ig_load_texts.specs.Line.{summary_text}
 use Rattle.ig_load_texts.specs.declared.summary.Summary.{Summary}
 use Rattle.ig_endings.specs.Notes.{budget_note, grammar_note, no_parse_note}

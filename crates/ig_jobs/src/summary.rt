@@ -4,7 +4,8 @@ ghost use Rattle.ig_command.specs.Commands.{most_size};
 ghost use Rattle.ig_jobs.specs.Texts.{LoadsText};
 
 use ig_endings::{Stop, over_budget};
-use ig_load::{LoadFault, load};
+use ig_item::RunFault;
+use ig_load::load;
 use ig_load_texts::show_summary;
 use std::alloc::Global;
 
@@ -21,7 +22,7 @@ pub fn summary_line(alloc: Global, size: u32, number: u64, budget: u32) -> Resul
             let line = show_summary(alloc, &summary)?;
             Ok(line)
         }
-        Err(LoadFault::Budget) => Err(over_budget(alloc, budget)),
-        Err(LoadFault::Memory) => Err(Stop::Memory),
+        Err(RunFault::Budget) => Err(over_budget(alloc, budget)),
+        Err(RunFault::Memory) => Err(Stop::Memory),
     }
 }

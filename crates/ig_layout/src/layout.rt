@@ -10,12 +10,13 @@ ghost use Rattle.ig_lexical_laws.specs.Layout.{laid_declaration, laid_grammar, l
 
 use crate::guide::Guide;
 use ig_expr::Exprs;
-use ig_filters::relabelled;
 use ig_grammar::{Checked, Decl, DeclKind, Decls, Filters, Grammar, Inner, Lets, Symbol, Symbols};
 use ig_lexical_laws::layout_keeps;
 use ig_rooting::{copy_of_shapes, has_root, root};
 use ig_text::{Copied, Word};
-use ig_traversal::{OwnRule, copy_of_start, push_declaration, push_symbol, rewrite_levels};
+use ig_traversal::{
+    OwnRule, copy_of_start, push_declaration, push_symbol, relabelled, rewrite_levels,
+};
 use std::alloc::{AllocError, Global};
 
 /// The grammar with layout called in the open, exactly as `ig_lexical_laws` says: each

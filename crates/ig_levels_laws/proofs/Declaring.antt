@@ -1,13 +1,8 @@
 -- The pass's grammar has what the induction uses.
-use Rattle.std.proofs.Common.{◌≡◌, ℕ, suc, Bool, true, false, List, [], ◌∷◌, map, refl, sym, ◌∙◌, ap, Some, arith, cond}
+use Rattle.std.proofs.Common.{◌≡◌, ℕ, suc, Bool, false, List, [], ◌∷◌, map, refl, sym, ◌∙◌, ap, Some}
 use Rattle.std.specs.Prelude.{slice_get, option_map}
-use Rattle.std.specs.Cmp.Lexicographic.{bytes_decides}
 use Rattle.std.proofs.lemmas.Option.{slice_get-map, same_Some}
-use Rattle.ig_text.specs.Words.{is_word}
-use Rattle.ig_grammar.specs.Names.{names, AreDistinct}
 use Rattle.ig_grammar.specs.Numbering.{Declares, layout_among, name_of_layout}
-use Rattle.ig_grammar.specs.declared.declaration.DeclKind.{DeclKind}
-use Rattle.ig_grammar.specs.declared.declaration.DeclKind.TheVariants.{Syntax, Lexical, Layout, Plain}
 use Rattle.ig_grammar.specs.declared.declaration.Decl.{Decl}
 use Rattle.ig_grammar.specs.declared.grammar.Grammar.{Grammar}
 use Rattle.ig_grammar.specs.declared.place.Shape.{Shape}
@@ -16,48 +11,6 @@ use Rattle.ig_levels_laws.proofs.Premises.{Lowerable}
 use Rattle.ig_text.proofs.Options.{mapped}
 use Rattle.ig_text.proofs.Lists.{mapped_at}
 use Rattle.ig_levels_laws.proofs.Takes.{Takes, DeclaredAs}
-
-rest_distinct : (d : Decl) (ds : List Decl) → AreDistinct (names (d ∷ ds)) → AreDistinct (names ds)
-rest_distinct d ds distinct i j name p q = let e : suc i ≡ suc j = distinct (suc i) (suc j) name p q in omega (arith, e)
-
--- a name is levelled where its declaration is
-pub known_at : (ds : List Decl) → AreDistinct (names ds) → (k : ℕ) (decl : Decl) → slice_get ds k ≡ Some decl →
-    names_levelled ds decl.name ≡ is_levelled decl.levels
-known_at [] distinct k decl h = absurd (cc)
-known_at (d ∷ ds) distinct ℕ.zero decl h =
-    let same : d ≡ decl = same_Some d decl h in
-    let own : is_word d.name decl.name ≡ true = (bytes_decides d.name decl.name).1 (ap (λ (z : Decl). z.name) same) in
-    ap (λ z. cond z (is_levelled d.levels) (names_levelled ds decl.name)) own ∙ ap (λ (z : Decl). is_levelled z.levels) same
-known_at (d ∷ ds) distinct (suc k) decl h =
-    ap (λ z. cond z (is_levelled d.levels) (names_levelled ds decl.name)) (other (is_word d.name decl.name) refl) ∙ known_at ds (rest_distinct d ds distinct) k decl h
-  where
-    other : (b : Bool) → is_word d.name decl.name ≡ b → is_word d.name decl.name ≡ false
-    other true e =
-        let same : d.name ≡ decl.name = (bytes_decides d.name decl.name).0 e in
-        let places : ℕ.zero ≡ suc k = distinct 0 (suc k) decl.name (ap Some same) (mapped_at (λ (z : Decl). z.name) (d ∷ ds) (suc k) decl h) in
-        absurd (let f : ⊥ = omega (arith, places) in f)
-    other false e = e
-
-pub record LayoutAt (ds : List Decl) (name : List ℕ) : Type 0 where
-  pub place : ℕ
-  pub decl : Decl
-  pub there : slice_get ds place ≡ Some decl
-  pub kind : decl.kind ≡ Layout
-  pub named : decl.name ≡ name
-
-layout_at : (ds : List Decl) (name : List ℕ) → layout_among ds ≡ Some name → LayoutAt ds name
-layout_at [] name h = absurd (cc)
-layout_at (d ∷ ds) name h = go d.kind refl h (layout_at ds name)
-  where
-    further : LayoutAt ds name → LayoutAt (d ∷ ds) name
-    further at = record { place = suc at.place; decl = at.decl; there = at.there; kind = at.kind; named = at.named }
-
-    go : (kind : DeclKind) → d.kind ≡ kind → name_of_layout kind d.name (layout_among ds) ≡ Some name → (layout_among ds ≡ Some name → LayoutAt ds name) →
-        LayoutAt (d ∷ ds) name
-    go Layout is e below = record { place = 0; decl = d; there = refl; kind = is; named = same_Some d.name name e }
-    go Syntax is e below = further (below e)
-    go Lexical is e below = further (below e)
-    go Plain is e below = further (below e)
 
 pub same_layout : (levelled : List ℕ → Bool) (ds : List Decl) → layout_among (map (lowered_declaration levelled) ds) ≡ layout_among ds
 same_layout levelled [] = refl
@@ -94,7 +47,7 @@ module _ (g : Grammar) (shapes : List Shape) (may : Lowerable g shapes) where
 
   known : (name : List ℕ) (d : ℕ) (decl : Decl) (shape : Shape) → Declares g shapes name d decl shape → levelled name ≡ is_levelled decl.levels
   known name d decl shape declares =
-      ap levelled (sym declares.named) ∙ known_at g.decls may.distinct declares.numbered.0 decl declares.numbered.2
+      ap levelled (sym declares.named) ∙ may.known declares.numbered.0 decl declares.numbered.2
 
   once : (name : List ℕ) (d e : ℕ) (decl other : Decl) (shape form : Shape) → Declares g shapes name d decl shape →
       Declares g shapes name e other form → decl ≡ other
@@ -106,8 +59,8 @@ module _ (g : Grammar) (shapes : List Shape) (may : Lowerable g shapes) where
 
   plain_layout : (name : List ℕ) → layout_among g.decls ≡ Some name → levelled name ≡ false
   plain_layout name h =
-      let at = layout_at g.decls name h in
-      ap levelled (sym at.named) ∙ known_at g.decls may.distinct at.place at.decl at.there ∙ may.plain_layout (suc at.place) at.decl (at.place, refl, at.there) at.kind
+      let at = may.layout name h in
+      ap levelled (sym at.3) ∙ may.known at.0 at.1 at.2 ∙ may.plain_layout (suc at.0) at.1 (at.0, refl, at.2) at.4
 
   pub takes_of : Takes g (lowered_grammar g) shapes shapes (names_levelled g.decls)
   takes_of =

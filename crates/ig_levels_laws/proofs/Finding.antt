@@ -1,6 +1,6 @@
 -- The computed operands are the operands.
 use Rattle.std.proofs.Common.{◌≡◌, ℕ, Bool, true, false, List, [], ◌∷◌, ◌++◌, refl, sym, ◌∙◌, ap, subst}
-use Rattle.std.proofs.lemmas.Bool.{not-true, and_from}
+use Rattle.std.proofs.lemmas.Bool.{not-true, and_from, and_right}
 use Rattle.std.proofs.Math.Bool.{or-false}
 use Rattle.std.specs.Prelude.{◌≢◌, ◌&&◌, ◌||◌, not}
 use Rattle.std.specs.Cmp.Lexicographic.{bytes_decides}
@@ -85,20 +85,16 @@ right_behind_test p first x xs e =
     let same : (first && is_test x) ≡ first = unchanged first (is_test x) e in
     rw (no, same) refl
 
-ended : (first : Bool) (b : Bool) → b ≡ false → (first && b) ≡ false
-ended true b e = e
-ended false b e = refl
-
 pub at_symbol : (p : Place) (first : Bool) (x : Symbol) (xs : List Symbol) → is_test x ≡ false → has_left p first (x ∷ xs) ≡ is_left p first x xs
 at_symbol p first x xs e =
     let no : has_left p false xs ≡ false = no_later_left p xs in
-    let ends : (first && is_test x) ≡ false = ended first (is_test x) e in
+    let ends : (first && is_test x) ≡ false = and_right first (is_test x) e in
     rw (ends, no) (or-false (is_left p first x xs))
 
 pub right_at_symbol : (p : Place) (first : Bool) (x : Symbol) (xs : List Symbol) → is_test x ≡ false →
     has_right p first (x ∷ xs) ≡ (is_right p first x xs || has_right p false xs)
 right_at_symbol p first x xs e =
-    let ends : (first && is_test x) ≡ false = ended first (is_test x) e in
+    let ends : (first && is_test x) ≡ false = and_right first (is_test x) e in
     rw ends refl
 
 pub record LeftFound (p : Place) (xs : List Symbol) : Type 0 where

@@ -1,11 +1,11 @@
 -- What the pass gives, for the grammar without levels to be well scoped, regular in form, and free of names.
-use Rattle.std.proofs.Common.{◌≡◌, ◌≢◌, ◌≤◌, ◌∙◌, ℕ, zero, suc, Bool, cond, true, false, List, [], ◌∷◌, ◌++◌, length, Some, refl, sym, ap, subst, inl, inr, arith}
+use Rattle.std.proofs.Common.{◌≡◌, ◌≢◌, ◌≤◌, ◌∙◌, ℕ, zero, suc, Bool, true, false, List, [], ◌∷◌, ◌++◌, length, Some, refl, sym, ap, subst, inl, inr, arith}
 use Rattle.std.specs.Prelude.{◌⊎◌, All, Contains, option_map, slice_get}
 use Rattle.std.proofs.lemmas.List.{append-nil, length-map}
 use Rattle.std.proofs.lemmas.Option.{same_Some, slice_get-map}
-use Rattle.ig_text.specs.Words.{is_word}
+use Rattle.ig_text.proofs.Differing.{two_differ}
 use Rattle.ig_text.proofs.Lists.{at_from_contains, contains_from_at, contains_one, none_in_nil}
-use Rattle.ig_grammar.specs.Condition.{declaration_of, symbols_of}
+use Rattle.ig_grammar.specs.Condition.{symbols_of}
 use Rattle.ig_grammar.specs.Name.{is_name}
 use Rattle.ig_grammar.specs.Names.{AreDistinct}
 use Rattle.ig_grammar.specs.Numbering.{Levelled, by_level, alternatives}
@@ -36,7 +36,7 @@ use Rattle.ig_levels_laws.proofs.Keeping.{Keeps, test}
 use Rattle.ig_levels_laws.proofs.Kinded.{InsertedKinds}
 use Rattle.ig_levels_laws.proofs.Lacking.{keeps_lacking}
 use Rattle.ig_levels_laws.proofs.Partners.{IsTest, Partner, occurs, counted, parameters_inserted}
-use Rattle.ig_levels_laws.proofs.Premises.{Lowerable}
+use Rattle.ig_levels_laws.proofs.Premises.{Lowerable, levelled_known}
 use Rattle.ig_levels_laws.proofs.Sequences.{left_kind, right_kind, test_kind}
 use Rattle.ig_levels_laws.proofs.Standing.{keeps_placed}
 use Rattle.ig_levels_laws.proofs.Wanting.{keeps_entered}
@@ -68,14 +68,8 @@ apart : left_name ≡ right_name → ⊥
 apart e = let f : 108 ≡ 114 = ap second e in omega (arith, f)
 
 added_distinct : (b : Bool) → AreDistinct (parameter_names (added_parameters b))
-added_distinct false i j n p q = absurd (cc)
-added_distinct true zero zero n p q = refl
-added_distinct true zero (suc zero) n p q = absurd (apart (same_Some left_name n p ∙ sym (same_Some right_name n q)))
-added_distinct true zero (suc (suc j)) n p q = absurd (cc)
-added_distinct true (suc zero) zero n p q = absurd (apart (same_Some left_name n q ∙ sym (same_Some right_name n p)))
-added_distinct true (suc zero) (suc zero) n p q = refl
-added_distinct true (suc zero) (suc (suc j)) n p q = absurd (cc)
-added_distinct true (suc (suc i)) j n p q = absurd (cc)
+added_distinct false = λ i j n p q. absurd (cc)
+added_distinct true = two_differ left_name right_name apart
 
 -- at most one level, which is free
 fewer : (levels : List Level) (alts : List Alt) → length (one_level levels alts) ≤ length levels
@@ -92,17 +86,6 @@ pub record LawsBelow : Type 0 where
   pub found : DeclarationsAreFound
   pub elsewhere : AsksElsewhere
   pub counts : BindersAreCounted
-
--- a name is levelled where its declaration is
-levelled_known : DeclarationsAreFound → (decls : List Decl) (name : List ℕ) (d : Decl) → declaration_of decls name ≡ Some d → names_levelled decls name ≡ is_levelled d.levels
-levelled_known found [] name d e = absurd (cc)
-levelled_known found (first ∷ others) name d e =
-    go (is_word first.name name) (sym (found.first first others name) ∙ e) (levelled_known found others name d)
-  where
-    go : (b : Bool) → cond b (Some first) (declaration_of others name) ≡ Some d → (declaration_of others name ≡ Some d → names_levelled others name ≡ is_levelled d.levels) →
-        cond b (is_levelled first.levels) (names_levelled others name) ≡ is_levelled d.levels
-    go true e rest = ap (λ (z : Decl). is_levelled z.levels) (same_Some first d e)
-    go false e rest = rest e
 
 module _ (laws : LawsBelow) (later : List (List ℕ)) (not_left : Contains later left_name → ⊥) (not_right : Contains later right_name → ⊥)
     (g : Grammar) (shapes : List Shape) (may : Lowerable g shapes)

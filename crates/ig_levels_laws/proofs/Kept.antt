@@ -53,7 +53,7 @@ module _ (given : Given) (c : CheckedGrammar) (sound : IsSound c) (has : has_roo
       let named : at.decl.name ≡ name = one_value c.grammar.start at.decl.name name at.start started in
       let same : at.decl ≡ decl =
       one_value (declaration_of c.grammar.decls name) at.decl decl
-      (subst (λ z. declaration_of c.grammar.decls z ≡ Some at.decl) named (given.found.itself c.grammar at.before at.decl sound.scoped at.declared)) found in
+      (subst (λ z. declaration_of c.grammar.decls z ≡ Some at.decl) named (given.found.itself c.grammar.decls may.distinct at.before at.decl at.declared)) found in
       ap (λ (z : Decl). is_levelled z.levels) (sym same) ∙ one_free at.decl.levels ((sound.fit.each at.before at.decl Root at.declared at.shaped).level (λ e. cc))
 
   permitted_same : PermitSame c (lowered c)
@@ -69,7 +69,7 @@ module _ (given : Given) (c : CheckedGrammar) (sound : IsSound c) (has : has_roo
       laws = record { new = given.new; found = given.found; elsewhere = given.elsewhere; counts = given.counts }
 
       plain : (k : ℕ) (d : Decl) → slice_get c.grammar.decls k ≡ Some d → c.grammar.start ≡ Some d.name → is_levelled d.levels ≡ false
-      plain k d there started = start_plain d.name d started (given.found.itself c.grammar k d sound.scoped there)
+      plain k d there started = start_plain d.name d started (given.found.itself c.grammar.decls may.distinct k d there)
 
   values_kept : KeepsValues c (lowered c)
   values_kept = record { values = λ text t u p. annotates_same c.grammar c.shapes text given.cleans may at t u }

@@ -1,6 +1,8 @@
 -- What the proofs use of a checked grammar in which the added names are not bound.
-use Rattle.std.proofs.Common.{◌≡◌, ℕ, suc, ◌<◌, true, false, List, [], ◌∷◌, length, Some, refl, sym, ◌∙◌, ap, subst, arith}
+use Rattle.std.proofs.Common.{◌≡◌, ℕ, suc, ◌<◌, Bool, true, false, cond, List, [], ◌∷◌, length, Some, refl, sym, ◌∙◌, ap, subst, arith}
 use Rattle.std.specs.Prelude.{◌≢◌, Contains, slice_get, not}
+use Rattle.std.proofs.lemmas.Option.{same_Some}
+use Rattle.ig_text.specs.Words.{is_word}
 use Rattle.ig_grammar.specs.declared.grammar.Grammar.{Grammar}
 use Rattle.ig_grammar.specs.declared.declaration.Assoc.{Assoc}
 use Rattle.ig_grammar.specs.declared.declaration.Assoc.TheVariants.{Free, Left, Right, Nonassoc}
@@ -10,17 +12,30 @@ use Rattle.ig_grammar.specs.declared.declaration.Level.{Level}
 use Rattle.ig_grammar.specs.declared.place.Shape.{Shape}
 use Rattle.ig_grammar.specs.declared.place.Shape.TheVariants.{Rule}
 use Rattle.ig_grammar.specs.Checked.{FitShapes, IsOneFreeLevel}
-use Rattle.ig_grammar.specs.Condition.{DuplicateName, duplicate_name, LayoutNotPlain, layout_not_plain, IsNotPlain}
+use Rattle.ig_grammar.specs.Condition.{declaration_of, LayoutNotPlain, layout_not_plain, IsNotPlain}
 use Rattle.ig_grammar.specs.Condition as plain
 use Rattle.ig_grammar.specs.Names.{AreDistinct, names}
-use Rattle.ig_grammar.specs.Numbering.{IsDeclaration, HasShape, Levelled, IsAlternative}
+use Rattle.ig_grammar.specs.Numbering.{IsDeclaration, HasShape, Levelled, IsAlternative, layout_among}
 use Rattle.ig_grammar.specs.WellScoped.{IsWellScoped}
-use Rattle.ig_rewrite.specs.Found.{DeclarationsAreFound}
-use Rattle.ig_levels_laws.specs.Levels.{is_levelled, is_free}
+use Rattle.ig_rewrite.specs.Found.{HasLayout, DeclarationsAreFound}
+use Rattle.ig_levels_laws.specs.Levels.{names_levelled, is_levelled, is_free}
 use Rattle.ig_levels_laws.proofs.Bounds.{AllClear, ParametersOfSource}
+
+-- a name is levelled where its declaration is
+pub levelled_known : DeclarationsAreFound → (decls : List Decl) (name : List ℕ) (d : Decl) → declaration_of decls name ≡ Some d → names_levelled decls name ≡ is_levelled d.levels
+levelled_known found [] name d e = absurd (cc)
+levelled_known found (first ∷ others) name d e =
+    go (is_word first.name name) (sym (found.first first others name) ∙ e) (levelled_known found others name d)
+  where
+    go : (b : Bool) → cond b (Some first) (declaration_of others name) ≡ Some d → (declaration_of others name ≡ Some d → names_levelled others name ≡ is_levelled d.levels) →
+        cond b (is_levelled first.levels) (names_levelled others name) ≡ is_levelled d.levels
+    go true e rest = ap (λ (z : Decl). is_levelled z.levels) (same_Some first d e)
+    go false e rest = rest e
 
 pub record Lowerable (g : Grammar) (shapes : List Shape) : Type 0 where
   pub distinct : AreDistinct (names g.decls)
+  pub known : (k : ℕ) (decl : Decl) → slice_get g.decls k ≡ Some decl → names_levelled g.decls decl.name ≡ is_levelled decl.levels
+  pub layout : (name : List ℕ) → layout_among g.decls ≡ Some name → HasLayout g.decls name
   -- a levelled declaration is a rule
   pub rules : (d : ℕ) (decl : Decl) (shape : Shape) → IsDeclaration g d decl → HasShape shapes d shape → is_levelled decl.levels ≡ true → shape ≡ Rule
   pub plain_layout : (d : ℕ) (decl : Decl) → IsDeclaration g d decl → decl.kind ≡ Layout → is_levelled decl.levels ≡ false
@@ -77,6 +92,8 @@ module _ (found : DeclarationsAreFound) (g : Grammar) (shapes : List Shape) (sco
   lowerable =
       record {
         distinct = found.distinct g scoped;
+        known = λ k decl e. levelled_known found g.decls decl.name decl (found.itself g.decls (found.distinct g scoped) k decl e);
+        layout = found.layout g.decls;
         rules = only_rules;
         plain_layout = plain_layout;
         parameters = clear.parameters;

@@ -59,8 +59,8 @@ filters_kept given c sound free none no_layout =
       same = filters_same given c sound free no_layout;
       values = given.equivalence.values_chained c d (attached_of d) to_root.same to_root.values
           (filters_keep_values given.found d from.scoped root (kept.layout ∙ no_layout));
-      sound = made_is_sound kinds own d from kept.has (attached_is_well_scoped given.passes given.forms given.found d.grammar from.scoped unmarked)
-          (attached_fits given.forms d.grammar d.shapes unmarked from.fit) well entered (calls_kept d from.root_calls);
+      sound = made_is_sound kinds own d from kept.has (attached_is_well_scoped given.passes given.found d.grammar from.scoped unmarked)
+          (attached_fits d.grammar d.shapes unmarked from.fit) well entered (calls_kept d from.root_calls);
       free = made_free kinds own d (kept.free free);
       unmarked = each_level kinds own d.grammar AlternativesHaveNoMark AlternativesHaveNoMark (λ decl. attached_unmarked) unmarked;
       no_layout = sym (layout_rewritten own d.grammar.decls) ∙ kept.layout ∙ no_layout;

@@ -4,7 +4,6 @@ use Rattle.std.specs.Prelude.{Contains}
 use Rattle.ig_text.specs.Tree.{Trees}
 use Rattle.ig_expr.specs.Laws.{TestsLookFor}
 use Rattle.ig_meaning.specs.Laws.{HasNoOperators, TreesWithoutOperatorsAreClean}
-use Rattle.ig_grammar.specs.Laws.{RegularityByForm}
 use Rattle.ig_grammar.specs.Numbering.{Declares, layout_among}
 use Rattle.ig_grammar.specs.Checked.{CheckedGrammar}
 use Rattle.ig_meaning.specs.Derivation.{Trails, layout, no_layout, outside}
@@ -67,7 +66,6 @@ root_start c at start started = (
 pub record Given : Type 0 where
   pub looks : TestsLookFor
   pub cleans : TreesWithoutOperatorsAreClean
-  pub forms : RegularityByForm
   pub root : RootKeeps
   pub passes : ResultsAreReady
   pub found : DeclarationsAreFound

@@ -3,7 +3,6 @@ use Rattle.std.proofs.Common.{◌≡◌, ◌∙◌, ℕ, ◌+◌, List, [], ◌�
 use Rattle.ig_expr.specs.Expression.{Expression}
 use Rattle.ig_grammar.specs.Name.{is_name}
 use Rattle.ig_grammar.specs.Symbol.{Symbol, Label, Guard, Filtered, gathered}
-use Rattle.ig_grammar.specs.Laws.{RegularityByForm}
 use Rattle.ig_grammar.specs.Regular.{AlternativesHaveNoMark, OfEachLevel}
 use Rattle.ig_grammar.specs.WellScoped.{IsWellScoped}
 use Rattle.ig_grammar.specs.declared.filter.Filter.{Filter}
@@ -55,9 +54,9 @@ attached_binders x = refl
 pub same_kinds : KeepsKinds (λ kind. kind)
 same_kinds = record { kept = λ k. inl refl; lexical = λ k i. i; syntax = λ k e. e; layout = λ k e. e }
 
-pub attached_is_well_scoped : ResultsAreReady → RegularityByForm → DeclarationsAreFound → (g : Grammar) → IsWellScoped g → OfEachLevel AlternativesHaveNoMark g →
+pub attached_is_well_scoped : ResultsAreReady → DeclarationsAreFound → (g : Grammar) → IsWellScoped g → OfEachLevel AlternativesHaveNoMark g →
     IsWellScoped (rewritten_grammar (λ decl. attached) g)
-attached_is_well_scoped passes forms found g scoped none =
-    turned_is_well_scoped passes found (λ kind. kind) (λ decl. attached) same_kinds g forms scoped none
+attached_is_well_scoped passes found g scoped none =
+    turned_is_well_scoped passes found (λ kind. kind) (λ decl. attached) same_kinds g scoped none
     (λ decl x v p. attached_placed (Asks g.decls decl.kind) (λ w xs. tt) (λ w y fs. tt) (λ w e t. t.truth) (λ name y z w asks. asks) x v p)
     (λ decl x. attached_binders x)

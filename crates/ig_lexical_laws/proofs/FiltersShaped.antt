@@ -3,7 +3,6 @@ use Rattle.std.proofs.Common.{ℕ, List, sym, subst}
 use Rattle.std.specs.Prelude.{All}
 use Rattle.std.proofs.lemmas.List.Elements.{All-map}
 use Rattle.ig_grammar.specs.Symbol.{Symbol, Call, Seq, listed}
-use Rattle.ig_grammar.specs.Laws.{RegularityByForm}
 use Rattle.ig_grammar.specs.Regular.{AlternativesHaveNoMark, OfEachLevel}
 use Rattle.ig_grammar.specs.Checked.{FitShapes, IsCall, IsOfCalls}
 use Rattle.ig_grammar.specs.declared.grammar.Grammar.{Grammar}
@@ -29,10 +28,10 @@ attached_of_calls (Seq xs) c =
     subst (All IsCall) (sym (listed_rewritten attached xs)) (All-map IsCall (rewritten attached) (listed xs) (λ k d l. attached_call _ (c k d l)))
 attached_of_calls x c = absurd c
 
-pub attached_fits : RegularityByForm → (g : Grammar) (shapes : List Shape) → OfEachLevel AlternativesHaveNoMark g → FitShapes g shapes →
+pub attached_fits : (g : Grammar) (shapes : List Shape) → OfEachLevel AlternativesHaveNoMark g → FitShapes g shapes →
     FitShapes (rewritten_grammar (λ decl. attached) g) shapes
-attached_fits forms g shapes none fit =
-    turned_fits (λ kind. kind) (λ decl. attached) same_kinds forms g shapes none fit
+attached_fits g shapes none fit =
+    turned_fits (λ kind. kind) (λ decl. attached) same_kinds g shapes none fit
     (λ before decl at rooted root. record {
       uncalled = λ other. attached_uncalled decl.name;
       calls = λ a m. All-map IsOfCalls (rewritten attached) a.symbols (λ k d l. attached_of_calls _ (root.calls a m k d l));

@@ -49,9 +49,9 @@ layout_kept given c sound free none =
     record {
       same = layout_same given c sound free none;
       values = given.equivalence.values_chained c d (laid_of d) to_root.same to_root.values
-          (layout_keeps_values given.found d from.scoped root given.forms unmarked);
-      sound = made_is_sound to own d from kept.has (laid_is_well_scoped given.passes given.forms given.found d.grammar from.scoped unmarked)
-          (laid_fits given.forms given.found d.grammar d.shapes from.scoped unmarked from.fit from.root_calls) well entered
+          (layout_keeps_values given.found d from.scoped root unmarked);
+      sound = made_is_sound to own d from kept.has (laid_is_well_scoped given.passes given.found d.grammar from.scoped unmarked)
+          (laid_fits given.found d.grammar d.shapes from.scoped unmarked from.fit from.root_calls) well entered
           (λ before decl a at shaped syntactic m.
           let r = from_map (laid_declaration d.grammar.decls) d.grammar.decls before decl at in
           let k : Plain ≡ Syntax = ap (λ (z : Decl). z.kind) (sym r.2) ∙ syntactic in absurd (cc));

@@ -4,7 +4,6 @@ use Rattle.std.specs.Prelude.{◌↔◌, Contains, slice_get}
 use Rattle.ig_text.specs.Tree.{Tree}
 use Rattle.ig_grammar.specs.Symbol.{Symbol}
 use Rattle.ig_meaning.specs.Laws.{HasNoOperators, TreesWithoutOperatorsAreClean}
-use Rattle.ig_grammar.specs.Laws.{RegularityByForm}
 use Rattle.ig_rewrite.specs.Found.{DeclarationsAreFound}
 use Rattle.ig_grammar.specs.Regular.{AlternativesHaveNoMark, OfEachLevel}
 use Rattle.ig_grammar.specs.Numbering.{Levelled, by_level, Declares, IsAlternative, layout_among}
@@ -38,7 +37,6 @@ use Rattle.ig_lexical_laws.proofs.Sides.{forward_covers, backward_covers}
 -- what the proof takes from the crates below
 pub record Given : Type 0 where
   pub cleans : TreesWithoutOperatorsAreClean
-  pub forms : RegularityByForm
   pub found : DeclarationsAreFound
   pub root : RootKeeps
   pub passes : ResultsAreReady
@@ -77,7 +75,7 @@ module _ (given : Given) (g : Grammar) (shapes : List Shape) (scoped : IsWellSco
         kinds = refl;
         binds = λ vs env bound. (env, bound, refl);
         covers = forward_covers g shapes h shapes text (decided given.found g scoped shapes text h shapes) (plain_tight h shapes text) n known decl.kind (own decl) (sort_of g shapes text decl.kind)
-            a.alternative.symbols (everywhere given.forms g none decl k a among numbered);
+            a.alternative.symbols (everywhere g none decl k a among numbered);
       }
 
   backward_one : (n : ℕ) → LowInstances h shapes g shapes text SameEnv AnyStarts AnyKind AnyName n →
@@ -97,7 +95,7 @@ module _ (given : Given) (g : Grammar) (shapes : List Shape) (scoped : IsWellSco
         kinds = tt;
         binds = λ vs env bound. (env, bound, refl);
         covers = backward_covers g shapes h shapes text (decided given.found g scoped shapes text h shapes) (plain_tight h shapes text) n (all_plain g shapes text) known r.0.kind (own r.0) (sort_of g shapes text r.0.kind)
-            p.0.alternative.symbols (everywhere given.forms g none r.0 k p.0 among p.1);
+            p.0.alternative.symbols (everywhere g none r.0 k p.0 among p.1);
       }))
 
   module _ (free : (decl : Decl) → Contains g.decls decl → HasNoOperators decl.levels) (root : HasRoot g shapes) where

@@ -3,7 +3,6 @@ use Rattle.std.proofs.Common.{◌≡◌, ℕ, suc, List, [], Option, Some, None,
 use Rattle.ig_text.proofs.Emptiness.{empty_unless}
 use Rattle.ig_grammar.specs.Symbol.{Symbol, Call}
 use Rattle.ig_grammar.specs.Visible.{Visible}
-use Rattle.ig_grammar.specs.Laws.{RegularityByForm}
 use Rattle.ig_grammar.specs.Regular.{AlternativesHaveNoMark, OfEachLevel}
 use Rattle.ig_grammar.specs.Condition.{declaration_of}
 use Rattle.ig_grammar.specs.Condition as meets
@@ -24,14 +23,14 @@ use Rattle.ig_lexical_laws.proofs.RewrittenScoped.{KeepsKinds, heads, turned_is_
 pub plain_kinds : KeepsKinds (λ kind. Plain)
 plain_kinds = record { kept = λ k. inr refl; lexical = λ k i. absurd i; syntax = λ k e. cc; layout = λ k e. cc }
 
-module _ (passes : ResultsAreReady) (forms : RegularityByForm) (found : DeclarationsAreFound) (g : Grammar) (scoped : IsWellScoped g) (none : OfEachLevel AlternativesHaveNoMark g) where
+module _ (passes : ResultsAreReady) (found : DeclarationsAreFound) (g : Grammar) (scoped : IsWellScoped g) (none : OfEachLevel AlternativesHaveNoMark g) where
   layout_asks : (w : List ℕ) → layout_among g.decls ≡ Some w → (v : Visible) → Asks g.decls Syntax v (Call w [])
   layout_asks w e v =
       let l = found.layout g.decls w e in
       let none = empty_unless l.1.params (λ some. scoped (record { decl = suc l.0; alt = 0; symbol = 0 }) meets.LayoutNotPlain (l.1, l.2, meets.layout_not_plain l.4 (meets.parametrized some))) in
       record {
         callee = l.1;
-        declared = subst (λ n. declaration_of g.decls n ≡ Some l.1) l.3 (found.itself g l.0 l.1 scoped l.2);
+        declared = subst (λ n. declaration_of g.decls n ≡ Some l.1) l.3 (found.itself g.decls (found.distinct g scoped) l.0 l.1 l.2);
         fit = subst (Fit v []) (sym none) tt;
         allowed = λ i. absurd i;
       }
@@ -58,5 +57,5 @@ module _ (passes : ResultsAreReady) (forms : RegularityByForm) (found : Declarat
 
   pub laid_is_well_scoped : IsWellScoped (laid_grammar g)
   laid_is_well_scoped =
-      turned_is_well_scoped passes found (λ kind. Plain) (λ decl. laid_in (layout_among g.decls) g.decls decl.kind) plain_kinds g forms scoped none
+      turned_is_well_scoped passes found (λ kind. Plain) (λ decl. laid_in (layout_among g.decls) g.decls decl.kind) plain_kinds g scoped none
       (λ decl. keeps_in decl.kind) (λ decl x. binders_in decl.kind x)

@@ -18,7 +18,6 @@ use Rattle.ig_traversal.specs.Rewriting.{rewritten}
 use Rattle.ig_lexical_laws.specs.Layout.{declares_lexical, then_layout, laid, laid_in, laid_grammar}
 use Rattle.ig_rewrite.specs.Sound.{RootHasCallsAlone}
 use Rattle.ig_rewrite.specs.Found.{DeclarationsAreFound}
-use Rattle.ig_grammar.specs.Laws.{RegularityByForm}
 use Rattle.ig_lexical_laws.proofs.Keeping.{Keeps, same_keeps, laid_keeps}
 use Rattle.ig_lexical_laws.proofs.LayoutScoped.{plain_kinds}
 use Rattle.ig_lexical_laws.proofs.RewrittenShaped.{IsUncalled, heads, listed_rewritten, turned_fits}
@@ -41,7 +40,7 @@ laid_of_calls decls w (Call name arguments) c = go (declares_lexical (declaratio
     go false = tt
 laid_of_calls decls w x c = absurd c
 
-module _ (forms : RegularityByForm) (found : DeclarationsAreFound) (g : Grammar) (shapes : List Shape) (scoped : IsWellScoped g) (none : OfEachLevel AlternativesHaveNoMark g) (fit : FitShapes g shapes)
+module _ (found : DeclarationsAreFound) (g : Grammar) (shapes : List Shape) (scoped : IsWellScoped g) (none : OfEachLevel AlternativesHaveNoMark g) (fit : FitShapes g shapes)
     (alone : RootHasCallsAlone (record { grammar = g; shapes = shapes })) where
   abbrev own : Decl → Symbol → Symbol
   own decl = laid_in (layout_among g.decls) g.decls decl.kind
@@ -61,8 +60,8 @@ module _ (forms : RegularityByForm) (found : DeclarationsAreFound) (g : Grammar)
   apart : (before : ℕ) (decl : Decl) → slice_get g.decls before ≡ Some decl → IsRoot g shapes before decl → (w : List ℕ) → layout_among g.decls ≡ Some w → w ≢ decl.name
   apart before decl at root w e same =
       let l = found.layout g.decls w e in
-      let one : declaration_of g.decls decl.name ≡ Some l.1 = subst (λ n. declaration_of g.decls n ≡ Some l.1) (l.3 ∙ same) (found.itself g l.0 l.1 scoped l.2) in
-      let both : Some l.1 ≡ Some decl = sym one ∙ found.itself g before decl scoped at in
+      let one : declaration_of g.decls decl.name ≡ Some l.1 = subst (λ n. declaration_of g.decls n ≡ Some l.1) (l.3 ∙ same) (found.itself g.decls (found.distinct g scoped) l.0 l.1 l.2) in
+      let both : Some l.1 ≡ Some decl = sym one ∙ found.itself g.decls (found.distinct g scoped) before decl at in
       root.no_layout (let d : l.1 ≡ decl = cc in ap (λ z. z.kind) (sym d) ∙ l.4)
 
   calls_kept : (decl : Decl) (xs : List Symbol) → All IsOfCalls xs → (decl.kind ≡ Syntax → All IsCall xs) → All IsOfCalls (map (rewritten (own decl)) xs)
@@ -77,7 +76,7 @@ module _ (forms : RegularityByForm) (found : DeclarationsAreFound) (g : Grammar)
 
   pub laid_fits : FitShapes (laid_grammar g) shapes
   laid_fits =
-      turned_fits (λ kind. Plain) (λ decl. laid_in (layout_among g.decls) g.decls decl.kind) plain_kinds forms g shapes none fit
+      turned_fits (λ kind. Plain) (λ decl. laid_in (layout_among g.decls) g.decls decl.kind) plain_kinds g shapes none fit
       (λ before decl at rooted root. record {
         uncalled = λ other. keeps_in decl.name (apart before decl at root) other.kind;
         calls = λ a m. calls_kept decl a.symbols (root.calls a m) (λ syntactic. alone before decl a at rooted syntactic m);

@@ -7,7 +7,6 @@ use Rattle.ig_text.proofs.Lists.{contains_from_at, at_from_contains, none_in_nil
 use Rattle.std.proofs.lemmas.Option.{same_Some, slice_get-map}
 use Rattle.ig_grammar.specs.Symbol.{Symbol, Call, Label, Guard, Let, Offside, Ignore, Align, Entry, gathered}
 use Rattle.ig_grammar.specs.Visible.{Visible, parameters}
-use Rattle.ig_grammar.specs.Laws.{RegularityByForm}
 use Rattle.ig_grammar.specs.Regular.{AlternativesHaveNoMark, OfEachLevel}
 use Rattle.ig_grammar.specs.Condition.{IsInLexical}
 use Rattle.ig_grammar.specs.Numbering.{Levelled, by_level, IsAlternative, alternatives}
@@ -117,7 +116,7 @@ module _ (passes : ResultsAreReady) (found : DeclarationsAreFound) (becomes : De
   turned_back : (k : ℕ) (d e : Decl) → slice_get g.decls k ≡ Some d → slice_get h.decls k ≡ Some e → turn d ≡ e
   turned_back k d e before after = same_Some (turn d) e (sym (slice_get-map turn g.decls k ∙ ap (option_map turn) before) ∙ after)
 
-  module _ (forms : RegularityByForm) (scoped : IsWellScoped g) (none : OfEachLevel AlternativesHaveNoMark g)
+  module _ (scoped : IsWellScoped g) (none : OfEachLevel AlternativesHaveNoMark g)
       (keeps_in : (decl : Decl) → Keeps (Asks g.decls decl.kind) (heads g decl.kind) (own decl))
       (binders_in : (decl : Decl) (x : Symbol) → binders (own decl x) ≡ binders x) where
     -- the symbols of a rewritten alternative get what they ask
@@ -127,7 +126,7 @@ module _ (passes : ResultsAreReady) (found : DeclarationsAreFound) (becomes : De
         turned_asks decl.kind o.visible o.symbol
         (of_placed_symbols (Asks g.decls decl.kind) (gathered (map (rewritten (own decl)) a.alternative.symbols)) (parameters decl.params)
         (symbols_kept (Asks g.decls decl.kind) (heads g decl.kind) (own decl) (keeps_in decl) a.alternative.symbols
-        (everywhere forms g none decl k a declared numbered) (parameters decl.params)
+        (everywhere g none decl k a declared numbered) (parameters decl.params)
         (placed_symbols (Asks g.decls decl.kind) (gathered a.alternative.symbols) (parameters decl.params) before)) o among)
 
     alternative : (k : ℕ) (d : Decl) (b : Alt) → slice_get g.decls k ≡ Some d → Contains (alternatives (turn d).levels) b →

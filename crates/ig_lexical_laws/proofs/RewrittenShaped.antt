@@ -22,7 +22,6 @@ use Rattle.ig_text.proofs.Lists.{contains_from_at, at_from_contains, from_map}
 use Rattle.ig_rewrite.specs.EachLevel.{alternative_at}
 use Rattle.ig_rewrite.specs.Throughout.{placed_symbols, of_placed_symbols}
 use Rattle.ig_lexical_laws.proofs.Placing.{SameHead, label_head, opt_head, star_head, plus_head, sep_star_head, sep_plus_head, group_head, offside_head, ignore_head, filtered_head, seq_head, entry_head}
-use Rattle.ig_grammar.specs.Laws.{RegularityByForm}
 use Rattle.ig_lexical_laws.proofs.Unmarked.{everywhere}
 use Rattle.ig_lexical_laws.proofs.Keeping.{Keeps, symbols_kept}
 use Rattle.ig_lexical_laws.proofs.RewrittenScoped.{KeepsKinds, turned, turned_grammar, alternative_before}
@@ -61,7 +60,7 @@ no_call x y name arguments (entry_head _ _ _) e = cc
 pub heads : (name : List ℕ) (v : Visible) (x y : Symbol) → SameHead x y → IsUncalled name v x → IsUncalled name v y
 heads name v x y same f arguments e = no_call x y name arguments same e
 
-module _ (becomes : DeclKind → DeclKind) (own : Decl → Symbol → Symbol) (kinds : KeepsKinds becomes) (forms : RegularityByForm)
+module _ (becomes : DeclKind → DeclKind) (own : Decl → Symbol → Symbol) (kinds : KeepsKinds becomes)
     (g : Grammar) (shapes : List Shape) (none : OfEachLevel AlternativesHaveNoMark g) (fit : FitShapes g shapes) where
   abbrev turn : Decl → Decl
   turn = turned becomes own
@@ -80,7 +79,7 @@ module _ (becomes : DeclKind → DeclKind) (own : Decl → Symbol → Symbol) (k
     uncalled_there other b k a e f =
         of_placed_symbols (IsUncalled decl.name) (gathered (map (rewritten (own other)) a.alternative.symbols)) (parameters other.params)
         (symbols_kept (IsUncalled decl.name) (heads decl.name) (own other) (keeps.uncalled other) a.alternative.symbols
-        (everywhere forms g none other (suc k) a (contains_from_at g.decls b other e) (k, refl, f)) (parameters other.params)
+        (everywhere g none other (suc k) a (contains_from_at g.decls b other e) (k, refl, f)) (parameters other.params)
         (placed_symbols (IsUncalled decl.name) (gathered a.alternative.symbols) (parameters other.params)
         (λ o m arguments. root.uncalled other a.alternative o arguments (contains_from_at g.decls b other e)
         (contains_from_at (alternatives other.levels) k a.alternative (alternative_at other.levels k a f)) m)))

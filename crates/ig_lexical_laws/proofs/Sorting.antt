@@ -35,7 +35,7 @@ module _ (found : DeclarationsAreFound) (g : Grammar) (scoped : IsWellScoped g) 
   instance_kind : (name : List ℕ) (vs : List Value) (kind : DeclKind) (i e : ℕ) (t : Tree) (ks : List ℕ) → Instance g shapes text name vs kind i e t ks →
       declares_lexical (declaration_of g.decls name) ≡ is_lexical kind
   instance_kind name vs kind i e t ks (alternative _ _ _ d k decl shape a env after _ _ ts _ _ declares numbered bound same covers tree) =
-      ap declares_lexical (subst (λ z. declaration_of g.decls z ≡ Some decl) declares.named (found.itself g declares.numbered.0 decl scoped declares.numbered.2)) ∙ ap is_lexical (sym same)
+      ap declares_lexical (subst (λ z. declaration_of g.decls z ≡ Some decl) declares.named (found.itself g.decls (found.distinct g scoped) declares.numbered.0 decl declares.numbered.2)) ∙ ap is_lexical (sym same)
 
   pub decided : (h : Grammar) (forms : List Shape) → Decides g shapes h forms text
   decided h forms =

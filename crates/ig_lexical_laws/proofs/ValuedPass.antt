@@ -7,7 +7,6 @@ use Rattle.ig_expr.specs.ValuedTree.{Tree}
 use Rattle.ig_expr.specs.declared.value.Value.{Value}
 use Rattle.ig_grammar.specs.Checked.{CheckedGrammar}
 use Rattle.ig_grammar.specs.Condition.{declaration_of}
-use Rattle.ig_grammar.specs.Laws.{RegularityByForm}
 use Rattle.ig_grammar.specs.Numbering.{Levelled, by_level, Declares, IsAlternative, layout_among}
 use Rattle.ig_grammar.specs.Regular.{AlternativesHaveNoMark, OfEachLevel}
 use Rattle.ig_grammar.specs.Symbol.{Symbol}
@@ -47,7 +46,7 @@ module _ (found : DeclarationsAreFound) (c : CheckedGrammar) (scoped : IsWellSco
       (a.alternative _ _ _ d k decl shape by env after _ _ ts _ declares numbered bound same inner tree) =
       ap declares_lexical
       (subst (λ z. declaration_of g.decls z ≡ Some decl) declares.named
-      (found.itself g declares.numbered.0 decl scoped declares.numbered.2)) ∙
+      (found.itself g.decls (found.distinct g scoped) declares.numbered.0 decl declares.numbered.2)) ∙
       ap is_lexical (sym same)
 
   module _ (kinds : DeclKind → DeclKind) (own : Decl → Symbol → Symbol) where
@@ -106,8 +105,8 @@ module _ (found : DeclarationsAreFound) (c : CheckedGrammar) (scoped : IsWellSco
               }
 
   -- where layout is called in the open, and no mark is left
-  pub layout_keeps_values : RegularityByForm → OfEachLevel AlternativesHaveNoMark g → KeepsValues c (laid_of c)
-  layout_keeps_values by_form unmarked =
+  pub layout_keeps_values : OfEachLevel AlternativesHaveNoMark g → KeepsValues c (laid_of c)
+  layout_keeps_values unmarked =
       record { values = λ text t u permitted. annotated (λ kind. Plain) own text (becomes text) t u }
     where
       own : Decl → Symbol → Symbol
@@ -142,7 +141,7 @@ module _ (found : DeclarationsAreFound) (c : CheckedGrammar) (scoped : IsWellSco
                 declared = some;
                 syntax = refl;
                 plain = refl;
-                unmarked = none_gathered xs (everywhere by_form g unmarked decl k by among numbered);
+                unmarked = none_gathered xs (everywhere g unmarked decl k by among numbered);
                 symbols = refl;
               })
           go (Some w) some Lexical same = calm Lexical (λ s. absurd (cc))

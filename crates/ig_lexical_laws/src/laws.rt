@@ -11,7 +11,6 @@ pub fn layout_keeps()
     ensures { LayoutKeeps }
 {
     ig_meaning::trees_without_operators_are_clean();
-    ig_grammar::regularity_by_form();
     ig_rewrite::results_are_ready();
     ig_rewrite::declarations_are_found();
     ig_rewrite::root_keeps();
@@ -26,7 +25,6 @@ pub fn filters_keep()
 {
     ig_expr::tests_look_for_matches();
     ig_meaning::trees_without_operators_are_clean();
-    ig_grammar::regularity_by_form();
     ig_rewrite::results_are_ready();
     ig_rewrite::declarations_are_found();
     ig_rewrite::root_keeps();

@@ -19,7 +19,7 @@ byte_of end (p ∷ tokens) (suc number) = byte_of end tokens number
 abbrev pub most_open : ℕ
 most_open = 64
 
--- each number is one of an integer
+-- a number is a value of an integer
 abbrev pub NumberFits : Token → Type 0
 NumberFits (Number n) = n < integers_end
 NumberFits t = Unit {0}

@@ -6,18 +6,18 @@ use Rattle.std.specs.List.{dedup}
 use Rattle.std.specs.List.Retain.{IsFiltered, DiffersFromLast}
 use Rattle.std.specs.List.Sorted.{IsStrictlySortedBy, IsNonDecreasingBy, IsPartitionPoint}
 use Rattle.std.specs.Ordering.{ordering_index, eq_by_cmp}
-use Rattle.std.proofs.lemmas.List.{take_more, map-append}
+use Rattle.std.proofs.lemmas.List.{map-append}
 use Rattle.std.proofs.lemmas.List.Filters.{dedup_is}
-use Rattle.std.proofs.lemmas.Option.{slice_get-get_or, slice_get_within, get_or_from_slice_get}
-use Rattle.ig_text.proofs.Lists.{contains_from_at, mapped_at}
+use Rattle.std.proofs.lemmas.Option.{slice_get-get_or}
+use Rattle.ig_text.proofs.Lists.{contains_from_at, mapped_at, take_at}
 use Rattle.ig_expr.specs.declared.value.Value.{Value}
 use Rattle.ig_expr.specs.contracts.value.ValuePartialEq.TheImpl as value_eq
 use Rattle.ig_expr.specs.contracts.value.ValueOrd.TheImpl.Laws as value_laws
 use Rattle.ig_live.specs.Lists.{AreLists, ArePlaces}
 use Rattle.ig_expr.specs.ValueOrder.{values_cmp}
+use Rattle.ig_expr.specs.Ordered.{value_derived, values_as, list_total, list_exact}
 use Rattle.ig_live.specs.Once.{IsOnce}
 use Rattle.ig_live.proofs.CodeSorted.{not_found, once_by}
-use Rattle.ig_live.proofs.CodeOrders.{value_derived, values_as, list_total, list_exact}
 
 abbrev pub now_of : Bor (List Value) → List Value
 now_of l = l.now
@@ -40,17 +40,11 @@ no_place lists list i order found =
     IsPartitionPoint (λ (y : Bor (List Value)). slice_cmp r y.now list.now ≡ Less) (λ (y : Bor (List Value)). slice_cmp r y.now list.now ≡ Greater) lists i)
     values_as found)
 
--- the first elements, and one more
-take_next : {X : Type 0} (xs : List X) (k : ℕ) (x : X) → slice_get xs k ≡ Some x → take (k + 1) xs ≡ take k xs ++ x ∷ []
-take_next xs k x at =
-    take_more xs k x (slice_get_within xs k x at) ∙
-    ap (λ (z : _). take k xs ++ z ∷ []) (get_or_from_slice_get xs k x x at)
-
 pub map_next : {X Y : Type 0} (f : X → Y) (done more : List X) (x : X) (ys : List Y) (k : ℕ) (y : Y) → more ≡ done ++ x ∷ [] →
     map f done ≡ take k ys → slice_get ys k ≡ Some y → f x ≡ y → map f more ≡ take (k + 1) ys
 map_next f done more x ys k y more_is so_far at is =
     ap (map f) more_is ∙ map-append f done (x ∷ []) ∙ ap (λ (z : List _). z ++ f x ∷ []) so_far ∙
-    ap (λ (z : _). take k ys ++ z ∷ []) is ∙ sym (take_next ys k y at)
+    ap (λ (z : _). take k ys ++ z ∷ []) is ∙ sym (take_at ys k y at)
 
 pub are_lists : (environments : List (List Value)) (xs ys zs : List (Bor (List Value))) → map now_of xs ≡ environments →
     IsPermutation xs ys → IsSorted (λ x y. slice_cmp value_derived x.now y.now) ys →
@@ -78,7 +72,7 @@ place_next environments lists places more k place list more_is so_far at is =
     ap (λ (z : List _). z ++ slice_get lists place ∷ []) so_far ∙
     ap (λ (z : _). map Some (take k environments) ++ z ∷ []) is ∙
     sym (map-append Some (take k environments) (list ∷ [])) ∙
-    ap (map Some) (sym (take_next environments k list at))
+    ap (map Some) (sym (take_at environments k list at))
 
 pub is_placed : (environments lists : List (List Value)) (k : ℕ) (list : List Value) → AreLists environments lists →
     slice_get environments k ≡ Some list → Contains lists list

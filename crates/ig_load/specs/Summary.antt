@@ -4,7 +4,7 @@ use Rattle.ig_grammar.specs.Checked.{CheckedGrammar}
 use Rattle.ig_item.specs.Items.{Item, Reachable}
 use Rattle.ig_item.specs.WellKinded.{NoneTwice}
 use Rattle.ig_item.specs.declared.run_fault.RunFault.{RunFault}
-use Rattle.ig_item.specs.declared.run_fault.RunFault.TheVariants as run_fault
+use Rattle.ig_item.specs.declared.run_fault.RunFault.TheVariants.{Budget, Memory}
 use Rattle.ig_core_laws.specs.Lowered.{CoreOf}
 use Rattle.ig_core_laws.specs.Notation.{unchanged}
 use Rattle.ig_forest.specs.Forest.{Forest}
@@ -12,8 +12,6 @@ use Rattle.ig_parse.specs.Laws.{HasNoHighest, PermitsTwo}
 use Rattle.ig_parse.specs.Parses.{IsForestOf, IsOver}
 use Rattle.ig_load_grammar.specs.Grammar.{LoadGrammar}
 use Rattle.ig_load_texts.specs.Input.{LoadInput}
-use Rattle.ig_load.specs.declared.fault.LoadFault.{LoadFault}
-use Rattle.ig_load.specs.declared.fault.LoadFault.TheVariants.{Budget, Memory}
 use Rattle.ig_load_texts.specs.declared.summary.Summary.{Summary}
 
 module _ (c : CheckedGrammar) (text : List ℕ) where
@@ -37,11 +35,6 @@ module _ (c : CheckedGrammar) (text : List ℕ) where
     pub ambiguous : IsTrue summary.ambiguous ↔ PermitsTwo c text
     pub cyclic : IsTrue summary.cyclic ↔ HasNoHighest c text
 
--- the fault of a load for that of a run
-abbrev pub fault_of : RunFault → LoadFault
-fault_of run_fault.Budget = Budget
-fault_of run_fault.Memory = Memory
-
 -- what is said of the load of this size and number
 abbrev pub IsLoadSummary : ℕ → ℕ → Summary → Type 0
 IsLoadSummary size number summary = IsSummaryOf (unchanged LoadGrammar) (LoadInput size number) summary
@@ -52,7 +45,7 @@ module _ (size number budget : ℕ) where
   IsTooLarge = IsOver (unchanged LoadGrammar) (LoadInput size number) budget
 
   -- what a load of this size and number says; want of memory may come at any time
-  abbrev pub Loads : Result Summary LoadFault → Type 0
+  abbrev pub Loads : Result Summary RunFault → Type 0
   Loads (Ok summary) = (IsTooLarge → ⊥) × IsLoadSummary size number summary
   Loads (Err Budget) = IsTooLarge
   Loads (Err Memory) = Unit {0}

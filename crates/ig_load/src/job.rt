@@ -9,11 +9,10 @@ ghost use Rattle.ig_query.specs.Ambiguity.{IsAmbiguous};
 ghost use Rattle.ig_load_grammar.specs.Grammar.{LoadGrammar};
 ghost use Rattle.ig_load.specs.Summary.{IsSummaryOf, Loads};
 
-use crate::fault::LoadFault;
 use ig_forest::Forest;
 use ig_grammar::Checked;
 use ig_heights::Heights;
-use ig_item::{Items, Recorded};
+use ig_item::{Items, Recorded, RunFault};
 use ig_load_grammar::{load_grammar, load_inputs_are_permitted, load_parser};
 use ig_load_texts::{MOST_OPERANDS, Summary, load_input};
 use ig_parse::{Parser, ambiguity_is_two_permitted, cyclic_is_without_highest};
@@ -24,7 +23,7 @@ use std::alloc::{AllocError, Global};
 /// items than the budget are reachable. The size is the number of operands, from 1 to
 /// [`MOST_OPERANDS`]; 0 is taken for 1. `Budget` comes exactly where more items are reachable, if
 /// memory doesn't run out before.
-pub fn load(alloc: Global, size: u32, number: u64, budget: u32) -> Result<Summary, LoadFault>
+pub fn load(alloc: Global, size: u32, number: u64, budget: u32) -> Result<Summary, RunFault>
     requires { size ≤ MOST_OPERANDS }
     ensures { Loads size number budget result }
 {
@@ -39,7 +38,7 @@ fn load_under(
     size: u32,
     number: u64,
     budget: u32,
-) -> Result<Summary, LoadFault>
+) -> Result<Summary, RunFault>
     requires own { grammar.now ≡ unchanged LoadGrammar }
     requires few { size ≤ MOST_OPERANDS }
     ensures { Loads size number budget result }

@@ -8,8 +8,6 @@
 //! the only faults are a budget that doesn't suffice and want of memory.
 #![tactic(auto)]
 
-mod fault;
 mod job;
 
-pub use fault::LoadFault;
 pub use job::load;

@@ -77,8 +77,7 @@ fn walker_at<'f>(
 {
     cursor_texts_differ();
     let Some(word) = after else {
-        let walker = Walker::first(alloc, forest, heights, depth)?;
-        return Ok(walker);
+        return Ok(Walker::first(alloc, forest, heights, depth));
     };
     let cursor = read_cursor(alloc, word)?;
     numbers_are_short(cursor.as_slice());

@@ -76,7 +76,7 @@ fn expect_two(
 ) -> Result<(), Fail>
     requires { AreHeights forest.now heights.now }
 {
-    let mut walker = Walker::first(alloc, forest, heights, 4)?;
+    let mut walker = Walker::first(alloc, forest, heights, 4);
     assert!(rt; walker.cursor()?.is_none());
     expect_tree(rt, &mut walker, 9, 0)?;
     expect_tree(rt, &mut walker, 9, 1)?;
@@ -101,7 +101,7 @@ fn has_tree(
 ) -> Result<bool, AllocError>
     requires { AreHeights forest.now heights.now }
 {
-    let mut walker = Walker::first(alloc, forest, heights, depth)?;
+    let mut walker = Walker::first(alloc, forest, heights, depth);
     Ok(walker.next()?.is_some())
 }
 

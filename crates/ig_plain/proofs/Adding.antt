@@ -1,11 +1,11 @@
 -- An item that is added at the end of a list.
 use Rattle.std.proofs.Common.{◌≡◌, List, [], ◌∷◌, ◌++◌, subst, sym, Contains}
 use Rattle.std.proofs.lemmas.List.Elements.{Contains-append_right}
+use Rattle.ig_text.proofs.Differing.{pushed_differ}
 use Rattle.ig_text.proofs.Lists.{contains_one, it_is_in}
 use Rattle.ig_item.specs.WellKinded.{NoneTwice}
 use Rattle.ig_item.specs.declared.items.Item.{Item}
 use Rattle.ig_plain.specs.Tables.{AddsOnly}
-use Rattle.ig_plain.proofs.Distinct.{once_both, once_single}
 
 pub added_only : (xs ys : List Item) (x : Item) → ys ≡ xs ++ x ∷ [] → AddsOnly xs ys x
 added_only xs ys x is = record { extends = record { more = x ∷ []; is = is }; only = λ y c. contains_one x y c }
@@ -15,5 +15,4 @@ added_there xs ys x is = subst (λ (z : List Item). Contains z x) (sym is) (Cont
 
 pub added_once : (xs ys : List Item) (x : Item) → ys ≡ xs ++ x ∷ [] → (Contains xs x → ⊥) → NoneTwice xs → NoneTwice ys
 added_once xs ys x is none once =
-    subst NoneTwice (sym is)
-    (once_both xs (x ∷ []) once (once_single x) (λ y c d. none (subst (Contains xs) (contains_one x y d) c)))
+    subst NoneTwice (sym is) (pushed_differ xs x once none)

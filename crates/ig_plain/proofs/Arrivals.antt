@@ -5,6 +5,7 @@ use Rattle.std.proofs.lemmas.Option.{slice_get_within}
 use Rattle.std.proofs.Math.Seq.{take-length}
 use Rattle.std.proofs.lemmas.Bool.{cases_lt}
 use Rattle.std.proofs.lemmas.List.Elements.{Contains-append_left, Contains-append_right, Contains-append_cases}
+use Rattle.ig_text.proofs.Differing.{both_differ, pushed_differ}
 use Rattle.ig_text.proofs.Lists.{at_from_contains, left_at, right_at, contains_one, none_in_nil, mapped_in, unmapped_in, same_map}
 use Rattle.ig_plain.specs.Rules.{IsCaller}
 use Rattle.ig_item.specs.Items.{Item, Follows, first}
@@ -20,7 +21,6 @@ use Rattle.ig_plain.specs.Tables.{IsNamed, item_by}
 use Rattle.ig_plain.specs.Found.{means, instances_in, found_in, later_in, taken_in, Named, IsStored}
 use Rattle.ig_plain.specs.Run.{IsWaiting, IsTaking, IsRun}
 use Rattle.ig_plain.specs.Arrival.{IsParted, ArrivesWith}
-use Rattle.ig_plain.proofs.Distinct.{once_both, once_single}
 
 pub once_left : {X : Type 0} (xs ys : List X) → NoneTwice (xs ++ ys) → NoneTwice xs
 once_left xs ys n i j x p q = n i j x (left_at xs ys i x p) (left_at xs ys j x q)
@@ -63,8 +63,7 @@ parts_here position xs h0 h r item p at =
       rest_now = λ x c. let q = p.rest_now x c in (Contains-append_left xs (item ∷ []) x q.0, q.1);
       here_once = λ n.
           let all : NoneTwice ((h0 ++ xs) ++ item ∷ []) = subst NoneTwice (sym (append_assoc h0 xs (item ∷ []))) n in
-          once_both h (item ∷ []) (p.here_once (once_left (h0 ++ xs) (item ∷ []) all)) (once_single item)
-          (λ x c d. once_apart (h0 ++ xs) item all (subst (Contains (h0 ++ xs)) (contains_one item x d) (was x c)));
+          pushed_differ h item (p.here_once (once_left (h0 ++ xs) (item ∷ []) all)) (λ c. once_apart (h0 ++ xs) item all (was item c));
       rest_once = λ n. p.rest_once (once_left xs (item ∷ []) n);
       count = let a = length-append xs (item ∷ []) in let b = length-append h (item ∷ []) in let l = p.count in omega (arith, a, b, l);
     }
@@ -91,8 +90,7 @@ parts_kept position xs h0 h r item p away =
           (Contains-append_cases r (item ∷ []) x c);
       here_once = λ n. p.here_once (once_left (h0 ++ xs) (item ∷ []) (subst NoneTwice (sym (append_assoc h0 xs (item ∷ []))) n));
       rest_once = λ n.
-          once_both r (item ∷ []) (p.rest_once (once_left xs (item ∷ []) n)) (once_single item)
-          (λ x c d. once_apart xs item n (subst (Contains xs) (contains_one item x d) (p.rest_now x c).0));
+          pushed_differ r item (p.rest_once (once_left xs (item ∷ []) n)) (λ c. once_apart xs item n (p.rest_now item c).0);
       count = let a = length-append r (item ∷ []) in let b = length-append xs (item ∷ []) in let l = p.count in omega (arith, a, b, l);
     }
 
@@ -182,7 +180,7 @@ module _ (core : List Nonterminal) (text : List ℕ) (budget p : ℕ) (a b : Fou
         at = λ x c. (m.here x c).1;
         behind = λ x c. further x.position (r.taking.stored.behind x (m.later x c).0) (m.later x c).1;
         done_once = subst NoneTwice (sym m.done)
-            (once_both a.done.items a.here.items r.taking.stored.done_once r.taking.stored.here_once
+            (both_differ a.done.items a.here.items r.taking.stored.done_once r.taking.stored.here_once
             (λ x c d. let l = r.taking.stored.before x c in let e = r.taking.stored.at x d in omega (arith, l, e)));
         here_once = m.here_once r.taking.stored.later_once;
         later_once = m.later_once r.taking.stored.later_once;

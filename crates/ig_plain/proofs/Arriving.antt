@@ -1,12 +1,12 @@
 -- The next position is reached: the ways to the items at it are known already.
-use Rattle.std.proofs.Common.{◌≡◌, ◌⊎◌, ⊎_elim, inl, inr, ℕ, suc, ◌+◌, ◌<◌, ◌≤◌, List, [], ◌∷◌, ◌++◌, Some, length, map, take, Contains, refl, sym, ap, ◌∙◌, subst, arith, slice_get, length-append, append_assoc, set, Bool, true, false, if◌then◌else◌}
+use Rattle.std.proofs.Common.{◌≡◌, ◌⊎◌, ⊎_elim, inl, inr, ℕ, ◌+◌, ◌<◌, ◌≤◌, List, [], ◌∷◌, ◌++◌, Some, length, map, take, Contains, refl, sym, ap, ◌∙◌, subst, arith, slice_get, length-append, append_assoc, set, Bool, true, false, if◌then◌else◌}
 use Rattle.std.proofs.lemmas.List.{append-nil, map-append, length-map, length-take-le, take_all, take_more_set}
 use Rattle.std.proofs.lemmas.Option.{slice_get_within}
 use Rattle.std.proofs.lemmas.List.Elements.{Contains-append_cases}
-use Rattle.ig_text.proofs.Lists.{at_from_contains, among_all, contains_from_at, contains_one, right_at, sides, take_step, same_map, unmapped_at, mapped_at}
+use Rattle.ig_text.proofs.Lists.{at_from_contains, among_all, contains_from_at, contains_one, right_at, sides, take_at, same_map, unmapped_at, mapped_at}
 use Rattle.ig_item.specs.Items.{Item}
 use Rattle.ig_item.specs.Ways as ways
-use Rattle.ig_item.specs.Ways.{WayLists, WayTo, AreEnds}
+use Rattle.ig_item.specs.Ways.{WayLists}
 use Rattle.ig_item.specs.WellKinded.{NoneTwice}
 use Rattle.ig_item.specs.declared.core_grammar.Nonterminal.{Nonterminal}
 use Rattle.ig_item.specs.declared.items.Item as stored
@@ -150,14 +150,10 @@ module _ (position : ℕ) (later left : List stored.Item) (prevs numbers : List 
     (item : stored.Item) (prev : ℕ) (even : length prevs ≡ length later) (at : slice_get left i ≡ Some item)
     (prev_at : slice_get numbers i ≡ Some prev) (p : IsPartedTo position later left prevs numbers here after v w kept i) where
   items_next : take (i + 1) later ≡ take i later ++ item ∷ []
-  items_next =
-      let n : i + 1 ≡ suc i = omega arith in
-      ap (λ (z : ℕ). take z later) n ∙ take_step later i item (sym (p.items_left.same i (omega arith)) ∙ at)
+  items_next = take_at later i item (sym (p.items_left.same i (omega arith)) ∙ at)
 
   prevs_next : take (i + 1) prevs ≡ take i prevs ++ prev ∷ []
-  prevs_next =
-      let n : i + 1 ≡ suc i = omega arith in
-      ap (λ (z : ℕ). take z prevs) n ∙ take_step prevs i prev (sym (p.prevs_left.same i (omega arith)) ∙ prev_at)
+  prevs_next = take_at prevs i prev (sym (p.prevs_left.same i (omega arith)) ∙ prev_at)
 
   same_length : length (take i prevs) ≡ length (take i later)
   same_length =

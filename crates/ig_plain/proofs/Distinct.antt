@@ -1,10 +1,11 @@
 -- Items that are stored once are different, and more of them than the budget are too many.
-use Rattle.std.proofs.Common.{◌≡◌, ⊎_elim, ℕ, zero, suc, ◌+◌, ◌<◌, List, [], ◌∷◌, ◌++◌, Some, length, map, Contains, refl, sym, ap, ◌∙◌, subst, arith, slice_get, length-append}
+use Rattle.std.proofs.Common.{◌≡◌, ⊎_elim, ℕ, suc, ◌+◌, ◌<◌, List, [], ◌∷◌, ◌++◌, Some, length, map, Contains, refl, sym, ap, ◌∙◌, subst, arith, length-append}
 use Rattle.std.specs.Prelude.{slice_index_or}
 use Rattle.std.proofs.lemmas.List.{map-append}
 use Rattle.std.proofs.lemmas.Option.{slice_get-get_or}
 use Rattle.std.proofs.lemmas.List.Elements.{Contains-append_cases}
-use Rattle.ig_text.proofs.Lists.{contains_from_at, sides, unmapped_at}
+use Rattle.ig_text.proofs.Differing.{both_differ}
+use Rattle.ig_text.proofs.Lists.{contains_from_at, unmapped_at}
 use Rattle.ig_expr.specs.declared.value.Value.{Value}
 use Rattle.ig_item.specs.Items.{Item, Reachable, MoreThan}
 use Rattle.ig_item.specs.Tables.{instance_by, HaveValues}
@@ -23,26 +24,6 @@ module _ {X : Type 0} where
       slice_index_or xs i d ≡ slice_index_or xs j d → i ≡ j
   same_number xs i j d once l m e =
       once i j (slice_index_or xs j d) (slice_get-get_or xs i d l ∙ ap Some e) (slice_get-get_or xs j d m)
-
-  pub once_single : (x : X) → NoneTwice (x ∷ [])
-  once_single x zero zero y p q = refl
-  once_single x zero (suc j) y p q = cc
-  once_single x (suc i) zero y p q = cc
-  once_single x (suc i) (suc j) y p q = cc
-
-  -- two lists that share nothing
-  pub once_both : (xs ys : List X) → NoneTwice xs → NoneTwice ys → ((x : X) → Contains xs x → Contains ys x → ⊥) → NoneTwice (xs ++ ys)
-  once_both xs ys a b apart i j x p q =
-      ⊎_elim
-      (λ (h : slice_get xs i ≡ Some x).
-      ⊎_elim (λ (k : slice_get xs j ≡ Some x). a i j x h k)
-      (λ (k : (m : ℕ) × (j ≡ length xs + m) × (slice_get ys m ≡ Some x)).
-      absurd (apart x (contains_from_at xs i x h) (contains_from_at ys k.0 x k.2))) (sides xs ys j x q))
-      (λ (h : (m : ℕ) × (i ≡ length xs + m) × (slice_get ys m ≡ Some x)).
-      ⊎_elim (λ (k : slice_get xs j ≡ Some x). absurd (apart x (contains_from_at xs j x k) (contains_from_at ys h.0 x h.2)))
-      (λ (k : (m : ℕ) × (j ≡ length xs + m) × (slice_get ys m ≡ Some x)).
-      let e = b h.0 k.0 x h.2 k.2 in omega (arith, e, h.1, k.1)) (sides xs ys j x q))
-      (sides xs ys i x p)
 
   -- an injective map keeps a list without repeats
   pub once_mapped : {Y : Type 0} (f : X → Y) (xs : List X) → NoneTwice xs →
@@ -87,11 +68,11 @@ module _ (p : ℕ) (s : Found) (r : IsStored p s) where
       (s.named.later x) (Contains-append_cases (s.done.items ++ s.here.items) s.later.items x c)
 
   pub found_once : NoneTwice (s.done.items ++ s.here.items)
-  found_once = once_both s.done.items s.here.items r.done_once r.here_once (λ x c d. let e = r.at x d in omega (arith, r.before x c, e))
+  found_once = both_differ s.done.items s.here.items r.done_once r.here_once (λ x c d. let e = r.at x d in omega (arith, r.before x c, e))
 
   all_once : NoneTwice ((s.done.items ++ s.here.items) ++ s.later.items)
   all_once =
-      once_both (s.done.items ++ s.here.items) s.later.items found_once r.later_once
+      both_differ (s.done.items ++ s.here.items) s.later.items found_once r.later_once
       (λ x c d.
       ⊎_elim (λ (h : Contains s.done.items x). omega (arith, r.before x h, r.behind x d))
       (λ (h : Contains s.here.items x). let e = r.at x h in omega (arith, e, r.behind x d)) (Contains-append_cases s.done.items s.here.items x c))

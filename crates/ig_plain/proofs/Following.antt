@@ -1,8 +1,7 @@
 -- What follows from the taken items and one more.
 use Rattle.std.proofs.Common.{◌≡◌, ◌⊎◌, ⊎_elim, inl, inr, ℕ, List, [], ◌∷◌, ◌++◌, length, Contains, sym, ap, ◌∙◌, subst, arith, slice_get}
 use Rattle.std.proofs.lemmas.Option.{same_Some, slice_get_within}
-use Rattle.std.proofs.lemmas.List.Elements.{Contains-append_cases}
-use Rattle.ig_text.proofs.Lists.{contains_one}
+use Rattle.ig_text.proofs.Lists.{in_pushed}
 use Rattle.ig_item.specs.Step.{Step}
 use Rattle.ig_item.specs.Core.{IsAlternative, numbered}
 use Rattle.ig_item.specs.Items as items
@@ -30,43 +29,39 @@ module _ (core : List Nonterminal) (text : List ℕ) where
       let lt = slice_get_within p.alternative.steps it.dot s p.next in
       let len = ap (λ (z : CoreAlt). length z.steps) e in let last = q.last in omega (arith, lt, len, last)
 
-  -- a taken item, or the one that is taken now
-  which : (taken : List Item) (it y : Item) → Contains (taken ++ it ∷ []) y → Contains taken y ⊎ (y ≡ it)
-  which taken it y c = ⊎_elim (λ (h : Contains taken y). inl h) (λ (h : Contains (it ∷ []) y). inr (contains_one it y h)) (Contains-append_cases taken (it ∷ []) y c)
-
   -- what follows now followed before, or follows from the item that is taken now
   pub splits : (taken : List Item) (it x : Item) → Follows core text (Contains (taken ++ it ∷ [])) x →
       Follows core text (Contains taken) x ⊎ After core text taken it x
   splits taken it x (items.root y e) = inl (items.root y e)
   splits taken it x (items.test y names c z k before holds e) =
       ⊎_elim (λ (h : Contains taken y). inl (items.test y names c z h before holds e))
-      (λ (h : y ≡ it). inr (subst (λ (v : Item). After core text taken v z) h (rules.test names c before holds e))) (which taken it y k)
+      (λ (h : y ≡ it). inr (subst (λ (v : Item). After core text taken v z) h (rules.test names c before holds e))) (in_pushed taken it y k)
   splits taken it x (items.bind y names name c v z k before has e) =
       ⊎_elim (λ (h : Contains taken y). inl (items.bind y names name c v z h before has e))
-      (λ (h : y ≡ it). inr (subst (λ (u : Item). After core text taken u z) h (rules.bind names name c v before has e))) (which taken it y k)
+      (λ (h : y ≡ it). inr (subst (λ (u : Item). After core text taken u z) h (rules.bind names name c v before has e))) (in_pushed taken it y k)
   splits taken it x (items.terminal y names what label excluded j z k before matches free e) =
       ⊎_elim (λ (h : Contains taken y). inl (items.terminal y names what label excluded j z h before matches free e))
       (λ (h : y ≡ it). inr (subst (λ (u : Item). After core text taken u z) h (rules.terminal names what label excluded j before matches free e)))
-      (which taken it y k)
+      (in_pushed taken it y k)
   splits taken it x (items.call y callee label excluded nonterminal a alternative z k calls at e) =
       ⊎_elim (λ (h : Contains taken y). inl (items.call y callee label excluded nonterminal a alternative z h calls at e))
       (λ (h : y ≡ it). inr (subst (λ (u : Item). After core text taken u z) h (rules.call callee label excluded nonterminal a alternative calls at e)))
-      (which taken it y k)
+      (in_pushed taken it y k)
   splits taken it x (items.return y done label excluded z k l calls complete free e) =
       ⊎_elim
       (λ (h : Contains taken y).
       ⊎_elim (λ (i : Contains taken done). inl (items.return y done label excluded z h i calls complete free e))
       (λ (i : done ≡ it).
       inr (subst (λ (u : Item). After core text taken u z) i (rules.returned y label excluded h calls complete free e)))
-      (which taken it done l))
+      (in_pushed taken it done l))
       (λ (h : y ≡ it).
       ⊎_elim
       (λ (i : Contains taken done).
       inr (subst (λ (u : Item). After core text taken u z) h (rules.return done label excluded i calls complete free e)))
       (λ (i : done ≡ it).
       absurd (not_both y calls.names _ calls.before (subst (IsComplete core) (i ∙ sym h) complete)))
-      (which taken it done l))
-      (which taken it y k)
+      (in_pushed taken it done l))
+      (in_pushed taken it y k)
 
   -- what follows from reachable items is reachable
   pub after_reachable : ReachableIsClosed → (taken : List Item) (it x : Item) → ((y : Item) → Contains taken y → Reachable core text y) →

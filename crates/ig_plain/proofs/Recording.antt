@@ -28,7 +28,8 @@ use Rattle.ig_tables.specs.Returned.{entry}
 use Rattle.ig_plain.specs.Trail.{IsRecorded, here, later, By, ComeByNodes, ComesOnce, IsIndexed, IsNodeAt, Pushes, Unfound, Records, RecordsLater, RecordsTerminal}
 use Rattle.ig_plain.proofs.Growth.{means_kept, past_means, found_named, longer, extends_at, extends_in, extends_then, extends_cases}
 use Rattle.ig_plain.proofs.Extending.{extends_itself, extends_by, extends_same}
-use Rattle.ig_plain.proofs.Terminals.{same_end, one_behind}
+use Rattle.ig_text.proofs.Matching.{one_end}
+use Rattle.ig_plain.proofs.Terminals.{one_behind}
 use Rattle.ig_plain.proofs.Indexing.{indexed_same, indexed_once, indexed_node}
 
 -- what holds anyway holds where there is a value
@@ -406,7 +407,7 @@ module _ (text : List ℕ) (what : Pattern) (label : Option (List ℕ)) (exclude
       RecordsTerminal text what label excluded n it a a t t
   records_excluded j m never =
       here (records_nothing (By (Leaf n) (IsBehind text what label excluded it)) a t
-      (λ w x q. never (subst (MatchesNone text excluded it.position) (same_end text what it.position q.1.0 j q.1.1 m) q.1.2)))
+      (λ w x q. never (subst (MatchesNone text excluded it.position) (one_end text what it.position q.1.0 j q.1.1 m) q.1.2)))
 
   module _ (b : Found) (u : Trail) (j : ℕ) (m : Matches text what it.position j) (free : MatchesNone text excluded it.position j) where
     only : (x : Item) → IsBehind text what label excluded it x → x ≡ past it (span_of label it.position j) j

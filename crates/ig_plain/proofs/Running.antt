@@ -4,6 +4,7 @@ use Rattle.std.specs.Prelude.{Err}
 use Rattle.std.proofs.lemmas.List.{append-nil, map-append, take-append-le}
 use Rattle.std.proofs.lemmas.Option.{slice_get_within}
 use Rattle.std.proofs.lemmas.List.Elements.{Contains-append_left, Contains-append_right, Contains-append_cases}
+use Rattle.ig_text.proofs.Differing.{pushed_differ}
 use Rattle.ig_text.proofs.Lists.{at_from_contains, contains_from_at, within_take, contains_one, among_all, it_is_in, mapped_in, unmapped_in, same_map, take_step}
 use Rattle.ig_item.specs.Items.{Item, Follows, Reachable, MoreThan}
 use Rattle.ig_item.specs.Laws.{ReachableIsClosed}
@@ -20,7 +21,7 @@ use Rattle.ig_plain.specs.Rules.{After, IsPastTerminal}
 use Rattle.ig_plain.specs.Run.{IsTaking, Refuses}
 use Rattle.ig_plain.proofs.Growth.{extends_cases, means_list, all_kept, found_from, later_same, found_named, means_kept, named_more}
 use Rattle.ig_plain.proofs.Following.{splits, after_reachable}
-use Rattle.ig_plain.proofs.Distinct.{too_many, one_item, once_both, once_single}
+use Rattle.ig_plain.proofs.Distinct.{too_many, one_item}
 use Rattle.ig_plain.proofs.Terminals.{from_one}
 
 -- what more items at the position keep
@@ -192,8 +193,7 @@ module _ (core : List Nonterminal) (text : List ℕ) (law : ReachableIsClosed) (
           done_once = subst NoneTwice (sym g.done) r.stored.done_once;
           here_once = subst NoneTwice (sym g.here) r.stored.here_once;
           later_once = subst NoneTwice (sym g.later)
-              (once_both s.later.items (g.item ∷ []) r.stored.later_once (once_single g.item)
-              (λ y c d. stored_new (subst (Contains s.later.items) (contains_one g.item y d) c)));
+              (pushed_differ s.later.items g.item r.stored.later_once stored_new);
         }
 
     all_sides : (y : Item) → Contains (found_in t ++ later_in t) y → Contains (found_in s ++ later_in s) y ⊎ (y ≡ x)

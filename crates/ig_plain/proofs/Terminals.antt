@@ -1,10 +1,10 @@
--- Items behind terminals: where a match ends and begins, and that each comes from one item alone.
-use Rattle.std.proofs.Common.{◌≡◌, ℕ, suc, ◌+◌, ◌-◌, ◌≤◌, List, ◌++◌, Some, None, Option, length, slice_get, length-take, length-drop, refl, sym, ap, ◌∙◌, subst, arith}
-use Rattle.std.specs.Prelude.{slice_range, Result, Ok}
+-- Items behind terminals, and that each comes from one item alone.
+use Rattle.std.proofs.Common.{◌≡◌, ℕ, suc, ◌+◌, ◌-◌, List, ◌++◌, Some, None, Option, slice_get, refl, sym, ap, ◌∙◌, subst}
+use Rattle.std.specs.Prelude.{Result, Ok}
 use Rattle.std.proofs.lemmas.List.{same_from_push, append-nil}
 use Rattle.ig_text.specs.Pattern.{Matches}
 use Rattle.ig_text.specs.declared.pattern.Pattern.{Pattern}
-use Rattle.ig_text.specs.declared.pattern.Pattern.TheVariants.{Literal, OneOf}
+use Rattle.ig_text.proofs.Matching.{one_begin, one_end}
 use Rattle.ig_expr.specs.declared.value.Value.{Value}
 use Rattle.ig_expr.specs.declared.value.Value.TheVariants.{Span}
 use Rattle.ig_item.specs.Step.{Term}
@@ -20,30 +20,6 @@ use Rattle.ig_plain.specs.Rules.{IsBehind, IsPastTerminal}
 use Rattle.ig_plain.proofs.Additions.{adds_nothing, adds_alike}
 use Rattle.ig_plain.proofs.Following.{one_step}
 
-length_range : (text : List ℕ) (i j : ℕ) → j ≤ length text → length (slice_range text i j) ≡ j - i
-length_range text i j h = simp (length-take, length-drop) (omega arith)
-
--- the length of a match is that of its letters
-pub same_begin : (text : List ℕ) (pattern : Pattern) (i k j : ℕ) → Matches text pattern i j → Matches text pattern k j → i ≡ k
-same_begin text (Literal word) i k j m n =
-    let a : length (slice_range text i j) ≡ j - i = length_range text i j m.within in
-    let b : length (slice_range text k j) ≡ j - k = length_range text k j n.within in
-    let e : length (slice_range text i j) ≡ length (slice_range text k j) = ap length (m.letters ∙ sym n.letters) in
-    omega (arith, a, b, e, m.onward, n.onward)
-same_begin text (OneOf class) i k j m n = let a : j ≡ i + 1 = m.next in let b : j ≡ k + 1 = n.next in omega (arith, a, b)
-
-pub same_end : (text : List ℕ) (pattern : Pattern) (i j k : ℕ) → Matches text pattern i j → Matches text pattern i k → j ≡ k
-same_end text (Literal word) i j k m n =
-    let a : length (slice_range text i j) ≡ j - i = length_range text i j m.within in
-    let b : length (slice_range text i k) ≡ k - i = length_range text i k n.within in
-    let e : length (slice_range text i j) ≡ length (slice_range text i k) = ap length (m.letters ∙ sym n.letters) in
-    omega (arith, a, b, e, m.onward, n.onward)
-same_end text (OneOf class) i j k m n = let a : j ≡ i + 1 = m.next in let b : k ≡ i + 1 = n.next in omega (arith, a, b)
-
-pub ends_onward : (text : List ℕ) (pattern : Pattern) (i j : ℕ) → Matches text pattern i j → i ≤ j
-ends_onward text (Literal word) i j m = m.onward
-ends_onward text (OneOf class) i j m = let a : j ≡ i + 1 = m.next in omega (arith, a)
-
 module _ (text : List ℕ) (what : Pattern) (label : Option (List ℕ)) (excluded : List Pattern) (budget p : ℕ) (it : Item) (a : Found) where
   pub no_match : ((j : ℕ) → Matches text what it.position j → ⊥) → AddsTerminal text what label excluded budget p it a a (Ok tt)
   no_match never =
@@ -53,12 +29,12 @@ module _ (text : List ℕ) (what : Pattern) (label : Option (List ℕ)) (exclude
       AddsTerminal text what label excluded budget p it a a (Ok tt)
   excluded_match j m never =
       here (adds_nothing p (IsBehind text what label excluded it) budget a
-      (λ x n. absurd (never (subst (MatchesNone text excluded it.position) (same_end text what it.position n.0 j n.1 m) n.2))))
+      (λ x n. absurd (never (subst (MatchesNone text excluded it.position) (one_end text what it.position n.0 j n.1 m) n.2))))
 
   pub one_behind : (j : ℕ) → Matches text what it.position j → (x : Item) → IsBehind text what label excluded it x →
       x ≡ past it (span_of label it.position j) j
   one_behind j m x n =
-      n.3 ∙ ap (λ (k : ℕ). past it (span_of label it.position k) k) (same_end text what it.position n.0 j n.1 m)
+      n.3 ∙ ap (λ (k : ℕ). past it (span_of label it.position k) k) (one_end text what it.position n.0 j n.1 m)
 
   pub match_here : (b : Found) (r : Result (Unit {0}) RunFault) (j : ℕ) → j ≡ p → Matches text what it.position j →
       Adds j (λ x. MatchesNone text excluded it.position j × (x ≡ past it (span_of label it.position j) j)) budget a b r →
@@ -66,7 +42,7 @@ module _ (text : List ℕ) (what : Pattern) (label : Option (List ℕ)) (exclude
   match_here b r j at m d =
       here (adds_alike p (λ x. MatchesNone text excluded it.position j × (x ≡ past it (span_of label it.position j) j)) (IsBehind text what label excluded it)
       budget a b r (λ x n. (j, m, n.0, n.1))
-      (λ x n. (subst (MatchesNone text excluded it.position) (same_end text what it.position n.0 j n.1 m) n.2, one_behind j m x n))
+      (λ x n. (subst (MatchesNone text excluded it.position) (one_end text what it.position n.0 j n.1 m) n.2, one_behind j m x n))
       (subst (λ (z : ℕ). Adds z (λ x. MatchesNone text excluded it.position j × (x ≡ past it (span_of label it.position j) j)) budget a b r) at d))
 
   pub match_later : (b : Found) (r : Result (Unit {0}) RunFault) (j : ℕ) → Matches text what it.position j → MatchesNone text excluded it.position j →
@@ -99,7 +75,7 @@ from_one core text it other x a b =
     let label : a.label ≡ b.label = cc steps in
     let second : Matches text a.what other.position a.end =
     subst (λ (z : Pattern). Matches text z other.position a.end) (sym what) (subst (λ (n : ℕ). Matches text b.what other.position n) (sym ends) b.matches) in
-    let position : it.position ≡ other.position = same_begin text a.what it.position other.position a.end a.matches second in
+    let position : it.position ≡ other.position = one_begin text a.what it.position other.position a.end a.matches second in
     let envs : it.env ++ span_of a.label it.position a.end ≡ other.env ++ span_of b.label other.position b.end = ap (λ (z : Item). z.env) e in
     let right : other.env ++ span_of b.label other.position b.end ≡ other.env ++ span_of a.label other.position a.end =
     ap (λ (l : Option (List ℕ)). other.env ++ span_of l other.position b.end) (sym label) ∙ ap (λ (n : ℕ). other.env ++ span_of a.label other.position n) (sym ends) in

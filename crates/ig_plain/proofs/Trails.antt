@@ -3,7 +3,7 @@ use Rattle.std.proofs.Common.{◌≡◌, ◌⊎◌, ⊎_elim, inl, inr, ℕ, ◌
 use Rattle.std.proofs.lemmas.Option.{slice_get_within}
 use Rattle.std.proofs.lemmas.List.Elements.{Contains-append_left, Contains-append_right, Contains-append_cases}
 use Rattle.ig_text.specs.declared.pattern.Pattern.{Pattern}
-use Rattle.ig_text.proofs.Lists.{contains_from_at, it_is_in, contains_one, right_at}
+use Rattle.ig_text.proofs.Lists.{in_pushed, contains_from_at, it_is_in, contains_one, right_at}
 use Rattle.ig_item.specs.Items.{Item, Calls, MatchesNone, past, span_of}
 use Rattle.ig_item.specs.WellKinded.{NoneTwice}
 use Rattle.ig_item.specs.Gives as given
@@ -170,22 +170,17 @@ module _ (core : List Nonterminal) (text : List ℕ) where
     pub free : MatchesNone text excluded prev.position key.end
     pub is : x ≡ past prev (span_of label prev.position key.end) key.end
 
-  -- a member is a taken item, or the one that is taken now
-  which : (taken : List Item) (it y : Item) → Contains (taken ++ it ∷ []) y → Contains taken y ⊎ (y ≡ it)
-  which taken it y c = ⊎_elim (λ (h : Contains taken y). inl h) (λ (h : Contains (it ∷ []) y). inr (contains_one it y h))
-      (Contains-append_cases taken (it ∷ []) y c)
-
   -- what is given now was given before, or comes from the item that is taken now, or by it as a complete one
   pub gives_splits : (taken : List Item) (it prev : Item) (what : Taken) (x : Item) → Gives core text (Contains (taken ++ it ∷ [])) prev what x →
       Gives core text (Contains taken) prev what x ⊎ ((prev ≡ it) ⊎ IsGivenBack taken it prev what x)
   gives_splits taken it p w y (given.test prev names e x k before holds f) =
-      ⊎_elim (λ (h : Contains taken prev). inl (given.test prev names e x h before holds f)) (λ (h : prev ≡ it). inr (inl h)) (which taken it prev k)
+      ⊎_elim (λ (h : Contains taken prev). inl (given.test prev names e x h before holds f)) (λ (h : prev ≡ it). inr (inl h)) (in_pushed taken it prev k)
   gives_splits taken it p w y (given.bind prev names name e v x k before has f) =
       ⊎_elim (λ (h : Contains taken prev). inl (given.bind prev names name e v x h before has f)) (λ (h : prev ≡ it). inr (inl h))
-      (which taken it prev k)
+      (in_pushed taken it prev k)
   gives_splits taken it p w y (given.terminal prev names what label excluded j t x k before matches free e f) =
       ⊎_elim (λ (h : Contains taken prev). inl (given.terminal prev names what label excluded j t x h before matches free e f))
-      (λ (h : prev ≡ it). inr (inl h)) (which taken it prev k)
+      (λ (h : prev ≡ it). inr (inl h)) (in_pushed taken it prev k)
   gives_splits taken it p w y (given.return prev done label excluded key x k l calls completes free f) =
       ⊎_elim
       (λ (h : Contains taken prev).
@@ -202,8 +197,8 @@ module _ (core : List Nonterminal) (text : List ℕ) where
         free = free;
         is = f;
       })))
-      (which taken it done l))
-      (λ (h : prev ≡ it). inr (inl h)) (which taken it prev k)
+      (in_pushed taken it done l))
+      (λ (h : prev ≡ it). inr (inl h)) (in_pushed taken it prev k)
 
 -- the ends of taken items, as one more is taken
 module _ (core : List Nonterminal) (taken items more : List Item) (n : ℕ) (ext : Extends items more) (once : NoneTwice more)

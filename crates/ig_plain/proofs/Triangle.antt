@@ -2,9 +2,9 @@
 use Rattle.std.proofs.Common.{◌≡◌, ℕ, zero, suc, ◌+◌, ◌*◌, ◌/◌, ◌<◌, ◌≤◌, List, [], ◌++◌, Some, slice_get, length, length-append, Contains, sym, ap, ◌∙◌, refl, arith, ⊎_elim}
 use Rattle.std.proofs.Math.Nat.{mul_assoc}
 use Rattle.std.proofs.lemmas.List.Elements.{Contains-append_left, Contains-append_right}
+use Rattle.ig_text.proofs.Differing.{both_differ}
 use Rattle.ig_text.proofs.Lists.{at_from_contains, sides}
 use Rattle.ig_item.specs.WellKinded.{NoneTwice}
-use Rattle.ig_plain.proofs.Distinct.{once_both}
 use Rattle.ig_plain.proofs.Listing.{below, length-below, in_below, at_below, once_below, order}
 
 -- from where to where
@@ -68,7 +68,7 @@ within_stretches (suc n) i s e =
 pub once_stretches : (n : ℕ) → NoneTwice (stretches n)
 once_stretches zero = λ i j s p q. cc
 once_stretches (suc n) =
-    once_both (below (stretch n) (suc n)) (stretches n)
+    both_differ (below (stretch n) (suc n)) (stretches n)
     (once_below (stretch n) (suc n) (λ j k e. ap (λ (t : Stretch). t.start) e)) (once_stretches n)
     (λ s c d.
     let a = at_from_contains (below (stretch n) (suc n)) s c in

@@ -22,10 +22,7 @@ pub fn words(alloc: Global, found: io::Result<Args>) -> Result<Vec<String>, Stat
     ensures refused { IfErr found (λ error. result ≡ Err (unread_status (error_kind error))) }
 {
     match found {
-        Ok(args) => match without_name(alloc, args) {
-            Ok(words) => Ok(words),
-            Err(AllocError) => Err(Status::NoMemory),
-        },
+        Ok(args) => without_name(alloc, args).map_err(|_| Status::NoMemory),
         Err(error) => Err(status_of(&error)),
     }
 }

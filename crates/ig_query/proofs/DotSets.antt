@@ -6,9 +6,10 @@ use Rattle.std.proofs.lemmas.Bool.Decides.{Decides-eqb, Decides-and, Decides-lik
 use Rattle.std.proofs.lemmas.Map.Views.{Contains-from_any}
 use Rattle.std.proofs.lemmas.List.Elements.{Contains-push}
 use Rattle.indexmap.specs.IndexSet.{insert_key}
+use Rattle.ig_text.proofs.Lists.{in_pushed}
 use Rattle.ig_query.specs.contracts.dots.DotPartialEq.TheImpl as dot_impl
 use Rattle.ig_query.specs.declared.dots.Dot.{Dot}
-use Rattle.ig_query.proofs.Through.{one_more, old_in}
+use Rattle.ig_query.proofs.Through.{old_in}
 
 abbrev pub dot_eq : Dot → Dot → Bool
 dot_eq = dot_impl.eq-value.it
@@ -44,6 +45,6 @@ dot_added before after x e d = by (list_any (dot_eq x) before) refl
         )
     by false t =
         let is : after ≡ before ++ x ∷ [] = e ∙ ap (λ b. if b then before else before ++ x ∷ []) t in (
-          λ c. one_more before x d (from (before ++ x ∷ []) is c),
+          λ c. in_pushed before x d (from (before ++ x ∷ []) is c),
           λ h. to (before ++ x ∷ []) is (⊎_elim (λ c. old_in before x d c) (λ same. subst (Contains (before ++ x ∷ [])) (sym same) (Contains-push before x)) h),
         )

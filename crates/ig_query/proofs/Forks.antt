@@ -6,7 +6,7 @@ use Rattle.std.proofs.lemmas.Option.{same_Some, slice_get_within}
 use Rattle.std.proofs.lemmas.List.Elements.{Contains-push}
 use Rattle.std.proofs.lemmas.Bool.{cases_lt}
 use Rattle.std.proofs.lemmas.List.{length_push}
-use Rattle.ig_text.proofs.Lists.{at_from_contains, contains_from_at, get_within, none_in_nil, place_cases}
+use Rattle.ig_text.proofs.Lists.{in_pushed, at_from_contains, contains_from_at, get_within, none_in_nil, place_cases}
 use Rattle.ig_forest.specs.Forest.{Forest, Node, ItemNode, PreviousIsBefore}
 use Rattle.ig_forest.specs.Unfold.{IsTrim}
 use Rattle.ig_forest.specs.declared.entry.Choice.{Choice}
@@ -15,7 +15,7 @@ use Rattle.ig_forest.specs.declared.entry.Entry.TheVariants.{Begin, Pass, Take}
 use Rattle.ig_query.specs.Ambiguity as forked
 use Rattle.ig_query.specs.Ambiguity.{AreAmbiguous, IsAmbiguous, IsForked, link}
 use Rattle.ig_query.specs.CodeAmbiguity.{AreMarks, AreNumbers, HasChoice, HasFork, IsMarked, IsNumber, LeadsToMark, LinksToMark}
-use Rattle.ig_query.proofs.Through.{one_more, old_in}
+use Rattle.ig_query.proofs.Through.{old_in}
 
 -- a mark at an optional number
 record MarkedAt (o : Option ℕ) (marks : List Bool) : Type 0 where
@@ -169,7 +169,7 @@ module _ (f : Forest) (marks : List Bool) where
                   there = ap (slice_get f.nodes) same ∙ there;
                   leads = leads;
                 })
-                (one_more numbers k v c),
+                (in_pushed numbers k v c),
             λ n.
                 ⊎_elim (λ m. old_in numbers k v ((are.members v).1 m))
                 (λ p. subst (Contains (numbers ++ k ∷ [])) (sym p.0) (Contains-push numbers k)) (this_or_earlier v n),

@@ -15,11 +15,11 @@ use Rattle.std.proofs.lemmas.Option.{same_Some, slice_get_within}
 use Rattle.std.proofs.lemmas.List.Elements.{Contains-push}
 use Rattle.std.proofs.lemmas.Bool.{cases_lt}
 use Rattle.ig_text.specs.declared.text.Span.{Span}
-use Rattle.ig_text.proofs.Lists.{none_in_nil}
+use Rattle.ig_text.proofs.Lists.{in_pushed, none_in_nil}
 use Rattle.ig_text.proofs.Options.{equal_parts}
 use Rattle.ig_forest.specs.Forest.{Forest, Node}
 use Rattle.ig_query.specs.Spans.{AreSpansOf, HasSpan, IsOfDeclaration, span_cmp}
-use Rattle.ig_query.proofs.Through.{one_more, old_in}
+use Rattle.ig_query.proofs.Through.{old_in}
 
 module _ (f : Forest) (name : List ℕ) where
   -- one of the first k nodes is of the declaration and has the span
@@ -77,7 +77,7 @@ module _ (f : Forest) (name : List ℕ) where
           ⊎_elim (λ old. later span ((up span).0 old))
           (λ same.
           record { number = k; node = node; below = omega arith; there = at; of = of; spans = sym same })
-          (one_more spans node.span span (subst (λ (z : List Span). Contains z span) is c)),
+          (in_pushed spans node.span span (subst (λ (z : List Span). Contains z span) is c)),
       λ h.
           subst (λ (z : List Span). Contains z span) (sym is)
           (⊎_elim (λ g. old_in spans node.span span ((up span).1 g))

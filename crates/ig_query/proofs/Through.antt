@@ -4,16 +4,12 @@ use Rattle.std.specs.List.{filter_map, cons_option}
 use Rattle.std.specs.Option.{option_to_list}
 use Rattle.std.proofs.lemmas.List.{take_all, take_more}
 use Rattle.std.proofs.lemmas.List.Elements.{filter_map-append, Contains-append_left, Contains-append_right, Contains-append_cases, Contains-push}
-use Rattle.ig_text.proofs.Lists.{contains_from_at, contains_one, none_in_nil}
+use Rattle.ig_text.proofs.Lists.{contains_from_at, contains_one, in_pushed, none_in_nil}
 use Rattle.ig_text.proofs.Orders.{le_or_lt}
 
 module _ {X : Type 0} where
   pub old_in : (zs : List X) (x y : X) → Contains zs y → Contains (zs ++ x ∷ []) y
   old_in zs x y c = Contains-append_left zs (x ∷ []) y c
-
-  -- a member of a list with one more at the end
-  pub one_more : (zs : List X) (x y : X) → Contains (zs ++ x ∷ []) y → Contains zs y ⊎ (y ≡ x)
-  one_more zs x y c = ⊎_elim (λ d. inl d) (λ d. inr (contains_one x y d)) (Contains-append_cases zs (x ∷ []) y c)
 
   module _ (P : X → Type 0) where
     -- no member has the fact
@@ -25,7 +21,7 @@ module _ {X : Type 0} where
 
     pub none_more : (zs : List X) (x : X) → NoneHas zs → (P x → ⊥) → NoneHas (zs ++ x ∷ [])
     none_more zs x none not y c p =
-        ⊎_elim (λ d. none y d p) (λ e. not (subst P e p)) (one_more zs x y c)
+        ⊎_elim (λ d. none y d p) (λ e. not (subst P e p)) (in_pushed zs x y c)
 
     module _ (place : X → ℕ) where
       -- the greatest place of those that have the fact, and 0 where none does
@@ -39,7 +35,7 @@ module _ {X : Type 0} where
       pub most_without : (zs : List X) (x : X) (m : ℕ) → IsMost zs m → (P x → ⊥) → IsMost (zs ++ x ∷ []) m
       most_without zs x m most not =
           record {
-            greatest = λ y c p. ⊎_elim (λ d. most.greatest y d p) (λ e. absurd (not (subst P e p))) (one_more zs x y c);
+            greatest = λ y c p. ⊎_elim (λ d. most.greatest y d p) (λ e. absurd (not (subst P e p))) (in_pushed zs x y c);
             reached =
                 ⊎_elim (λ r. inl (r.0, old_in zs x r.0 r.1, r.2, r.3)) (λ n. inr (none_more zs x n.0 not, n.1)) most.reached;
           }
@@ -49,7 +45,7 @@ module _ {X : Type 0} where
           record {
             greatest = λ y c q.
                 ⊎_elim (λ d. let low = most.greatest y d q in omega (arith, low, is))
-                (λ e. let same : place y ≡ place x = ap place e in omega (arith, same, is)) (one_more zs x y c);
+                (λ e. let same : place y ≡ place x = ap place e in omega (arith, same, is)) (in_pushed zs x y c);
             reached = highest (le_or_lt (place x) m);
           }
         where
@@ -70,14 +66,14 @@ module _ {X : Type 0} where
     pub image_without : (zs : List X) (x : X) (ds : List Y) → IsImage zs ds → (P x → ⊥) → IsImage (zs ++ x ∷ []) ds
     image_without zs x ds image not d = (
       λ c. let r = (image d).0 c in (r.0, old_in zs x r.0 r.1, r.2, r.3),
-      λ r. ⊎_elim (λ h. (image d).1 (r.0, h, r.2, r.3)) (λ e. absurd (not (subst P e r.2))) (one_more zs x r.0 r.1),
+      λ r. ⊎_elim (λ h. (image d).1 (r.0, h, r.2, r.3)) (λ e. absurd (not (subst P e r.2))) (in_pushed zs x r.0 r.1),
     )
 
     pub image_with : (zs : List X) (x : X) (ds es : List Y) → IsImage zs ds → P x →
         ((d : Y) → Contains es d ↔ (Contains ds d ⊎ (d ≡ g x))) → IsImage (zs ++ x ∷ []) es
     image_with zs x ds es image p more d = (
       λ c. ⊎_elim (λ h. let r = (image d).0 h in (r.0, old_in zs x r.0 r.1, r.2, r.3)) (λ e. (x, Contains-push zs x, p, sym e)) ((more d).0 c),
-      λ r. (more d).1 (⊎_elim (λ h. inl ((image d).1 (r.0, h, r.2, r.3))) (λ e. inr (sym r.3 ∙ ap g e)) (one_more zs x r.0 r.1)),
+      λ r. (more d).1 (⊎_elim (λ h. inl ((image d).1 (r.0, h, r.2, r.3))) (λ e. inr (sym r.3 ∙ ap g e)) (in_pushed zs x r.0 r.1)),
     )
 
 -- members of what a partial function gives

@@ -1,6 +1,6 @@
 -- The parts of the rules, put together of what is read one behind the other: expressions.
 use Rattle.std.proofs.Common.{◌≡◌, ℕ, ◌+◌, ◌≤◌, ◌<◌, List, [], ◌∷◌, ◌++◌, refl, sym, ap, ◌∙◌, subst, arith}
-use Rattle.std.specs.Prelude.{Some, None, All, pos, ℤ}
+use Rattle.std.specs.Prelude.{None, All, pos, ℤ}
 use Rattle.ig_text.specs.Limits.{integers_end}
 use Rattle.ig_expr.specs.Expression.{Expression, Integer, Variable, Binary, Of, Same, Spells}
 use Rattle.ig_expr.specs.Expression as tree
@@ -11,7 +11,8 @@ use Rattle.ig_syntax.specs.Token.{Token, Name, Head, Number, Literal, Comma, Clo
 use Rattle.ig_syntax.specs.Rules as rule
 use Rattle.ig_syntax.specs.Rules.{IsOperator, ReadsTerm, ReadsExpression, ReadsArguments}
 use Rattle.ig_rules.specs.Machine as want
-use Rattle.ig_rules.specs.Machine.{after, before, after_operator_rest, arguments_wants}
+use Rattle.ig_rules.specs.Machine.{after, before, arguments_wants}
+use Rattle.ig_rules.specs.Rows.{operator_row}
 use Rattle.ig_rules.specs.Reading.{Goes}
 use Rattle.ig_limits.specs.Limits.{NumberFits}
 use Rattle.ig_readers.specs.declared.fault.RuleFault.{RuleFault}
@@ -21,22 +22,6 @@ use Rattle.ig_readers.specs.Readers.{Stands, Takes, Misses, at_end, at_token, St
 use Rattle.ig_readers.proofs.Names.{named_rows}
 use Rattle.ig_readers.specs.Lists.{one_more, the_last}
 use Rattle.ig_readers.specs.Steps.{stop_past, stop_token, by_token, by_itself, in_turn, ReadsToken, the_sign, rows_alike, and_none, relay, reread, token_then, sign_then, then_sign, each_there}
-
--- an operator is what may stand behind a term
-operates : (t : Token) (o : Op) → IsOperator t o → after_operator_rest t ≡ Some (want.term ∷ [])
-operates t o rule.addition = refl
-operates t o rule.subtraction = refl
-operates t o rule.multiplication = refl
-operates t o rule.division = refl
-operates t o rule.remainder = refl
-operates t o rule.less = refl
-operates t o rule.less_equal = refl
-operates t o rule.greater = refl
-operates t o rule.greater_equal = refl
-operates t o rule.equal = refl
-operates t o rule.not_equal = refl
-operates t o rule.conjunction = refl
-operates t o rule.disjunction = refl
 
 -- an expression behind `not` or `-`
 pub opposite : (T : List Token) (i j : ℕ) (a e : Expression) → Stands T i token.Not → Goes Expression ReadsTerm (want.term ∷ []) [] T (i + 1) j a → e ≡ a →
@@ -69,7 +54,7 @@ pub operation : (T : List Token) (i j k : ℕ) (a b x y : Expression) (o : Op) �
     Goes Expression ReadsExpression (want.term ∷ want.operator_rest ∷ []) [] T i k (Binary o x y)
 operation T i j k a b x y o g f h d e =
     in_turn ReadsTerm (After f.found ReadsTerm) ReadsExpression (want.term ∷ []) (want.operator_rest ∷ []) [] T i j k a b (Binary o x y) g
-    (by_token (After f.found ReadsTerm) ReadsTerm want.operator_rest (want.term ∷ []) [] f.found T j k b b f.stands (operates f.found o f.fits)
+    (by_token (After f.found ReadsTerm) ReadsTerm want.operator_rest (want.term ∷ []) [] f.found T j k b b f.stands (operator_row f.found o f.fits)
     (λ s r v. record { middle = s; is = refl; part = v }) h)
     (λ s m r u v. rule.binary f.found o s v.middle r x y f.fits (subst (λ z. ReadsTerm s z x) v.is (subst (ReadsTerm s m) (sym d) u))
     (subst (ReadsTerm v.middle r) (sym e) v.part))
@@ -78,7 +63,7 @@ pub second_stops : (T : List Token) (i j : ℕ) (a : Expression) (o : Op) (e : R
     Finds (λ t. IsOperator t o) T j → StopsAt (want.term ∷ []) T (j + 1) e → StopsAt (want.term ∷ want.operator_rest ∷ []) T i e
 second_stops T i j a o e g f s =
     stop_past ReadsTerm (want.term ∷ []) (want.operator_rest ∷ []) T i j a e g
-    (stop_token want.operator_rest (want.term ∷ []) f.found T j e f.stands (operates f.found o f.fits) s)
+    (stop_token want.operator_rest (want.term ∷ []) f.found T j e f.stands (operator_row f.found o f.fits) s)
 
 -- a function
 pub applies : (T : List Token) (i j : ℕ) (n : Named) (f : Function) (a e : Expression) → n ≡ named.One f →

@@ -6,13 +6,12 @@ use Rattle.std.specs.Map.{lookup}
 use Rattle.std.specs.Cmp.Lexicographic.{bytes_decides}
 use Rattle.ig_text.proofs.Characters.{ascii, chars_of_word}
 use Rattle.ig_text.specs.Words.{is_word}
-use Rattle.ig_expr.specs.declared.operator.Function.{Function}
 use Rattle.ig_expr.specs.declared.operator.Function.TheVariants as functions
 use Rattle.ig_syntax.specs.Rules as rule
-use Rattle.ig_syntax.specs.Rules.{IsFunction}
 use Rattle.ig_syntax.specs.Spelling.{entry}
 use Rattle.ig_rules.specs.Machine as want
 use Rattle.ig_rules.specs.Machine.{after_function}
+use Rattle.ig_rules.specs.Rows.{function_row}
 use Rattle.ig_readers.specs.declared.expressions.Named.{Named}
 use Rattle.ig_readers.specs.declared.expressions.Named.TheVariants as named
 use Rattle.ig_readers.specs.Readers.{IsNamed, named_wants}
@@ -85,16 +84,8 @@ function_is rows text None e u h =
 function_is rows text (Some n) e u h =
     named_there table (chars text) n all_named (sym (h ∙ ap (λ z. entry z text) e ∙ by_characters table text refl u))
 
-named_function : (x : List ℕ) (f : Function) → IsFunction x f → after_function x ≡ Some (want.expression ∷ want.close_bracket ∷ [])
-named_function x f rule.begin = refl
-named_function x f rule.end = refl
-named_function x f rule.size = refl
-named_function x f rule.column = refl
-named_function x f rule.line = refl
-named_function x f rule.number_of = refl
-
 -- what the table makes of the name of a function
 pub named_rows : (x : List ℕ) (n : Named) → IsNamed x n → after_function x ≡ Some (named_wants n)
-named_rows x (named.One f) h = named_function x f h
+named_rows x (named.One f) h = function_row x f h
 named_rows x named.Same h = subst (λ z. after_function z ≡ Some (named_wants named.Same)) (sym h) refl
 named_rows x named.Spells h = subst (λ z. after_function z ≡ Some (named_wants named.Spells)) (sym h) refl

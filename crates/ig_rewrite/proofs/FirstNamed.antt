@@ -8,8 +8,8 @@ use Rattle.std.proofs.lemmas.List.Elements.{Contains-append_left, Contains-appen
 use Rattle.ig_expr.specs.Names.{place_of}
 use Rattle.ig_text.specs.Words.{is_word}
 use Rattle.ig_text.proofs.Positions.{beside-cons}
-use Rattle.ig_text.proofs.Lists.{contains_from_at, in_take, unmapped_at, mapped_at}
-use Rattle.ig_text.proofs.Orders.{neither_below}
+use Rattle.ig_text.proofs.Differing.{all_differ}
+use Rattle.ig_text.proofs.Lists.{unmapped_at, mapped_at}
 use Rattle.ig_grammar.specs.Condition.{declaration_of}
 use Rattle.ig_grammar.specs.Condition as meets
 use Rattle.ig_grammar.specs.Names.{AreDistinct, names}
@@ -100,30 +100,23 @@ first_at (d ∷ ds) (suc k) decl e f =
     go true t h = absurd (f 0 d (omega arith) refl ((bytes_decides d.name decl.name).0 t))
     go false t h = h
 
--- in a well-scoped grammar a declaration is the first of its name
-pub itself_declared : (g : Grammar) (k : ℕ) (decl : Decl) → IsWellScoped g → slice_get g.decls k ≡ Some decl → declaration_of g.decls decl.name ≡ Some decl
-itself_declared g k decl scoped e = first_at g.decls k decl e (λ j d l there same.
+-- where no two declarations have one name, each is found under its own
+pub found_itself : (ds : List Decl) → AreDistinct (names ds) → (k : ℕ) (d : Decl) → slice_get ds k ≡ Some d → declaration_of ds d.name ≡ Some d
+found_itself ds different k d e =
+    first_at ds k d e (λ j x less there same.
+    let one : j ≡ k = different j k d.name (mapped_at (λ (z : Decl). z.name) ds j x there ∙ ap Some same) (mapped_at (λ (z : Decl). z.name) ds k d e) in omega (arith, less, one))
+
+-- in a well-scoped grammar no name is declared twice
+pub distinct : (g : Grammar) → IsWellScoped g → AreDistinct (names g.decls)
+distinct g scoped =
+    all_differ (names g.decls) (λ k name e earlier.
+    let d = unmapped_at (λ (x : Decl). x.name) g.decls k name e in
     scoped (record { decl = suc k; alt = 0; symbol = 0 }) meets.DuplicateName (
-      decl,
-      e,
-      meets.duplicate_name (subst (Contains (names (take k g.decls))) same
-          (contains_from_at (names (take k g.decls)) j d.name (mapped_at (λ (z : Decl). z.name) (take k g.decls) j d (in_take g.decls k j d l there)))),
+      d.0,
+      d.1,
+      meets.duplicate_name (subst (λ (z : List (List ℕ)). Contains z d.0.name) (take-map (λ (x : Decl). x.name) k g.decls)
+          (subst (Contains (take k (names g.decls))) (sym d.2) earlier)),
     ))
-
--- no name is declared twice
-module _ (g : Grammar) (scoped : IsWellScoped g) where
-  not_again : (i j : ℕ) (name : List ℕ) → i < j → slice_get (names g.decls) i ≡ Some name → slice_get (names g.decls) j ≡ Some name → ⊥
-  not_again i j name l e f =
-      let d = unmapped_at (λ (x : Decl). x.name) g.decls j name f in
-      let earlier : Contains (names (take j g.decls)) name =
-      subst (λ (z : List (List ℕ)). Contains z name) (take-map (λ (x : Decl). x.name) j g.decls)
-      (contains_from_at (take j (names g.decls)) i name (in_take (names g.decls) j i name l e)) in
-      scoped (record { decl = suc j; alt = 0; symbol = 0 }) meets.DuplicateName
-      (d.0, d.1, meets.duplicate_name (subst (λ (z : List ℕ). Contains (names (take j g.decls)) z) (sym d.2) earlier))
-
-  pub distinct : AreDistinct (names g.decls)
-  distinct i j name e f =
-      neither_below i j (λ before. not_again i j name before e f) (λ behind. not_again j i name behind f e)
 
 -- each declaration changed, and under its name
 module _ (change : Decl → Decl) (kept : (d : Decl) → (change d).name ≡ d.name) where
@@ -166,7 +159,7 @@ pub found : DeclarationsAreFound
 found =
     record {
       first = declaration_first;
-      itself = itself_declared;
+      itself = found_itself;
       distinct = distinct;
       changed = changed;
       place = found_at;

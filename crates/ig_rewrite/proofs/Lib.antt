@@ -12,6 +12,5 @@ pub mod RootShaped
 pub mod RootKept
 pub mod Counting
 pub mod Asking
-pub mod NamesOnce
 pub mod Passing
 pub mod Multiplying

@@ -1,14 +1,13 @@
 -- What a pass gives is enough for its result to be well scoped, regular in form, and free of the names.
-use Rattle.std.proofs.Common.{◌≡◌, ◌∙◌, ℕ, zero, suc, ◌+◌, ◌<◌, ◌≤◌, List, [], ◌∷◌, ◌++◌, Option, Some, None, Bool, cond, true, false, refl, sym, ap, ap₂, subst, length, take, inl, inr, arith}
-use Rattle.std.specs.Prelude.{◌⊎◌, All, Contains, slice_get, count_by, if◌then◌else◌}
-use Rattle.std.specs.Cmp.Lexicographic.{bytes_decides}
+use Rattle.std.proofs.Common.{◌≡◌, ◌∙◌, ℕ, zero, suc, ◌+◌, ◌<◌, ◌≤◌, List, [], ◌∷◌, ◌++◌, Option, Some, None, cond, true, false, refl, sym, ap, ap₂, subst, length, take, inl, inr, arith}
+use Rattle.std.specs.Prelude.{◌⊎◌, All, Contains, slice_get, count_by}
 use Rattle.std.proofs.lemmas.List.{map-append, take-map, take-append-le}
 use Rattle.std.proofs.lemmas.List.Elements.{Contains-append_cases}
 use Rattle.std.proofs.lemmas.List.Sums.{sum_by-append, sum_by-cons}
 use Rattle.std.proofs.lemmas.Option.{same_Some, slice_get_within}
-use Rattle.ig_text.specs.Words.{is_word}
 use Rattle.ig_text.proofs.Lists.{at_from_contains, contains_from_at, contains_first, contains_later, contains_one, none_in_nil, get_within, in_take, within_take, left_at, sides, mapped_at}
 use Rattle.ig_text.proofs.Booleans.{not_both}
+use Rattle.ig_text.proofs.Differing.{not_before, all_differ, both_differ}
 use Rattle.ig_grammar.specs.Condition.{Condition, HeadMeets, StartMeets, IsNotPlain, declaration_of, symbols_of, named_parameters, most_variables, most_parameters, binds_name}
 use Rattle.ig_grammar.specs.Condition as meets
 use Rattle.ig_grammar.specs.Name.{is_name}
@@ -33,14 +32,7 @@ use Rattle.ig_rewrite.specs.Passing.{IsSettled, Settles, GetAll, IsReadyFor, IsR
 use Rattle.ig_rewrite.specs.Unbound.{LacksName}
 use Rattle.ig_rewrite.proofs.Asking.{symbols_ask}
 use Rattle.ig_rewrite.proofs.Counting.{symbols_counted}
-use Rattle.ig_rewrite.proofs.NamesOnce.{not_again, all_different, different_both}
-use Rattle.ig_rewrite.proofs.FirstNamed.{declaration_first, first_at, distinct, found_at}
-
--- where no two declarations have one name, each is found under its own
-found_itself : (ds : List Decl) → AreDistinct (names ds) → (k : ℕ) (d : Decl) → slice_get ds k ≡ Some d → declaration_of ds d.name ≡ Some d
-found_itself ds different k d e =
-    first_at ds k d e (λ j x less there same.
-    let one : j ≡ k = different j k d.name (mapped_at (λ (z : Decl). z.name) ds j x there ∙ ap Some same) (mapped_at (λ (z : Decl). z.name) ds k d e) in omega (arith, less, one))
+use Rattle.ig_rewrite.proofs.FirstNamed.{found_itself, distinct, found_at}
 
 -- the same names in the same order
 same_names : (ds es : List Decl) → length es ≡ length ds →
@@ -91,7 +83,7 @@ none_counted (p ∷ ps) f =
 module _ (g : Grammar) (scoped : IsWellScoped g) where
   pub different_parameters : (b : ℕ) (d : Decl) → slice_get g.decls b ≡ Some d → AreDistinct (parameter_names d.params)
   different_parameters b d e =
-      all_different (parameter_names d.params) (λ k n at among.
+      all_differ (parameter_names d.params) (λ k n at among.
       let p = parameter_from d.params k n at in
       scoped (record { decl = suc b; alt = 0; symbol = 0 }) meets.DuplicateVariable (
         d,
@@ -114,7 +106,7 @@ module _ (later : List (List ℕ)) (g h : Grammar) (scoped : IsWellScoped g) (ma
   different : AreDistinct (names h.decls)
   different =
       subst AreDistinct (sym (ap names makes.decls ∙ map-append (λ (d : Decl). d.name) makes.remade makes.added ∙ ap (λ z. z ++ names makes.added) named))
-      (different_both (names g.decls) (names makes.added) (distinct g scoped) makes.apart (λ n there here. go n here (added_named makes.added n there)))
+      (both_differ (names g.decls) (names makes.added) (distinct g scoped) makes.apart (λ n here there. go n here (added_named makes.added n there)))
     where
       added_named : (ds : List Decl) (n : List ℕ) → Contains (names ds) n → (e : Decl) × Contains ds e × (e.name ≡ n)
       added_named [] n m = absurd (none_in_nil n m)
@@ -195,13 +187,13 @@ module _ (later : List (List ℕ)) (g h : Grammar) (scoped : IsWellScoped g) (ma
   module _ (b : ℕ) (e : Decl) (there : slice_get h.decls b ≡ Some e) where
     name_once : Contains (names (take b h.decls)) e.name → ⊥
     name_once m =
-        not_again (names h.decls) different b e.name (mapped_at (λ (z : Decl). z.name) h.decls b e there)
+        not_before (names h.decls) different b e.name (mapped_at (λ (z : Decl). z.name) h.decls b e there)
         (subst (λ z. Contains z e.name) (sym (take-map (λ (d : Decl). d.name) b h.decls)) m)
 
     parameter_once : AreDistinct (parameter_names e.params) → (k : ℕ) (p : Param) → slice_get e.params k ≡ Some p →
         Contains (visible.names (parameters (take k e.params))) p.name → ⊥
     parameter_once once k p at m =
-        not_again (parameter_names e.params) once k p.name (parameter_at e.params k p at) (subst (λ z. Contains z p.name) (earlier_names e.params k) m)
+        not_before (parameter_names e.params) once k p.name (parameter_at e.params k p at) (subst (λ z. Contains z p.name) (earlier_names e.params k) m)
 
     added_head : IsAdded later e → (c : Condition) → HeadMeets h.decls b e c → ⊥
     added_head new c (meets.duplicate_name m) = name_once m
@@ -220,8 +212,8 @@ module _ (later : List (List ℕ)) (g h : Grammar) (scoped : IsWellScoped g) (ma
       once : AreDistinct (parameter_names e.params)
       once =
           subst AreDistinct (sym (ap parameter_names made.longer ∙ map-append (λ (p : Param). p.name) d.params made.more))
-          (different_both (parameter_names d.params) (parameter_names made.more) (different_parameters g scoped b d before) made.distinct
-          (λ n m l. let p = parameter_named made.more n m in made.apart p.0 p.1 (subst (Contains (parameter_names d.params)) (sym p.2) l)))
+          (both_differ (parameter_names d.params) (parameter_names made.more) (different_parameters g scoped b d before) made.distinct
+          (λ n l m. let p = parameter_named made.more n m in made.apart p.0 p.1 (subst (Contains (parameter_names d.params)) (sym p.2) l)))
 
       same_layout : (x y : Decl) → IsRemade later x y → y.kind ≡ Layout → x.kind ≡ Layout
       same_layout x y r e2 = go r.kinded

@@ -1,6 +1,6 @@
 -- A well-scoped grammar stays well scoped where its root is written as a declaration.
 use Rattle.std.proofs.Common.{◌≡◌, ◌∙◌, ℕ, zero, suc, ◌<◌, List, [], ◌∷◌, ◌++◌, Option, Some, None, true, false, refl, sym, ap, subst, arith, length, inl, inr}
-use Rattle.std.specs.Prelude.{◌≢◌, ◌⊎◌, Contains, slice_get, count_by}
+use Rattle.std.specs.Prelude.{◌⊎◌, Contains, slice_get, count_by}
 use Rattle.std.proofs.Math.Seq.{take-length}
 use Rattle.std.proofs.lemmas.Option.{slice_get_within}
 use Rattle.std.proofs.lemmas.List.{take-append-le}
@@ -11,19 +11,18 @@ use Rattle.ig_grammar.specs.Names.{names}
 use Rattle.ig_grammar.specs.Name.{is_name}
 use Rattle.ig_grammar.specs.Visible.{Visible, inside_sequence}
 use Rattle.ig_grammar.specs.Numbering.{layout_among, alternatives}
-use Rattle.ig_grammar.specs.Condition.{Condition, SymbolMeets, HeadMeets, StartMeets, IsNotPlain, declaration_of, symbols_of}
+use Rattle.ig_grammar.specs.Condition.{Condition, SymbolMeets, HeadMeets, StartMeets, IsNotPlain, declaration_of}
 use Rattle.ig_grammar.specs.Condition as meets
 use Rattle.ig_grammar.specs.WellScoped.{IsWellScoped, GrammarHas, DeclarationHas, AlternativeHas}
 use Rattle.ig_grammar.specs.declared.symbol.Alt.{Alt}
 use Rattle.ig_grammar.specs.declared.declaration.DeclKind.{DeclKind}
 use Rattle.ig_grammar.specs.declared.declaration.DeclKind.TheVariants.{Syntax}
 use Rattle.ig_grammar.specs.declared.declaration.Decl.{Decl}
-use Rattle.ig_grammar.specs.declared.declaration.Param.{Param}
 use Rattle.ig_grammar.specs.declared.grammar.Grammar.{Grammar}
 use Rattle.ig_rewrite.specs.Added.{root_name, IsFresh}
 use Rattle.ig_rewrite.specs.Rooted.{root_symbols, root_declaration, rooted_grammar}
 use Rattle.ig_rewrite.proofs.AddedNames.{root_is_no_name}
-use Rattle.ig_rewrite.proofs.FirstNamed.{declared_last, declared_still, declared_before, undeclared_before, not_declared, itself_declared, layout_there}
+use Rattle.ig_rewrite.proofs.FirstNamed.{declared_last, declared_still, declared_before, undeclared_before, not_declared, found_itself, distinct, layout_there}
 use Rattle.ig_rewrite.proofs.RootCalls.{root_occurrence}
 
 -- no condition holds there
@@ -75,7 +74,7 @@ module _ (g : Grammar) (scoped : IsWellScoped g) (fresh : IsFresh g root_name) w
   layout_free name e =
       let l = layout_there g.decls name e in (
         l.1,
-        declared_still g.decls r name l.1 (subst (λ n. declaration_of g.decls n ≡ Some l.1) l.3 (itself_declared g l.0 l.1 scoped l.2)),
+        declared_still g.decls r name l.1 (subst (λ n. declaration_of g.decls n ≡ Some l.1) l.3 (found_itself g.decls (distinct g scoped) l.0 l.1 l.2)),
         empty_unless l.1.params (λ some. scoped (record { decl = suc l.0; alt = 0; symbol = 0 }) meets.LayoutNotPlain (l.1, l.2, meets.layout_not_plain l.4 (meets.parametrized some))),
       )
 

@@ -1,5 +1,6 @@
 -- Names that passes add to a grammar: of which form they are, and which of them are new.
-use Rattle.std.specs.Prelude.{◌≡◌, ℕ, ◌<◌, ◌^◌, List, [], ◌∷◌, ◌++◌, Contains, false, true, codes, decimal}
+use Rattle.std.specs.Prelude.{◌≡◌, ℕ, ◌<◌, List, [], ◌∷◌, ◌++◌, Contains, false, true, codes, decimal}
+use Rattle.ig_text.specs.Limits.{unsigned_end}
 use Rattle.ig_grammar.specs.Name.{is_name}
 use Rattle.ig_grammar.specs.Names.{names}
 use Rattle.ig_grammar.specs.declared.grammar.Grammar.{Grammar}
@@ -46,7 +47,7 @@ HasNoSign name = Contains name number_sign → ⊥
 
 -- the numbers that tell added names apart are below this
 abbrev pub numbers_bound : ℕ
-numbers_bound = 2 ^ 64
+numbers_bound = unsigned_end
 
 -- no name that a pass adds is one of the notation, and added names tell their declarations and their numbers
 pub record AddedNamesAreNew : Type 0 where

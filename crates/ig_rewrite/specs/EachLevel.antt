@@ -3,9 +3,9 @@
 -- src/laws.rt; nothing of this file has to be believed.
 use Rattle.std.proofs.Common.{◌≡◌, ◌∙◌, ℕ, ◌+◌, List, [], ◌∷◌, ◌++◌, map, length, Some, refl, sym, ap, ap₂, subst, inl, inr}
 use Rattle.std.specs.Prelude.{All, Contains, ◌⊎◌, option_map, slice_get}
-use Rattle.std.proofs.lemmas.List.{map-append}
-use Rattle.std.proofs.lemmas.List.Elements.{All-append, All-contains, All-nil, All-cons, All-head, All-tail, Contains-append_left, Contains-append_right, Contains-append_cases}
-use Rattle.ig_text.proofs.Lists.{at_from_contains, contains_from_at, contains_first, contains_later, contains_one, none_in_nil}
+use Rattle.std.proofs.lemmas.List.{map-append, map-id}
+use Rattle.std.proofs.lemmas.List.Elements.{All-append, All-contains, All-nil, All-cons, Contains-append_left, Contains-append_right, Contains-append_cases}
+use Rattle.ig_text.proofs.Lists.{halves, map_twice, at_from_contains, contains_from_at, contains_first, contains_later, contains_one, none_in_nil}
 use Rattle.std.proofs.lemmas.Option.{slice_get-map}
 use Rattle.ig_grammar.specs.Alternative.{gathered_alternatives}
 use Rattle.ig_grammar.specs.Symbol.{Symbol, Literal, OneOf, Call, Label, Guard, Let, Opt, Star, Plus, SepStar, SepPlus, Group, Offside, Ignore, Align, Filtered, Seq, Entry}
@@ -79,16 +79,12 @@ in_levels (first ∷ others) level a l m = go (Contains-append_cases (first ∷ 
         Contains-append_left first.alts (alternatives others) a (subst (λ (z : Level). Contains z.alts a) (contains_one first level c) m)
     go (inr c) rest = Contains-append_right first.alts (alternatives others) a (rest c)
 
-map_twice : {X Y : Type 0} (f : X → Y) (r : Y → X) → ((x : X) → r (f x) ≡ x) → (xs : List X) → map r (map f xs) ≡ xs
-map_twice f r e [] = refl
-map_twice f r e (x ∷ xs) = ap₂ (λ y ys. y ∷ ys) (e x) (map_twice f r e xs)
-
 pub alternatives_by_level : (levels : List Level) → map (λ a. a.alternative) (by_level levels) ≡ alternatives levels
 alternatives_by_level [] = refl
 alternatives_by_level (level ∷ others) =
     let f : Alt → Levelled = λ a. record { alternative = a; level = length others + 1; assoc = level.assoc } in
     map-append (λ a. a.alternative) (map f level.alts) (by_level others) ∙
-    ap₂ (λ x y. x ++ y) (map_twice f (λ a. a.alternative) (λ x. refl) level.alts) (alternatives_by_level others)
+    ap₂ (λ x y. x ++ y) (map_twice f (λ a. a.alternative) level.alts ∙ map-id level.alts) (alternatives_by_level others)
 
 -- an alternative has the same place with its level and without
 pub alternative_at : (levels : List Level) (k : ℕ) (a : Levelled) → slice_get (by_level levels) k ≡ Some a →
@@ -98,14 +94,6 @@ alternative_at levels k a h =
     ap (option_map (λ a. a.alternative)) h
 
 module _ (P : Symbol → Type 0) where
-  all_left : (xs ys : List Symbol) → All P (xs ++ ys) → All P xs
-  all_left [] ys a = All-nil P
-  all_left (x ∷ xs) ys a = All-cons P x xs (All-head P x (xs ++ ys) a) (all_left xs ys (All-tail P x (xs ++ ys) a))
-
-  all_right : (xs ys : List Symbol) → All P (xs ++ ys) → All P ys
-  all_right [] ys a = a
-  all_right (x ∷ xs) ys a = all_right xs ys (All-tail P x (xs ++ ys) a)
-
   -- where all subterms have it, each symbol has it where it stands
   pub at_occurrence : (xs : Symbols) (v : Visible) → All P (subterms_of_symbols xs) → (o : Occurrence) → Contains (inside_sequence v xs) o → P o.symbol
   at_occurrence xs v all o m =
@@ -128,7 +116,8 @@ module _ (P : Symbol → Type 0) where
   of_alternative [] a all m = absurd (none_in_nil a m)
   of_alternative (b ∷ others) a all m =
       let first = subterms_of_symbols (gathered b.symbols) in let rest = subterms_of_alternatives (gathered_alternatives others) in
-      go (Contains-append_cases (b ∷ []) others a m) (all_left first rest all) (λ c. of_alternative others a (all_right first rest all) c)
+      let parts = halves P first rest all in
+      go (Contains-append_cases (b ∷ []) others a m) parts.0 (λ c. of_alternative others a parts.1 c)
     where
       go : Contains (b ∷ []) a ⊎ Contains others a → All P (subterms_of_symbols (gathered b.symbols)) →
           (Contains others a → All P (subterms_of_symbols (gathered a.symbols))) → All P (subterms_of_symbols (gathered a.symbols))

@@ -1,5 +1,5 @@
--- Which declaration a name has, by the declarations in order.
-use Rattle.std.specs.Prelude.{◌≡◌, ℕ, List, ◌∷◌, Option, Some, map, if◌then◌else◌, option_map, slice_get}
+-- Which declaration a name has, by the declarations in order, and where those stand that are found.
+use Rattle.std.specs.Prelude.{◌≡◌, ℕ, List, ◌∷◌, Some, map, if◌then◌else◌, option_map, slice_get}
 use Rattle.ig_text.specs.Words.{is_word}
 use Rattle.ig_grammar.specs.Condition.{declaration_of}
 use Rattle.ig_grammar.specs.Names.{AreDistinct, names}
@@ -17,10 +17,10 @@ pub record DeclarationsAreFound : Type 0 where
   -- the declaration of a name is the first one with that name
   pub first : (d : Decl) (ds : List Decl) (name : List ℕ) →
       declaration_of (d ∷ ds) name ≡ (if is_word d.name name then Some d else declaration_of ds name)
-  -- in a well-scoped grammar each declaration is that of its name
-  pub itself : (g : Grammar) (k : ℕ) (decl : Decl) → IsWellScoped g → slice_get g.decls k ≡ Some decl →
-      declaration_of g.decls decl.name ≡ Some decl
-  -- and no two have one name
+  -- where no two declarations have one name, each is that of its name
+  pub itself : (ds : List Decl) → AreDistinct (names ds) → (k : ℕ) (decl : Decl) → slice_get ds k ≡ Some decl →
+      declaration_of ds decl.name ≡ Some decl
+  -- in a well-scoped grammar no two have one name
   pub distinct : (g : Grammar) → IsWellScoped g → AreDistinct (names g.decls)
   -- where each declaration is changed and keeps its name, that of a name is the changed one
   pub changed : (change : Decl → Decl) → ((d : Decl) → (change d).name ≡ d.name) → (ds : List Decl) (name : List ℕ) →

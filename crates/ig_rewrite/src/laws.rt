@@ -24,10 +24,11 @@ pub fn added_names_are_new()
     ensures { AddedNamesAreNew }
 {}
 
-/// The declaration of a name is the first one with that name. In a well-scoped grammar each
-/// declaration is that of its name, and no two have one name. Where each declaration is changed and
-/// keeps its name, that of a name is the changed one. This law, proved of all declarations,
-/// computes nothing.
+/// The declaration of a name is the first one with that name. A declaration that is found stands at
+/// a place among the others, under its name, and so does that of the layout nonterminal. Where no
+/// two have one name, as in a well-scoped grammar, each declaration is that of its name. Where each
+/// declaration is changed and keeps its name, that of a name is the changed one. This law, proved
+/// of all declarations, computes nothing.
 pub fn declarations_are_found()
     ensures { DeclarationsAreFound }
 {}

@@ -1,9 +1,7 @@
 -- What a want permits begins by a row of the table, or the want lacks.
-use Rattle.std.proofs.Common.{◌≡◌, ℕ, List, [], ◌∷◌, ◌++◌, refl, ap, subst, true, false}
+use Rattle.std.proofs.Common.{◌≡◌, List, [], ◌∷◌, ◌++◌, refl, ap, subst, true, false}
 use Rattle.std.specs.Prelude.{Some}
 use Rattle.ig_expr.specs.Expression.{Expression}
-use Rattle.ig_expr.specs.declared.operator.Op.{Op}
-use Rattle.ig_expr.specs.declared.operator.Function.{Function}
 use Rattle.ig_expr.specs.declared.kind.Kind.{Kind}
 use Rattle.ig_text.specs.declared.pattern.Pattern.{Pattern}
 use Rattle.ig_syntax.specs.Token.{Token, Name, Head, Number, Literal, OneOf, Semicolon, Equals, Bar, Greater, Colon, Comma, Open, Close, OpenBrace, CloseBrace, Question, Star, Plus, Minus}
@@ -17,13 +15,14 @@ use Rattle.ig_grammar.specs.declared.declaration.DeclKind.{DeclKind}
 use Rattle.ig_grammar.specs.declared.declaration.Level.{Level}
 use Rattle.ig_grammar.specs.declared.declaration.Decl.{Decl}
 use Rattle.ig_syntax.specs.Rules as rule
-use Rattle.ig_syntax.specs.Rules.{IsFunction, IsOperator, IsPattern, IsSeparated, IsFilter, IsKind, IsDeclKind, ReadsTerm, ReadsExpression, ReadsArguments, ReadsFilters, ReadsSign}
+use Rattle.ig_syntax.specs.Rules.{IsPattern, IsSeparated, IsFilter, IsKind, IsDeclKind, ReadsTerm, ReadsExpression, ReadsArguments, ReadsFilters, ReadsSign}
 use Rattle.ig_syntax.specs.Rules.{ReadsSymbol, ReadsMarked, ReadsPost, ReadsAtom, ReadsAlternatives, ReadsAlternative, ReadsAssociativity, ReadsLevel, ReadsLevels, ReadsParameters, ReadsDeclaration}
 use Rattle.ig_rules.specs.Machine.{Want, grammar, declarations, associativity, alternative, declaration, symbol, marked, post, atom, expression, term}
 use Rattle.ig_rules.specs.Machine.{operator_rest, filters, sign, name_rest, kind, pattern, list_sign}
 use Rattle.ig_rules.specs.Machine.{literal, comma, close_bracket}
 use Rattle.ig_rules.specs.Machine.{before, may_lack, after_function, after_term, after_expression, after_atom, after_post, after_marked, after_declarations, after_grammar, after}
 use Rattle.ig_rules.specs.Machine.{alternatives_wants, level_wants, levels_wants, arguments_wants, parameters_wants, declaration_wants}
+use Rattle.ig_rules.specs.Rows.{function_row, operator_row}
 use Rattle.ig_rules.proofs.Spans.{Spans, Chain, done, link, chain_join}
 use Rattle.ig_rules.proofs.Spans as span
 
@@ -40,14 +39,6 @@ extended {r = r} firm rows (takes t s m row e c) d = takes t s r _ (rows t row e
 extended firm rows (passed m e) d = absurd (cc)
 
 -- terms and expressions
-function_row : (x : List ℕ) (f : Function) → IsFunction x f → after_function x ≡ Some (expression ∷ close_bracket ∷ [])
-function_row x f rule.begin = refl
-function_row x f rule.end = refl
-function_row x f rule.size = refl
-function_row x f rule.column = refl
-function_row x f rule.line = refl
-function_row x f rule.number_of = refl
-
 term_begins : {s r : List Token} {e : Expression} → ReadsTerm s r e → Begins term s r
 term_begins (rule.number n r) = takes (Number n) r r [] refl (done r)
 term_begins (rule.truth r) = takes True r r [] refl (done r)
@@ -75,21 +66,6 @@ expression_begins (rule.binary t o s m r a b is d e) =
     extended refl expression_row (term_begins d) (link (span.of_operator t o m r b is e) (done r))
 expression_begins (rule.opposite s r a d) = takes Not s r _ refl (link (span.of_term s r a d) (done r))
 expression_begins (rule.negative s r a d) = takes Minus s r _ refl (link (span.of_term s r a d) (done r))
-
-pub operator_row : (t : Token) (o : Op) → IsOperator t o → after operator_rest t ≡ Some (term ∷ [])
-operator_row t o rule.addition = refl
-operator_row t o rule.subtraction = refl
-operator_row t o rule.multiplication = refl
-operator_row t o rule.division = refl
-operator_row t o rule.remainder = refl
-operator_row t o rule.less = refl
-operator_row t o rule.less_equal = refl
-operator_row t o rule.greater = refl
-operator_row t o rule.greater_equal = refl
-operator_row t o rule.equal = refl
-operator_row t o rule.not_equal = refl
-operator_row t o rule.conjunction = refl
-operator_row t o rule.disjunction = refl
 
 arguments_chain : {s r : List Token} {es : List Expression} → ReadsArguments s r es → Chain arguments_wants s r
 arguments_chain (rule.last_argument s r e d) = link (span.of_expression s r e d) (link (span.no_argument r) (done r))

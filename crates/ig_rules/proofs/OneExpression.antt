@@ -2,7 +2,7 @@
 use Rattle.std.proofs.Common.{◌≡◌, ℕ, List, [], ◌∷◌, refl, sym, ap, subst, true, false}
 use Rattle.std.specs.Prelude.{Option, Some, None, codes, if◌then◌else◌}
 use Rattle.ig_text.specs.Words.{is_word}
-use Rattle.ig_expr.specs.Expression.{Expression, Integer, Truth, Variable, Binary, Of, Same as SameAs, Spells}
+use Rattle.ig_expr.specs.Expression.{Expression, Binary, Of, Same as SameAs, Spells}
 use Rattle.ig_expr.specs.Expression as tree
 use Rattle.ig_expr.specs.declared.operator.Op.{Op}
 use Rattle.ig_expr.specs.declared.operator.Function.{Function}
@@ -11,7 +11,7 @@ use Rattle.ig_syntax.specs.Token.{Token, Literal, Comma, Close}
 use Rattle.ig_syntax.specs.Rules as rule
 use Rattle.ig_syntax.specs.Rules.{IsFunction, IsOperator, ReadsTerm, ReadsExpression, ReadsArguments}
 use Rattle.ig_rules.specs.Machine.{expression, operator_rest, arguments_rest}
-use Rattle.ig_rules.proofs.Begins.{operator_row}
+use Rattle.ig_rules.specs.Rows.{operator_row}
 use Rattle.ig_rules.proofs.Clear.{expression-in-arguments}
 use Rattle.ig_rules.proofs.Free.{Free, Same, free_within, not_free}
 

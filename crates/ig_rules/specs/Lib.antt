@@ -1,4 +1,5 @@
 pub mod Machine
+pub mod Rows
 pub mod Reading
 pub mod Written
 pub mod Names

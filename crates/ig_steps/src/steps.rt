@@ -14,7 +14,7 @@ ghost use Rattle.ig_steps.specs.declared.steps.Arguments.{Arguments};
 use crate::compiled::{Form, are_own, value};
 use crate::names::Known;
 use ig_expr::{Expr, Value, Values};
-use ig_text::{Copied, Pattern, Span, Text, Word, words_end_behind_their_letters};
+use ig_text::{Copied, Pattern, Span, Text, Word};
 use std::alloc::{AllocError, Global};
 
 /// What a step says of the text that it covers.
@@ -43,7 +43,6 @@ pub fn matches_none(patterns: &[Pattern], text: &Text, i: u32, j: u32) -> bool
 fn is_match(pattern: &Pattern, text: &Text, i: u32, j: u32) -> bool
     ensures { IsTrue result ↔ Matches text.now pattern.now i j }
 {
-    words_end_behind_their_letters();
     let Some(end) = pattern.ends_at(text, i) else {
         return false;
     };

@@ -1,40 +1,11 @@
--- `==` tells items, instances and lists of values apart.
-use Rattle.std.proofs.Common.{◌≡◌, List, Bool, ap, eqb, ◌&&◌}
+-- `==` tells items and instances apart.
+use Rattle.std.proofs.Common.{◌≡◌, Bool, ap}
 use Rattle.std.specs.Bool.{Decides}
-use Rattle.std.specs.Cmp.{booleans_Decides}
-use Rattle.std.specs.Cmp.Lexicographic.{pointwise, pointwise_decides}
-use Rattle.std.proofs.lemmas.Bool.Decides.{Decides-eqb, Decides-int_eq, Decides-and, Decides-like}
-use Rattle.ig_text.specs.declared.text.Span.{Span}
-use Rattle.ig_expr.specs.declared.value.Value.{Value}
-use Rattle.ig_expr.specs.declared.value.Value.TheVariants as value
-use Rattle.ig_expr.specs.contracts.value.ValuePartialEq.TheImpl as comparison
+use Rattle.std.proofs.lemmas.Bool.Decides.{Decides-eqb, Decides-and, Decides-like}
 use Rattle.ig_item.specs.declared.items.Item.{Item}
 use Rattle.ig_item.specs.declared.items.InstanceKey.{InstanceKey}
 use Rattle.ig_item.specs.contracts.items.ItemPartialEq.TheImpl as item_impl
 use Rattle.ig_item.specs.contracts.items.InstanceKeyPartialEq.TheImpl as key_impl
-
-spans : (a b : Span) → Decides (eqb a.begin b.begin && eqb a.end b.end) (a ≡ b)
-spans a b =
-    Decides-like (eqb a.begin b.begin && eqb a.end b.end) (λ h i. record { begin = h.0 i; end = h.1 i })
-    (λ p. (ap (λ (s : Span). s.begin) p, ap (λ (s : Span). s.end) p))
-    (Decides-and (eqb a.begin b.begin) (eqb a.end b.end) (Decides-eqb a.begin b.begin) (Decides-eqb a.end b.end))
-
-value_eq-decides : (a b : Value) → Decides ((comparison.ghosts).eq a b) (a ≡ b)
-value_eq-decides (value.Int a) (value.Int b) = Decides-like _ (ap value.Int) (λ p. cc) (Decides-int_eq a b)
-value_eq-decides (value.Bool a) (value.Bool b) = Decides-like _ (ap value.Bool) (λ p. cc) (booleans_Decides a b)
-value_eq-decides (value.Span a) (value.Span b) = Decides-like _ (ap value.Span) (λ p. cc) (spans a b)
-value_eq-decides (value.Int a) (value.Bool b) = (λ h. cc, λ h. cc)
-value_eq-decides (value.Int a) (value.Span b) = (λ h. cc, λ h. cc)
-value_eq-decides (value.Bool a) (value.Int b) = (λ h. cc, λ h. cc)
-value_eq-decides (value.Bool a) (value.Span b) = (λ h. cc, λ h. cc)
-value_eq-decides (value.Span a) (value.Int b) = (λ h. cc, λ h. cc)
-value_eq-decides (value.Span a) (value.Bool b) = (λ h. cc, λ h. cc)
-
-abbrev pub values_eq : List Value → List Value → Bool
-values_eq = pointwise (comparison.ghosts).eq
-
-pub values_eq-decides : (xs ys : List Value) → Decides (values_eq xs ys) (xs ≡ ys)
-values_eq-decides = pointwise_decides value_eq-decides
 
 abbrev pub item_eq : Item → Item → Bool
 item_eq = item_impl.eq-value.it

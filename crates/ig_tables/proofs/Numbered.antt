@@ -7,7 +7,8 @@ use Rattle.std.specs.List.{position}
 use Rattle.std.proofs.lemmas.Option.{slice_get-get_or, same_Some}
 use Rattle.std.proofs.lemmas.List.Elements.{Contains-append_cases}
 use Rattle.std.specs.List.{list_any}
-use Rattle.ig_text.proofs.Lists.{at_from_contains, contains_from_at, within_take, take_step, sides, contains_one}
+use Rattle.ig_text.proofs.Lists.{at_from_contains, contains_from_at, within_take, take_at, sides, contains_one}
+use Rattle.ig_text.proofs.Differing.{pushed_differ}
 use Rattle.indexmap.specs.IndexSet.{insert_key}
 use Rattle.ig_item.specs.WellKinded.{NoneTwice}
 use Rattle.ig_item.specs.declared.items.InstanceKey.{InstanceKey}
@@ -35,9 +36,8 @@ hashes_more here many more key place once at is more_is =
     let u = at_from_contains (take place here) key (subst (λ (z : List InstanceKey). Contains z key) is c) in
     let w = within_take here place u.0 key u.1 in
     let e = once u.0 place key w.1 at in omega (arith, e, w.0) in
-    let n : place + 1 ≡ suc place = omega arith in
     not_there key_eq-decides many more key more_is absent ∙ ap (λ (z : List InstanceKey). z ++ key ∷ []) is ∙
-    sym (ap (λ (k : ℕ). take k here) n ∙ take_step here place key at)
+    sym (take_at here place key at)
 
 -- places behind a number
 pub dropped_at : {X : Type 0} (xs : List X) (n m k : ℕ) (x : X) → k ≡ n + m → slice_get (drop n xs) m ≡ Some x → slice_get xs k ≡ Some x
@@ -99,26 +99,7 @@ arrived keys many none here first start are lt is =
 
 -- a list without repeats stays one where a value is added that it hasn't
 pub once_more : (keys more : List InstanceKey) (key : InstanceKey) → NoneTwice keys → (Contains keys key → ⊥) → more ≡ keys ++ key ∷ [] → NoneTwice more
-once_more keys more key once none is = subst NoneTwice (sym is) added
-  where
-    last : (m : ℕ) (x : InstanceKey) → slice_get (key ∷ []) m ≡ Some x → (m ≡ 0) × (key ≡ x)
-    last zero x e = (refl, same_Some key x e)
-    last (suc m) x e = cc
-
-    both : (i j : ℕ) (x : InstanceKey) → slice_get keys i ≡ Some x → (m : ℕ) → slice_get (key ∷ []) m ≡ Some x → i ≡ j
-    both i j x p m q = absurd (none (subst (Contains keys) (sym ((last m x q).1)) (contains_from_at keys i x p)))
-
-    added : NoneTwice (keys ++ key ∷ [])
-    added i j x p q =
-        ⊎_elim
-        (λ (h : slice_get keys i ≡ Some x).
-        ⊎_elim (λ (k : slice_get keys j ≡ Some x). once i j x h k)
-        (λ (k : (m : ℕ) × (j ≡ length keys + m) × (slice_get (key ∷ []) m ≡ Some x)). both i j x h k.0 k.2) (sides keys (key ∷ []) j x q))
-        (λ (h : (m : ℕ) × (i ≡ length keys + m) × (slice_get (key ∷ []) m ≡ Some x)).
-        ⊎_elim (λ (k : slice_get keys j ≡ Some x). sym (both j i x k h.0 h.2))
-        (λ (k : (m : ℕ) × (j ≡ length keys + m) × (slice_get (key ∷ []) m ≡ Some x)).
-        let a = (last h.0 x h.2).0 in let b = (last k.0 x k.2).0 in omega (arith, h.1, k.1, a, b)) (sides keys (key ∷ []) j x q))
-        (sides keys (key ∷ []) i x p)
+once_more keys more key once none is = subst NoneTwice (sym is) (pushed_differ keys key once none)
 
 -- an instance is added
 pub key_added : (keys more many most : List InstanceKey) (here first : ℕ) (key : InstanceKey) → AreInstances keys here first many →

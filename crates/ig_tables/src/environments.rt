@@ -3,7 +3,7 @@ ghost use Rattle.std.specs.Prelude.{IfOk};
 ghost use Rattle.ig_item.specs.WellKinded.{NoneTwice};
 ghost use Rattle.ig_tables.specs.Extends.{Enters, Extends};
 
-use ig_expr::Values;
+use ig_expr::{Values, equal_values_are_one};
 use ig_item::number;
 use indexmap::IndexSet;
 use std::alloc::AllocError;
@@ -15,6 +15,7 @@ pub fn enter_values(envs: &mut IndexSet<Values>, values: Values) -> Result<u32, 
     ensures once { NoneTwice envs.new.keys }
     ensures enters { IfOk result (Enters envs.old.keys envs.new.keys values) }
 {
+    equal_values_are_one();
     let (k, _) = envs.insert_full(values)?;
     Ok(number(k)?)
 }

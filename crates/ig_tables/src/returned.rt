@@ -1,6 +1,6 @@
 //! The items at the position of a run that stand behind calls, by a table of hashes that is emptied
 //! without a cost. Only these can be found once more.
-ghost use Rattle.std.specs.Prelude.{◌≡◌, ◌<◌, ◌≤◌, ◌+◌, [], ◌∷◌, ◌++◌};
+ghost use Rattle.std.specs.Prelude.{◌≡◌, ◌≤◌, ◌+◌, [], ◌∷◌, ◌++◌};
 ghost use Rattle.std.specs.Prelude.{ℕ, IfNone, IfOk, IfSome, OnErr, OnOk, Contains};
 ghost use Rattle.ig_text.specs.Limits.{numbers_end};
 ghost use Rattle.ig_tables.specs.Returned.{bucket_of, entry};

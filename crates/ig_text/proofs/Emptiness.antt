@@ -1,4 +1,4 @@
--- The test for an empty list.
+-- Lists that are empty, by their lengths, by a test of these, or since they have no member.
 use Rattle.std.proofs.Common.{◌≡◌, ℕ, suc, List, [], ◌∷◌, Bool, true, false, length, refl, sym, ◌∙◌, arith, true≢false}
 use Rattle.std.specs.Prelude.{◌≢◌, nat_eq}
 use Rattle.std.proofs.lemmas.Bool.Decides.{nat_tests}

@@ -24,3 +24,4 @@ pub mod Fallbacks
 pub mod Equal
 pub mod Filtered
 pub mod Rising
+pub mod Differing

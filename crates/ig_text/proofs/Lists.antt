@@ -3,7 +3,7 @@ use Rattle.std.proofs.Common.{◌≡◌, ◌⊎◌, ℕ, zero, suc, ◌+◌, ◌
 use Rattle.std.specs.Prelude.{All, slice_range, option_map}
 use Rattle.std.specs.List.{AllByRecursion}
 use Rattle.std.proofs.lemmas.List.{append_assoc, take_more, drop-append-le, take-append-le}
-use Rattle.std.proofs.lemmas.List.Elements.{All-contains, All-nil, All-cons, All-head, All-tail, Contains-push}
+use Rattle.std.proofs.lemmas.List.Elements.{All-contains, All-nil, All-cons, All-head, All-tail, Contains-push, Contains-push_cases}
 use Rattle.std.proofs.lemmas.Option.{slice_get-get_or, same_Some, slice_get_within, get_or_from_slice_get, slice_get-map}
 use Rattle.std.proofs.Math.Seq.{take-length, drop-append_seam}
 
@@ -121,6 +121,10 @@ module _ {X : Type 0} where
   place_cases (z ∷ zs) y x (suc k) e =
       elim (place_cases zs y x k e) [ inl p ↦ inl p | inr p ↦ inr (ap suc p.0, p.1) ]
 
+  -- a member of a list with one more at the end is an earlier one, or the last
+  pub in_pushed : (xs : List X) (y x : X) → Contains (xs ++ y ∷ []) x → Contains xs x ⊎ (x ≡ y)
+  in_pushed xs y x c = ⊎_elim (λ h. inl h) (λ h. inr (sym h)) (Contains-push_cases xs y x c)
+
   -- a list is empty, or has a last member
   pub last_cases : (xs : List X) →
       (xs ≡ []) ⊎ ((before : List X) × ((last : X) × (xs ≡ before ++ last ∷ [])))
@@ -171,6 +175,10 @@ module _ {X : Type 0} where
   take_step [] n x e = cc
   take_step (y ∷ xs) zero x e = ap (λ (z : X). z ∷ []) (same_Some y x e)
   take_step (y ∷ xs) (suc n) x e = ap (λ (zs : List X). y ∷ zs) (take_step xs n x e)
+
+  -- the same, with the number as a loop has it
+  pub take_at : (xs : List X) (n : ℕ) (x : X) → slice_get xs n ≡ Some x → take (n + 1) xs ≡ take n xs ++ x ∷ []
+  take_at xs n x e = let next : n + 1 ≡ suc n = omega arith in ap (λ (k : ℕ). take k xs) next ∙ take_step xs n x e
 
   -- a beginning with the next member, as a loop has it
   pub take_next : (xs : List X) (i : ℕ) (x : X) → i < length xs → x ≡ get_or xs i x →

@@ -1,5 +1,5 @@
--- A word matches at a place exactly where the rest of the text from there begins with the word.
-use Rattle.std.proofs.Common.{◌≡◌, ℕ, ◌+◌, ◌-◌, ◌≤◌, List, ◌++◌, length, take, drop, Bool, true, sym, ◌∙◌, ap, subst, arith, length-drop, length-append}
+-- A word matches at a place exactly where the rest of the text from there begins with the word; how far matches go.
+use Rattle.std.proofs.Common.{◌≡◌, ℕ, ◌+◌, ◌-◌, ◌<◌, ◌≤◌, List, ◌++◌, length, take, drop, Bool, true, sym, ◌∙◌, ap, subst, arith, length-drop, length-append}
 use Rattle.std.specs.Prelude.{nat_eq}
 use Rattle.std.specs.List.{starts_with}
 use Rattle.std.proofs.Math.ListN.{length-take}
@@ -7,8 +7,11 @@ use Rattle.std.proofs.Math.Seq.{take-append_seam}
 use Rattle.std.proofs.lemmas.List.{take-append-drop}
 use Rattle.std.proofs.lemmas.Slice.Eq.{starts_is}
 use Rattle.std.proofs.lemmas.Bool.Decides.{Decides-eqb}
-use Rattle.ig_text.specs.Laws.{WordsEndBehindTheirLetters}
+use Rattle.std.proofs.lemmas.Option.{slice_get_within}
+use Rattle.ig_text.specs.Pattern.{Matches}
 use Rattle.ig_text.specs.Place.{Spells}
+use Rattle.ig_text.specs.declared.pattern.Pattern.{Pattern}
+use Rattle.ig_text.specs.declared.pattern.Pattern.TheVariants.{Literal, OneOf}
 
 begins : (word rest : List ℕ) (r : Bool) → r ≡ starts_with nat_eq rest word → r ≡ true →
     rest ≡ word ++ drop (length word) rest
@@ -41,9 +44,27 @@ start_by_spells text word rest i j r e s sp =
     (sym (take-append-drop (j - i) rest) ∙ ap (λ (z : List ℕ). z ++ drop (j - i) rest) (rw e sp.letters))
 
 -- a word ends as many characters behind its begin as it has
-pub spelled_width : WordsEndBehindTheirLetters
+pub spelled_width : (text word : List ℕ) (i j : ℕ) → Spells text word i j → j ≡ i + length word
 spelled_width text word i j s =
     let len : length (take (j - i) (drop i text)) ≡ length word = ap length s.letters in
     let onward = s.onward in
     let within = s.within in
     omega (arith, len, length-take (j - i) (drop i text), length-drop i text)
+
+-- a match goes onward, within the text
+pub match_goes : (text : List ℕ) (pattern : Pattern) (i j : ℕ) → Matches text pattern i j → (i ≤ j) × (j ≤ length text)
+match_goes text (Literal word) i j m = (m.onward, m.within)
+match_goes text (OneOf class) i j m =
+    let here : i < length text = slice_get_within text i m.character m.there in
+    let next : j ≡ i + 1 = m.next in (omega (arith, next), omega (arith, next, here))
+
+-- a pattern matches from a place to one place alone
+pub one_end : (text : List ℕ) (pattern : Pattern) (i j k : ℕ) → Matches text pattern i j → Matches text pattern i k → j ≡ k
+one_end text (Literal word) i j k m n = spelled_width text word i j m ∙ sym (spelled_width text word i k n)
+one_end text (OneOf class) i j k m n = m.next ∙ sym n.next
+
+-- and from one place alone to a place
+pub one_begin : (text : List ℕ) (pattern : Pattern) (i k j : ℕ) → Matches text pattern i j → Matches text pattern k j → i ≡ k
+one_begin text (Literal word) i k j m n = omega (arith, spelled_width text word i j m, spelled_width text word k j n)
+one_begin text (OneOf class) i k j m n =
+    let a : j ≡ i + 1 = m.next in let b : j ≡ k + 1 = n.next in omega (arith, a, b)

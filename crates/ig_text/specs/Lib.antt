@@ -7,7 +7,6 @@ pub mod Ranges
 pub mod Class
 pub mod Pattern
 pub mod Decoding
-pub mod Laws
 pub mod Words
 pub mod TagNumber
 pub mod Pairwise

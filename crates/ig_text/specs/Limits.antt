@@ -9,11 +9,14 @@ most_bytes = 4194304
 abbrev pub most_characters : ℕ
 most_characters = 1048576
 
--- the numbers of things, and how many there are of them, have 32 bits: they are below this
+-- numbers of 32 bits are below this; so are the numbers that things have, and how many there are of them
 abbrev pub numbers_end : ℕ
 numbers_end = 4294967296
 
--- integers have 64 bits: without their sign they are below this, or this below zero; the places of a list in memory are below
--- it, too
+-- integers of 64 bits are below this, and none is further below zero; the places of a list in memory are below it, too
 abbrev pub integers_end : ℕ
 integers_end = 2 ^ 63
+
+-- numbers of 64 bits without a sign are below this
+abbrev pub unsigned_end : ℕ
+unsigned_end = 2 ^ 64

@@ -28,4 +28,4 @@ pub use ranges::Ranges;
 pub use sequence::Sequence;
 pub use tag::Tag;
 pub use text::{MOST_BYTES, Span, Text, TextFault};
-pub use word::{Word, Words, words_end_behind_their_letters};
+pub use word::{Word, Words};

@@ -1,5 +1,4 @@
 ghost use Rattle.std.specs.Prelude.{◌≡◌, ◌↔◌, ℕ, IfOk, IsTrue, MatchOption, chars, length};
-ghost use Rattle.ig_text.specs.Laws.{WordsEndBehindTheirLetters};
 ghost use Rattle.ig_text.specs.Place.{Spells};
 ghost use Rattle.ig_text.specs.Words.{is_word};
 
@@ -85,12 +84,6 @@ impl Copied for Word {
         Ok(Word { text, characters })
     }
 }
-
-/// A match of a word ends behind as many characters as the word has. This law, proved for all
-/// texts, computes nothing.
-pub fn words_end_behind_their_letters()
-    ensures { WordsEndBehindTheirLetters }
-{}
 
 impl PartialEq for Word {
     ghost use Rattle.std.specs.Cmp as compared;

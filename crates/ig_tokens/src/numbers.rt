@@ -1,9 +1,9 @@
 //! Numbers.
 
-ghost use Rattle.std.specs.Prelude.{◌≡◌, ◌<◌, ◌^◌, ◌≤◌, ◌+◌, ◌-◌, ◌*◌, true, chars, pos};
+ghost use Rattle.std.specs.Prelude.{◌≡◌, ◌<◌, ◌≤◌, ◌+◌, ◌-◌, ◌*◌, true, chars, pos};
 ghost use Rattle.std.specs.Prelude.{MatchOption, SomeIff};
 ghost use Rattle.ig_text.specs.Words.{is_digit};
-ghost use Rattle.ig_text.specs.Limits.{integers_end};
+ghost use Rattle.ig_text.specs.Limits.{integers_end, unsigned_end};
 ghost use Rattle.ig_expr.specs.Reading.{spelled};
 ghost use Rattle.ig_tokens.specs.Scanner.{numeral, number_token};
 ghost use Rattle.ig_tokens.specs.Steps.{Begins, Gives};
@@ -55,7 +55,8 @@ pub fn number_of(digits: &str) -> Option<i64>
 
 /// The number with a digit more at its end; `None` exactly where it would be 2 to the 64th or more.
 fn with_digit(number: u64, digit: char) -> Option<u64>
-    ensures { SomeIff result (10 * number + (digit - 48) < 2 ^ 64) (10 * number + (digit - 48)) }
+    ensures { SomeIff result (10 * number + (digit - 48) < unsigned_end)
+        (10 * number + (digit - 48)) }
 {
     let value = u64::from((digit as u32).saturating_sub(48));
     number.checked_mul(10)?.checked_add(value)

@@ -12,4 +12,6 @@ pub use growing::{
     copy_of_start, push_alternative, push_declaration, push_expression, push_integer, push_level,
     push_shape, push_symbol,
 };
-pub use rewriting::{OwnRule, filtered, labelled, rewrite_grammar, rewrite_levels, rewrite_symbol};
+pub use rewriting::{
+    OwnRule, filtered, labelled, relabelled, rewrite_grammar, rewrite_levels, rewrite_symbol,
+};

@@ -137,6 +137,15 @@ pub fn labelled(alloc: Global, name: &Word, inner: Inner) -> Result<Symbol, Allo
     }
 }
 
+/// The symbol, which a pass made of what stood inside a label, with that label. Refused for want of
+/// memory alone.
+pub fn relabelled(alloc: Global, name: Word, inside: Symbol) -> Result<Symbol, AllocError>
+    ensures { IfOk result (λ r. symbol_of r ≡ Label name (symbol_of inside)) }
+{
+    let inner = Inner::new(alloc, inside)?;
+    Ok(Symbol::Label(name, inner))
+}
+
 /// The symbol with the filters. Refused for want of memory alone.
 pub fn filtered(alloc: Global, inner: Inner, filters: &Filters) -> Result<Symbol, AllocError>
     ensures { IfOk result (λ r. symbol_of r ≡ Filtered inner filters.now) }

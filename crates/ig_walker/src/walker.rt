@@ -64,25 +64,19 @@ fn go_on(walk: &mut Vec<Visit>, next: Vec<Visit>)
 }
 
 impl<'f> Walker<'f> {
-    /// The listing of the trees of the root of at most that height, from the first one on. The
-    /// heights are those of the forest.
-    pub fn first(
-        alloc: Global,
-        forest: &'f Forest,
-        heights: &'f Heights,
-        depth: u32,
-    ) -> Result<Walker<'f>, AllocError>
+    /// The listing of the trees of the root of at most that height, from the first one on. Takes no
+    /// memory. The heights are those of the forest.
+    pub fn first(alloc: Global, forest: &'f Forest, heights: &'f Heights, depth: u32) -> Walker<'f>
         requires heights { AreHeights forest.now heights.now }
-        ensures { IfOk result (λ walker. walker ≡
-            record { forest = forest.now; depth = depth; last = None }) }
+        ensures { result ≡ record { forest = forest.now; depth = depth; last = None } }
     {
         let forest = Measured { forest, heights };
-        Ok(Walker {
+        Walker {
             alloc,
             forest,
             depth,
             visits: Vec::new(alloc),
-        })
+        }
     }
 
     /// The listing of the trees behind the one with that cursor. `BadCursor` exactly where no tree

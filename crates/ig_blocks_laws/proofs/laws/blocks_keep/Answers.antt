@@ -4,7 +4,6 @@ use Rattle.ig_blocks_laws.proofs.laws.blocks_keep.Goals as goal
 pub returns : goal.returns
 returns c =
     blocks_kept (record {
-      forms = c.regularity_by_form.ensures;
       in_order = c.spans_are_in_order.ensures;
       inverts = c.derivations_invert.ensures;
       cleans = c.trees_without_operators_are_clean.ensures;

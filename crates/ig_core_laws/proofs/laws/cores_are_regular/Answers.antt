@@ -2,4 +2,4 @@ use Rattle.ig_core_laws.proofs.RegularCores.{cores_regular}
 use Rattle.ig_core_laws.proofs.laws.cores_are_regular.Goals as goal
 
 pub returns : goal.returns
-returns c = cores_regular c.regularity_by_form.ensures c.passes_keep.ensures
+returns c = cores_regular c.passes_keep.ensures

@@ -3,7 +3,7 @@ use Rattle.ig_core_laws.proofs.laws.passes_are_regular.Goals as goal
 
 pub returns : goal.returns
 returns c =
-    passes_are_regular c.regularity_by_form.ensures
+    passes_are_regular
     (record {
       levels = c.levels_multiply.ensures;
       blocks = c.blocks_multiply.ensures;

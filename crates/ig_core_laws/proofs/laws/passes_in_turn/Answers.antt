@@ -9,7 +9,6 @@ returns c =
       blocks = c.blocks_keep.ensures;
       layout = c.layout_keeps.ensures;
       filters = c.filters_keep.ensures;
-      forms = c.regularity_by_form.ensures;
       root = c.rooted_is_the_same.ensures;
     })
     c.lists_keep.ensures

@@ -1,5 +1,5 @@
-use Rattle.ig_expr.proofs.Orders.{value_cmp_is}
+use Rattle.ig_expr.specs.Ordered.{value_as}
 use Rattle.ig_expr.proofs.value.values_are_ordered.Goals as goal
 
 pub returns : goal.returns
-returns c = value_cmp_is
+returns c = value_as

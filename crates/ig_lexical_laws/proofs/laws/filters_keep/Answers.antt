@@ -6,7 +6,6 @@ returns c =
     filters_kept (record {
       looks = c.tests_look_for_matches.ensures;
       cleans = c.trees_without_operators_are_clean.ensures;
-      forms = c.regularity_by_form.ensures;
       root = c.root_keeps.ensures;
       passes = c.results_are_ready.ensures;
       found = c.declarations_are_found.ensures;

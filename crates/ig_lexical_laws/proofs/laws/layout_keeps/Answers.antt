@@ -5,7 +5,6 @@ pub returns : goal.returns
 returns c =
     layout_kept (record {
       cleans = c.trees_without_operators_are_clean.ensures;
-      forms = c.regularity_by_form.ensures;
       found = c.declarations_are_found.ensures;
       root = c.root_keeps.ensures;
       passes = c.results_are_ready.ensures;

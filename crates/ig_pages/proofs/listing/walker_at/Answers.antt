@@ -9,28 +9,28 @@ use Rattle.ig_pages.proofs.Starting.{starts_first, starts_behind, starts_unread,
 
 pub returns-in_default : goal.returns-in_default
 returns-in_default c =
-    rw c.in_default.is (starts_first c.args.forest.now c.args.depth c.in_ok-walker.walker c.in_ok-walker.ensures)
+    rw c.in_default.is (starts_first c.args.forest.now c.args.depth c.first.result c.first.ensures)
 
 pub returns-in_err-cursor : goal.returns-in_err-cursor
 returns-in_err-cursor c =
-    let is = passed_on c.from_residual-in_err-cursor.result (fault_of_cursor c.in_err-cursor.field-0.0) c.from_residual-in_err-cursor.ensures.1 in
+    let is = passed_on c.from_residual.result (fault_of_cursor c.in_err-cursor.field-0.0) c.from_residual.ensures.1 in
     subst (Starts c.args.forest.now c.args.depth (option_copied c.args.after)) (sym is)
     (subst (λ (z : Option (List ℕ)). Starts c.args.forest.now c.args.depth z (Err (fault_of_cursor c.in_err-cursor.field-0.0)))
     (sym (ap option_copied c.in-Some.is))
     (starts_unread c.args.forest.now c.args.depth c.in-Some.word.now c.requires.short c.in_err-cursor.field-0.0 c.in_err-cursor.ensures.refused))
 
-pub returns-in_err-walker-2 : goal.returns-in_err-walker-2
-returns-in_err-walker-2 c =
-    let is = passed_on c.from_residual-in_err-walker-2.result (fault_of_walk c.in_err-walker-2.field-0.0) c.from_residual-in_err-walker-2.ensures.1 in
+pub returns-in_err-walker : goal.returns-in_err-walker
+returns-in_err-walker c =
+    let is = passed_on c.from_residual-in_err-walker.result (fault_of_walk c.in_err-walker.field-0.0) c.from_residual-in_err-walker.ensures.1 in
     subst (Starts c.args.forest.now c.args.depth (option_copied c.args.after)) (sym is)
-    (subst (λ (z : Option (List ℕ)). Starts c.args.forest.now c.args.depth z (Err (fault_of_walk c.in_err-walker-2.field-0.0)))
+    (subst (λ (z : Option (List ℕ)). Starts c.args.forest.now c.args.depth z (Err (fault_of_walk c.in_err-walker.field-0.0)))
     (sym (ap option_copied c.in-Some.is))
-    (starts_unwalked c.args.forest.now c.args.depth c.in-Some.word.now c.requires.short c.in_err-walker-2.field-0.0
+    (starts_unwalked c.args.forest.now c.args.depth c.in-Some.word.now c.requires.short c.in_err-walker.field-0.0
     c.cursor_texts_differ.ensures c.in_ok-cursor.cursor (subst IsShortCursor c.as_slice.ensures c.numbers_are_short.ensures)
-    c.in_ok-cursor.ensures.read c.in_err-walker-2.ensures.refused))
+    c.in_ok-cursor.ensures.read c.in_err-walker.ensures.refused))
 
 pub returns : goal.returns
 returns c =
     rw c.in-Some.is
-    (starts_behind c.args.forest.now c.args.depth c.in-Some.word.now c.in_ok-cursor.cursor c.in_ok-walker-2.walker
-    c.in_ok-cursor.ensures.read c.in_ok-walker-2.ensures.there c.in_ok-walker-2.ensures.behind)
+    (starts_behind c.args.forest.now c.args.depth c.in-Some.word.now c.in_ok-cursor.cursor c.in_ok-walker.walker
+    c.in_ok-cursor.ensures.read c.in_ok-walker.ensures.there c.in_ok-walker.ensures.behind)
