@@ -1,0 +1,1 @@
+class A { List<List<B>> a = b >> c; }

@@ -1,0 +1,1 @@
+class A { int class = 1; }

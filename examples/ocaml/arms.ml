@@ -1,0 +1,2 @@
+let f = function
+  | A -> match x with B -> 1 | C -> 2

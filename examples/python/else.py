@@ -1,0 +1,5 @@
+if a:
+    if b:
+        c
+else:
+    d
