@@ -36,15 +36,11 @@ class Nonterminal:
         self.declaration, _, self.added = name.partition("#")  # the name of its declaration; its number in it, or ""
         self.alternatives = []  # pairs of a tag and steps
         self.kind = None  # of its declaration: syntax, lexical or layout; None of `$root`
-
-    def takers(self, tag):
-        """The steps that take something, of the alternative with this tag."""
-        return next((taken for own, taken in self.taking if own == tag), [])
+        self.is_list = False
 
     def close(self):
-        """Notes what is asked often."""
-        self.taking = [(tag, [step for step in steps if step.takes]) for tag, steps in self.alternatives]
-        self.tags = {tag for tag, _ in self.alternatives}
+        """Notes for each tag the steps that take something."""
+        self.takers = {tag: [step for step in steps if step.takes] for tag, steps in self.alternatives}
 
 
 class Core:
@@ -68,7 +64,17 @@ class Core:
             nonterminal.kind = kinds.get(nonterminal.declaration)
             self.by_name[nonterminal.name] = nonterminal
         self.layout = next((one.number for one in self.nonterminals if one.kind == "layout" and not one.added), None)
+        for nonterminal in self.nonterminals:
+            nonterminal.is_list = self.is_list(nonterminal.takers)
         self.forms = {}
+
+    def is_list(self, takers):
+        """Whether these are the alternatives of a list. A `{X S}*` is none, or some: then a `{X S}+`."""
+        if "$some" in takers:
+            calls = [step.call for step in self.seen(takers["$some"]) if step.call is not None]
+            rest = self.nonterminals[calls[0]].takers.get("$more", []) if calls else []
+            return len(self.seen(rest)) > 2
+        return "$snoc" in takers or "$more" in takers
 
     @property
     def start(self):
@@ -85,15 +91,17 @@ class Core:
         return self.forms[number]
 
     def form_of_added(self, one):
-        if "$snoc" in one.tags:
-            return self.joined(one.takers("$snoc")[1:]) + "*"
-        if "$more" in one.tags:
-            item, rest = self.joined(one.takers("$one")), self.seen(one.takers("$more")[1:])
+        takers = one.takers
+        if "$snoc" in takers:
+            return self.joined(takers["$snoc"][1:]) + "*"
+        if "$more" in takers:
+            item, rest = self.joined(takers["$one"]), self.seen(takers["$more"][1:])
             return f"{{{item} {self.symbol(rest[0])}}}+" if len(rest) > 1 else item + "+"
-        if "$some" in one.tags:
-            inner = self.joined(one.takers("$some"))
-            return inner[:-1] + "*" if inner.endswith("}+") else inner + "?"
-        return "(" + " | ".join(self.joined(taken) for _, taken in one.taking) + ")"
+        if "$some" in takers:
+            inner = self.joined(takers["$some"])
+            return inner[:-1] + "*" if one.is_list else inner + "?"
+        alternatives = list(map(self.joined, takers.values()))
+        return alternatives[0] if len(alternatives) == 1 and " " not in alternatives[0] else f"({' | '.join(alternatives)})"
 
     def seen(self, steps):
         """The steps without calls of the layout."""
