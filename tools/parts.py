@@ -256,6 +256,14 @@ class View:
             return tag if self.lists and tag else self.core.form(one.number)
         return tag if tag and len(one.takers) > 1 else one.name
 
+    def values(self, part):
+        """The values of the parameters that a declaration has in the grammar, in parentheses; else nothing."""
+        one = part.nonterminal
+        if one is None or one.added:
+            return ""
+        own = [value for name, value in zip(one.parameters, part.values[1:-1].split(",")) if not name.startswith(".")]
+        return f"({', '.join(own)})" if own and any(own) else ""
+
     def kind(self, part):
         """What a part is: a token, a choice, a word, a list or a node."""
         one = part.nonterminal
