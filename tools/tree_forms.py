@@ -144,6 +144,7 @@ def side_by_side(left, right, width):
     columns = [[("  " * row.depth + line_of(row), (row.label, row.name, row.begin, row.end)) for row in rows]
                for rows in (left, right)]
     room = min(width // 2 - 2, max(len(text) for text, _ in columns[0]))
+    rest = max(20, width - room - 3)
     same = difflib.SequenceMatcher(None, *([key for _, key in column] for column in columns), autojunk=False)
     out = []
     for what, i, j, k, m in same.get_opcodes():
@@ -151,8 +152,8 @@ def side_by_side(left, right, width):
             out += [(columns[0][i + n][0], " ", columns[1][k + n][0]) for n in range(j - i)]
         else:
             out += [(text, "<", "") for text, _ in columns[0][i:j]] + [("", ">", text) for text, _ in columns[1][k:m]]
-    return "".join(f"{cut(a, room):<{room}} {mark} {cut(b, room if width else None)}".rstrip() + "\n" for a, mark, b in out)
+    return "".join(f"{cut(a, room):<{room}} {mark} {cut(b, rest)}".rstrip() + "\n" for a, mark, b in out)
 
 
 def cut(text, room):
-    return text if room is None or len(text) <= room else text[:room - 1] + "…"
+    return text if len(text) <= room else text[:room - 1] + "…"
