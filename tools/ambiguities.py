@@ -132,7 +132,9 @@ class Ambiguities:
         declaration = self.grammar.named(base)
         line = f" (line {self.grammar_source.line_of(declaration.named_at)})" if declaration else ""
         count = f"{len(group)} nodes, the smallest " if len(group) > 1 else ""
-        lines = [f"{base}{line}: {count}{self.source.named(node.begin)}"]
+        last = self.source.line_of(node.begin + len(self.source.text[node.begin : node.end].rstrip()))
+        upto = f" to line {last}" if last > self.source.line_of(node.begin) else ""
+        lines = [f"{base}{line}: {count}{self.source.named(node.begin)}{upto}"]
         if node.end > node.begin:
             end = min(node.end, self.line_end(node.begin))
             lines += self.source.marked(node.begin, max(end, node.begin + 1))
@@ -175,6 +177,8 @@ class Ambiguities:
                 continue
             text = self.source.text[child.begin : child.end]
             text = text.strip() or text
+            if not text and name and "#" in name and len(way) > 1:
+                continue
             parts.append(quoted(text) if text else f"nothing ({said_name(self.grammar, name)})" if name else '""')
         return " ".join(parts) or "nothing"
 

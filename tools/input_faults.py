@@ -273,9 +273,9 @@ class Teller:
         return f": {listed(found)}" if found else ""
 
     def excluded_line(self, failed, name):
-        begin = failed.at if failed.step.kind == "match" else None
-        words = listed([pattern.text for pattern in failed.step.excluded], "or")
-        return None if begin is None and not words else f"  {name} excludes {words}, which ends at {self.source.said(failed.at)}"
+        words = [pattern for pattern in failed.step.excluded if pattern.ends_at(self.source.text, failed.at)]
+        word = max(words, key=lambda pattern: len(pattern.text)).text if words else "what ends"
+        return f"  {name} excludes {word}, which ends at {self.source.said(failed.at)}"
 
     def next_matches(self, failed):
         """Whether the first match behind a failed test would have been there, or nobody knows."""
@@ -318,7 +318,7 @@ def explain_budget(run, prefix_of, text, budget, source):
     """
     tenth = max(1, budget // 10)
     some, most = longest(prefix_of, len(text), tenth), longest(prefix_of, len(text), budget)
-    lines = [f"{budget:,} items are enough for about {said_length(source, most)}, of {len(text):,};",
+    lines = [f"{budget:,} items are enough for {said_length(source, most)}, of {len(text):,};",
              f"a tenth of them for {said_length(source, some)}."]
     if some and most > some:
         power = math.log(budget / tenth) / math.log(most / some)
@@ -342,7 +342,9 @@ def longest(fits, length, budget):
 
 
 def said_length(source, length):
-    return f"the first {length:,} characters (to {source.said(length)})"
+    if length == 0:
+        return "no character"
+    return f"about the first {length:,} character{'s' if length > 1 else ''} (to {source.said(length)})"
 
 
 def growth_lines(power, budget, length, most):
@@ -357,16 +359,12 @@ def growth_lines(power, budget, length, most):
 
 def count_lines(core, text):
     """The declarations with the most items, in the first part of the text."""
-    items = sample(core, text)
+    items = Items(core, text, SAMPLE)
     counts = {}
     for nonterminal, number in zip(core, items.counts):
         name = nonterminal.name.partition("#")[0]
         counts[name] = counts.get(name, 0) + number
-    first = sorted(counts, key=lambda name: (-counts[name], name))[:5]
+    first = sorted((name for name in counts if name != "$root"), key=lambda name: (-counts[name], name))[:5]
     total = sum(counts.values())
     parts = [f"{name} {100 * counts[name] / total:.0f} %" for name in first if counts[name] * 50 >= total]
-    return [f"Of the first {total:,} items most are of {listed(parts)}."]
-
-
-def sample(core, text):
-    return Items(core, text, SAMPLE)
+    return [f"Of {'all' if items.whole else 'the first'} {min(total, SAMPLE):,} items most are of {listed(parts)}."]
