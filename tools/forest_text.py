@@ -1,15 +1,16 @@
 """Reads the text of a forest, and counts its trees.
 
-A forest has millions of lines where its input is long. So they are split all at once, into columns that are compared
-whole. Where something is wrong, `forest_faults` looks for it line by line.
+A forest has millions of lines where its input is long. So its text is split in pieces of some thousand lines at once,
+and columns are compared whole. Where something is wrong, `forest_faults` looks for it line by line.
 """
 
 import re
 import sys
-from collections import namedtuple
-from itertools import compress, count, islice, repeat
+from array import array
+from collections import defaultdict, namedtuple
+from itertools import chain, compress, count, repeat
 from math import prod
-from operator import itemgetter
+from operator import add, eq
 
 from forest_faults import NotAForest, find_fault
 
@@ -18,130 +19,209 @@ Item = namedtuple("Item", "name values alternative dot begin end")
 
 NUMBER = r"(?:0|[1-9][0-9]*)"
 FIRST = re.compile(rf"forest ({NUMBER}) ({NUMBER})")
-NUMBERS, NAMES, VALUES, BOUND = (re.compile(rf"(?:{one} )*{one}") for one in (NUMBER, r"\S+", r"\(\S*\)", r"\[\S*\]"))
-WAYS = {("begin", "-"), ("pass", "-"), ("take", "node"), ("take", "leaf")}
+NODE_KEY = re.compile(r"\S+\t\(\S*\)")
+ITEM_KEY = re.compile(rf"\S+\t\(\S*\)\t{NUMBER}")
+BOUND = re.compile(r"\[\S*\]")
+TAG = re.compile(r"\S+")
+A_NUMBER = re.compile(NUMBER)
+PIECE = 1 << 17  # characters that are split at once: as many as a processor has near
+NO_NODE = -1
 
 
 class Unread(Exception):
     """The text isn't as a forest is written."""
 
 
-class Forest:
-    """Nodes and items by their numbers. Places and numbers stand in the columns as words of the text."""
+class Ids(defaultdict):
+    """Numbers for words of one form, from 0 on."""
 
-    def __init__(self, node_text, item_text, index):
-        self.index = index
-        self.read_nodes(node_text)
-        self.read_items(item_text)
+    def __init__(self, form):
+        super().__init__(count().__next__)
+        self.form = form
+
+    def close(self):
+        """Tests the words; their list by numbers."""
+        demand(all(map(self.form.fullmatch, self)))
+        return list(self)
+
+
+class Numbers(dict):
+    """Numbers by the words for them, each of which is tested once."""
+
+    def __missing__(self, word):
+        demand(A_NUMBER.fullmatch(word))
+        self[word] = int(word)
+        return self[word]
+
+
+class Ways:
+    """What stands below nodes or items, by lines: first the first line below each, and then all other lines."""
+
+    def __init__(self):
+        self.owners = []  # of the other lines
+        self.more = {}  # for a node or an item the numbers of its other lines
+
+    def lines(self, k):
+        """The numbers of the lines below a node or an item."""
+        return (k, *self.more.get(k, ()))
+
+
+class Forest:
+    """Nodes and items by their numbers, in columns."""
+
+    def __init__(self, node_text, item_text):
+        self.places = Numbers()
+        self.read_nodes(node_text.replace(" (", "\t("))
+        text = item_text.replace(" (", "\t(").replace(") ", ")\t")
+        self.read_items(text.replace("\nbegin", "\nbegin - - -").replace("\npass ", "\npass - - "))
         self.check_nodes()
         self.check_items()
 
     def read_nodes(self, text):
-        heads, below, self.more_alternatives = read_blocks(text, "node", 4, 3)
-        numbers, self.names, self.values, spans = heads
-        words, self.tags, complete = below
-        self.begins, self.ends = split_spans(spans)
-        demand(self.are_ordinals(numbers), fit(NAMES, self.names), fit(VALUES, self.values), fit(NAMES, self.tags),
-               words.count("alt") == len(words))
-        self.complete = listed(self.index, complete)
+        keys, tags = Ids(NODE_KEY), Ids(TAG)
+        self.node_keys, self.begins, self.ends = array("q"), array("q"), array("q")
+        self.alternative_lines = lines = Ways()
+        firsts, others = ([], array("q")), ([], array("q"))  # tags and items, of the first lines and of others
+        for blocks in pieces(text, "node"):
+            rest = take_others(blocks, lines, len(self.begins))
+            numbers, key, spans, *below = columns(blocks, 6)
+            check_ordinals(numbers, len(self.begins))
+            self.node_keys.extend(map(keys.__getitem__, key))
+            extend_spans(self.begins, self.ends, spans, self.places)
+            for (words, tag, item), (own_tags, items) in ((below, firsts), (columns(rest, 3), others)):
+                demand(words.count("alt") == len(words))
+                own_tags.extend(map(tags.__getitem__, tag))
+                extend(items, item)
+        self.node_names = [key.split("\t") for key in keys.close()]
+        self.tag_names = tags.close()
+        self.tags, self.complete = firsts[0] + others[0], firsts[1] + others[1]
+        number_others(lines, len(self.begins))
 
     def read_items(self, text):
-        text = text.replace("\nbegin", "\nbegin - - -").replace("\npass ", "\npass - - ")
-        heads, below, self.more_ways = read_blocks(text, "item", 7, 4)
-        numbers, self.item_names, self.item_values, self.alternative, self.dots, bound, spans = heads
-        self.kinds, before, self.took, self.child = below
-        self.item_begins, self.item_ends = split_spans(spans)
-        demand(self.are_ordinals(numbers), fit(NAMES, self.item_names), fit(VALUES, self.item_values),
-               fit(NUMBERS, self.alternative), fit(NUMBERS, self.dots), fit(BOUND, bound),
-               self.are_numbers(self.item_begins), self.are_numbers(self.item_ends))
-        demand(set(zip(self.kinds, self.took)) <= WAYS)
-        self.read_ways(before)
-
-    def read_ways(self, before):
-        """Takes what stands behind `take` and `pass`. Where an item begins, it is the item before itself."""
-        self.owners = [*range(self.item_count), *(k for k, ways in self.more_ways.items() for _ in ways)]
-        self.begun, passed = places_of("begin", self.kinds), places_of("pass", self.kinds)
-        self.taken, self.leaves = places_of("node", self.took), places_of("leaf", self.took)
-        demand(all(before[way] == "-" and self.child[way] == "-" for way in self.begun))
-        for way in passed:
-            demand(before[way] == "-")
-            before[way] = self.child[way]
-        for way in self.begun:
-            before[way] = str(self.owners[way])
-        self.before = listed(self.index, before)
-        self.taken_nodes = listed(self.index, gathered(self.child, self.taken))
-        self.passed = passed
+        keys = Ids(ITEM_KEY)
+        self.item_keys, self.dots, self.item_begins, self.item_ends = (array("q") for _ in range(4))
+        self.way_lines = lines = Ways()
+        firsts, others = Taken(self.places), Taken(self.places)
+        for blocks in pieces(text, "item"):
+            first = len(self.dots)
+            rest = take_others(blocks, lines, first)
+            numbers, key, dots, env, spans, *below = columns(blocks, 9)
+            check_ordinals(numbers, first)
+            self.item_keys.extend(map(keys.__getitem__, key))
+            demand(all(map(BOUND.fullmatch, set(env))))
+            self.dots.extend(map(self.places.__getitem__, dots))
+            extend_spans(self.item_begins, self.item_ends, spans, self.places)
+            firsts.add(range(first, len(self.dots)), *below)
+            others.add(lines.owners[len(others.before):], *columns(rest, 4))
+        self.item_names = [key.split("\t") for key in keys.close()]
+        number_others(lines, len(self.dots))
+        self.taken = firsts.joined(others)
+        self.before, self.child = self.taken.before, self.taken.child
 
     def check_nodes(self):
         """Each line `alt` names an item of its node."""
         demand(max(self.complete) < self.item_count)
-        owners = [k for k, lines in self.more_alternatives.items() for _ in lines]
-        for column, of_items in ((self.names, self.item_names), (self.values, self.item_values),
-                                 (self.begins, self.item_begins), (self.ends, self.item_ends)):
-            demand((*column, *gathered(column, owners)) == gathered(of_items, self.complete))
-        demand(self.names.count("$root") == 1)
-        self.root = self.names.index("$root")
+        ids = {tuple(name): k for k, name in enumerate(self.node_names)}
+        of_item = [ids.get((name, values), NO_NODE) for name, values, _ in self.item_names]
+        owners = self.alternative_lines.owners
+        demand(alike(self.node_keys, owners, map(of_item.__getitem__, picked(self.item_keys, self.complete))),
+               alike(self.begins, owners, picked(self.item_begins, self.complete)),
+               alike(self.ends, owners, picked(self.item_ends, self.complete)))
+        roots = [k for k, key in enumerate(self.node_keys) if self.node_names[key][0] == "$root"]
+        demand(len(roots) == 1)
+        self.root = roots[0]
 
     def check_items(self):
-        """Each item is reached from the item before by what it took."""
-        demand(max(self.before) < self.item_count, max(self.taken_nodes, default=0) < self.node_count)
-        more = self.owners[self.item_count:]
-        for column in (self.item_names, self.item_values, self.alternative, self.item_begins):
-            demand((*column, *gathered(column, more)) == gathered(column, self.before))
-        after = {dot: str(int(dot) + 1) for dot in set(self.dots)}
-        dots = [after[dot] for dot in gathered(self.dots, self.before)]
-        for way in self.begun:
-            dots[way] = "0"
-        demand([*self.dots, *gathered(self.dots, more)] == dots)
-        self.check_ends()
+        """Each item is reached from the item before by what it took, or begins, and then it is the item before itself."""
+        taken, owners = self.taken, self.way_lines.owners
+        demand(max(self.before) < self.item_count, max(self.child) < self.node_count)
+        steps = bytearray(b"\1" * len(self.before))
+        for way in taken.begun:
+            steps[way] = 0
+        demand(alike(self.item_keys, owners, picked(self.item_keys, self.before)),
+               alike(self.item_begins, owners, picked(self.item_begins, self.before)),
+               alike(self.dots, owners, map(add, picked(self.dots, self.before), steps)))
+        owner = [*range(self.item_count), *owners]
+        begun = list(picked(owner, taken.begun))
+        demand(not any(picked(self.dots, begun)), all(map(eq, picked(self.item_begins, begun), picked(self.item_ends, begun))))
+        nodes = list(picked(self.child, taken.nodes))
+        self.check_ends(owner, taken.nodes, picked(self.begins, nodes), picked(self.ends, nodes))
+        self.check_ends(owner, taken.leaves, taken.leaf_begins, taken.leaf_ends)
+        self.check_ends(owner, taken.passed, picked(self.item_ends, picked(owner, taken.passed)),
+                        picked(self.item_ends, picked(self.before, taken.passed)))
 
-    def check_ends(self):
+    def check_ends(self, owner, ways, begins, ends):
         """What is taken goes from the end of the item before to that of the item."""
-        for ways, begins, ends in (
-            (self.taken, gathered(self.begins, self.taken_nodes), gathered(self.ends, self.taken_nodes)),
-            (self.leaves, *map(tuple, split_spans(gathered(self.child, self.leaves)))),
-        ):
-            demand(begins == gathered(self.item_ends, gathered(self.before, ways)),
-                   ends == gathered(self.item_ends, gathered(self.owners, ways)))
-        begun, passed = gathered(self.owners, self.begun), gathered(self.owners, self.passed)
-        demand(gathered(self.item_begins, begun) == gathered(self.item_ends, begun),
-               gathered(self.item_ends, gathered(self.before, self.passed)) == gathered(self.item_ends, passed))
-
-    def are_ordinals(self, words):
-        """Whether they are the numbers from 0 on."""
-        return list(islice(self.index, len(words))) == words
-
-    def are_numbers(self, words):
-        return all(map(self.index.__contains__, words)) or fit(NUMBERS, words)
+        demand(all(map(eq, begins, picked(self.item_ends, picked(self.before, ways)))),
+               all(map(eq, ends, picked(self.item_ends, picked(owner, ways)))))
 
     @property
     def node_count(self):
-        return len(self.names)
+        return len(self.begins)
 
     @property
     def item_count(self):
-        return len(self.item_names)
+        return len(self.dots)
 
     def node(self, k):
-        return Node(self.names[k], self.values[k], int(self.begins[k]), int(self.ends[k]))
+        return Node(*self.node_names[self.node_keys[k]], self.begins[k], self.ends[k])
 
     def item(self, k):
-        return Item(self.item_names[k], self.item_values[k], int(self.alternative[k]), int(self.dots[k]),
-                    int(self.item_begins[k]), int(self.item_ends[k]))
+        name, values, alternative = self.item_names[self.item_keys[k]]
+        return Item(name, values, int(alternative), self.dots[k], self.item_begins[k], self.item_ends[k])
 
     def alternatives(self, k):
         """Pairs of a tag and the number of an item."""
-        return [(self.tags[line], self.complete[line]) for line in (k, *self.more_alternatives.get(k, ()))]
+        return [(self.tag_names[self.tags[line]], self.complete[line]) for line in self.alternative_lines.lines(k)]
 
     def ways(self, k):
         """Pairs of the item before, or None, and what the item took: None, the number of a node, or a span."""
-        return [(None if self.kinds[way] == "begin" else self.before[way], self.took_by(way))
-                for way in (k, *self.more_ways.get(k, ()))]
+        return [(None if self.before[way] == k else self.before[way], self.took(way, k)) for way in self.way_lines.lines(k)]
 
-    def took_by(self, way):
-        if self.took[way] == "node":
-            return int(self.child[way])
-        return tuple(map(int, self.child[way].split(".."))) if self.took[way] == "leaf" else None
+    def took(self, way, k):
+        if self.child[way] != NO_NODE:
+            return self.child[way]
+        return (self.item_ends[self.before[way]], self.item_ends[k]) if self.taken.is_leaf[way] else None
+
+
+class Taken:
+    """The lines below items: the item before, the node that was taken or none, and which lines are of which kind."""
+
+    def __init__(self, places):
+        self.places = places
+        self.before, self.child = array("q"), array("q")
+        self.begun, self.passed, self.nodes, self.leaves = [], [], [], []
+        self.leaf_begins, self.leaf_ends = array("q"), array("q")
+        self.is_leaf = bytearray()
+
+    def add(self, owners, kinds, before, took, child):
+        """Takes columns of lines. Where an item begins, it is the item before itself."""
+        first = len(self.before)
+        nodes, leaves = places_of("node", took), places_of("leaf", took)
+        others = places_of("-", took)
+        demand(kinds.count("take") == len(nodes) + len(leaves) == len(took) - len(others))
+        for way in others:
+            demand(kinds[way] in ("begin", "pass"), before[way] == "-", child[way] == "-" or kinds[way] == "pass")
+            before[way] = child[way] if kinds[way] == "pass" else str(owners[way])
+            (self.passed if kinds[way] == "pass" else self.begun).append(first + way)
+        extend(self.before, before)
+        taken = array("q", repeat(NO_NODE, len(kinds)))
+        for way, node in zip(nodes, extend(array("q"), list(picked(child, nodes)))):
+            taken[way] = node
+        self.child += taken
+        extend_spans(self.leaf_begins, self.leaf_ends, list(picked(child, leaves)), self.places)
+        self.is_leaf += bytes(map("leaf".__eq__, took))
+        self.nodes.extend(map(first.__add__, nodes))
+        self.leaves.extend(map(first.__add__, leaves))
+
+    def joined(self, other):
+        """These lines, and then the others."""
+        first = len(self.before)
+        for name in ("before", "child", "leaf_begins", "leaf_ends", "is_leaf"):
+            setattr(self, name, getattr(self, name) + getattr(other, name))
+        for name in ("begun", "passed", "nodes", "leaves"):
+            getattr(self, name).extend(map(first.__add__, getattr(other, name)))
+        return self
 
 
 def read_forest(data):
@@ -156,7 +236,7 @@ def read_forest(data):
         raise NotAForest("the last line has no end")
     try:
         return read_parts(text)
-    except Unread:
+    except (Unread, OverflowError):
         find_fault(text[:-1].split("\n"))
         raise NotAForest("not as a forest is written") from None
 
@@ -166,11 +246,9 @@ def read_parts(text):
     head, _, nodes = text[:-1].partition("\nnode ")
     nodes, _, items = nodes.partition("\nitem ")
     first = FIRST.fullmatch(head)
-    demand(first and nodes and items)
-    counts = int(first[1]), int(first[2])
-    demand(max(counts) < len(text))
-    forest = Forest(nodes, items, {str(k): k for k in range(max(counts))})
-    demand((forest.node_count, forest.item_count) == counts)
+    demand(first and nodes and items and "\t" not in text)
+    forest = Forest(nodes, items)
+    demand((forest.node_count, forest.item_count) == (int(first[1]), int(first[2])))
     return forest
 
 
@@ -180,37 +258,63 @@ def demand(*facts):
         raise Unread
 
 
-def read_blocks(text, word, width, width_below):
-    """Reads lines that begin with the word, each with some lines below it: the words of both by columns.
+def pieces(text, word):
+    """Lists of blocks: a line that began with the word, and those below it."""
+    separator, at = f"\n{word} ", 0
+    while at <= len(text):
+        end = text.find(separator, at + PIECE)
+        end = len(text) if end < 0 else end
+        yield text[at:end].split(separator)
+        at = end + len(separator)
 
-    The first line below each comes first, and then all others; and a mapping of lines to the numbers of these.
-    """
-    blocks = text.split(f"\n{word} ")
-    others, more = [], {}
+
+def take_others(blocks, lines, first):
+    """Takes all lines but the first one below each head out of the blocks, and notes whose they are."""
+    others = []
     for k, size in enumerate(map(str.count, blocks, repeat("\n"))):
         if size != 1:
             demand(size)
-            head, first, *rest = blocks[k].split("\n")
-            blocks[k] = f"{head} {first}"
-            more[k] = range(len(blocks) + len(others), len(blocks) + len(others) + len(rest))
+            head, below, *rest = blocks[k].split("\n")
+            blocks[k] = f"{head} {below}"
+            lines.owners += [first + k] * len(rest)
             others += rest
-    found = columns(" ".join(blocks).replace("\n", " "), len(blocks), width + width_below)
-    below = columns(" ".join(others), len(others), width_below)
-    return found[:width], [one + other for one, other in zip(found[width:], below)], more
+    return others
 
 
-def columns(text, lines, width):
-    """The words of so many lines, each of which has so many, by columns."""
-    words = text.split(" ") if lines else []
-    demand(len(words) == lines * width)
+def number_others(lines, first):
+    """Notes the numbers of the other lines of each owner."""
+    for k, owner in enumerate(lines.owners, first):
+        lines.more.setdefault(owner, []).append(k)
+
+
+def columns(lines, width):
+    """The words of lines that have so many each, by columns."""
+    words = " ".join(lines).replace("\n", " ").split(" ") if lines else []
+    demand(len(words) == len(lines) * width)
     return [words[k::width] for k in range(width)]
 
 
-def split_spans(spans):
-    """Where spans begin and where they end."""
-    places = "..".join(spans).split("..") if spans else []
-    demand(len(places) == 2 * len(spans))
-    return places[::2], places[1::2]
+def check_ordinals(words, first):
+    """Whether they are the numbers from the first on."""
+    demand(words == list(map(str, range(first, first + len(words)))))
+
+
+def extend(numbers, words):
+    """Adds the numbers of words to an array, which is returned."""
+    joined = f"  {'  '.join(words)}  "
+    digits = joined.replace(" ", "")
+    demand(not words or digits.isdigit() and digits.isascii() and "" not in words)
+    demand(joined.count(" 0") == joined.count(" 0 "))
+    numbers.extend(map(int, words))
+    return numbers
+
+
+def extend_spans(begins, ends, spans, places):
+    """Adds where spans begin and where they end to arrays."""
+    words = "..".join(spans).split("..") if spans else []
+    demand(len(words) == 2 * len(spans))
+    begins.extend(map(places.__getitem__, words[::2]))
+    ends.extend(map(places.__getitem__, words[1::2]))
 
 
 def places_of(word, words):
@@ -218,26 +322,19 @@ def places_of(word, words):
     return list(compress(count(), map(word.__eq__, words)))
 
 
-def fit(form, words):
-    """Whether all words are of a form, which is that of words with blanks between."""
-    return form.fullmatch(" ".join(set(words))) is not None
+def picked(column, places):
+    """What a column has at the places, one by one."""
+    return map(column.__getitem__, places)
 
 
-def listed(index, words):
-    """What an index has for the words, each of which is in it."""
-    numbers = list(map(index.get, words))
-    demand(None not in numbers)
-    return numbers
-
-
-def gathered(column, places):
-    """What a column has at the places."""
-    return itemgetter(*places)(column) if len(places) > 1 else tuple(column[place] for place in places)
+def alike(column, owners, others):
+    """Whether a column, and then what it has for the owners, is what the others are."""
+    return all(map(eq, chain(column, picked(column, owners)), others))
 
 
 def is_ambiguous(forest):
     """Whether there is a choice anywhere."""
-    return bool(forest.more_alternatives or forest.more_ways)
+    return bool(forest.alternative_lines.more or forest.way_lines.more)
 
 
 def count_trees(forest):
@@ -275,38 +372,37 @@ class Below:
     def __init__(self, forest):
         self.forest, self.first_node = forest, forest.item_count
         self.pairs = [(before,) for before in forest.before]
-        for way in forest.begun:
+        for way in forest.taken.begun:
             self.pairs[way] = ()
-        for way, node in zip(forest.taken, forest.taken_nodes):
-            self.pairs[way] = (forest.before[way], self.first_node + node)
+        for way in forest.taken.nodes:
+            self.pairs[way] = (forest.before[way], self.first_node + forest.child[way])
 
     def ways(self, part):
         """For each way of the part all that it has below it."""
         forest, k = self.forest, part - self.first_node
         if k < 0:
-            return [self.pairs[way] for way in (part, *forest.more_ways.get(part, ()))]
-        return [(forest.complete[line],) for line in (k, *forest.more_alternatives.get(k, ()))]
+            return [self.pairs[way] for way in forest.way_lines.lines(part)]
+        return [(forest.complete[line],) for line in forest.alternative_lines.lines(k)]
 
 
 def has_cycle(forest):
     """Whether a node leads back to itself, in a forest without a choice: then through nodes with its own span."""
-    inner = dict(zip(forest.taken, forest.taken_nodes))
-    begins, ends = forest.item_begins, forest.item_ends
+    begins, ends, child = forest.item_begins, forest.item_ends, forest.child
 
     def below(node):
         """The nodes that it took with its own span."""
         item, found = forest.complete[node], []
         while (before := forest.before[item]) != item:
             same = ends[before] == begins[before]
-            if same and item in inner:
-                found.append(inner[item])
+            if same and child[item] != NO_NODE:
+                found.append(child[item])
             if ends[before] != ends[item]:
                 break
             item = before
         return found
 
     done, path = set(), set()
-    stack = [node for way, node in inner.items() if ends[forest.before[way]] == begins[way]]
+    stack = [child[way] for way in forest.taken.nodes if ends[forest.before[way]] == begins[way]]
     while stack:
         node = stack[-1]
         if node in done:
