@@ -164,6 +164,7 @@ more_alternatives xs h (form.further_alternative zs us ys a b) =
 
 mutual
   unfolding atom_read item_read alternative_read alternatives_read
+
   atom_form : {s r : List Token} → (i : IsAtom s r) → AreWhole s → form.IsAtom (atom_read i).0 × AreWhole r
   atom_form (name x r) h = (form.name x h.0, h.1)
   atom_form (string word r) h = (form.literal word (form.string word h.0), h.1)

@@ -11,9 +11,11 @@ use Rattle.ig_w3c_tokens.proofs.Firsts.{one_separator, separator_begins, of_sepa
 past_from : {text b : List ℕ} → AreSeparators text b → NoSeparator text → text ≡ b
 past_from (no_separator text) n = refl
 past_from (next_separator text more rest s r) n = absurd (n more s)
+
 past_behind : {text b : List ℕ} → AreSeparators text b → (more : List ℕ) → IsSeparator text more → NoSeparator b → AreSeparators more b
 past_behind (no_separator text) more s n = absurd (n more s)
 past_behind (next_separator text other rest o r) more s n = subst (λ z. AreSeparators z rest) (one_separator o more s) r
+
 pub past_single : {text a : List ℕ} → AreSeparators text a → (b : List ℕ) → AreSeparators text b → NoSeparator a → NoSeparator b → a ≡ b
 past_single (no_separator text) b s n m = past_from s n
 past_single (next_separator text more rest s r) b t n m = past_single r b (past_behind t more s m) n m
@@ -102,7 +104,6 @@ parts_single (no_part rest) qs n t = parts_closed t rest refl
 parts_single (next_part text more rest p ps s r) qs n t =
     let b = parts_behind t p more s in
     let e = parts_single r b.0 n b.2 in (b.1 ∙ ap (λ z. p ∷ z) e.0, e.1)
-
 
 -- a part takes characters
 past_within : (p : ℕ → Bool) (cs : List ℕ) → length (past p cs) ≤ length cs

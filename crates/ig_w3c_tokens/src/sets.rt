@@ -191,11 +191,7 @@ pub(crate) fn set(alloc: Global, text: &str) -> Result<Option<(Class, &str)>, Al
 
 /// The class of the parts that stand first, `]` and what stands behind that; `None` exactly where
 /// no such parts stand there, or no part.
-fn class(
-    alloc: Global,
-    negated: bool,
-    inside: &str,
-) -> Result<Option<(Class, &str)>, AllocError>
+fn class(alloc: Global, negated: bool, inside: &str) -> Result<Option<(Class, &str)>, AllocError>
     ensures { IfOk result (λ r. MatchOption r (NoClass (chars inside.now)) (λ p. HasClass negated
         (chars inside.now) p.0 p.1.now)) }
 {
