@@ -10,7 +10,7 @@ abbrev pub meanings : List Placed → List Token
 meanings placed = map (λ p. token_of p.token) placed
 
 -- the first byte of the token of this number, or the end of the text where there is none
-abbrev pub byte_of : ℕ → List (Token × ℕ) → ℕ → ℕ
+abbrev pub byte_of : {Token : Type 0} → ℕ → List (Token × ℕ) → ℕ → ℕ
 byte_of end [] number = end
 byte_of end (p ∷ tokens) zero = p.1
 byte_of end (p ∷ tokens) (suc number) = byte_of end tokens number

@@ -18,7 +18,8 @@ use Rattle.ig_syntax.specs.Token as token
 use Rattle.ig_syntax.specs.Token.{Token}
 use Rattle.ig_syntax.specs.Spelling.{IsToken, signs, keywords, blanks, is_one_of, blank}
 use Rattle.ig_syntax.specs.Spelling as spelling
-use Rattle.ig_syntax.specs.Lexing.{Lexes, bytes, nothing, a_separator, a_token}
+use Rattle.ig_syntax.specs.Lexing.{Lexes}
+use Rattle.ig_syntax.specs.Texts.{bytes, nothing, a_separator, a_token}
 use Rattle.ig_syntax.specs.Rules.{FollowsRules, ReadsSymbol, ReadsAlternative, ReadsLevel, ReadsLevels}
 use Rattle.ig_syntax.specs.Rules as rules
 use Rattle.ig_syntax.specs.Notation.{most_bytes}

@@ -8,7 +8,7 @@ use Rattle.ig_grammar.specs.Symbol.{Symbol, Literal, OneOf, Call, Label, Guard, 
 use Rattle.ig_grammar.specs.Symbol.{Symbols, no_symbols, next_symbol, Alternatives, no_alternatives, next_alternative}
 use Rattle.ig_rules.specs.Laws.{ReadsAreWritten}
 use Rattle.ig_rules.specs.Written.{IsWritten, SymbolsAreWritten, AlternativesAreWritten}
-use Rattle.ig_notation.specs.Outcome.{IsOfText, unplaced, ReadGrammarsAreWritten}
+use Rattle.ig_notation.specs.Outcome.{IsOfText, unplaced, ReadGrammarsAreWritten, RulesHaveFormsOfText}
 
 -- a symbol in front of those inside it, and one without any
 more : (x : Symbol) (inside : List Symbol) → IsOfText x → All IsOfText inside → All IsOfText (x ∷ inside)
@@ -53,11 +53,14 @@ mutual
       All-append IsOfText (subterms_of_symbols xs) (subterms_of_alternatives others) (symbols_forms xs w.0)
       (choices_forms others w.1)
 
-pub read_written : ReadsAreWritten → ReadGrammarsAreWritten
-read_written law source g read =
-    let written = law (unplaced read.tokens) g read.follows in
+pub rules_written : ReadsAreWritten → RulesHaveFormsOfText
+rules_written law tokens g follows =
+    let written = law tokens g follows in
     record {
       within = λ decl level among inside.
           choices_forms (gathered_alternatives level.alts) (written.0 decl level among inside);
       kinds = written.1;
     }
+
+pub read_written : RulesHaveFormsOfText → ReadGrammarsAreWritten
+read_written law source g read = law (unplaced read.tokens) g read.follows

@@ -9,7 +9,8 @@ use Rattle.ig_text.specs.Words.{is_word}
 use Rattle.ig_syntax.specs.Token as token
 use Rattle.ig_syntax.specs.Token.{Token}
 use Rattle.ig_syntax.specs.Spelling.{entry, signs, keywords, IsToken, name, head, number, literal, ranges, other_ranges, named_class, sign, keyword}
-use Rattle.ig_syntax.specs.Lexing.{Lexes, nothing, a_separator, a_token}
+use Rattle.ig_syntax.specs.Lexing.{Lexes}
+use Rattle.ig_syntax.specs.Texts.{nothing, a_separator, a_token}
 use Rattle.ig_grammar.specs.declared.grammar.Grammar.{Grammar}
 use Rattle.ig_syntax.specs.Notation.{most_bytes}
 use Rattle.ig_tokens.specs.Laws.{TokensAreFew}

@@ -111,3 +111,7 @@ pub record HasFormsOfText (g : Grammar) : Type 0 where
 
 abbrev pub ReadGrammarsAreWritten : Type 0
 ReadGrammarsAreWritten = (source : List ℕ) (g : Grammar) → IsRead source g → HasFormsOfText g
+
+-- nor in any grammar that tokens read as
+abbrev pub RulesHaveFormsOfText : Type 0
+RulesHaveFormsOfText = (tokens : List Token) (g : Grammar) → FollowsRules tokens g → HasFormsOfText g

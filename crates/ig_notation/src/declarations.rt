@@ -29,8 +29,9 @@ use ig_text::Word;
 use ig_tokens::Token;
 use std::alloc::Global;
 
-/// Reads all tokens as a grammar.
-pub(crate) fn read_grammar(alloc: Global, tokens: &Tokens) -> Result<Grammar, RuleFault>
+/// The grammar that the tokens read as. Refused exactly where they stop following the rules, at the
+/// number of the token at which they do, or for want of memory.
+pub fn read_grammar(alloc: Global, tokens: &Tokens) -> Result<Grammar, RuleFault>
     ensures ok { IfOk result (FollowsRules tokens.now) }
     ensures err { IfErr result (FailsAt want.grammar tokens.now 0) }
 {

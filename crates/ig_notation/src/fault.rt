@@ -3,6 +3,7 @@
 ghost use Rattle.std.specs.Prelude.{◌≡◌};
 
 use ig_tokens::TokenFault;
+use std::alloc::AllocError;
 use thiserror::Error;
 
 /// What a grammar text may be too large in.
@@ -40,5 +41,15 @@ impl From<TokenFault> for ReadFault {
             TokenFault::Broken { at } => ReadFault::Syntax { at },
             TokenFault::Memory => ReadFault::Memory,
         }
+    }
+}
+
+impl From<AllocError> for ReadFault {
+    ghost use Rattle.ig_notation.specs.declared.fault.ReadFault.TheVariants.{Memory};
+
+    ghost from_gives = { λ _ fault. fault ≡ Memory };
+
+    fn from(_error: AllocError) -> ReadFault {
+        ReadFault::Memory
     }
 }

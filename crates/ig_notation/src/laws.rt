@@ -2,7 +2,7 @@
 
 ghost use Rattle.ig_notation.specs.Outcome.{OneReading, ReadOrRefused};
 ghost use Rattle.ig_notation.specs.Outcome.{ReadGrammarsAreRegular, ReadGrammarsAreWritten};
-ghost use Rattle.ig_notation.specs.Outcome.{ReadNamesAreNames};
+ghost use Rattle.ig_notation.specs.Outcome.{ReadNamesAreNames, RulesHaveFormsOfText};
 
 /// A text reads as one grammar at most. This law, proved of all texts, computes nothing.
 pub fn one_reading()
@@ -44,6 +44,14 @@ pub fn read_names_are_names()
 /// and no declaration is plain. This law, proved of all texts, computes nothing.
 pub fn read_grammars_are_written()
     ensures { ReadGrammarsAreWritten }
+{
+    rules_have_forms_of_text();
+}
+
+/// In a grammar that tokens read as by the rules stands neither a sequence nor an entry, and no
+/// declaration is plain. This law, proved of all tokens, computes nothing.
+pub fn rules_have_forms_of_text()
+    ensures { RulesHaveFormsOfText }
 {
     ig_rules::reads_are_written();
 }

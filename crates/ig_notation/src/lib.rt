@@ -15,10 +15,11 @@ mod fault;
 mod laws;
 mod source;
 
+pub use declarations::read_grammar;
 pub use fault::{Large, ReadFault};
 pub use ig_tokens::MOST_BYTES;
 pub use laws::{
     one_reading, read_grammars_are_regular, read_grammars_are_written, read_names_are_names,
-    texts_are_read_or_refused,
+    rules_have_forms_of_text, texts_are_read_or_refused,
 };
 pub use source::{read, read_short};

@@ -20,7 +20,7 @@ use crate::signs::{Sign, read_sign, stands_at};
 use crate::tokens::Tokens;
 use ig_expr::{Expr, Exprs, Function, Op, Operand};
 use ig_text::Word;
-use ig_tokens::{Token, literal_text, number_of};
+use ig_tokens::{Token, character_text, literal_text, number_of};
 use std::alloc::Global;
 
 /// What the name of a head says of an expression.
@@ -189,6 +189,8 @@ fn read_literal(alloc: Global, tokens: &Tokens, at: usize) -> Result<Word, RuleF
 {
     match tokens.ahead(at)? {
         Token::Literal(inside) => Ok(literal_text(alloc, inside)?),
+        Token::Exact(text) => Ok(Word::new(alloc, text)?),
+        Token::Character(c) => Ok(character_text(alloc, c)?),
         _ => Err(RuleFault::Unexpected { token: at }),
     }
 }

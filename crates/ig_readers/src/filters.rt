@@ -3,6 +3,7 @@
 
 ghost use Rattle.std.specs.Prelude.{◌≡◌, ◌≤◌, [], ◌∷◌, List, length, None, IfOk, IfErr};
 ghost use Rattle.std.specs.Prelude.{MatchOption};
+ghost use Rattle.ig_text.specs.declared.class.Class.TheVariants as class;
 ghost use Rattle.ig_tokens.specs.View.{token_of};
 ghost use Rattle.ig_syntax.specs.Rules.{IsPattern, ReadsFilters};
 ghost use Rattle.ig_grammar.specs.declared.filter.Filter.{Filter as SpecFilter};
@@ -15,8 +16,8 @@ ghost use Rattle.ig_readers.specs.Readers.{filter_of};
 use crate::fault::{RuleFault, add};
 use crate::tokens::Tokens;
 use ig_grammar::{Filter, Filters};
-use ig_text::{Class, Pattern};
-use ig_tokens::{Token, class_of, literal_text};
+use ig_text::{Class, Pattern, Ranges, Word};
+use ig_tokens::{Token, character_text, class_of, literal_text};
 use std::alloc::{AllocError, Global};
 
 /// The signs of filters.
@@ -68,12 +69,23 @@ pub fn pattern_of(alloc: Global, token: Token) -> Result<Option<Pattern>, AllocE
 {
     match token {
         Token::Literal(inside) => Ok(Some(Pattern::Literal(literal_text(alloc, inside)?))),
+        Token::Exact(text) => Ok(Some(Pattern::Literal(Word::new(alloc, text)?))),
+        Token::Character(c) => Ok(Some(Pattern::Literal(character_text(alloc, c)?))),
+        Token::Made(negated, ranges) => Ok(Some(Pattern::OneOf(made(alloc, negated, ranges)?))),
         Token::Ranges(inside) => Ok(Some(Pattern::OneOf(class_of(alloc, inside)?))),
         Token::Any => Ok(Some(Pattern::OneOf(Class::Any))),
         Token::XidStart => Ok(Some(Pattern::OneOf(Class::XidStart))),
         Token::XidContinue => Ok(Some(Pattern::OneOf(Class::XidContinue))),
         _ => Ok(None),
     }
+}
+
+/// The class with these ranges.
+fn made(alloc: Global, negated: bool, ranges: &[(char, char)]) -> Result<Class, AllocError>
+    ensures { IfOk result (λ c. c ≡ class.Ranges negated ranges.now) }
+{
+    let ranges = Ranges::from_vec(alloc, Vec::from_slice(alloc, ranges)?)?;
+    Ok(Class::Ranges { negated, ranges })
 }
 
 /// The sign of a filter that stands there; `None` exactly where none does.

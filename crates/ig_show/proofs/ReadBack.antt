@@ -2,7 +2,7 @@
 use Rattle.std.proofs.Common.{sym, subst, ℕ, List, map}
 use Rattle.ig_syntax.specs.Token.{Token}
 use Rattle.ig_syntax.specs.Rules.{FollowsRules}
-use Rattle.ig_syntax.specs.Lexing as lexing
+use Rattle.ig_syntax.specs.Texts as lexing
 use Rattle.ig_syntax.specs.Lexing.{Lexes}
 use Rattle.ig_tokens.specs.Laws.{EndedTokensAreLongest}
 use Rattle.ig_spelling.specs.Laws.{FixedTokensAreSpelled, TokensAreSpelled}

@@ -7,8 +7,9 @@ use Rattle.ig_syntax.specs.Token as token
 use Rattle.ig_syntax.specs.Token.{Token}
 use Rattle.ig_syntax.specs.Spelling.{begins}
 use Rattle.ig_syntax.specs.Spelling as table
-use Rattle.ig_syntax.specs.Lexing as lexing
-use Rattle.ig_syntax.specs.Lexing.{Lexes, bytes}
+use Rattle.ig_syntax.specs.Texts as lexing
+use Rattle.ig_syntax.specs.Lexing.{Lexes}
+use Rattle.ig_syntax.specs.Texts.{bytes}
 use Rattle.ig_tokens.specs.Laws.{ends, EndedTokensAreLongest}
 use Rattle.ig_spelling.specs.Pieces as pieces
 use Rattle.ig_spelling.specs.Pieces.{Piece, blank, line_end, text, tokens}

@@ -1,4 +1,4 @@
--- How what several calls append makes up what a function appends or adds.
+-- What the strings of the library add; numbers and ranges.
 use Rattle.std.proofs.Common.{◌≡◌, ◌∙◌, ap, sym, subst, ℕ, suc, ◌+◌, ◌<◌, ◌≤◌, List, [], ◌∷◌, ◌++◌, true, refl, length, drop, append_assoc, Ok, Err, Result, arith}
 use Rattle.std.specs.Prelude.{OnOk, chars, IsUtf8, encode_utf8, is_ok, if◌then◌else◌, flat_map, ℤ, pos, negsuc, ◌^◌}
 use Rattle.std.specs.Fmt.{signed_decimal}
@@ -13,12 +13,6 @@ use Rattle.ig_spelling.specs.Pieces.{Piece, text}
 use Rattle.ig_spelling.specs.Signs.{integer_pieces}
 use Rattle.ig_spelling.specs.Spelling.{class_character, range_spelling}
 use Rattle.ig_spelling.specs.Writing.{Appends}
-
-pub appends : {a b c u v : List ℕ} → Appends a b u → Appends b c v → Appends a c (u ++ v)
-appends {a} {b} {c} {u} {v} p q = record { grown = λ s. q.grown s ∙ p.grown (v ++ s) ∙ (rw append_assoc refl) }
-
-pub nothing_appended : {a : List ℕ} → Appends a a []
-nothing_appended = record { grown = λ s. refl }
 
 grows : {a b : List ℕ} (t : List ℕ) → IsUtf8 a → b ≡ a ++ t → Appends a b (chars t)
 grows {a} {b} t u e =
@@ -36,29 +30,6 @@ character_spelled c s =
 pub pushed_character : {T E : Type 0} {a b : List ℕ} (c : ℕ) (r : Result T E) → scalar c ≡ true → IsUtf8 a → b ≡ (if is_ok r then a ++ encode_utf8 c else a) → OnOk r (Appends a b (c ∷ []))
 pushed_character {T} {E} {a} {b} c r s u e =
     subst (λ z. OnOk r (Appends a b z)) (character_spelled c s) (pushed (encode_utf8 c) r u e)
-
--- in a loop, the word is written but for what is left
-pub record Left (a b word left : List ℕ) : Type 0 where
-  pub kept : (s : List ℕ) → chars b ++ (left ++ s) ≡ chars a ++ (word ++ s)
-
-pub all_left : {a : List ℕ} (word : List ℕ) → Left a a word word
-all_left word = record { kept = λ s. refl }
-
-pub less_left : {X : Type 0} {a b c word : List ℕ} (f : X → List ℕ) (xs : List X) (i : ℕ) (d x : X) → x ≡ get_or xs i d → i < length xs →
-    Left a b word (flat_map f (drop i xs)) → Appends b c (f x) → Left a c word (flat_map f (drop (i + 1) xs))
-less_left {X} {a} {b} {c} {word} f xs i d x e h l q =
-    let p : Appends b c (f (get_or xs i d)) = subst (λ z. Appends b c (f z)) e q in
-    let rest : List ℕ = flat_map f (drop (i + 1) xs) in
-    let here : flat_map f (drop i xs) ≡ f (get_or xs i d) ++ rest = at_drop_more (flat_map f) xs i d h in
-    record {
-      kept = λ s.
-          p.grown (rest ++ s) ∙
-          ap (λ z. chars b ++ z) (sym (append_assoc (f (get_or xs i d)) rest s) ∙ ap (λ z. z ++ s) (sym here)) ∙ l.kept s;
-    }
-
-pub none_left : {X : Type 0} {a b word : List ℕ} (f : X → List ℕ) (xs : List X) (i : ℕ) → length xs ≤ i →
-    Left a b word (flat_map f (drop i xs)) → Appends a b word
-none_left f xs i h l = record { grown = λ s. (rw (drop_all i xs h) at l.kept s) }
 
 pub two_ends : (a b : ℕ) → (a ≡ b → ⊥) → class_character a ++ 45 ∷ class_character b ≡ range_spelling (a, b)
 two_ends a b n = rw (ne_eqb a b n) refl

@@ -15,5 +15,6 @@ pub use laws::{fixed_tokens_are_spelled, tokens_are_spelled};
 pub use levels::{push_associativity, push_greater};
 pub use signs::{has_operator, push_function, push_operator, push_truth};
 pub use spelling::{
-    push_class, push_head, push_integer, push_literal, push_name, push_pattern, push_text,
+    push_character, push_class, push_head, push_integer, push_literal, push_name, push_pattern,
+    push_text,
 };

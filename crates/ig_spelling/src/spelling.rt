@@ -20,7 +20,7 @@ pub fn push_text(out: &mut String, text: &str) -> Result<(), AllocError>
 }
 
 /// Adds one character.
-fn push_character(out: &mut String, character: char) -> Result<(), AllocError>
+pub fn push_character(out: &mut String, character: char) -> Result<(), AllocError>
     ensures { OnOk result (Appends (string_bytes out.old) (string_bytes out.new) (character ∷ [])) }
 {
     out.push(character)

@@ -1,5 +1,5 @@
 -- How each token of the notation is spelled, and which token stands first in a text.
-use Rattle.std.specs.Prelude.{◌≡◌, ℕ, ◌≤◌, ◌⊎◌, ◌<◌, Bool, true, false, not, List, [], ◌∷◌, ◌++◌, length, Option, Some, IsTrue, ◌==◌, codes, if◌then◌else◌}
+use Rattle.std.specs.Prelude.{◌≡◌, ℕ, ◌≤◌, Bool, true, false, not, List, [], ◌∷◌, ◌++◌, Option, Some, IsTrue, ◌==◌, codes, if◌then◌else◌}
 use Rattle.std.specs.Map.{lookup}
 use Rattle.std.specs.List.{list_all, list_any, zip}
 use Rattle.unicode_ident.specs.Ident.{is_xid_continue}
@@ -9,6 +9,7 @@ use Rattle.ig_text.specs.declared.class.Class.TheVariants.{Ranges, Any, XidStart
 use Rattle.ig_text.specs.Words.{is_word, is_digit}
 use Rattle.ig_expr.specs.Reading.{spelled}
 use Rattle.ig_grammar.specs.Name.{is_name, keywords as words}
+use Rattle.ig_syntax.specs.Texts as texts
 use Rattle.ig_syntax.specs.Token as token
 use Rattle.ig_syntax.specs.Token.{Token, Name, Head, Number, Literal, OneOf}
 
@@ -116,10 +117,8 @@ pub record StandsFirst (text : List ℕ) (t : Token) (rest : List ℕ) : Type 0 
   pub free : IsTrue (may_precede t rest)
 
 -- the token stands first, and no other one that does is as long
-pub record IsLongest (text : List ℕ) (t : Token) (rest : List ℕ) : Type 0 where
-  pub stands : StandsFirst text t rest
-  pub longest : (u : Token) (more : List ℕ) → StandsFirst text u more →
-      (length rest < length more) ⊎ ((u ≡ t) × (more ≡ rest))
+abbrev pub IsLongest : List ℕ → Token → List ℕ → Type 0
+IsLongest = texts.IsLongest StandsFirst
 
 -- space, tab, CR and LF separate tokens
 abbrev pub blanks : List ℕ

@@ -1,10 +1,9 @@
--- Where a text of tokens stops following rules.
+-- Where tokens, of whichever notation, stop following rules.
 use Rattle.std.specs.Prelude.{◌≡◌, ℕ, List, ◌∷◌, ◌++◌, length}
-use Rattle.ig_syntax.specs.Token.{Token}
 
 -- The number, from 0, of the first token such that nothing that follows the rules begins with the tokens up to and
 -- including it; where there is none, the number of all tokens.
-pub record Stops (follows : List Token → Type 0) (tokens : List Token) (number : ℕ) : Type 0 where
+pub record Stops {Token : Type 0} (follows : List Token → Type 0) (tokens : List Token) (number : ℕ) : Type 0 where
   pub taken : List Token
   pub left : List Token
   pub parts : tokens ≡ taken ++ left

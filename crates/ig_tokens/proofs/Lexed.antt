@@ -6,7 +6,8 @@ use Rattle.ig_syntax.specs.Token.{Token}
 use Rattle.ig_tokens.specs.Scanner as scanner
 use Rattle.ig_tokens.specs.Scanner.{Next, next, ended, separator, broken}
 use Rattle.ig_syntax.specs.Spelling.{IsSeparator, IsLongest}
-use Rattle.ig_syntax.specs.Lexing.{bytes, Lexes, nothing, a_separator, a_token, Breaks, here, past_separator, past_token}
+use Rattle.ig_syntax.specs.Lexing.{Lexes, Breaks}
+use Rattle.ig_syntax.specs.Texts.{bytes, nothing, a_separator, a_token, here, past_separator, past_token}
 use Rattle.ig_tokens.specs.Laws.{TokensAreSingle, BreakIsSingle, LexesOrBreaks, NeverBoth, TokensAreFew}
 use Rattle.ig_tokens.specs.View.{token_of, placed_of, tokens_of}
 use Rattle.ig_tokens.specs.declared.token.Placed.{Placed}

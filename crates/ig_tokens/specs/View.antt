@@ -1,5 +1,5 @@
 -- What a stored token means.
-use Rattle.std.specs.Prelude.{ℕ, List, [], false, chars, unwrap_or, map}
+use Rattle.std.specs.Prelude.{ℕ, List, [], ◌∷◌, false, chars, unwrap_or, map}
 use Rattle.ig_text.specs.declared.class.Class.{Class}
 use Rattle.ig_text.specs.declared.class.Class.TheVariants as class
 use Rattle.ig_expr.specs.Reading.{spelled}
@@ -73,6 +73,9 @@ token_of stored.Bool = spec.Bool
 token_of stored.Span = spec.Span
 token_of stored.Tabs = spec.Tabs
 token_of stored.Return = spec.Return
+token_of (stored.Exact x) = spec.Literal (chars x.now)
+token_of (stored.Character c) = spec.Literal (c ∷ [])
+token_of (stored.Made negated ranges) = spec.OneOf (class.Ranges negated ranges.now)
 
 -- the tokens, each with the byte at which it begins
 abbrev pub placed_of : Placed → spec.Token × ℕ

@@ -23,7 +23,7 @@ pub use laws::{
     break_is_single, ended_tokens_are_longest, longest_token_is_next, texts_lex_or_break,
     texts_never_do_both, tokens_are_few, tokens_are_single,
 };
-pub use literals::literal_text;
+pub use literals::{character_text, literal_text};
 pub use numbers::number_of;
 pub use token::{Placed, Token, TokenFault};
 pub use tokenizer::{MOST_BYTES, tokenize};

@@ -1,6 +1,6 @@
 //! Literals.
 
-ghost use Rattle.std.specs.Prelude.{◌≡◌, ◌++◌, IfOk, OnOk, chars, false, is_some};
+ghost use Rattle.std.specs.Prelude.{◌≡◌, [], ◌∷◌, ◌++◌, IfOk, OnOk, chars, false, is_some};
 ghost use Rattle.std.specs.Prelude.{option_map, string_bytes};
 ghost use Rattle.ig_tokens.specs.Scanner.{literal_token, literal_of, text_of};
 ghost use Rattle.ig_tokens.specs.View.{literal_text};
@@ -62,6 +62,15 @@ pub fn literal_text(alloc: Global, inside: &str) -> Result<Word, AllocError>
         Some(text) => Word::new(alloc, text.as_str()),
         None => Word::new(alloc, ""),
     }
+}
+
+/// The text of one character.
+pub fn character_text(alloc: Global, c: char) -> Result<Word, AllocError>
+    ensures { IfOk result (λ w. w ≡ c ∷ []) }
+{
+    let mut text = String::new(alloc);
+    text.push(c)?;
+    Word::new(alloc, text.as_str())
 }
 
 /// The text for which the characters stand; `None` exactly where they stand for none.

@@ -5,7 +5,7 @@ ghost use Rattle.std.specs.Prelude.{◌≡◌};
 use std::alloc::AllocError;
 
 /// A token of the notation. Its text is a slice of the source.
-#[derive(Clone, Copy, Debug)]
+#[derive(Clone, Copy)]
 pub enum Token<'a> {
     /// A name.
     Name(&'a str),
@@ -117,10 +117,16 @@ pub enum Token<'a> {
     Tabs,
     /// `return`
     Return,
+    /// A literal, by the characters that it matches, without escapes.
+    Exact(&'a str),
+    /// A literal of one character.
+    Character(char),
+    /// A class, by its ranges in normal form.
+    Made(bool, &'a [(char, char)]),
 }
 
 /// A token, and the byte of the source at which it begins, from 0.
-#[derive(Clone, Copy, Debug)]
+#[derive(Clone, Copy)]
 pub struct Placed<'a> {
     pub token: Token<'a>,
     pub at: u32,

@@ -20,3 +20,15 @@ returns-in-XidStart c = pattern_is _ _ _ _ c.in-XidStart.is refl (rule.class_pat
 
 pub returns-in-XidContinue : goal.returns-in-XidContinue
 returns-in-XidContinue c = pattern_is _ _ _ _ c.in-XidContinue.is refl (rule.class_pattern _)
+
+pub returns-in_ok-new-in-Exact : goal.returns-in_ok-new-in-Exact
+returns-in_ok-new-in-Exact c =
+    pattern_is _ _ _ _ c.in-Exact.is (ap Literal c.in_ok-new-in-Exact.ensures) (rule.literal_pattern _)
+
+pub returns-in_ok-character_text-in-Character : goal.returns-in_ok-character_text-in-Character
+returns-in_ok-character_text-in-Character c =
+    pattern_is _ _ _ _ c.in-Character.is (ap Literal c.in_ok-character_text-in-Character.ensures) (rule.literal_pattern _)
+
+pub returns-in_ok-made-in-Made : goal.returns-in_ok-made-in-Made
+returns-in_ok-made-in-Made c =
+    pattern_is _ _ _ _ c.in-Made.is (ap OneOf c.in_ok-made-in-Made.ensures) (rule.class_pattern _)

@@ -1,6 +1,5 @@
 use Rattle.std.specs.Str.{chars}
-use Rattle.ig_spelling.specs.Steps.{if_ok}
-use Rattle.ig_spelling.proofs.Steps.{appends}
+use Rattle.ig_spelling.specs.Steps.{if_ok, appends}
 use Rattle.ig_spelling.proofs.spelling.push_bracketed.Goals as goal
 
 pub returns : goal.returns

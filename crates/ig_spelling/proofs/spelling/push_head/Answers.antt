@@ -2,8 +2,7 @@ use Rattle.std.proofs.Common.{◌∷◌, refl}
 use Rattle.std.specs.Str.{chars}
 use Rattle.ig_syntax.specs.Token.{Head}
 use Rattle.ig_spelling.specs.Pieces.{token}
-use Rattle.ig_spelling.specs.Steps.{if_ok, says}
-use Rattle.ig_spelling.proofs.Steps.{appends}
+use Rattle.ig_spelling.specs.Steps.{if_ok, says, appends}
 use Rattle.ig_spelling.proofs.spelling.push_head.Goals as goal
 
 pub returns : goal.returns

@@ -1,6 +1,6 @@
 use Rattle.std.specs.Prelude.{flat_map}
 use Rattle.ig_spelling.specs.Spelling.{literal_character}
-use Rattle.ig_spelling.proofs.Steps.{all_left, less_left, none_left}
+use Rattle.ig_spelling.specs.Steps.{all_left, less_left, none_left}
 use Rattle.ig_spelling.proofs.spelling.push_literal_characters.Goals as goal
 
 pub loop-character-init : goal.loop-character-init

@@ -1,5 +1,5 @@
 use Rattle.std.specs.Str.{chars}
-use Rattle.ig_spelling.proofs.Steps.{nothing_appended}
+use Rattle.ig_spelling.specs.Steps.{nothing_appended}
 use Rattle.ig_spelling.proofs.spelling.push_negation.Goals as goal
 
 pub returns-then-negated : goal.returns-then-negated

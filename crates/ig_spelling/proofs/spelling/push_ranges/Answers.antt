@@ -1,7 +1,7 @@
 use Rattle.std.proofs.Common.{refl}
 use Rattle.std.specs.Prelude.{flat_map}
 use Rattle.ig_spelling.specs.Spelling.{range_spelling}
-use Rattle.ig_spelling.proofs.Steps.{all_left, less_left, none_left}
+use Rattle.ig_spelling.specs.Steps.{all_left, less_left, none_left}
 use Rattle.ig_spelling.proofs.spelling.push_ranges.Goals as goal
 
 pub loop-first-init : goal.loop-first-init

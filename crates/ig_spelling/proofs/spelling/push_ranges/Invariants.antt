@@ -1,7 +1,7 @@
 use Rattle.std.proofs.Common.{drop}
 use Rattle.std.specs.Prelude.{flat_map, string_bytes}
 use Rattle.ig_spelling.specs.Spelling.{range_spelling}
-use Rattle.ig_spelling.proofs.Steps.{Left}
+use Rattle.ig_spelling.specs.Steps.{Left}
 use Rattle.ig_spelling.proofs.spelling.push_ranges.Given as goal
 
 abbrev pub invariant-loop-first : goal.invariant-loop-first

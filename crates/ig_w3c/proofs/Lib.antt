@@ -1,0 +1,5 @@
+pub mod Translated
+pub mod Outcomes
+pub mod Readings
+pub mod Regularity
+pub mod Characters
