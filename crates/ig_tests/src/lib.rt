@@ -42,3 +42,5 @@ mod show;
 mod text;
 #[cfg(test)]
 mod tokens;
+#[cfg(test)]
+mod w3c;
