@@ -115,6 +115,29 @@ class Facts:
                 break
         return found
 
+    # circles
+
+    def circle(self, name):
+        """The shortest way from a declaration to itself by alternatives that have nothing else but what may be nothing; or None."""
+        ways, waiting = {name: [name]}, [name]
+        while waiting:
+            current = waiting.pop(0)
+            for callee in self.alone(self.grammar.named(current)):
+                if callee == name:
+                    return ways[current]
+                if callee not in ways and self.grammar.named(callee) is not None:
+                    ways[callee] = ways[current] + [callee]
+                    waiting.append(callee)
+        return None
+
+    def alone(self, declaration):
+        """The names that are called where all else may be nothing."""
+        for alternative in declaration.alternatives:
+            for k, symbol in enumerate(alternative.symbols):
+                others = alternative.symbols[:k] + alternative.symbols[k + 1 :]
+                if symbol.core().form == "call" and all(self.may_be_empty(other) for other in others):
+                    yield symbol.core().name
+
     # words
 
     def may_begin(self, symbols, char):
