@@ -3,7 +3,6 @@
 from source_text import ordinal
 
 KINDS = {"opt": "option", "star": "list", "plus": "list", "sepstar": "list", "sepplus": "list", "group": "group"}
-FORMS = {"opt": "$none $some", "star": "$nil $snoc", "plus": "$one $more", "sepplus": "$one $more", "sepstar": "$none $some"}
 
 
 def owner_of(grammar, name):
@@ -29,13 +28,3 @@ def said_name(grammar, name):
     number = f"{ordinal(alike.index(symbol) + 1)} " if len(alike) > 1 else ""
     text = " ".join(grammar.of(symbol).split())
     return f"the {number}{kind} of {declaration.name}, `{text if len(text) <= 40 else text[:37] + '...'}`"
-
-
-def is_inner(grammar, name):
-    """Whether a name is the second of a `{X S}*`, the list where it isn't empty."""
-    base, sign, number = name.partition("#")
-    declaration = grammar.named(base)
-    if declaration is None or not sign or number == "1":
-        return False
-    added = declaration.added()
-    return added[int(number) - 1] is added[int(number) - 2]

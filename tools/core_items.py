@@ -9,9 +9,6 @@ import re
 from grammar_tokens import CLASS, LITERAL, NAMED_CLASS, class_test, literal_text
 
 SMALLEST, LARGEST = -(1 << 63), (1 << 63) - 1
-WORD = re.compile(r"[.$\w#]+")
-STEP = re.compile(r" \. ")
-TOKEN = re.compile(rf"""{LITERAL.pattern} | {CLASS.pattern} | {NAMED_CLASS.pattern} | \.?\w+ | [=!<>]= | [-+*<>(),]""", re.X)
 
 
 class NoValue(Exception):

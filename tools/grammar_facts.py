@@ -12,6 +12,7 @@ class Facts:
     def __init__(self, grammar, told):
         self.grammar = grammar
         self.nullable, self.unproductive, self.unreachable = set(), set(), set()
+        self.found_sites = None
         if told is None:
             self.compute()
         else:
@@ -114,6 +115,29 @@ class Facts:
                 break
         return found
 
+    # circles
+
+    def circle(self, name):
+        """The shortest way from a declaration to itself by alternatives that have nothing else but what may be nothing; or None."""
+        ways, waiting = {name: [name]}, [name]
+        while waiting:
+            current = waiting.pop(0)
+            for callee in self.alone(self.grammar.named(current)):
+                if callee == name:
+                    return ways[current]
+                if callee not in ways and self.grammar.named(callee) is not None:
+                    ways[callee] = ways[current] + [callee]
+                    waiting.append(callee)
+        return None
+
+    def alone(self, declaration):
+        """The names that are called where all else may be nothing."""
+        for alternative in declaration.alternatives:
+            for k, symbol in enumerate(alternative.symbols):
+                others = alternative.symbols[:k] + alternative.symbols[k + 1 :]
+                if symbol.core().form == "call" and all(self.may_be_empty(other) for other in others):
+                    yield symbol.core().name
+
     # words
 
     def may_begin(self, symbols, char):
@@ -143,9 +167,60 @@ class Facts:
             return any(self.begins(alternative.symbols, char, seen) for alternative in symbol.alternatives)
         return self.begins(symbol.parts, char, seen) if symbol.form in ("sepstar", "sepplus") else self.begins(symbol.parts[:1], char, seen)
 
+    def may_follow(self, name, char):
+        """Whether the character may stand directly behind a declaration in some text; layout isn't looked at."""
+        return self.follows(name, char, set())
+
+    def follows(self, name, char, seen):
+        if name in seen:
+            return False
+        seen.add(name)
+        return any(site.name == name and behind(char, seen) for site, behind in self.sites())
+
+    def sites(self):
+        """All calls, each with a function that tells whether a character may stand behind it."""
+        if self.found_sites is None:
+            self.found_sites = [
+                found for declaration in self.grammar.declarations for alternative in declaration.alternatives
+                for found in self.sites_in(alternative.symbols, lambda char, seen, name=declaration.name: self.follows(name, char, seen))]
+        return self.found_sites
+
+    def sites_in(self, symbols, behind):
+        """The calls in a sequence behind which something stands."""
+        for k, symbol in enumerate(symbols):
+            yield from self.sites_of(symbol, self.after(symbols[k + 1 :], behind))
+
+    def after(self, rest, behind):
+        nullable = all(self.may_be_empty(symbol) for symbol in rest)
+        return lambda char, seen: self.may_begin(rest, char) or nullable and behind(char, seen)
+
+    def sites_of(self, symbol, behind):
+        if symbol.form == "call":
+            yield symbol, behind
+        elif symbol.form == "group":
+            for alternative in symbol.alternatives:
+                yield from self.sites_in(alternative.symbols, behind)
+        elif symbol.form == "filtered":
+            excluded = [token for sign, token in symbol.filters if sign == "!>>"]
+            yield from self.sites_of(symbol.parts[0], lambda char, seen: not any(begins_with(token, char) for token in excluded)
+                                     and behind(char, seen))
+        elif symbol.form in ("star", "plus"):
+            yield from self.sites_of(symbol.parts[0], lambda char, seen: self.may_begin(symbol.parts, char) or behind(char, seen))
+        elif symbol.form in ("sepstar", "sepplus"):
+            item, separator = symbol.parts
+            yield from self.sites_of(item, lambda char, seen: self.may_begin([separator, item], char) or behind(char, seen))
+            yield from self.sites_of(separator, lambda char, seen: self.may_begin([item], char))
+        elif symbol.parts:
+            yield from self.sites_of(symbol.parts[0], behind)
+
     def covers(self, declaration, word):
         """Whether a declaration could be this whole word."""
         return len(word) in Words(self.grammar, word).ends_of(declaration, 0)
+
+
+def begins_with(token, char):
+    """Whether a match of a pattern may begin with the character, and so a filter may keep it away."""
+    return literal_text(token.text) == char if token.kind == "literal" else class_test(token.text)(char)
 
 
 class Words:

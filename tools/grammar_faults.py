@@ -427,6 +427,12 @@ def in_alternative(source, stop):
     if token.is_sign("-"):
         return ["`X \\ \"text\"` is X without that text. A class without some characters is written by its ranges.",
                 "A blank in a name isn't possible, and neither is a `-`."]
+    if token.is_sign("<"):
+        return ["Names stand without angle brackets, and a `<` that is read is a literal: `\"<\"`. In expressions `<` compares numbers."]
+    if token.is_sign("==", "!=", "<=", ">="):
+        return ["Comparisons stand in expressions: `when (size(x) == 1)`."]
+    if token.is_sign(*FILTERS):
+        return ["A filter stands behind the symbol of which it is asked: `X !>> P`."]
     if token.is_sign("}"):
         return ["This `}` closes no list. There are no actions: trees are all that a grammar gives."]
     if token.is_sign(")"):

@@ -14,7 +14,7 @@ from collections import OrderedDict
 from core_text import Core
 from forest_text import NotAForest, count_trees, is_ambiguous, read_forest
 from parts import Forested, View, read_tree
-from program import BUDGET, NO_DEPTH, PRINTED, USAGE, Ended, Run, find_program, put_texts
+from program import BUDGET, NO_DEPTH, PRINTED, USAGE, Ended, Run, find_program, put_texts, run
 
 HERE = os.path.dirname(os.path.dirname(os.path.abspath(__file__)))
 EXAMPLE = re.compile(r"\| `([^`]+)` \| `([^`]+)` \| (?:\d+|infinite) \| (?:yes|no) \|")
@@ -51,10 +51,12 @@ class Answers:
         os.environ["IGUANA"] = self.program
 
     def has_facts(self):
-        """Whether the program has the command `analyse`."""
-        with tempfile.TemporaryDirectory() as folder:
-            put_texts(folder, {"grammar": 'start S; syntax S = "a";'})
-            return Run(["analyse", "grammar"], self.program, folder).wait().status != USAGE
+        """Whether the program has the command `analyse`; `OSError` where there is no program."""
+        texts = {"grammar": 'start S; syntax S = "a";'}
+        said = run(["check", "grammar"], texts, self.program)
+        if said.status != PRINTED:
+            raise OSError(f"{self.program} doesn't work: {said.note or said.status}")
+        return run(["analyse", "grammar"], texts, self.program).status != USAGE
 
     def answer(self, request):
         """The answer to a request, a mapping with `page`, `number`, `kind`, `grammar`, `input` and `view`."""
@@ -140,13 +142,13 @@ class Job:
         with answers.turns:
             with answers.lock:
                 self.check()
-                run = Run(list(words), program or answers.program, self.folder)
-                self.lane.runs.add(run)
+                running = Run(list(words), program or answers.program, self.folder)
+                self.lane.runs.add(running)
             try:
-                ended = run.wait(answers.seconds)
+                ended = running.wait(answers.seconds)
             finally:
                 with answers.lock:
-                    self.lane.runs.discard(run)
+                    self.lane.runs.discard(running)
         self.check()
         return ended
 

@@ -3,7 +3,7 @@
 import difflib
 
 from grammar_text import MARKS
-from source_text import listed, ordinal
+from source_text import ordinal
 
 LISTS = ("star", "plus", "sepstar", "sepplus")
 FORMS = {"opt": "option", "star": "list", "plus": "list", "sepstar": "list", "sepplus": "list", "group": "group"}

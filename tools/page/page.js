@@ -184,10 +184,10 @@ async function coreText() {
 async function factsTable() {
   const said = await ask("facts").catch(() => null);
   if (!said) return;
-  const heads = ["", "nullable", "unproductive", "unreachable", "left-recursive", "cyclic"];
+  const facts = ["nullable", "unproductive", "unreachable", "left-recursive", "cyclic"];
   const table = document.createElement("table");
-  table.append(tableRow("th", heads));
-  for (const row of said.rows) table.append(tableRow("td", row));
+  table.append(tableRow("th", ["", ...facts]));
+  for (const [name, ...found] of said.rows) table.append(tableRow("td", [name, ...facts.map((fact) => (found.includes(fact) ? "yes" : "–"))]));
   const line = document.createElement("p");
   line.textContent = said.note;
   $("facts-table").replaceChildren(said.status === 0 ? table : line);
@@ -198,7 +198,7 @@ function tableRow(kind, words) {
   for (const word of words) {
     const cell = document.createElement(kind);
     cell.textContent = word;
-    if (word !== "no" && word !== "") cell.className = "is";
+    if (word !== "–") cell.className = "is";
     row.append(cell);
   }
   return row;
