@@ -1,5 +1,5 @@
 -- The text of a reduced forest is read and verified.
-use Rattle.std.proofs.Common.{◌≡◌, ◌∙◌, ℕ, List, Option, Some, None, refl, sym, ap}
+use Rattle.std.proofs.Common.{◌≡◌, List, Option, Some, None, refl, sym, ap}
 use Rattle.ig_item.specs.declared.core_grammar.Nonterminal.{Nonterminal}
 use Rattle.ig_core_laws.specs.Laws.{CoreTreesArePermitted}
 use Rattle.ig_core_laws.specs.Lowered.{CoreOf}

@@ -1,6 +1,5 @@
 -- The integers of the core grammar of a grammar that is read fit.
-use Rattle.std.proofs.Common.{◌≡◌, ◌∙◌, ℕ, zero, suc, ◌+◌, ◌<◌, ◌≤◌, List, [], ◌∷◌, ◌++◌, map, length, sum_by, All, Bool, true, false, Option, Some, None, if◌then◌else◌, slice_get, refl, sym, ap, subst, arith, lit<}
-use Rattle.std.specs.Prelude.{IsUtf8}
+use Rattle.std.proofs.Common.{◌≡◌, ℕ, zero, suc, ◌+◌, ◌<◌, ◌≤◌, List, [], ◌∷◌, ◌++◌, map, length, sum_by, All, Bool, true, false, Option, Some, None, if◌then◌else◌, slice_get, sym, subst, arith, lit<}
 use Rattle.std.specs.Option.{unwrap_or}
 use Rattle.std.proofs.lemmas.List.Elements.{All-nil, All-cons}
 use Rattle.std.proofs.lemmas.List.Sums.{sum_by-cons}
@@ -10,7 +9,7 @@ use Rattle.ig_text.specs.declared.pattern.Pattern.{Pattern}
 use Rattle.ig_expr.specs.Expression.{Expression}
 use Rattle.ig_grammar.specs.Checked.{CheckedGrammar}
 use Rattle.ig_grammar.specs.Numbering.{alternatives, layout_among}
-use Rattle.ig_grammar.specs.Symbol.{Symbol, Literal, OneOf, Call, Label, Guard, Let, Opt, Star, Plus, SepStar, SepPlus, Group, Offside, Ignore, Align, Filtered, Seq, Entry}
+use Rattle.ig_grammar.specs.Symbol.{Symbol, Literal, OneOf, Call, Label, Guard, Let, Filtered}
 use Rattle.ig_grammar.specs.declared.declaration.Decl.{Decl}
 use Rattle.ig_grammar.specs.declared.declaration.DeclKind.TheVariants.{Syntax}
 use Rattle.ig_grammar.specs.declared.declaration.Level.{Level}
@@ -18,10 +17,10 @@ use Rattle.ig_grammar.specs.declared.grammar.Grammar.{Grammar}
 use Rattle.ig_grammar.specs.declared.place.Shape.{Shape}
 use Rattle.ig_grammar.specs.declared.symbol.Alt.{Alt}
 use Rattle.ig_meaning.specs.Permitted.{behind_layout}
-use Rattle.ig_item.specs.Core.{IsAlternative, numbered as by_number}
+use Rattle.ig_item.specs.Core.{numbered as by_number}
 use Rattle.ig_item.specs.declared.core_grammar.CoreAlt.{CoreAlt}
 use Rattle.ig_item.specs.declared.core_grammar.Nonterminal.{Nonterminal}
-use Rattle.ig_notation.specs.Outcome.{IsRead, ReadGrammarsAreRegular}
+use Rattle.ig_notation.specs.Outcome.{ReadGrammarsAreRegular}
 use Rattle.ig_traversal.specs.Rewriting.{rewritten_declaration}
 use Rattle.ig_rewrite.specs.Remaining.{label_of, main_of, patterns_of, unfiltered, unlabelled}
 use Rattle.ig_rewrite.specs.Rooted.{calls_of_start, has_root, is_root, root_declaration, rooted, with_root}
@@ -30,7 +29,7 @@ use Rattle.ig_blocks_laws.specs.Blocks.{BlocksOf, setting_of}
 use Rattle.ig_lexical_laws.specs.Layout.{LayoutOf, laid_declaration, laid_in}
 use Rattle.ig_lexical_laws.specs.Filters.{FiltersOf, attached}
 use Rattle.ig_ebnf_laws.specs.Lists.{ListsOf, lowered}
-use Rattle.ig_core_laws.specs.CoreOf.{Shaped, shaped, unrooted, root_among, root_of, written_root, start_symbols, numbered, number_of, alternatives_of, nonterminals_of, core_of}
+use Rattle.ig_core_laws.specs.CoreOf.{Shaped, shaped, unrooted, root_among, written_root, start_symbols, numbered, number_of, alternatives_of, nonterminals_of, core_of}
 use Rattle.ig_core_laws.specs.Lowered.{BeforeLists, CoreOf, Lowered}
 use Rattle.ig_core_laws.specs.Notation.{unchanged}
 use Rattle.ig_core_laws.specs.Steps.{step_with, step_of, steps_of}

@@ -1,5 +1,5 @@
 -- The integers of a grammar that is read fit, as the numbers of its tokens do.
-use Rattle.std.proofs.Common.{◌≡◌, List, [], ◌∷◌, All, sym, subst}
+use Rattle.std.proofs.Common.{List, [], ◌∷◌, sym, subst}
 use Rattle.std.proofs.lemmas.List.Elements.{All-head, All-tail}
 use Rattle.ig_expr.specs.Expression.{Expression}
 use Rattle.ig_grammar.specs.Symbol.{Symbol, Symbols, Alternatives}

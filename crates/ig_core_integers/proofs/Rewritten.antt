@@ -13,8 +13,7 @@ use Rattle.ig_grammar.specs.declared.symbol.Alt.{Alt}
 use Rattle.ig_traversal.specs.Rewriting.{within, rewritten_symbols, rewritten_choices, rewritten, rewritten_alternative, rewritten_level}
 use Rattle.ig_lexical_laws.specs.Layout.{is_token, then_layout, laid_inside, laid, laid_in}
 use Rattle.ig_lexical_laws.specs.Filters.{befores, afters, exclusions, with_filters, guarded, attached}
-use Rattle.ig_verify_laws.specs.Ranges.{HasSmallIntegers}
-use Rattle.ig_core_integers.proofs.Fitting.{AltsFit, ChoicesFit, EachFits, Fits, LevelsFit, ListFits, SymbolsFit, list_joined, gathered_fit}
+use Rattle.ig_core_integers.proofs.Fitting.{AltsFit, ChoicesFit, Fits, LevelsFit, ListFits, SymbolsFit, list_joined, gathered_fit}
 
 module _ (own : Symbol → Symbol) (keep : (x : Symbol) → Fits x → Fits (own x)) where
   mutual

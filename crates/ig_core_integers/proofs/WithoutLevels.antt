@@ -1,7 +1,6 @@
 -- The pass for levels adds levels, which are few, and no other integer but 0.
-use Rattle.std.proofs.Common.{◌≡◌, ◌∙◌, ℕ, suc, ◌+◌, ◌<◌, ◌≤◌, List, [], ◌∷◌, ◌++◌, map, length, Bool, true, false, not, ◌&&◌, ◌||◌, if◌then◌else◌, refl, sym, ap, subst, arith, lit<}
+use Rattle.std.proofs.Common.{ℕ, suc, ◌+◌, ◌<◌, ◌≤◌, List, [], ◌∷◌, ◌++◌, map, length, Bool, true, false, ◌&&◌, if◌then◌else◌, arith, lit<}
 use Rattle.ig_text.specs.Limits.{integers_end, numbers_end}
-use Rattle.ig_expr.specs.Expression.{Expression}
 use Rattle.ig_grammar.specs.Numbering.{Levelled, by_level}
 use Rattle.ig_grammar.specs.Symbol.{Symbol, Literal, OneOf, Call, Label, Guard, Let, Opt, Star, Plus, SepStar, SepPlus, Group, Offside, Ignore, Align, Filtered, Seq, Entry}
 use Rattle.ig_grammar.specs.Symbol.{Symbols, no_symbols, next_symbol, Alternatives, no_alternatives, next_alternative}
@@ -11,7 +10,7 @@ use Rattle.ig_grammar.specs.declared.declaration.Decl.{Decl}
 use Rattle.ig_grammar.specs.declared.declaration.Level.{Level}
 use Rattle.ig_grammar.specs.declared.symbol.Alt.{Alt}
 use Rattle.ig_meaning.specs.Operands.{more_on_the_left, more_on_the_right}
-use Rattle.ig_levels_laws.specs.Levels.{Pair, Place, no_pair, pair_arguments, with_pair, in_symbols, in_alternatives, pair_at, is_left, is_right, lowered, test_of, has_left, has_right, symbols_in, place_in, lowered_alternative, lowered_declaration, one_level, is_test}
+use Rattle.ig_levels_laws.specs.Levels.{Pair, Place, no_pair, pair_arguments, with_pair, in_symbols, in_alternatives, pair_at, is_left, is_right, lowered, test_of, has_left, has_right, place_in, lowered_alternative, lowered_declaration, one_level, is_test}
 use Rattle.ig_rewrite.specs.Added.{left_name, right_name}
 use Rattle.ig_verify_laws.specs.Ranges.{HasSmallIntegers}
 use Rattle.ig_core_integers.proofs.Fitting.{AltsFit, ChoicesFit, EachFits, Fits, LevelsFit, ListFits, SymbolsFit, each_joined, list_joined}

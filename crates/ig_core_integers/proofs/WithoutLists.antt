@@ -2,7 +2,6 @@
 use Rattle.std.proofs.Common.{ℕ, suc, ◌+◌, List, [], ◌∷◌, ◌++◌, map, Bool, true, false, if◌then◌else◌, subst, sym}
 use Rattle.std.proofs.lemmas.List.{map-append}
 use Rattle.ig_text.specs.Words.{is_word}
-use Rattle.ig_expr.specs.Expression.{Expression, Variable}
 use Rattle.ig_grammar.specs.Binding.{Binding}
 use Rattle.ig_grammar.specs.Visible.{Visible, binds, replaced, parameters}
 use Rattle.ig_grammar.specs.Symbol.{Symbol, Literal, OneOf, Call, Label, Guard, Let, Opt, Star, Plus, SepStar, SepPlus, Group, Offside, Ignore, Align, Filtered, Seq, Entry, gathered}
@@ -10,7 +9,7 @@ use Rattle.ig_grammar.specs.Symbol.{Symbols, no_symbols, next_symbol, Alternativ
 use Rattle.ig_grammar.specs.declared.declaration.Decl.{Decl}
 use Rattle.ig_grammar.specs.declared.declaration.Level.{Level}
 use Rattle.ig_grammar.specs.declared.symbol.Alt.{Alt}
-use Rattle.ig_ebnf_laws.specs.Lists.{Element, Made, argument, arguments, elements, all_elements, alts_of, entering, new_symbol, new_element, new, new_symbols, new_alternatives, new_alts, new_levels, new_declaration, decls_of, count, count_symbols, count_alts, params_for, sep_plus_alternatives, added, added_symbols, added_alternatives, added_alts, added_levels, added_by, all_added}
+use Rattle.ig_ebnf_laws.specs.Lists.{Element, Made, argument, arguments, elements, all_elements, alts_of, new_symbol, new_element, new, new_symbols, new_alternatives, new_alts, new_levels, new_declaration, decls_of, count, count_symbols, count_alts, params_for, sep_plus_alternatives, added, added_symbols, added_alternatives, added_alts, added_levels, added_by, all_added}
 use Rattle.ig_verify_laws.specs.Ranges.{HasSmallIntegers}
 use Rattle.ig_core_integers.proofs.Fitting.{AltsFit, BindingsFit, ChoicesFit, DeclsFit, EachFits, Fits, LevelsFit, ListFits, SymbolsFit, decls_joined, decls_mapped, gathered_fit, list_joined}
 
