@@ -3,7 +3,9 @@
 ghost use Rattle.std.specs.Prelude.{IfOk};
 ghost use Rattle.ig_core_laws.specs.Lowered.{IsBuildable};
 
+use ig_analyse::analyse;
 use ig_core_text::show_core;
+use ig_facts_text::show_facts;
 use ig_forest::Forest;
 use ig_forest_text::show_forest;
 use ig_grammar::Checked;
@@ -128,6 +130,36 @@ const LIST_CORE: &str =
 fn lowers_a_list(rt: HostRuntime) -> Result<(), Fail> {
     let shown = core_text_under(rt.alloc(), "start S; syntax S = \"a\"*;")?;
     assert_eq!(rt; shown.as_slice(), LIST_CORE.as_bytes());
+    Ok(())
+}
+
+/// The text of the grammar's facts.
+fn facts_text(alloc: Global, grammar: &Checked) -> Result<Vec<u8>, Fail>
+    requires { IsBuildable grammar.now }
+{
+    let parser = Parser::of(alloc, grammar)?;
+    let facts = analyse(alloc, parser.core())?;
+    let shown = show_facts(alloc, &grammar.grammar().decls, &facts)?;
+    Ok(shown)
+}
+
+/// The text of the facts of the grammar of that text.
+fn facts_text_under(alloc: Global, grammar: &str) -> Result<Vec<u8>, Fail> {
+    let grammar = checked(alloc, grammar)?;
+    facts_text(alloc, &grammar)
+}
+
+const SOME_FACTS: &str = "start S; syntax S = B S \"x\" | \"y\" A*; syntax B = ; \
+        syntax A = A B | \"a\"; syntax T = T \"b\";";
+
+const SOME_FACTS_TEXT: &str =
+    "S left-recursive\nB nullable\nA left-recursive cyclic\nT unproductive unreachable \
+        left-recursive\n";
+
+#[test]
+fn tells_facts(rt: HostRuntime) -> Result<(), Fail> {
+    let shown = facts_text_under(rt.alloc(), SOME_FACTS)?;
+    assert_eq!(rt; shown.as_slice(), SOME_FACTS_TEXT.as_bytes());
     Ok(())
 }
 
