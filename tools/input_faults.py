@@ -1,6 +1,5 @@
-"""Why an input has no tree, and where a budget went."""
+"""Why an input has no tree."""
 
-import math
 import re
 
 from core_items import Items, Pattern, read_core
@@ -8,10 +7,8 @@ from grammar_tokens import CLASS, LITERAL, NAMED_CLASS, ranges_of
 from source_text import char_name, listed, quoted
 
 MOST_ITEMS = 300_000  # how many items are found here at most, to say where they stand
-SAMPLE = 60_000  # of how many items the declarations are counted, where a budget was passed
 NOTE = re.compile(r"no parse at line (\d+), column (\d+), expected (.*)", re.S)
 PATTERN = re.compile(rf"({LITERAL.pattern}|{CLASS.pattern}|{NAMED_CLASS.pattern}|end of input|nothing)(?:, )?")
-NEAR = 32  # how exactly the part of an input is found that a budget is enough for
 MOST_FRAMES = 6
 MOST_TESTS = 4
 
@@ -35,13 +32,32 @@ def explain_no_parse(run, grammar, source, note):
         lines += teller.frames() + teller.refusals()
     else:
         lines += pattern_places(grammar, [each for each in patterns if each not in layout])
-    return at, lines + operator_line(grammar, source, at, patterns)
+    return at, lines + operator_line(grammar, source, at, patterns) + hint_lines(grammar, source, at, patterns)
 
 
 def items_as_told(core_text, source, at, patterns):
     """The items of the input, where they are few and their report is the program's; else None."""
     found = Items(read_core(core_text), source.text, MOST_ITEMS)
     return found if found.whole and found.report() == (at, set(patterns) - {"nothing"}) else None
+
+
+def hint_lines(grammar, source, at, patterns):
+    """What newcomers meet: letters of another case, and ends of lines that nothing takes."""
+    text = source.text
+    for pattern in patterns:
+        word = Pattern(pattern).word if pattern.startswith('"') else None
+        if word and text[at : at + len(word)] != word and text[at : at + len(word)].lower() == word.lower():
+            return [f"Literals are compared letter by letter: {quoted(text[at : at + len(word)])} isn't {pattern}."]
+    char = text[at : at + 1]
+    if char == "\ufeff":
+        return ["A byte order mark stands here, which can't be seen: save the file as UTF-8 without it."]
+    if char == "\r":
+        return ["The lines of this file end with a carriage return and a line feed: let the layout have `\\r`."]
+    if char == "\n" and at == len(text) - 1 and "end of input" in patterns:
+        return ["The input ends with a line feed, and nothing in the grammar takes it: a layout that has `\\n` does."]
+    if char in (" ", "\t", "\n") and grammar.layout() is None:
+        return ["No layout is declared, so blanks and ends of lines stand only where the grammar says so."]
+    return []
 
 
 def operator_line(grammar, source, at, patterns):
@@ -180,7 +196,9 @@ class Teller:
             for frame in self.begun(item):
                 found.setdefault(frame, []).append(pattern)
         if self.at in self.items.complete and self.grammar.start:
-            found.setdefault((self.grammar.start.text, self.start_begin()), []).append("end of input")
+            begin = self.start_begin()
+            frame = (self.grammar.start.text, begin) if begin < self.at else ("$root", 0)
+            found.setdefault(frame, []).append("end of input")
         shown = sorted(found, key=lambda frame: (-frame[1], frame[0]))
         lines = [self.frame_line(frame, found[frame]) for frame in shown[:MOST_FRAMES]]
         if len(shown) > MOST_FRAMES:
@@ -305,66 +323,3 @@ class Teller:
         if wanted is None or column == wanted or failed.at >= len(self.source.text):
             return None
         return f"  a list of {name} is aligned (`align`) in column {wanted}; at line {line} an item would begin in column {column}"
-
-
-# Budgets
-
-
-def explain_budget(run, prefix_of, text, budget, source):
-    """How far the input came, and where the items are: lines.
-
-    `run(words)` gives what the program prints of the grammar or None, `prefix_of(length, budget)` whether the items of
-    a prefix are within a budget.
-    """
-    tenth = max(1, budget // 10)
-    some, most = longest(prefix_of, len(text), tenth), longest(prefix_of, len(text), budget)
-    lines = [f"{budget:,} items are enough for {said_length(source, most)}, of {len(text):,};",
-             f"a tenth of them for {said_length(source, some)}."]
-    if some and most > some:
-        power = math.log(budget / tenth) / math.log(most / some)
-        lines += growth_lines(power, budget, len(text), most)
-    core_text = run(["core"])
-    if core_text is not None:
-        lines += count_lines(read_core(core_text), text)
-    return lines
-
-
-def longest(fits, length, budget):
-    """The length of the longest prefix whose items are within a budget, but for a few hundredths of it."""
-    low, high = 0, length
-    while high - low > max(1, low // NEAR):
-        middle = (low + high + 1) // 2
-        if fits(middle, budget):
-            low = middle
-        else:
-            high = middle
-    return low
-
-
-def said_length(source, length):
-    if length == 0:
-        return "no character"
-    return f"about the first {length:,} character{'s' if length > 1 else ''} (to {source.said(length)})"
-
-
-def growth_lines(power, budget, length, most):
-    wanted = budget * (length / max(1, most)) ** max(1.0, power)
-    if power < 1.25:
-        fit = f"about {int(wanted * 1.2 // 1000 + 1) * 1000:,} would do" if wanted * 1.2 <= 4_000_000 else "the whole input wants more than there can be"
-        return [f"The items grow in step with the text: {fit} (`--budget` takes up to 4,000,000)."]
-    kind = "as its square" if power < 2.4 else "as its cube, or faster"
-    return [f"Ten times the items are enough for {10 ** (1 / power):.1f} times the text: they grow {kind if power > 1.7 else 'faster than the text'}.",
-            "That comes of ambiguity (see `tools/query`), and of right recursion over long inputs (see `tools/lint`)."]
-
-
-def count_lines(core, text):
-    """The declarations with the most items, in the first part of the text."""
-    items = Items(core, text, SAMPLE)
-    counts = {}
-    for nonterminal, number in zip(core, items.counts):
-        name = nonterminal.name.partition("#")[0]
-        counts[name] = counts.get(name, 0) + number
-    first = sorted((name for name in counts if name != "$root"), key=lambda name: (-counts[name], name))[:5]
-    total = sum(counts.values())
-    parts = [f"{name} {100 * counts[name] / total:.0f} %" for name in first if counts[name] * 50 >= total]
-    return [f"Of {'all' if items.whole else 'the first'} {min(total, SAMPLE):,} items most are of {listed(parts)}."]
