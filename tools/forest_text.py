@@ -20,7 +20,8 @@ Item = namedtuple("Item", "name values alternative dot begin end")
 NUMBER = r"(?:0|[1-9][0-9]*)"
 FIRST = re.compile(rf"forest ({NUMBER}) ({NUMBER})")
 # A line below a node or an item; before the first of them stands the line of that one.
-ALT = re.compile(rf"^(?:node ({NUMBER}) (\S+ \(\S*\)) ({NUMBER})\.\.({NUMBER})\n)?alt (\S+) ({NUMBER})$", re.MULTILINE)
+ALT = re.compile(rf"^(?:node ({NUMBER}) (\S+ \(\S*\)) ({NUMBER})\.\.({NUMBER})\n)?"
+                 rf"alt (\S+) ({NUMBER})$", re.MULTILINE)
 WAY = re.compile(rf"^(?:item ({NUMBER}) (\S+ \(\S*\) {NUMBER}) ({NUMBER}) \[\S*\] ({NUMBER})\.\.({NUMBER})\n)?"
                  rf"(?:take ({NUMBER}) (?:node ({NUMBER})|leaf ({NUMBER})\.\.({NUMBER}))|begin|pass ({NUMBER}))$", re.MULTILINE)
 PIECE = 1 << 17  # characters that are read at once
@@ -122,14 +123,17 @@ class Forest:
         for way in self.begun:
             steps[way] = 0
         owners, before = self.owners, self.before
-        for column, of_before in ((self.item_keys, picked(self.item_keys, before)), (self.item_begins, picked(self.item_begins, before)),
-                                  (self.dots, map(add, picked(self.dots, before), steps))):
+        for column, of_before in (
+            (self.item_keys, picked(self.item_keys, before)), (self.item_begins, picked(self.item_begins, before)),
+            (self.dots, map(add, picked(self.dots, before), steps)),
+        ):
             demand(alike(picked(column, owners) if self.has_choices else column, of_before))
         begun = array("q", picked(owners, self.begun))
         demand(not any(picked(self.dots, begun)), alike(picked(self.item_begins, begun), picked(self.item_ends, begun)))
         self.check_ends(self.nodes, picked(self.begins, self.taken), picked(self.ends, self.taken))
         self.check_ends(self.leaves, self.leaf_begins, self.leaf_ends)
-        demand(alike(picked(self.item_ends, picked(before, self.passed)), picked(self.item_ends, picked(owners, self.passed))))
+        demand(alike(picked(self.item_ends, picked(before, self.passed)),
+                     picked(self.item_ends, picked(owners, self.passed))))
 
     def check_ends(self, ways, begins, ends):
         """What is taken goes from the end of the item before to that of the item."""
