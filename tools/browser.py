@@ -9,7 +9,8 @@ import tempfile
 import time
 
 FLAGS = ("--headless=new", "--remote-debugging-pipe", "--no-sandbox", "--disable-gpu", "--disable-dev-shm-usage", "--no-first-run",
-         "--disable-extensions", "--disable-background-networking", "--hide-scrollbars", "--force-color-profile=srgb", "about:blank")
+         "--disable-extensions", "--disable-background-networking", "--hide-scrollbars", "--force-color-profile=srgb",
+         "about:blank")
 
 
 class Failed(Exception):
@@ -46,7 +47,10 @@ class Browser:
         message = {"id": self.number, "method": method, "params": given}
         if self.session:
             message["sessionId"] = self.session
-        os.write(self.to, json.dumps(message).encode() + b"\0")
+        try:
+            os.write(self.to, json.dumps(message).encode() + b"\0")
+        except BrokenPipeError:
+            raise Failed("the browser ended, or there is none") from None
         end = time.monotonic() + self.seconds
         while True:
             said = self.next_message(end)
@@ -98,7 +102,8 @@ class Browser:
 
     def point(self, selector):
         """Moves the pointer to the middle of an element."""
-        x, y = self.value(f"""(() => {{ const one = document.querySelector({json.dumps(selector)}); one.scrollIntoView({{ block: "center", inline: "center" }});
+        x, y = self.value(f"""(() => {{ const one = document.querySelector({json.dumps(selector)});
+            one.scrollIntoView({{ block: "center", inline: "center" }});
             const box = one.getBoundingClientRect(); return [box.x + box.width / 2, box.y + box.height / 2]; }})()""")
         self.call("Input.dispatchMouseEvent", type="mouseMoved", x=x, y=y)
         return x, y

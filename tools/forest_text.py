@@ -1,16 +1,16 @@
 """Reads the text of a forest, and counts its trees.
 
-A forest has millions of lines where its input is long. So its text is split in pieces of some thousand lines at once,
-and columns are compared whole. Where something is wrong, `forest_faults` looks for it line by line.
+A forest has millions of lines where its input is long. So its text is read by one expression for all lines of a kind,
+in pieces, into columns that are compared whole. Where something is wrong, `forest_faults` looks for it line by line.
 """
 
 import re
 import sys
 from array import array
 from collections import defaultdict, namedtuple
-from itertools import chain, compress, count, repeat
+from itertools import accumulate, compress, count
 from math import prod
-from operator import add, eq
+from operator import add, eq, not_
 
 from forest_faults import NotAForest, find_fault
 
@@ -19,12 +19,12 @@ Item = namedtuple("Item", "name values alternative dot begin end")
 
 NUMBER = r"(?:0|[1-9][0-9]*)"
 FIRST = re.compile(rf"forest ({NUMBER}) ({NUMBER})")
-NODE_KEY = re.compile(r"\S+\t\(\S*\)")
-ITEM_KEY = re.compile(rf"\S+\t\(\S*\)\t{NUMBER}")
-BOUND = re.compile(r"\[\S*\]")
-TAG = re.compile(r"\S+")
-A_NUMBER = re.compile(NUMBER)
-PIECE = 1 << 17  # characters that are split at once: as many as a processor has near
+# A line below a node or an item; before the first of them stands the line of that one.
+ALT = re.compile(rf"^(?:node ({NUMBER}) (\S+ \(\S*\)) ({NUMBER})\.\.({NUMBER})\n)?"
+                 rf"alt (\S+) ({NUMBER})$", re.MULTILINE)
+WAY = re.compile(rf"^(?:item ({NUMBER}) (\S+ \(\S*\) {NUMBER}) ({NUMBER}) \[\S*\] ({NUMBER})\.\.({NUMBER})\n)?"
+                 rf"(?:take ({NUMBER}) (?:node ({NUMBER})|leaf ({NUMBER})\.\.({NUMBER}))|begin|pass ({NUMBER}))$", re.MULTILINE)
+PIECE = 1 << 17  # characters that are read at once
 NO_NODE = -1
 
 
@@ -32,128 +32,113 @@ class Unread(Exception):
     """The text isn't as a forest is written."""
 
 
-class Ids(defaultdict):
-    """Numbers for words of one form, from 0 on."""
-
-    def __init__(self, form):
-        super().__init__(count().__next__)
-        self.form = form
-
-    def close(self):
-        """Tests the words; their list by numbers."""
-        demand(all(map(self.form.fullmatch, self)))
-        return list(self)
-
-
-class Numbers(dict):
-    """Numbers by the words for them, each of which is tested once."""
-
-    def __missing__(self, word):
-        demand(A_NUMBER.fullmatch(word))
-        self[word] = int(word)
-        return self[word]
-
-
-class Ways:
-    """What stands below nodes or items, by lines: first the first line below each, and then all other lines."""
-
-    def __init__(self):
-        self.owners = []  # of the other lines
-        self.more = {}  # for a node or an item the numbers of its other lines
-
-    def lines(self, k):
-        """The numbers of the lines below a node or an item."""
-        return (k, *self.more.get(k, ()))
-
-
 class Forest:
-    """Nodes and items by their numbers, in columns."""
+    """Nodes and items by their numbers, in columns; ways, which are the lines below items, by theirs."""
 
-    def __init__(self, node_text, item_text):
-        self.places = Numbers()
-        self.read_nodes(node_text.replace(" (", "\t("))
-        text = item_text.replace(" (", "\t(").replace(") ", ")\t")
-        self.read_items(text.replace("\nbegin", "\nbegin - - -").replace("\npass ", "\npass - - "))
+    def __init__(self, text):
+        end = text.find("\nitem ")
+        demand(end >= 0)
+        self.read_nodes(text, text.find("\n") + 1, end)
+        self.read_items(text, end + 1)
         self.check_nodes()
         self.check_items()
 
-    def read_nodes(self, text):
-        keys, tags = Ids(NODE_KEY), Ids(TAG)
-        self.node_keys, self.begins, self.ends = array("q"), array("q"), array("q")
-        self.alternative_lines = lines = Ways()
-        firsts, others = ([], array("q")), ([], array("q"))  # tags and items, of the first lines and of others
-        for blocks in pieces(text, "node"):
-            rest = take_others(blocks, lines, len(self.begins))
-            numbers, key, spans, *below = columns(blocks, 6)
-            check_ordinals(numbers, len(self.begins))
-            self.node_keys.extend(map(keys.__getitem__, key))
-            extend_spans(self.begins, self.ends, spans, self.places)
-            for (words, tag, item), (own_tags, items) in ((below, firsts), (columns(rest, 3), others)):
-                demand(words.count("alt") == len(words))
-                own_tags.extend(map(tags.__getitem__, tag))
-                extend(items, item)
-        self.node_names = [key.split("\t") for key in keys.close()]
-        self.tag_names = tags.close()
-        self.tags, self.complete = firsts[0] + others[0], firsts[1] + others[1]
-        number_others(lines, len(self.begins))
+    def read_nodes(self, text, at, end):
+        keys, tags = Ids(), Ids()
+        self.node_keys, self.begins, self.ends, self.first_line = numbers(4)
+        self.tags, self.complete = numbers(2)
+        for found in pieces(text, "node", ALT, at, end):
+            heads, key, begin, end, tag, item = zip(*found)
+            self.first_line.extend(compress(count(len(self.complete)), heads))
+            check_ordinals(heads, len(self.begins))
+            add_all(self.node_keys, key, keys.__getitem__)
+            add_all(self.begins, begin)
+            add_all(self.ends, end)
+            add_all(self.tags, tag, tags.__getitem__)
+            add_all(self.complete, item)
+        self.node_names = [key.split(" ") for key in keys]
+        self.tag_names = list(tags)
+        close(self.first_line, len(self.complete))
 
-    def read_items(self, text):
-        keys = Ids(ITEM_KEY)
-        self.item_keys, self.dots, self.item_begins, self.item_ends = (array("q") for _ in range(4))
-        self.way_lines = lines = Ways()
-        firsts, others = Taken(self.places), Taken(self.places)
-        for blocks in pieces(text, "item"):
-            first = len(self.dots)
-            rest = take_others(blocks, lines, first)
-            numbers, key, dots, env, spans, *below = columns(blocks, 9)
-            check_ordinals(numbers, first)
-            self.item_keys.extend(map(keys.__getitem__, key))
-            demand(all(map(BOUND.fullmatch, set(env))))
-            self.dots.extend(map(self.places.__getitem__, dots))
-            extend_spans(self.item_begins, self.item_ends, spans, self.places)
-            firsts.add(range(first, len(self.dots)), *below)
-            others.add(lines.owners[len(others.before):], *columns(rest, 4))
-        self.item_names = [key.split("\t") for key in keys.close()]
-        number_others(lines, len(self.dots))
-        self.taken = firsts.joined(others)
-        self.before, self.child = self.taken.before, self.taken.child
+    def read_items(self, text, at):
+        keys = Ids()
+        self.item_keys, self.dots, self.item_begins, self.item_ends, self.first_way = numbers(5)
+        self.before, self.begun, self.passed, self.nodes, self.taken = numbers(5)
+        self.leaves, self.leaf_begins, self.leaf_ends = numbers(3)
+        for found in pieces(text, "item", WAY, at, len(text) - 1):
+            heads, key, dot, begin, end, *below = zip(*found)
+            self.first_way.extend(compress(count(len(self.before)), heads))
+            check_ordinals(heads, len(self.dots))
+            add_all(self.item_keys, key, keys.__getitem__)
+            add_all(self.dots, dot)
+            add_all(self.item_begins, begin)
+            add_all(self.item_ends, end)
+            self.read_ways(*below)
+        self.item_names = [key.split(" ") for key in keys]
+        close(self.first_way, len(self.before))
+        self.owners = range(self.item_count)
+        if self.has_choices:
+            starts = bytearray(len(self.before))
+            for way in self.first_way[1:-1]:
+                starts[way] = 1
+            self.owners = array("q", accumulate(starts))
+        for way in self.begun:
+            self.before[way] = self.owners[way]
+        self.child = array("q", [NO_NODE]) * len(self.before)
+        for way, node in zip(self.nodes, self.taken):
+            self.child[way] = node
+
+    def read_ways(self, before, node, leaf_begin, leaf_end, passed):
+        first = len(self.before)
+        self.nodes.extend(compress(count(first), node))
+        add_all(self.taken, node)
+        self.leaves.extend(compress(count(first), leaf_begin))
+        add_all(self.leaf_begins, leaf_begin)
+        add_all(self.leaf_ends, leaf_end)
+        before = list(before)
+        for way in compress(count(), list(map(not_, before))):
+            before[way] = passed[way] or 0
+            (self.passed if passed[way] else self.begun).append(first + way)
+        self.before.extend(map(int, before))
 
     def check_nodes(self):
         """Each line `alt` names an item of its node."""
         demand(max(self.complete) < self.item_count)
         ids = {tuple(name): k for k, name in enumerate(self.node_names)}
         of_item = [ids.get((name, values), NO_NODE) for name, values, _ in self.item_names]
-        owners = self.alternative_lines.owners
-        demand(alike(self.node_keys, owners, map(of_item.__getitem__, picked(self.item_keys, self.complete))),
-               alike(self.begins, owners, picked(self.item_begins, self.complete)),
-               alike(self.ends, owners, picked(self.item_ends, self.complete)))
+        owners = range(self.node_count)
+        if len(self.complete) > self.node_count:
+            owners = [k for k in range(self.node_count) for _ in range(self.first_line[k], self.first_line[k + 1])]
+        demand(alike(picked(self.node_keys, owners), picked(of_item, picked(self.item_keys, self.complete))),
+               alike(picked(self.begins, owners), picked(self.item_begins, self.complete)),
+               alike(picked(self.ends, owners), picked(self.item_ends, self.complete)))
         roots = [k for k, key in enumerate(self.node_keys) if self.node_names[key][0] == "$root"]
         demand(len(roots) == 1)
         self.root = roots[0]
 
     def check_items(self):
         """Each item is reached from the item before by what it took, or begins, and then it is the item before itself."""
-        taken, owners = self.taken, self.way_lines.owners
         demand(max(self.before) < self.item_count, max(self.child) < self.node_count)
-        steps = bytearray(b"\1" * len(self.before))
-        for way in taken.begun:
+        steps = bytearray(b"\1") * len(self.before)
+        for way in self.begun:
             steps[way] = 0
-        demand(alike(self.item_keys, owners, picked(self.item_keys, self.before)),
-               alike(self.item_begins, owners, picked(self.item_begins, self.before)),
-               alike(self.dots, owners, map(add, picked(self.dots, self.before), steps)))
-        owner = [*range(self.item_count), *owners]
-        begun = list(picked(owner, taken.begun))
-        demand(not any(picked(self.dots, begun)), all(map(eq, picked(self.item_begins, begun), picked(self.item_ends, begun))))
-        nodes = list(picked(self.child, taken.nodes))
-        self.check_ends(owner, taken.nodes, picked(self.begins, nodes), picked(self.ends, nodes))
-        self.check_ends(owner, taken.leaves, taken.leaf_begins, taken.leaf_ends)
-        self.check_ends(owner, taken.passed, picked(self.item_ends, picked(owner, taken.passed)),
-                        picked(self.item_ends, picked(self.before, taken.passed)))
+        owners, before = self.owners, self.before
+        for column, of_before in (
+            (self.item_keys, picked(self.item_keys, before)), (self.item_begins, picked(self.item_begins, before)),
+            (self.dots, map(add, picked(self.dots, before), steps)),
+        ):
+            demand(alike(picked(column, owners) if self.has_choices else column, of_before))
+        begun = array("q", picked(owners, self.begun))
+        demand(not any(picked(self.dots, begun)), alike(picked(self.item_begins, begun), picked(self.item_ends, begun)))
+        self.check_ends(self.nodes, picked(self.begins, self.taken), picked(self.ends, self.taken))
+        self.check_ends(self.leaves, self.leaf_begins, self.leaf_ends)
+        demand(alike(picked(self.item_ends, picked(before, self.passed)),
+                     picked(self.item_ends, picked(owners, self.passed))))
 
-    def check_ends(self, owner, ways, begins, ends):
+    def check_ends(self, ways, begins, ends):
         """What is taken goes from the end of the item before to that of the item."""
-        demand(all(map(eq, begins, picked(self.item_ends, picked(self.before, ways)))),
-               all(map(eq, ends, picked(self.item_ends, picked(owner, ways)))))
+        demand(alike(begins, picked(self.item_ends, picked(self.before, ways))),
+               alike(ends, picked(self.item_ends, picked(self.owners, ways))))
 
     @property
     def node_count(self):
@@ -163,6 +148,11 @@ class Forest:
     def item_count(self):
         return len(self.dots)
 
+    @property
+    def has_choices(self):
+        """Whether a node has several alternatives, or an item several ways."""
+        return len(self.complete) > self.node_count or len(self.before) > self.item_count
+
     def node(self, k):
         return Node(*self.node_names[self.node_keys[k]], self.begins[k], self.ends[k])
 
@@ -170,58 +160,34 @@ class Forest:
         name, values, alternative = self.item_names[self.item_keys[k]]
         return Item(name, values, int(alternative), self.dots[k], self.item_begins[k], self.item_ends[k])
 
+    def lines(self, k):
+        """The numbers of the lines below a node."""
+        return range(self.first_line[k], self.first_line[k + 1])
+
     def alternatives(self, k):
         """Pairs of a tag and the number of an item."""
-        return [(self.tag_names[self.tags[line]], self.complete[line]) for line in self.alternative_lines.lines(k)]
+        return [(self.tag_names[self.tags[line]], self.complete[line]) for line in self.lines(k)]
+
+    def ways_of(self, k):
+        """The numbers of the ways of an item."""
+        return range(self.first_way[k], self.first_way[k + 1])
 
     def ways(self, k):
         """Pairs of the item before, or None, and what the item took: None, the number of a node, or a span."""
-        return [(None if self.before[way] == k else self.before[way], self.took(way, k)) for way in self.way_lines.lines(k)]
+        return [(None if self.before[way] == k else self.before[way], self.took(way, k)) for way in self.ways_of(k)]
 
     def took(self, way, k):
         if self.child[way] != NO_NODE:
             return self.child[way]
-        return (self.item_ends[self.before[way]], self.item_ends[k]) if self.taken.is_leaf[way] else None
+        begin, end = self.item_ends[self.before[way]], self.item_ends[k]
+        return (begin, end) if begin < end else None
 
 
-class Taken:
-    """The lines below items: the item before, the node that was taken or none, and which lines are of which kind."""
+class Ids(defaultdict):
+    """Numbers for words, from 0 on."""
 
-    def __init__(self, places):
-        self.places = places
-        self.before, self.child = array("q"), array("q")
-        self.begun, self.passed, self.nodes, self.leaves = [], [], [], []
-        self.leaf_begins, self.leaf_ends = array("q"), array("q")
-        self.is_leaf = bytearray()
-
-    def add(self, owners, kinds, before, took, child):
-        """Takes columns of lines. Where an item begins, it is the item before itself."""
-        first = len(self.before)
-        nodes, leaves = places_of("node", took), places_of("leaf", took)
-        others = places_of("-", took)
-        demand(kinds.count("take") == len(nodes) + len(leaves) == len(took) - len(others))
-        for way in others:
-            demand(kinds[way] in ("begin", "pass"), before[way] == "-", child[way] == "-" or kinds[way] == "pass")
-            before[way] = child[way] if kinds[way] == "pass" else str(owners[way])
-            (self.passed if kinds[way] == "pass" else self.begun).append(first + way)
-        extend(self.before, before)
-        taken = array("q", repeat(NO_NODE, len(kinds)))
-        for way, node in zip(nodes, extend(array("q"), list(picked(child, nodes)))):
-            taken[way] = node
-        self.child += taken
-        extend_spans(self.leaf_begins, self.leaf_ends, list(picked(child, leaves)), self.places)
-        self.is_leaf += bytes(map("leaf".__eq__, took))
-        self.nodes.extend(map(first.__add__, nodes))
-        self.leaves.extend(map(first.__add__, leaves))
-
-    def joined(self, other):
-        """These lines, and then the others."""
-        first = len(self.before)
-        for name in ("before", "child", "leaf_begins", "leaf_ends", "is_leaf"):
-            setattr(self, name, getattr(self, name) + getattr(other, name))
-        for name in ("begun", "passed", "nodes", "leaves"):
-            getattr(self, name).extend(map(first.__add__, getattr(other, name)))
-        return self
+    def __init__(self):
+        super().__init__(count().__next__)
 
 
 def read_forest(data):
@@ -235,21 +201,14 @@ def read_forest(data):
     if not text.endswith("\n"):
         raise NotAForest("the last line has no end")
     try:
-        return read_parts(text)
+        first = FIRST.fullmatch(text, 0, text.find("\n"))
+        demand(first)
+        forest = Forest(text)
+        demand((forest.node_count, forest.item_count) == (int(first[1]), int(first[2])))
+        return forest
     except (Unread, OverflowError):
         find_fault(text[:-1].split("\n"))
         raise NotAForest("not as a forest is written") from None
-
-
-def read_parts(text):
-    """The forest of a text; `Unread` where there is none."""
-    head, _, nodes = text[:-1].partition("\nnode ")
-    nodes, _, items = nodes.partition("\nitem ")
-    first = FIRST.fullmatch(head)
-    demand(first and nodes and items and "\t" not in text)
-    forest = Forest(nodes, items)
-    demand((forest.node_count, forest.item_count) == (int(first[1]), int(first[2])))
-    return forest
 
 
 def demand(*facts):
@@ -258,68 +217,36 @@ def demand(*facts):
         raise Unread
 
 
-def pieces(text, word):
-    """Lists of blocks: a line that began with the word, and those below it."""
-    separator, at = f"\n{word} ", 0
-    while at <= len(text):
-        end = text.find(separator, at + PIECE)
-        end = len(text) if end < 0 else end
-        yield text[at:end].split(separator)
-        at = end + len(separator)
+def pieces(text, word, form, at, end):
+    """The lines below heads that begin with the word, piece by piece, as the form finds them. It skips none."""
+    while at < end:
+        stop = text.find(f"\n{word} ", at + PIECE, end)
+        stop = end if stop < 0 else stop
+        found = form.findall(text, at, stop)
+        demand(found, len(found) + sum(1 for one in found if one[0]) == text.count("\n", at, stop) + 1)
+        yield found
+        at = stop + 1
 
 
-def take_others(blocks, lines, first):
-    """Takes all lines but the first one below each head out of the blocks, and notes whose they are."""
-    others = []
-    for k, size in enumerate(map(str.count, blocks, repeat("\n"))):
-        if size != 1:
-            demand(size)
-            head, below, *rest = blocks[k].split("\n")
-            blocks[k] = f"{head} {below}"
-            lines.owners += [first + k] * len(rest)
-            others += rest
-    return others
+def numbers(columns):
+    """Empty columns of numbers."""
+    return [array("q") for _ in range(columns)]
 
 
-def number_others(lines, first):
-    """Notes the numbers of the other lines of each owner."""
-    for k, owner in enumerate(lines.owners, first):
-        lines.more.setdefault(owner, []).append(k)
-
-
-def columns(lines, width):
-    """The words of lines that have so many each, by columns."""
-    words = " ".join(lines).replace("\n", " ").split(" ") if lines else []
-    demand(len(words) == len(lines) * width)
-    return [words[k::width] for k in range(width)]
+def add_all(column, words, number=int):
+    """Adds the numbers of the words that aren't empty."""
+    column.extend(map(number, filter(None, words)))
 
 
 def check_ordinals(words, first):
-    """Whether they are the numbers from the first on."""
-    demand(words == list(map(str, range(first, first + len(words)))))
+    """The words that aren't empty are the numbers from the first on."""
+    demand(all(map(eq, map(int, filter(None, words)), count(first))))
 
 
-def extend(numbers, words):
-    """Adds the numbers of words to an array, which is returned."""
-    joined = f"  {'  '.join(words)}  "
-    digits = joined.replace(" ", "")
-    demand(not words or digits.isdigit() and digits.isascii() and "" not in words)
-    demand(joined.count(" 0") == joined.count(" 0 "))
-    numbers.extend(map(int, words))
-    return numbers
-
-
-def extend_spans(begins, ends, spans, places):
-    """Adds where spans begin and where they end to arrays."""
-    words = "..".join(spans).split("..") if spans else []
-    demand(len(words) == 2 * len(spans))
-    begins.extend(map(places.__getitem__, words[::2]))
-    ends.extend(map(places.__getitem__, words[1::2]))
-
-
-def places_of(word, words):
-    """Where the word stands."""
-    return list(compress(count(), map(word.__eq__, words)))
+def close(starts, end):
+    """Ends the starts of parts, of which the first one is 0, with the end of the last one."""
+    demand(starts[:1] == array("q", [0]))
+    starts.append(end)
 
 
 def picked(column, places):
@@ -327,14 +254,14 @@ def picked(column, places):
     return map(column.__getitem__, places)
 
 
-def alike(column, owners, others):
-    """Whether a column, and then what it has for the owners, is what the others are."""
-    return all(map(eq, chain(column, picked(column, owners)), others))
+def alike(some, others):
+    """Whether two things of one length have the same at each place."""
+    return all(map(eq, some, others))
 
 
 def is_ambiguous(forest):
     """Whether there is a choice anywhere."""
-    return bool(forest.alternative_lines.more or forest.way_lines.more)
+    return forest.has_choices
 
 
 def count_trees(forest):
@@ -372,17 +299,17 @@ class Below:
     def __init__(self, forest):
         self.forest, self.first_node = forest, forest.item_count
         self.pairs = [(before,) for before in forest.before]
-        for way in forest.taken.begun:
+        for way in forest.begun:
             self.pairs[way] = ()
-        for way in forest.taken.nodes:
-            self.pairs[way] = (forest.before[way], self.first_node + forest.child[way])
+        for way, node in zip(forest.nodes, forest.taken):
+            self.pairs[way] = (forest.before[way], self.first_node + node)
 
     def ways(self, part):
         """For each way of the part all that it has below it."""
         forest, k = self.forest, part - self.first_node
         if k < 0:
-            return [self.pairs[way] for way in forest.way_lines.lines(part)]
-        return [(forest.complete[line],) for line in forest.alternative_lines.lines(k)]
+            return [self.pairs[way] for way in forest.ways_of(part)]
+        return [(forest.complete[line],) for line in forest.lines(k)]
 
 
 def has_cycle(forest):
@@ -402,7 +329,7 @@ def has_cycle(forest):
         return found
 
     done, path = set(), set()
-    stack = [child[way] for way in forest.taken.nodes if ends[forest.before[way]] == begins[way]]
+    stack = [node for item, node in zip(forest.nodes, forest.taken) if ends[forest.before[item]] == begins[item]]
     while stack:
         node = stack[-1]
         if node in done:

@@ -20,6 +20,7 @@ HERE = os.path.dirname(os.path.dirname(os.path.abspath(__file__)))
 EXAMPLE = re.compile(r"\| `([^`]+)` \| `([^`]+)` \| (?:\d+|infinite) \| (?:yes|no) \|")
 PLACE = re.compile(r"(grammar|input):(\d+):(\d+): ")
 NO_PARSE_AT = re.compile(r"no parse at line (\d+), column (\d+)")
+CARETS = re.compile(r"^ +\| *(\^+)$", re.MULTILINE)
 BYTE = re.compile(r"grammar: (?:syntax|not UTF-8) at byte (\d+)")
 MOST_PARTS = 4000  # of a forest that the page draws
 MOST_COLOURS = 6000  # leaves that are coloured
@@ -197,7 +198,7 @@ def find_mark(said, grammar, text):
     if found := PLACE.match(said):
         source = grammar if found[1] == "grammar" else text
         begin = offset(source, int(found[2]), int(found[3]))
-        carets = re.search(r"\| *(\^+)", said)
+        carets = CARETS.search(said)
         return {"where": found[1], "begin": begin, "end": min(len(source), begin + (len(carets[1]) if carets else 1))}
     if found := NO_PARSE_AT.match(said):
         begin = offset(text, int(found[1]), int(found[2]))
