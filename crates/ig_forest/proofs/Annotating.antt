@@ -11,7 +11,7 @@ use Rattle.ig_text.proofs.Trees.{Parted, parted}
 use Rattle.ig_text.proofs.Equal.{same_listed}
 use Rattle.ig_expr.specs.Evaluation.{value_of}
 use Rattle.ig_expr.specs.TreeOrder.{begin_of, tree_cmp, count_of}
-use Rattle.ig_expr.specs.ValuedTree.{Tree, Trees, Leaf, Node, none, more, one, join, bare_tree, bare_trees}
+use Rattle.ig_expr.specs.ValuedTree.{Tree, Trees, Leaf, Node, none, one, join, bare_tree, bare_trees}
 use Rattle.ig_expr.specs.declared.value.Value.{Value}
 use Rattle.ig_expr.specs.JoinedTrees.{join-none}
 use Rattle.ig_item.specs.Annotated as annotated

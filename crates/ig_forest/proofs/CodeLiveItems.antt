@@ -23,7 +23,6 @@ use Rattle.ig_live.specs.Live.{IsLive}
 use Rattle.ig_forest_tables.specs.Orders.{choice_cmp, node_cmp}
 use Rattle.ig_forest.specs.Reduced.{IsEntry, IsItemNode, IsReduced}
 use Rattle.ig_live.specs.Live.{root_key}
-use Rattle.ig_forest_tables.specs.Unfold.{IsTrim}
 use Rattle.ig_forest_tables.specs.Tables.{FitsTables, forest_by, item_node_by}
 use Rattle.ig_forest.specs.CodeItemNodes.{AreSources, AreNumbers, IsStoredItem, entry_by}
 use Rattle.ig_forest.specs.CodeLiveItems.{AreFound, AreLiveItems, items_in, lists_in}
