@@ -4,7 +4,7 @@ use Rattle.std.specs.Prelude.{IfOk}
 use Rattle.std.specs.declared.alloc.AllocError.{AllocError}
 use Rattle.ig_text.specs.declared.text.Span.{Span}
 use Rattle.ig_grammar.specs.Checked.{CheckedGrammar}
-use Rattle.ig_forest.specs.Forest.{Forest}
+use Rattle.ig_forest_tables.specs.Forest.{Forest}
 use Rattle.ig_heights.specs.Heights.{Heights, AreHeights, IsCyclic}
 use Rattle.ig_query.specs.Spans.{AreSpansOf}
 use Rattle.ig_print.specs.QueryText.{cyclic_text, spans_text}

@@ -15,7 +15,8 @@ use Rattle.ig_item.specs.Laws.{StandsBeforeOne}
 use Rattle.ig_item.specs.Gives as rules
 use Rattle.ig_item.specs.Gives.{NodeKey, Taken, Completes, nothing, leaf, tree}
 use Rattle.ig_live.specs.Live.{Gives}
-use Rattle.ig_forest.specs.CodeTables.{item_by, list_at}
+use Rattle.ig_forest.specs.CodeTables.{item_by}
+use Rattle.ig_forest_tables.specs.Tables.{list_at}
 use Rattle.ig_expr.specs.ValueOrder.{values_cmp}
 use Rattle.ig_forest.specs.CodeDone.{StandsLast}
 use Rattle.ig_live.specs.declared.rows.ItemRow.{ItemRow}

@@ -20,19 +20,19 @@ use Rattle.ig_item.specs.declared.core_grammar.Nonterminal.{Nonterminal}
 use Rattle.ig_item.specs.declared.items.Item as stored
 use Rattle.ig_live.specs.Live as live
 use Rattle.ig_live.specs.Live.{IsLive}
-use Rattle.ig_forest.specs.Orders.{choice_cmp, node_cmp}
+use Rattle.ig_forest_tables.specs.Orders.{choice_cmp, node_cmp}
 use Rattle.ig_forest.specs.Reduced.{IsEntry, IsItemNode, IsReduced}
 use Rattle.ig_live.specs.Live.{root_key}
-use Rattle.ig_forest.specs.Unfold.{IsTrim}
-use Rattle.ig_forest.specs.CodeForest.{FitsForest, forest_by, item_node_by}
+use Rattle.ig_forest_tables.specs.Unfold.{IsTrim}
+use Rattle.ig_forest_tables.specs.Tables.{FitsTables, forest_by, item_node_by}
 use Rattle.ig_forest.specs.CodeItemNodes.{AreSources, AreNumbers, IsStoredItem, entry_by}
 use Rattle.ig_forest.specs.CodeLiveItems.{AreFound, AreLiveItems, items_in, lists_in}
 use Rattle.ig_live.specs.Rows.{AreApart, IsThere, item_at, number_cmp, row_of}
 use Rattle.ig_live.specs.LiveOrder.{AreLiveInOrder}
 use Rattle.ig_live.specs.Marks.{is_live}
-use Rattle.ig_forest.specs.CodeNodeRows.{rows_in, StoredNode}
+use Rattle.ig_forest_tables.specs.StoredNodes.{rows_in, StoredNode}
 use Rattle.ig_forest.specs.CodeNodes.{AreNodesWith, MarkComplete, rows_of}
-use Rattle.ig_forest.specs.CodeParts.{StoredItem}
+use Rattle.ig_forest_tables.specs.StoredItems.{StoredItem}
 use Rattle.ig_live.specs.Lists.{AreLists, ArePlaces}
 use Rattle.ig_forest.specs.CodeTables.{AreRows, RowFits, item_by, key_by}
 use Rattle.ig_live.specs.Marks.{AreMarks}
@@ -40,7 +40,7 @@ use Rattle.ig_live.specs.Links.{IsSameRun}
 use Rattle.ig_forest.specs.declared.builder.LiveItems.{LiveItems}
 use Rattle.ig_live.specs.declared.found.Found.{Found}
 use Rattle.ig_live.specs.declared.mark.Mark.{Mark}
-use Rattle.ig_forest.specs.declared.entry.Entry.{Entry}
+use Rattle.ig_forest_tables.specs.declared.entry.Entry.{Entry}
 use Rattle.ig_forest.specs.declared.item_nodes.Sources.{Sources}
 use Rattle.ig_live.specs.declared.rows.ItemRow.{ItemRow}
 use Rattle.ig_forest.proofs.Liveness.{live_is_reachable}
@@ -341,11 +341,10 @@ module _ (l : LiveItems) (are : AreLiveItems l) where
           let (k, among, is) = item_row it c in
           subst (RowFits L) (sym is) (are_live_rows.fit (row k) (mapped_in row l.order.now k among))
 
-      pub fits_forest : IsTrim (forest_by root names lists table stored) → FitsForest root names lists table stored
-      fits_forest trim =
-          subst (λ (z : List (List Value)). FitsForest root names z table stored) (sym lists_are)
+      pub fits_tables : FitsTables names lists table stored
+      fits_tables =
+          subst (λ (z : List (List Value)). FitsTables names z table stored) (sym lists_are)
           (record {
-            trim = subst (λ (z : List (List Value)). IsTrim (forest_by root names z table stored)) lists_are trim;
             nodes_named = nodes_named core L are.found.are_lists.order live_rows are_live_rows.fit table nodes.now with_nodes names names_are;
             nodes_listed = nodes_listed core L are.found.are_lists.order live_rows are_live_rows.fit table nodes.now with_nodes;
             items_named = λ it c.

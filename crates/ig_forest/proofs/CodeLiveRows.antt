@@ -13,7 +13,8 @@ use Rattle.ig_item.specs.declared.core_grammar.Nonterminal.{Nonterminal}
 use Rattle.ig_item.specs.declared.items.InstanceKey.{InstanceKey}
 use Rattle.ig_live.specs.Live.{IsLive}
 use Rattle.ig_live.specs.Lists.{ArePlaces}
-use Rattle.ig_forest.specs.CodeTables.{AreRows, RowFits, item_by, list_at}
+use Rattle.ig_forest.specs.CodeTables.{AreRows, RowFits, item_by}
+use Rattle.ig_forest_tables.specs.Tables.{list_at}
 use Rattle.ig_live.specs.Rows.{row_cmp}
 use Rattle.ig_live.specs.Rows.{AreApart, IsThere, item_at, key_at, no_item, no_key, number_cmp, row_of}
 use Rattle.ig_live.specs.LiveOrder.{AreLiveInOrder}

@@ -27,14 +27,14 @@ use Rattle.ig_forest.specs.CodeDone.{AreNodesOf, IsDoneRow, StandsLast, HasChoic
 use Rattle.ig_live.specs.LiveOrder.{AreLiveInOrder}
 use Rattle.ig_live.specs.Marks.{is_live}
 use Rattle.ig_live.specs.Rows.{number_cmp, row_of}
-use Rattle.ig_forest.specs.CodeNodeRows.{rows_in, with_choice, StoredNode}
+use Rattle.ig_forest_tables.specs.StoredNodes.{rows_in, with_choice, StoredNode}
 use Rattle.ig_forest.specs.CodeNodes as opens
 use Rattle.ig_forest.specs.CodeNodes.{AreNodesWith, EndsWith, IsNumbered, MarkComplete, NodesUpTo, Opens, rows_of}
-use Rattle.ig_forest.specs.declared.entry.Choice.{Choice}
+use Rattle.ig_forest_tables.specs.declared.entry.Choice.{Choice}
 use Rattle.ig_live.specs.declared.mark.Mark.{Mark}
 use Rattle.ig_live.specs.declared.mark.Mark.TheVariants.{Complete}
 use Rattle.ig_live.specs.declared.rows.ItemRow.{ItemRow}
-use Rattle.ig_forest.specs.declared.node_rows.NodeRow.{NodeRow}
+use Rattle.ig_forest_tables.specs.declared.node_rows.NodeRow.{NodeRow}
 use Rattle.ig_text.proofs.Sorted.{less_number, strict_none, strict_push}
 use Rattle.ig_forest.proofs.CodeLiveNumbers.{marked_within, number_total}
 use Rattle.ig_forest.proofs.CodeOrders.{node_row_exact, node_row_total}

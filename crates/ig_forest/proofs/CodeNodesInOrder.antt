@@ -11,14 +11,14 @@ use Rattle.ig_text.proofs.Options.{equal_parts}
 use Rattle.ig_text.proofs.Pairwise.{same_length, each_right}
 use Rattle.ig_text.specs.Pairwise.{Each}
 use Rattle.ig_item.specs.declared.core_grammar.Nonterminal.{Nonterminal}
-use Rattle.ig_forest.specs.Orders.{choice_cmp}
+use Rattle.ig_forest_tables.specs.Orders.{choice_cmp}
 use Rattle.ig_text.specs.Pairwise as pairwise
 use Rattle.ig_forest.specs.CodeDone.{AreNodesOf, HasChoices, choice_item_cmp}
-use Rattle.ig_forest.specs.CodeNodeRows.{IsPutInOrder, rows_in, StoredNode}
+use Rattle.ig_forest_tables.specs.StoredNodes.{IsPutInOrder, rows_in, StoredNode}
 use Rattle.ig_forest.specs.CodeNodes.{AreNodesWith}
-use Rattle.ig_forest.specs.declared.entry.Choice.{Choice}
+use Rattle.ig_forest_tables.specs.declared.entry.Choice.{Choice}
 use Rattle.ig_live.specs.declared.rows.ItemRow.{ItemRow}
-use Rattle.ig_forest.specs.declared.node_rows.NodeRow.{NodeRow}
+use Rattle.ig_forest_tables.specs.declared.node_rows.NodeRow.{NodeRow}
 use Rattle.ig_forest.proofs.TotalOrders.{choice_total}
 use Rattle.ig_text.proofs.Sorted.{strict_none}
 

@@ -10,17 +10,17 @@ use Rattle.ig_expr.specs.declared.value.Value.{Value}
 use Rattle.ig_item.specs.Items.{Item}
 use Rattle.ig_item.specs.Gives.{NodeKey, Completes}
 use Rattle.ig_item.specs.declared.core_grammar.Nonterminal.{Nonterminal}
-use Rattle.ig_forest.specs.Orders.{choice_cmp}
+use Rattle.ig_forest_tables.specs.Orders.{choice_cmp}
 use Rattle.ig_forest.specs.Reduced.{AreNodes, IsChoice, IsNamed, IsNode}
 use Rattle.ig_forest.specs.CodeTables.{RowFits, item_by, key_by, node_of}
 use Rattle.ig_expr.specs.ValueOrder.{values_cmp}
-use Rattle.ig_forest.specs.CodeForest.{name_at, node_by}
+use Rattle.ig_forest_tables.specs.Tables.{name_at, node_by}
 use Rattle.ig_forest.specs.CodeDone.{IsChoiceRow, IsTagged}
-use Rattle.ig_forest.specs.CodeNodeRows.{rows_in, StoredNode}
+use Rattle.ig_forest_tables.specs.StoredNodes.{rows_in, StoredNode}
 use Rattle.ig_forest.specs.CodeNodes.{AreNodesWith}
-use Rattle.ig_forest.specs.declared.entry.Choice.{Choice}
+use Rattle.ig_forest_tables.specs.declared.entry.Choice.{Choice}
 use Rattle.ig_live.specs.declared.rows.ItemRow.{ItemRow}
-use Rattle.ig_forest.specs.declared.node_rows.NodeRow.{NodeRow}
+use Rattle.ig_forest_tables.specs.declared.node_rows.NodeRow.{NodeRow}
 use Rattle.ig_forest.proofs.CodeGives.{complete_from_last, last_from_complete, same_list_place}
 use Rattle.ig_forest.proofs.CodeMembers.{are_nodes, nodes_fit}
 

@@ -15,14 +15,14 @@ use Rattle.ig_item.specs.declared.ways.Way.{Way}
 use Rattle.ig_item.specs.declared.ways.Way.TheVariants as way
 use Rattle.ig_live.specs.Live as live
 use Rattle.ig_live.specs.Live.{Gives, IsLive}
-use Rattle.ig_forest.specs.Orders.{previous}
+use Rattle.ig_forest_tables.specs.Orders.{previous}
 use Rattle.ig_forest.specs.Reduced as reduced
 use Rattle.ig_forest.specs.Reduced.{IsEntry}
 use Rattle.ig_forest.specs.CodeItemNodes.{AreNumbers, AreSources, WayFits, entry_by, number_by}
 use Rattle.ig_live.specs.Rows.{IsThere, item_at}
-use Rattle.ig_forest.specs.declared.entry.Entry.{Entry}
-use Rattle.ig_forest.specs.declared.entry.Entry.TheVariants.{Begin, Pass, Take}
-use Rattle.ig_forest.specs.declared.entry.Child.TheVariants as child
+use Rattle.ig_forest_tables.specs.declared.entry.Entry.{Entry}
+use Rattle.ig_forest_tables.specs.declared.entry.Entry.TheVariants.{Begin, Pass, Take}
+use Rattle.ig_forest_tables.specs.declared.entry.Child.TheVariants as child
 use Rattle.ig_forest.specs.declared.item_nodes.Sources.{Sources}
 use Rattle.ig_forest.proofs.Steps.{given_dot}
 use Rattle.ig_forest.proofs.CodeGives.{gives_one}

@@ -17,8 +17,8 @@ use Rattle.ig_expr.specs.declared.value.Value.{Value}
 use Rattle.ig_item.specs.Items.{Item}
 use Rattle.ig_forest.specs.Cursors.{Less}
 use Rattle.ig_forest.specs.Cursors as order
-use Rattle.ig_forest.specs.Orders.{item_cmp}
-use Rattle.ig_forest.specs.Unfold.{noted}
+use Rattle.ig_forest_tables.specs.Orders.{item_cmp}
+use Rattle.ig_forest_tables.specs.Unfold.{noted}
 use Rattle.ig_forest.proofs.Targets.{Alike}
 use Rattle.ig_expr.specs.Ordered.{value_total, list_total}
 

@@ -14,20 +14,20 @@ use Rattle.ig_item.specs.WellKinded.{IsWellKinded}
 use Rattle.ig_item.specs.declared.core_grammar.Nonterminal.{Nonterminal}
 use Rattle.ig_item.specs.declared.core_grammar.CoreAlt.{CoreAlt}
 use Rattle.ig_item.specs.declared.items.Instance.{Instance}
-use Rattle.ig_forest.specs.Forest as forest
-use Rattle.ig_forest.specs.Forest.{Forest, ItemNode}
-use Rattle.ig_forest.specs.Unfold as ways
-use Rattle.ig_forest.specs.Unfold.{OfNode, OfItem, noted}
+use Rattle.ig_forest_tables.specs.Forest as forest
+use Rattle.ig_forest_tables.specs.Forest.{Forest, ItemNode}
+use Rattle.ig_forest_tables.specs.Unfold as ways
+use Rattle.ig_forest_tables.specs.Unfold.{OfNode, OfItem, noted}
 use Rattle.ig_item.specs.Gives as rules
 use Rattle.ig_item.specs.Gives.{NodeKey}
 use Rattle.ig_live.specs.Live.{Gives}
-use Rattle.ig_forest.specs.Orders.{item_cmp, node_cmp, choice_cmp, entry_cmp}
+use Rattle.ig_forest_tables.specs.Orders.{item_cmp, node_cmp, choice_cmp, entry_cmp}
 use Rattle.ig_forest.specs.Reduced.{IsReduced, IsChoice}
 use Rattle.ig_forest.specs.Laws.{HasOneCursor}
-use Rattle.ig_forest.specs.declared.entry.Choice.{Choice}
-use Rattle.ig_forest.specs.declared.entry.Entry.{Entry}
-use Rattle.ig_forest.specs.declared.entry.Entry.TheVariants.{Begin, Pass, Take}
-use Rattle.ig_forest.specs.declared.entry.Child.TheVariants as child
+use Rattle.ig_forest_tables.specs.declared.entry.Choice.{Choice}
+use Rattle.ig_forest_tables.specs.declared.entry.Entry.{Entry}
+use Rattle.ig_forest_tables.specs.declared.entry.Entry.TheVariants.{Begin, Pass, Take}
+use Rattle.ig_forest_tables.specs.declared.entry.Child.TheVariants as child
 use Rattle.ig_forest.proofs.Given.{Given}
 use Rattle.ig_item.specs.ItemTrees as reached
 use Rattle.ig_item.specs.ItemTrees.{Comes}

@@ -14,13 +14,10 @@ pub mod Uniqueness
 pub mod CodeSorted
 pub mod CodeOrders
 pub mod CodeLiveNumbers
-pub mod CodeParts
 pub mod CodeGives
 pub mod CodeMembers
-pub mod CodeReading
 pub mod TreeTags
 pub mod ShortCursors
-pub mod CodeNodeRows
 pub mod CodeItemNodes
 pub mod CodeWayEntries
 pub mod CodeNodePass
@@ -28,5 +25,4 @@ pub mod CodeNodesReduced
 pub mod CodeLiveRows
 pub mod CodeLiveItems
 pub mod CodeCopies
-pub mod CodeNodeParts
 pub mod CodeNodesInOrder

@@ -30,21 +30,21 @@ use Rattle.ig_item.specs.WellKinded.{IsWellKinded}
 use Rattle.ig_item.specs.declared.core_grammar.Nonterminal.{Nonterminal}
 use Rattle.ig_item.specs.declared.core_grammar.CoreAlt.{CoreAlt}
 use Rattle.ig_item.specs.declared.items.Instance.{Instance}
-use Rattle.ig_forest.specs.Forest as forest
-use Rattle.ig_forest.specs.Forest.{Forest, ItemNode}
-use Rattle.ig_forest.specs.Unfold as ways
-use Rattle.ig_forest.specs.Unfold.{OfNode, OfItem, noted}
+use Rattle.ig_forest_tables.specs.Forest as forest
+use Rattle.ig_forest_tables.specs.Forest.{Forest, ItemNode}
+use Rattle.ig_forest_tables.specs.Unfold as ways
+use Rattle.ig_forest_tables.specs.Unfold.{OfNode, OfItem, noted}
 use Rattle.ig_item.specs.Gives as rules
 use Rattle.ig_item.specs.Gives.{NodeKey, Taken}
 use Rattle.ig_live.specs.Live.{Gives}
-use Rattle.ig_forest.specs.Orders.{item_cmp, node_cmp, choice_cmp, entry_cmp, previous}
+use Rattle.ig_forest_tables.specs.Orders.{item_cmp, node_cmp, choice_cmp, entry_cmp, previous}
 use Rattle.ig_forest.specs.Reduced.{IsReduced, IsChoice}
 use Rattle.ig_live.specs.Live.{root_key}
 use Rattle.ig_forest.specs.Laws.{CursorsAreOrderedAsTrees}
-use Rattle.ig_forest.specs.declared.entry.Choice.{Choice}
-use Rattle.ig_forest.specs.declared.entry.Entry.{Entry}
-use Rattle.ig_forest.specs.declared.entry.Entry.TheVariants.{Pass, Take}
-use Rattle.ig_forest.specs.declared.entry.Child.TheVariants as child
+use Rattle.ig_forest_tables.specs.declared.entry.Choice.{Choice}
+use Rattle.ig_forest_tables.specs.declared.entry.Entry.{Entry}
+use Rattle.ig_forest_tables.specs.declared.entry.Entry.TheVariants.{Pass, Take}
+use Rattle.ig_forest_tables.specs.declared.entry.Child.TheVariants as child
 use Rattle.ig_forest.proofs.Annotating.{Valued, Last, OfComplete, leaf_tied, equally_many, by_nothing, by_leaf, by_tree, of_complete}
 use Rattle.ig_forest.proofs.Cursors.{Entered, same_item, pass_entry, leaf_entry, node_entry, as_begin, as_pass, as_leaf, as_node}
 use Rattle.ig_forest.proofs.Given.{GivenValues}

@@ -21,16 +21,16 @@ use Rattle.ig_item.specs.Items.{Item}
 use Rattle.ig_item.specs.Laws.{AlternativesAreOne}
 use Rattle.ig_item.specs.declared.core_grammar.CoreAlt.{CoreAlt}
 use Rattle.ig_item.specs.declared.core_grammar.Nonterminal.{Nonterminal}
-use Rattle.ig_forest.specs.Forest as forest
-use Rattle.ig_forest.specs.Forest.{Forest, ItemNode}
-use Rattle.ig_forest.specs.Orders.{choice_cmp, previous}
+use Rattle.ig_forest_tables.specs.Forest as forest
+use Rattle.ig_forest_tables.specs.Forest.{Forest, ItemNode}
+use Rattle.ig_forest_tables.specs.Orders.{choice_cmp, previous}
 use Rattle.ig_forest.specs.Reduced as reduced
 use Rattle.ig_forest.specs.Reduced.{IsReduced, IsChoice, IsEntry}
 use Rattle.ig_forest.specs.TreeLaws.{CursorsAreShort}
-use Rattle.ig_forest.specs.Unfold as ways
-use Rattle.ig_forest.specs.Unfold.{OfNode, OfItem, noted}
-use Rattle.ig_forest.specs.declared.entry.Choice.{Choice}
-use Rattle.ig_forest.specs.declared.entry.Entry.{Entry}
+use Rattle.ig_forest_tables.specs.Unfold as ways
+use Rattle.ig_forest_tables.specs.Unfold.{OfNode, OfItem, noted}
+use Rattle.ig_forest_tables.specs.declared.entry.Choice.{Choice}
+use Rattle.ig_forest_tables.specs.declared.entry.Entry.{Entry}
 use Rattle.ig_forest.proofs.TotalOrders.{choice_total, entry_total}
 
 -- a sorted list whose members have different numbers has no more members than there are numbers

@@ -11,9 +11,9 @@ use Rattle.ig_item.specs.Gives.{NodeKey, Taken, nothing, leaf, tree}
 use Rattle.ig_live.specs.Live.{Gives}
 use Rattle.ig_forest.specs.Reduced as reduced
 use Rattle.ig_forest.specs.Reduced.{IsEntry}
-use Rattle.ig_forest.specs.declared.entry.Entry.{Entry}
-use Rattle.ig_forest.specs.declared.entry.Entry.TheVariants.{Begin, Pass, Take}
-use Rattle.ig_forest.specs.declared.entry.Child.TheVariants as child
+use Rattle.ig_forest_tables.specs.declared.entry.Entry.{Entry}
+use Rattle.ig_forest_tables.specs.declared.entry.Entry.TheVariants.{Begin, Pass, Take}
+use Rattle.ig_forest_tables.specs.declared.entry.Child.TheVariants as child
 use Rattle.ig_item.specs.ItemTrees as reached
 use Rattle.ig_item.specs.ItemTrees.{Comes}
 

@@ -5,8 +5,8 @@ use Rattle.ig_text.specs.TagNumber.{number_of}
 use Rattle.ig_expr.specs.Ordered.{list_total}
 use Rattle.ig_item.specs.Items.{Item}
 use Rattle.ig_item.specs.Gives.{NodeKey}
-use Rattle.ig_forest.specs.Orders.{item_cmp, node_cmp, choice_cmp, entry_cmp, previous}
-use Rattle.ig_forest.specs.declared.entry.Choice.{Choice}
+use Rattle.ig_forest_tables.specs.Orders.{item_cmp, node_cmp, choice_cmp, entry_cmp, previous}
+use Rattle.ig_forest_tables.specs.declared.entry.Choice.{Choice}
 
 pub item_total : IsTotalOrder item_cmp
 item_total =

@@ -14,17 +14,17 @@ use Rattle.ig_expr.specs.declared.value.Value.{Value}
 use Rattle.ig_item.specs.Items.{Item, past}
 use Rattle.ig_item.specs.declared.core_grammar.Nonterminal.{Nonterminal}
 use Rattle.ig_item.specs.Laws.{ItemsAreInText}
-use Rattle.ig_forest.specs.Forest.{Forest, ItemNode, IsForest, IsPrevious, EntryFits, PreviousIsBefore, PreviousAreBefore, item_of}
+use Rattle.ig_forest_tables.specs.Forest.{Forest, ItemNode, IsForest, IsPrevious, EntryFits, PreviousIsBefore, PreviousAreBefore, item_of}
 use Rattle.ig_item.specs.Gives as rules
 use Rattle.ig_item.specs.Gives.{Taken}
 use Rattle.ig_live.specs.Live.{Gives, root_key}
 use Rattle.ig_expr.specs.ValueOrder.{values_cmp}
 use Rattle.ig_expr.specs.Ordered.{list_total}
-use Rattle.ig_forest.specs.Orders.{item_cmp, entry_cmp}
+use Rattle.ig_forest_tables.specs.Orders.{item_cmp, entry_cmp}
 use Rattle.ig_forest.specs.Reduced as reduced
 use Rattle.ig_forest.specs.Reduced.{IsReduced, IsEntry, IsItemNode}
-use Rattle.ig_forest.specs.declared.entry.Entry.{Entry}
-use Rattle.ig_forest.specs.declared.entry.Entry.TheVariants.{Begin}
+use Rattle.ig_forest_tables.specs.declared.entry.Entry.{Entry}
+use Rattle.ig_forest_tables.specs.declared.entry.Entry.TheVariants.{Begin}
 use Rattle.ig_forest.proofs.TotalOrders.{item_total, entry_total}
 use Rattle.ig_forest.proofs.Steps.{given_dot}
 

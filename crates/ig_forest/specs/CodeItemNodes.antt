@@ -6,13 +6,13 @@ use Rattle.ig_item.specs.Ways.{WayTo}
 use Rattle.ig_item.specs.declared.ways.Way.{Way}
 use Rattle.ig_item.specs.declared.ways.Way.TheVariants as way
 use Rattle.ig_item.specs.declared.ways.FurtherWay.{FurtherWay}
-use Rattle.ig_forest.specs.Orders.{entry_cmp, previous}
+use Rattle.ig_forest_tables.specs.Orders.{entry_cmp, previous}
 use Rattle.ig_live.specs.Founds.{IsThereIn, row_in}
 use Rattle.ig_live.specs.Rows.{item_at}
-use Rattle.ig_forest.specs.CodeParts.{StoredItem}
-use Rattle.ig_forest.specs.declared.entry.Entry.{Entry}
-use Rattle.ig_forest.specs.declared.entry.Entry.TheVariants.{Begin, Pass, Take}
-use Rattle.ig_forest.specs.declared.entry.Child.TheVariants as child
+use Rattle.ig_forest_tables.specs.StoredItems.{StoredItem}
+use Rattle.ig_forest_tables.specs.declared.entry.Entry.{Entry}
+use Rattle.ig_forest_tables.specs.declared.entry.Entry.TheVariants.{Begin, Pass, Take}
+use Rattle.ig_forest_tables.specs.declared.entry.Child.TheVariants as child
 use Rattle.ig_forest.specs.declared.item_nodes.Sources.{Sources}
 
 -- the number that stands at a place has that place as its own number

@@ -9,10 +9,8 @@ use Rattle.ig_item.specs.Items.{Item}
 use Rattle.ig_item.specs.Gives.{NodeKey}
 use Rattle.ig_live.specs.Rows.{row_cmp}
 use Rattle.ig_live.specs.declared.rows.ItemRow.{ItemRow}
-use Rattle.ig_forest.specs.declared.node_rows.NodeRow.{NodeRow}
-
-abbrev pub list_at : List (List Value) → ℕ → List Value
-list_at lists n = slice_index_or lists n []
+use Rattle.ig_forest_tables.specs.Tables.{list_at}
+use Rattle.ig_forest_tables.specs.declared.node_rows.NodeRow.{NodeRow}
 
 -- the item of a row
 abbrev pub item_by : List (List Value) → ItemRow → Item

@@ -10,8 +10,8 @@ use Rattle.ig_item.specs.Items.{Item, IsCompleteRoot, Reachable, RootIsComplete}
 use Rattle.ig_item.specs.TagOrder.{TagsRise}
 use Rattle.ig_item.specs.WellKinded.{IsWellKinded}
 use Rattle.ig_item.specs.declared.core_grammar.Nonterminal.{Nonterminal}
-use Rattle.ig_forest.specs.Forest.{Forest, Node, ItemNode, item_of}
-use Rattle.ig_forest.specs.Unfold.{Unfold, Unfolds, HasNoDeadPart, HasTrees, IsTrim}
+use Rattle.ig_forest_tables.specs.Forest.{Forest, Node, ItemNode, item_of}
+use Rattle.ig_forest_tables.specs.Unfold.{Unfold, Unfolds, HasNoDeadPart, HasTrees, IsTrim}
 use Rattle.ig_item.specs.Gives.{NodeKey, Taken, tree, Completes}
 use Rattle.ig_live.specs.Live.{Gives, IsLive}
 use Rattle.ig_forest.specs.Reduced.{IsReduced}

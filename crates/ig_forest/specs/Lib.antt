@@ -1,6 +1,3 @@
-pub mod Forest
-pub mod Unfold
-pub mod Orders
 pub mod Reduced
 pub mod Laws
 pub mod Flat
@@ -9,10 +6,6 @@ pub mod Cursors
 pub mod TreeLaws
 pub mod CodeTables
 pub mod CodeDone
-pub mod CodeForest
-pub mod CodeViews
-pub mod CodeParts
-pub mod CodeNodeRows
 pub mod CodeNodes
 pub mod CodeItemNodes
 pub mod CodeLiveItems

@@ -9,6 +9,7 @@ use crate::item_nodes::{Sources, numbers_of};
 use crate::laws::reduced_forest_is_trim;
 use crate::nodes::{Nodes, nodes_of};
 use ig_expr::Value;
+use ig_forest_tables::ForestTables;
 use ig_item::{Core, EnvironmentTable, Recorded, environments_fit, stands_before_one};
 use ig_live::{Found, Links, Mark, lists_of, marks_of, order_of, places_of};
 use ig_text::{Copied, Text, Word, Words};
@@ -108,13 +109,8 @@ impl<'a, 'v> LiveItems<'a, 'v> {
         let root = sources.node(root);
         let names = copied_names(alloc, self.core, nonterminals)?;
         let lists = copied_lists(alloc, self.lists)?;
-        Ok(Forest {
-            root,
-            names,
-            lists,
-            nodes: table,
-            items,
-        })
+        let tables = ForestTables::of(root, names, lists, table, items);
+        Ok(Forest::of(tables))
     }
 }
 

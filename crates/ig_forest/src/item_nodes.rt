@@ -5,7 +5,7 @@ ghost use Rattle.std.specs.List.{AllAdjacentBelow};
 ghost use Rattle.std.specs.declared.cmp.Ordering.TheVariants.{Less};
 ghost use Rattle.ig_item.specs.WellKinded.{NoneTwice};
 ghost use Rattle.ig_item.specs.declared.ways.Way.TheVariants as way;
-ghost use Rattle.ig_forest.specs.Orders.{entry_cmp, previous};
+ghost use Rattle.ig_forest_tables.specs.Orders.{entry_cmp, previous};
 ghost use Rattle.ig_text.specs.Pairwise.{Each};
 ghost use Rattle.ig_text.specs.Limits.{numbers_end};
 ghost use Rattle.ig_forest.specs.CodeItemNodes.{AddsItem, AreSources, AreFromOne, AreNumbers};
@@ -13,8 +13,7 @@ ghost use Rattle.ig_forest.specs.CodeItemNodes.{IsStoredItem, WayFits, entry_by,
 ghost use Rattle.ig_forest.specs.CodeItemNodes.{node_by, number_by};
 ghost use Rattle.ig_live.specs.Once.{IsOnce};
 
-use crate::entry::{Child, Entry};
-use crate::item_table::ItemTable;
+use ig_forest_tables::{Child, Entry, ItemTable};
 use ig_item::{FurtherWay, Way};
 use ig_live::{Found, Links};
 use ig_text::Span;

@@ -1,10 +1,8 @@
 //! The reduced forest of a core grammar and a text: all trees of the text, shared, and no more.
 //!
-//! A forest has nodes with alternatives and item nodes with entries, both numbered from 0.
-//! `specs/Forest.antt` says what it is, and `specs/Unfold.antt` which trees it has to a depth, each
-//! with its cursor. `specs/Live.antt` of `ig_live` says which items some tree of the whole text
-//! uses, and `specs/Reduced.antt` which forest is the reduced one: it has the live items and no
-//! others, in the orders of `specs/Orders.antt`. The laws say that a core grammar and a text have
+//! `ig_forest_tables` says what a forest is, which trees it has, and keeps it. `specs/Live.antt` of
+//! `ig_live` says which items some tree of the whole text uses, and `specs/Reduced.antt` which
+//! forest is the reduced one: it has the live items and no others, in order. The laws say that a core grammar and a text have
 //! one such forest at most, that it unfolds to exactly their trees, each with one cursor, that
 //! cursors are in the order of the trees with their values where tags rise with the alternatives,
 //! and that no part of it is dead.
@@ -19,25 +17,19 @@
 #![tactic(auto)]
 
 mod builder;
-mod choice_order;
-mod entry;
 mod forest;
 mod item_nodes;
-mod item_table;
 mod laws;
-mod node_rows;
 mod nodes;
-mod stored;
 mod tree;
 mod tree_laws;
 
-pub use entry::{Child, Choice, Entry};
-pub use forest::{Forest, ItemNode, Node};
+pub use forest::Forest;
+pub use ig_forest_tables::{Child, Choice, Choices, Entries, Entry, ForestTables, ItemNode, Node};
 pub use laws::{
     cursors_are_ordered_as_trees, live_items_are_least, live_items_are_reachable,
     no_key_stands_twice, reduced_forest_has_root, reduced_forest_is_trim, reduced_forest_is_unique,
     reduced_forest_unfolds_to_core_trees, tree_has_one_cursor, trim_forest_has_trees,
 };
-pub use stored::{Choices, Entries};
 pub use tree::{Cursor, Part, Tree};
 pub use tree_laws::{cursors_are_short, tags_name_nonterminals};

@@ -8,10 +8,9 @@ ghost use Rattle.ig_live.specs.Founds.{AreThereIn, number_cmp_in};
 ghost use Rattle.ig_forest.specs.CodeNodes.{AreNodesWith, EndsWith, MarkCompleteIn, NodesUpToIn};
 ghost use Rattle.ig_forest.specs.CodeNodes.{Opens, rows_at};
 ghost use Rattle.ig_forest.specs.CodeTables.{node_of};
-ghost use Rattle.ig_forest.specs.Orders.{choice_cmp};
+ghost use Rattle.ig_forest_tables.specs.Orders.{choice_cmp};
 
-use crate::entry::Choice;
-use crate::node_rows::{NodeRow, NodeRows};
+use ig_forest_tables::{Choice, NodeRow, NodeRows};
 use ig_item::{Core, alternatives_are_one};
 use ig_live::{Found, ItemRow, Mark};
 use ig_text::Tag;

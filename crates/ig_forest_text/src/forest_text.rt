@@ -8,12 +8,12 @@ ghost use Rattle.std.specs.Fmt.{decimal};
 ghost use Rattle.ig_text.specs.Lines.{line_end};
 ghost use Rattle.ig_pieces.specs.Listed.{numbered_texts};
 ghost use Rattle.ig_pieces.specs.ValueText.{places_text, span_text, values_text};
-ghost use Rattle.ig_forest.specs.CodeViews.{node_view, item_node_view};
+ghost use Rattle.ig_forest_tables.specs.Views.{node_view, item_node_view};
 ghost use Rattle.ig_forest_text.specs.ForestText.{choice_text, entry_text};
 ghost use Rattle.ig_forest_text.specs.ForestText.{node_line, node_text, place_text, item_line};
 ghost use Rattle.ig_forest_text.specs.ForestText.{item_text, heading, forest_text};
 
-use ig_forest::{Child, Choice, Entry, Forest, ItemNode, Node};
+use ig_forest_tables::{Child, Choice, Entry, ForestTables, ItemNode, Node};
 use ig_pieces::{Piece, push_environment, push_name, push_values};
 use ig_text::{Span, Tag, Word};
 use std::alloc::{AllocError, Global};
@@ -189,8 +189,9 @@ fn push_node_line(out: &mut Vec<u8>, number: u32, node: &Node<'_>) -> Result<(),
     push_last_places(out, node.span.begin, node.span.end)
 }
 
-/// Adds the node of that number, with its alternatives.
-fn push_node(out: &mut Vec<u8>, number: u32, node: &Node<'_>) -> Result<(), AllocError>
+/// Adds the line of the node of that number, and a line for each of its alternatives. Refuses only
+/// for want of memory.
+pub fn push_node(out: &mut Vec<u8>, number: u32, node: &Node<'_>) -> Result<(), AllocError>
     ensures { OnOk result (out.new.items ≡ out.old.items ++
         node_text number (node_view node.now)) }
 {
@@ -267,8 +268,9 @@ fn push_item_line(out: &mut Vec<u8>, number: u32, item: &ItemNode<'_>) -> Result
     push_place(out, item)
 }
 
-/// Adds the item of that number, with its entries.
-fn push_item(out: &mut Vec<u8>, number: u32, item: &ItemNode<'_>) -> Result<(), AllocError>
+/// Adds the line of the item of that number, and a line for each of its entries. Refuses only for
+/// want of memory.
+pub fn push_item(out: &mut Vec<u8>, number: u32, item: &ItemNode<'_>) -> Result<(), AllocError>
     ensures { OnOk result (out.new.items ≡ out.old.items ++
         item_text number (item_node_view item.now)) }
 {
@@ -276,8 +278,8 @@ fn push_item(out: &mut Vec<u8>, number: u32, item: &ItemNode<'_>) -> Result<(), 
     push_entries(out, item.entries)
 }
 
-/// Adds the first line, with the numbers of nodes and items.
-fn push_heading(out: &mut Vec<u8>, forest: &Forest) -> Result<(), AllocError>
+/// Adds the first line, with the numbers of nodes and items. Refuses only for want of memory.
+pub fn push_heading(out: &mut Vec<u8>, forest: &ForestTables) -> Result<(), AllocError>
     ensures { OnOk result (out.new.items ≡ out.old.items ++ heading forest.now) }
 {
     let nodes = forest.nodes();
@@ -292,7 +294,7 @@ fn push_heading(out: &mut Vec<u8>, forest: &Forest) -> Result<(), AllocError>
 }
 
 /// Adds the nodes, which are numbered from 0.
-fn push_nodes(out: &mut Vec<u8>, forest: &Forest) -> Result<(), AllocError>
+fn push_nodes(out: &mut Vec<u8>, forest: &ForestTables) -> Result<(), AllocError>
     ensures { OnOk result (out.new.items ≡ out.old.items ++
         numbered_texts node_text 0 forest.now.nodes) }
 {
@@ -306,7 +308,7 @@ fn push_nodes(out: &mut Vec<u8>, forest: &Forest) -> Result<(), AllocError>
 }
 
 /// Adds the items, which are numbered from 0.
-fn push_items(out: &mut Vec<u8>, forest: &Forest) -> Result<(), AllocError>
+fn push_items(out: &mut Vec<u8>, forest: &ForestTables) -> Result<(), AllocError>
     ensures { OnOk result (out.new.items ≡ out.old.items ++
         numbered_texts item_text 0 forest.now.items) }
 {
@@ -321,7 +323,7 @@ fn push_items(out: &mut Vec<u8>, forest: &Forest) -> Result<(), AllocError>
 
 /// How many bytes mostly suffice for the text of a forest. Only time and memory rest on it: where
 /// they don't suffice, the output grows.
-fn room_for(forest: &Forest) -> usize {
+fn room_for(forest: &ForestTables) -> usize {
     let nodes = (forest.nodes() as usize).saturating_mul(BYTES_OF_NODE);
     let items = (forest.items() as usize).saturating_mul(BYTES_OF_ITEM);
     let entries = sampled_entries(forest).saturating_mul(BYTES_OF_ENTRY);
@@ -329,7 +331,7 @@ fn room_for(forest: &Forest) -> usize {
 }
 
 /// About how many entries the items of a forest have.
-fn sampled_entries(forest: &Forest) -> usize {
+fn sampled_entries(forest: &ForestTables) -> usize {
     let mut entries: usize = 0;
     for number in (0..forest.items()).step_by(ITEMS_OF_SAMPLE) {
         if let Some(item) = forest.item(number) {
@@ -353,7 +355,7 @@ fn output_of(alloc: Global, room: usize) -> Vec<u8>
 /// and for each of its alternatives, then a line for each item and for each of its entries. Nodes
 /// and items are numbered from 0, and a span is printed as the positions where it begins and ends,
 /// in characters from 0. Refuses only for want of memory.
-pub fn show_forest(alloc: Global, forest: &Forest) -> Result<Vec<u8>, AllocError>
+pub fn show_forest(alloc: Global, forest: &ForestTables) -> Result<Vec<u8>, AllocError>
     ensures { IfOk result (λ bytes. bytes.items ≡ forest_text forest.now) }
 {
     let mut out = output_of(alloc, room_for(forest));

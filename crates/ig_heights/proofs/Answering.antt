@@ -2,8 +2,8 @@
 use Rattle.std.proofs.Common.{◌≡◌, ◌↔◌, inl, inr, ℕ, ◌+◌, ◌<◌, ◌≤◌, List, [], ◌∷◌, ◌++◌, Bool, true, false, IsTrue, Some, length, slice_get, sym, ap, ◌∙◌, subst, arith}
 use Rattle.std.proofs.lemmas.Option.{slice_get_within}
 use Rattle.ig_text.proofs.Orders.{le_or_lt}
-use Rattle.ig_forest.specs.Forest.{Forest}
-use Rattle.ig_forest.specs.Unfold.{IsTrim, HasTrees}
+use Rattle.ig_forest_tables.specs.Forest.{Forest}
+use Rattle.ig_forest_tables.specs.Unfold.{IsTrim, HasTrees}
 use Rattle.ig_heights.specs.Heights.{IsLeastOfNode, IsLeastOfItem, AreHeights}
 use Rattle.ig_heights.specs.Rules.{height_at, AreLeast, IsPart}
 use Rattle.ig_heights.specs.Table.{IsLeastTable, IsWholeTable}

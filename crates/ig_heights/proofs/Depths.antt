@@ -2,9 +2,9 @@
 use Rattle.std.proofs.Common.{◌≡◌, ℕ, suc, pred, ◌≤◌, max, List, length, refl, ap, subst, arith, false, true}
 use Rattle.ig_text.specs.Tree.{Tree, Trees, Leaf, one, join, height, greatest_height}
 use Rattle.ig_text.proofs.Trees.{joined_height}
-use Rattle.ig_forest.specs.Forest.{Forest}
-use Rattle.ig_forest.specs.Unfold.{OfNode, OfItem}
-use Rattle.ig_forest.specs.Unfold as trees
+use Rattle.ig_forest_tables.specs.Forest.{Forest}
+use Rattle.ig_forest_tables.specs.Unfold.{OfNode, OfItem}
+use Rattle.ig_forest_tables.specs.Unfold as trees
 use Rattle.ig_heights.specs.Heights.{HasNoHigher}
 use Rattle.ig_heights.specs.Laws.{DepthsAreHeights, NoneAboveNodes, TreesAreNoHigherThanNodes}
 

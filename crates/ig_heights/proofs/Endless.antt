@@ -4,15 +4,15 @@ use Rattle.std.proofs.lemmas.Option.{same_Some, slice_get_within}
 use Rattle.ig_text.specs.Tree.{Tree, Trees, Leaf, Node, one, join, height, greatest_height}
 use Rattle.ig_text.proofs.Lists.{at_from_contains, contains_from_at, in_rest}
 use Rattle.ig_text.proofs.Orders.{le_or_lt}
-use Rattle.ig_forest.specs.Forest as forest
-use Rattle.ig_forest.specs.Forest.{Forest, ItemNode}
-use Rattle.ig_forest.specs.Unfold.{noted, OfNode, OfItem, IsTrim, HasTrees}
-use Rattle.ig_forest.specs.Unfold as trees
-use Rattle.ig_forest.specs.declared.entry.Choice.{Choice}
-use Rattle.ig_forest.specs.declared.entry.Entry.{Entry}
-use Rattle.ig_forest.specs.declared.entry.Entry.TheVariants.{Begin, Pass, Take}
-use Rattle.ig_forest.specs.declared.entry.Child.{Child}
-use Rattle.ig_forest.specs.declared.entry.Child.TheVariants as child
+use Rattle.ig_forest_tables.specs.Forest as forest
+use Rattle.ig_forest_tables.specs.Forest.{Forest, ItemNode}
+use Rattle.ig_forest_tables.specs.Unfold.{noted, OfNode, OfItem, IsTrim, HasTrees}
+use Rattle.ig_forest_tables.specs.Unfold as trees
+use Rattle.ig_forest_tables.specs.declared.entry.Choice.{Choice}
+use Rattle.ig_forest_tables.specs.declared.entry.Entry.{Entry}
+use Rattle.ig_forest_tables.specs.declared.entry.Entry.TheVariants.{Begin, Pass, Take}
+use Rattle.ig_forest_tables.specs.declared.entry.Child.{Child}
+use Rattle.ig_forest_tables.specs.declared.entry.Child.TheVariants as child
 use Rattle.ig_heights.specs.Heights.{HasHigher, IsCyclic, HasNoHigher}
 use Rattle.ig_heights.specs.Rules.{rise, height_at, need, AreLeast}
 use Rattle.ig_heights.specs.Table.{bottom_of, entry_rule, choice_rule, IsRuleOf, IsLeastTable, Chain, IsSource, NeedsAll, IsWholeTable}

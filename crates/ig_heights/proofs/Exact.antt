@@ -3,14 +3,14 @@ use Rattle.std.proofs.Common.{◌≡◌, inl, inr, ℕ, zero, suc, ◌+◌, ◌<
 use Rattle.std.proofs.lemmas.Option.{slice_get_within}
 use Rattle.ig_text.specs.Tree.{Tree, Trees, Leaf, Node, none, one, join, height, greatest_height}
 use Rattle.ig_text.proofs.Lists.{at_from_contains, contains_from_at}
-use Rattle.ig_forest.specs.Forest as forest
-use Rattle.ig_forest.specs.Forest.{Forest, ItemNode}
-use Rattle.ig_forest.specs.Unfold.{noted, OfNode, OfItem, IsTrim, HasTrees}
-use Rattle.ig_forest.specs.Unfold as trees
-use Rattle.ig_forest.specs.declared.entry.Choice.{Choice}
-use Rattle.ig_forest.specs.declared.entry.Entry.{Entry}
-use Rattle.ig_forest.specs.declared.entry.Entry.TheVariants.{Begin, Pass, Take}
-use Rattle.ig_forest.specs.declared.entry.Child.TheVariants as child
+use Rattle.ig_forest_tables.specs.Forest as forest
+use Rattle.ig_forest_tables.specs.Forest.{Forest, ItemNode}
+use Rattle.ig_forest_tables.specs.Unfold.{noted, OfNode, OfItem, IsTrim, HasTrees}
+use Rattle.ig_forest_tables.specs.Unfold as trees
+use Rattle.ig_forest_tables.specs.declared.entry.Choice.{Choice}
+use Rattle.ig_forest_tables.specs.declared.entry.Entry.{Entry}
+use Rattle.ig_forest_tables.specs.declared.entry.Entry.TheVariants.{Begin, Pass, Take}
+use Rattle.ig_forest_tables.specs.declared.entry.Child.TheVariants as child
 use Rattle.ig_heights.specs.Heights.{IsLeastOfNode, IsLeastOfItem}
 use Rattle.ig_heights.specs.Rules.{rise, height_at, need, AreLeast}
 use Rattle.ig_heights.specs.Table.{bottom_of, entry_rule, choice_rule, IsRuleOf, IsLeastTable}

@@ -5,11 +5,11 @@ use Rattle.std.proofs.lemmas.List.Elements.{Contains-append_left, Contains-push,
 use Rattle.std.proofs.lemmas.List.{take_all}
 use Rattle.ig_text.proofs.Lists.{get_within, none_in_nil}
 use Rattle.ig_text.proofs.Orders.{le_or_lt}
-use Rattle.ig_forest.specs.Forest.{Forest, ItemNode, IsForest, IsPrevious}
-use Rattle.ig_forest.specs.declared.entry.Choice.{Choice}
-use Rattle.ig_forest.specs.declared.entry.Entry.{Entry}
-use Rattle.ig_forest.specs.declared.entry.Entry.TheVariants.{Begin, Pass, Take}
-use Rattle.ig_forest.specs.declared.entry.Child.TheVariants as child
+use Rattle.ig_forest_tables.specs.Forest.{Forest, ItemNode, IsForest, IsPrevious}
+use Rattle.ig_forest_tables.specs.declared.entry.Choice.{Choice}
+use Rattle.ig_forest_tables.specs.declared.entry.Entry.{Entry}
+use Rattle.ig_forest_tables.specs.declared.entry.Entry.TheVariants.{Begin, Pass, Take}
+use Rattle.ig_forest_tables.specs.declared.entry.Child.TheVariants as child
 use Rattle.ig_heights.specs.Fits.{FitsRule, FitAll}
 use Rattle.ig_heights.specs.Table.{bottom_of, entry_rule, choice_rule, choices_in, entries_in, choices_at, entries_at, IsRuleOf, IsRuleBy, IsLeastTable, Adds}
 use Rattle.ig_heights.specs.Table as table

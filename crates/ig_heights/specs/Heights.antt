@@ -1,8 +1,8 @@
 -- The least heights of the trees of a forest, and forests whose root has no highest tree.
 use Rattle.std.specs.Prelude.{◌≡◌, ◌↔◌, ℕ, ◌<◌, ◌≤◌, List, Bool, false, IsTrue, Some, length, slice_get}
 use Rattle.ig_text.specs.Tree.{Tree, Trees, height, greatest_height}
-use Rattle.ig_forest.specs.Forest.{Forest}
-use Rattle.ig_forest.specs.Unfold.{OfNode, OfItem, Unfold}
+use Rattle.ig_forest_tables.specs.Forest.{Forest}
+use Rattle.ig_forest_tables.specs.Unfold.{OfNode, OfItem, Unfold}
 
 -- some tree of the node has that height, and unfolds to that depth; no tree is lower, and no smaller depth has one
 pub record IsLeastOfNode (f : Forest) (v n : ℕ) : Type 0 where

@@ -1,8 +1,8 @@
 -- Laws of heights.
 use Rattle.std.specs.Prelude.{◌≡◌, ℕ, ◌≤◌, List, length, false}
 use Rattle.ig_text.specs.Tree.{Tree, Trees, height, greatest_height}
-use Rattle.ig_forest.specs.Forest.{Forest}
-use Rattle.ig_forest.specs.Unfold.{OfNode, OfItem, Unfold}
+use Rattle.ig_forest_tables.specs.Forest.{Forest}
+use Rattle.ig_forest_tables.specs.Unfold.{OfNode, OfItem, Unfold}
 use Rattle.ig_heights.specs.Heights.{Heights, AreHeights, IsCyclic, HasNoHigher}
 
 -- a depth and each greater one have the trees that are no higher, with the same cursors

@@ -3,10 +3,10 @@ use Rattle.std.proofs.Common.{◌≡◌, ℕ, ◌+◌, ◌≤◌, List, [], ◌�
 use Rattle.std.proofs.lemmas.List.{append-nil, append_assoc, length_push}
 use Rattle.ig_text.specs.Tree.{Tree}
 use Rattle.ig_item.specs.declared.core_grammar.Nonterminal.{Nonterminal}
-use Rattle.ig_forest.specs.Forest.{Forest}
+use Rattle.ig_forest_tables.specs.Forest.{Forest}
 use Rattle.ig_forest.specs.Flat.{flat}
 use Rattle.ig_forest.specs.Tags.{TagsAreNamed}
-use Rattle.ig_forest.specs.Unfold.{Unfold}
+use Rattle.ig_forest_tables.specs.Unfold.{Unfold}
 use Rattle.ig_forest.specs.declared.tree.Part.{Part}
 use Rattle.ig_walker.specs.Listing.{Listing, GivesTree, IsOver}
 use Rattle.ig_walker.specs.Listed.{Listed, HasGiven, IsListing}

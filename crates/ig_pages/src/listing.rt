@@ -5,7 +5,7 @@ ghost use Rattle.std.specs.Option.{option_copied};
 ghost use Rattle.ig_forest.specs.Cursors.{IsShortCursor};
 ghost use Rattle.ig_forest.specs.Flat.{flat};
 ghost use Rattle.ig_forest.specs.Tags.{TagsAreNamed};
-ghost use Rattle.ig_forest.specs.Unfold.{Unfold};
+ghost use Rattle.ig_forest_tables.specs.Unfold.{Unfold};
 ghost use Rattle.ig_heights.specs.Heights.{AreHeights};
 ghost use Rattle.ig_text.specs.Tree.{Tree};
 ghost use Rattle.ig_command.specs.Commands.{stored_listing};

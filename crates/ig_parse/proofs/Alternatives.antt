@@ -25,10 +25,10 @@ use Rattle.ig_item.specs.declared.core_grammar.Nonterminal.{Nonterminal}
 use Rattle.ig_item.specs.declared.items.Instance.{Instance}
 use Rattle.ig_core_laws.specs.Laws.{TagsRiseInCores}
 use Rattle.ig_core_laws.specs.Lowered.{CoreOf}
-use Rattle.ig_forest.specs.Forest.{Forest, ItemNode}
-use Rattle.ig_forest.specs.Orders.{choice_cmp, item_cmp}
+use Rattle.ig_forest_tables.specs.Forest.{Forest, ItemNode}
+use Rattle.ig_forest_tables.specs.Orders.{choice_cmp, item_cmp}
 use Rattle.ig_forest.specs.Reduced.{IsChoice, IsItemNode, IsReduced}
-use Rattle.ig_forest.specs.declared.entry.Choice.{Choice}
+use Rattle.ig_forest_tables.specs.declared.entry.Choice.{Choice}
 use Rattle.ig_parse.specs.Laws.{AlternativesRiseByTags, HasLessEnvironment}
 
 -- lists of values are tied with themselves

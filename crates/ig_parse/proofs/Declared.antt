@@ -10,7 +10,7 @@ use Rattle.ig_item.specs.WellKinded.{IsWellKinded}
 use Rattle.ig_core_laws.specs.Laws.{DeclarationsKeepNumbers}
 use Rattle.ig_core_laws.specs.Lowered.{CoreOf}
 use Rattle.ig_core_laws.specs.Notation.{unchanged}
-use Rattle.ig_forest.specs.Forest.{Forest}
+use Rattle.ig_forest_tables.specs.Forest.{Forest}
 use Rattle.ig_forest.specs.Laws.{ReducedIsTrim}
 use Rattle.ig_query.specs.Laws.{NodesAreThoseOfTrees}
 use Rattle.ig_parse.specs.Laws.{DeclaresSpan, PermitsSpan, SpansAreOfDeclarations, SpansArePermitted}

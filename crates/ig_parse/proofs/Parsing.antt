@@ -17,10 +17,10 @@ use Rattle.ig_item.specs.declared.core_grammar.Nonterminal.{Nonterminal}
 use Rattle.ig_core_laws.specs.Lowered.{CoreOf, IsBuildable, IsNumbered}
 use Rattle.ig_core_laws.specs.Laws.{CoreTreesArePermitted, TagsRiseInCores, ValuesAreThoseOfCore}
 use Rattle.ig_forest.specs.Cursors.{Less}
-use Rattle.ig_forest.specs.Forest.{Forest}
+use Rattle.ig_forest_tables.specs.Forest.{Forest}
 use Rattle.ig_forest.specs.Laws.{CursorsAreOrderedAsTrees, UnfoldsToCoreTrees, HasOneCursor, OnlyOne, RootIsThere}
 use Rattle.ig_forest.specs.Reduced.{IsReduced}
-use Rattle.ig_forest.specs.Unfold.{Unfold}
+use Rattle.ig_forest_tables.specs.Unfold.{Unfold}
 use Rattle.ig_plain.specs.Run.{Refuses}
 use Rattle.ig_query.specs.Report.{IsReport}
 use Rattle.ig_print.specs.declared.report.Report.{Report}

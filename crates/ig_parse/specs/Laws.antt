@@ -14,10 +14,10 @@ use Rattle.ig_meaning.specs.Permitted.{Permitted}
 use Rattle.ig_item.specs.WellKinded.{IsWellKinded}
 use Rattle.ig_core_laws.specs.Lowered.{CoreOf, IsBuildable, IsNumbered}
 use Rattle.ig_core_laws.specs.Notation.{unchanged}
-use Rattle.ig_forest.specs.Forest.{Forest, ItemNode, Node}
+use Rattle.ig_forest_tables.specs.Forest.{Forest, ItemNode, Node}
 use Rattle.ig_forest.specs.Reduced.{IsNamed}
-use Rattle.ig_forest.specs.Unfold.{IsTrim}
-use Rattle.ig_forest.specs.declared.entry.Choice.{Choice}
+use Rattle.ig_forest_tables.specs.Unfold.{IsTrim}
+use Rattle.ig_forest_tables.specs.declared.entry.Choice.{Choice}
 use Rattle.ig_heights.specs.Heights.{IsCyclic}
 use Rattle.ig_query.specs.Ambiguity.{IsAmbiguous}
 use Rattle.ig_query.specs.InTrees.{HasNode}

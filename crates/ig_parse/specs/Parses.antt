@@ -14,8 +14,8 @@ use Rattle.ig_item.specs.declared.run_fault.RunFault.{RunFault}
 use Rattle.ig_item.specs.declared.run_fault.RunFault.TheVariants as run_fault
 use Rattle.ig_core_laws.specs.Lowered.{CoreOf}
 use Rattle.ig_forest.specs.Cursors.{Less}
-use Rattle.ig_forest.specs.Forest.{Forest}
-use Rattle.ig_forest.specs.Unfold.{Unfold, Unfolds}
+use Rattle.ig_forest_tables.specs.Forest.{Forest}
+use Rattle.ig_forest_tables.specs.Unfold.{Unfold, Unfolds}
 use Rattle.ig_forest.specs.Reduced.{IsReduced}
 use Rattle.ig_query.specs.Report.{IsReport}
 use Rattle.ig_parse.specs.declared.fault.ParseFault.{ParseFault}

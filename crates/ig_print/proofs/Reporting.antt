@@ -4,7 +4,7 @@ use Rattle.std.proofs.lemmas.Grind.{flat_map-append}
 use Rattle.std.specs.Prelude.{flat_map, codes, Bool, false, ◌==◌}
 use Rattle.ig_text.specs.declared.pattern.Pattern.{Pattern}
 use Rattle.ig_print.specs.ReportText.{AddsPlace, AreTextsOf, end_texts, list_text, place_text}
-use Rattle.ig_forest.specs.Forest.{Forest}
+use Rattle.ig_forest_tables.specs.Forest.{Forest}
 use Rattle.ig_print.specs.QueryText.{ambiguous_text, node_lines}
 use Rattle.ig_print.specs.declared.report.Report.{Report}
 

@@ -1,8 +1,8 @@
 -- The texts of what queries answer, as UTF-8, in lines.
 use Rattle.std.specs.Prelude.{◌≡◌, ℕ, List, [], ◌∷◌, ◌++◌, Bool, true, false, Option, None, Some, slice_get, flat_map, codes, encode_utf8_all}
 use Rattle.ig_text.specs.declared.text.Span.{Span}
-use Rattle.ig_forest.specs.Forest as forest
-use Rattle.ig_forest.specs.Forest.{Forest}
+use Rattle.ig_forest_tables.specs.Forest as forest
+use Rattle.ig_forest_tables.specs.Forest.{Forest}
 use Rattle.ig_text.specs.Lines.{line_end}
 use Rattle.ig_print.specs.ReportText.{IsPlace}
 use Rattle.ig_pieces.specs.ValueText.{span_text, values_text}

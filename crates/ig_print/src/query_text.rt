@@ -1,7 +1,7 @@
 //! The texts of what queries answer, in lines.
 
 ghost use Rattle.std.specs.Prelude.{◌≡◌, ◌++◌, IfOk, OnOk, slice_get};
-ghost use Rattle.ig_forest.specs.CodeViews.{node_view};
+ghost use Rattle.ig_forest_tables.specs.Views.{node_view};
 ghost use Rattle.ig_print.specs.QueryText.{IsFurthestLine, ambiguous_text, cyclic_text, key_line};
 ghost use Rattle.ig_print.specs.QueryText.{line_if_there, node_lines, spans_text};
 

@@ -4,15 +4,15 @@ use Rattle.std.proofs.lemmas.List.{append-nil}
 use Rattle.std.proofs.lemmas.Option.{same_Some, slice_get_within}
 use Rattle.ig_text.specs.Tree.{Tree, Trees, Leaf, Node, one, join}
 use Rattle.ig_text.proofs.Lists.{at_from_contains, contains_from_at, get_within}
-use Rattle.ig_forest.specs.Forest as forest
-use Rattle.ig_forest.specs.Forest.{Forest, ItemNode}
-use Rattle.ig_forest.specs.Unfold as ways
-use Rattle.ig_forest.specs.Unfold.{OfNode, OfItem, TheNode, node_uses, item_uses, noted, HasTrees, IsTrim}
+use Rattle.ig_forest_tables.specs.Forest as forest
+use Rattle.ig_forest_tables.specs.Forest.{Forest, ItemNode}
+use Rattle.ig_forest_tables.specs.Unfold as ways
+use Rattle.ig_forest_tables.specs.Unfold.{OfNode, OfItem, TheNode, node_uses, item_uses, noted, HasTrees, IsTrim}
 use Rattle.ig_forest.specs.Laws.{TrimHasTrees}
-use Rattle.ig_forest.specs.declared.entry.Choice.{Choice}
-use Rattle.ig_forest.specs.declared.entry.Entry.{Entry}
-use Rattle.ig_forest.specs.declared.entry.Entry.TheVariants.{Begin, Pass, Take}
-use Rattle.ig_forest.specs.declared.entry.Child.TheVariants as child
+use Rattle.ig_forest_tables.specs.declared.entry.Choice.{Choice}
+use Rattle.ig_forest_tables.specs.declared.entry.Entry.{Entry}
+use Rattle.ig_forest_tables.specs.declared.entry.Entry.TheVariants.{Begin, Pass, Take}
+use Rattle.ig_forest_tables.specs.declared.entry.Child.TheVariants as child
 use Rattle.ig_heights.specs.Laws.{DepthsAreHeights, HasLowTrees}
 use Rattle.ig_query.specs.Ambiguity as forked
 use Rattle.ig_query.specs.Ambiguity.{IsAmbiguous, IsAmbiguousNode, IsForked, link}

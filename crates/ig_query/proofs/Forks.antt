@@ -7,11 +7,11 @@ use Rattle.std.proofs.lemmas.List.Elements.{Contains-push}
 use Rattle.std.proofs.lemmas.Bool.{cases_lt}
 use Rattle.std.proofs.lemmas.List.{length_push}
 use Rattle.ig_text.proofs.Lists.{in_pushed, at_from_contains, contains_from_at, get_within, none_in_nil, place_cases}
-use Rattle.ig_forest.specs.Forest.{Forest, Node, ItemNode, PreviousIsBefore}
-use Rattle.ig_forest.specs.Unfold.{IsTrim}
-use Rattle.ig_forest.specs.declared.entry.Choice.{Choice}
-use Rattle.ig_forest.specs.declared.entry.Entry.{Entry}
-use Rattle.ig_forest.specs.declared.entry.Entry.TheVariants.{Begin, Pass, Take}
+use Rattle.ig_forest_tables.specs.Forest.{Forest, Node, ItemNode, PreviousIsBefore}
+use Rattle.ig_forest_tables.specs.Unfold.{IsTrim}
+use Rattle.ig_forest_tables.specs.declared.entry.Choice.{Choice}
+use Rattle.ig_forest_tables.specs.declared.entry.Entry.{Entry}
+use Rattle.ig_forest_tables.specs.declared.entry.Entry.TheVariants.{Begin, Pass, Take}
 use Rattle.ig_query.specs.Ambiguity as forked
 use Rattle.ig_query.specs.Ambiguity.{AreAmbiguous, IsAmbiguous, IsForked, link}
 use Rattle.ig_query.specs.CodeAmbiguity.{AreMarks, AreNumbers, HasChoice, HasFork, IsMarked, IsNumber, LeadsToMark, LinksToMark}

@@ -8,16 +8,16 @@ use Rattle.ig_text.proofs.Lists.{contains_from_at}
 use Rattle.ig_text.proofs.Pairwise.{key_at}
 use Rattle.ig_item.specs.WellKinded.{IsWellKinded}
 use Rattle.ig_item.specs.declared.core_grammar.Nonterminal.{Nonterminal}
-use Rattle.ig_forest.specs.Forest as forest
-use Rattle.ig_forest.specs.Forest.{Forest}
+use Rattle.ig_forest_tables.specs.Forest as forest
+use Rattle.ig_forest_tables.specs.Forest.{Forest}
 use Rattle.ig_forest.specs.Laws.{ReducedIsTrim, TrimHasTrees}
-use Rattle.ig_forest.specs.Unfold as ways
-use Rattle.ig_forest.specs.Unfold.{OfNode, IsTrim}
+use Rattle.ig_forest_tables.specs.Unfold as ways
+use Rattle.ig_forest_tables.specs.Unfold.{OfNode, IsTrim}
 use Rattle.ig_item.specs.Core.{IsAlternative}
 use Rattle.ig_text.specs.Tree.{Tree}
 use Rattle.ig_item.specs.Gives.{NodeKey}
 use Rattle.ig_forest.specs.Reduced.{IsNamed, IsNode, IsReduced}
-use Rattle.ig_forest.specs.declared.entry.Choice.{Choice}
+use Rattle.ig_forest_tables.specs.declared.entry.Choice.{Choice}
 use Rattle.ig_query.specs.Laws.{AreUniform, SpansAreThoseOfTrees, TreesHaveSpan}
 use Rattle.ig_query.specs.Spans.{HasSpan, IsRule}
 use Rattle.ig_query.proofs.InTrees.{nodes_are_those_of_trees}

@@ -17,7 +17,7 @@ use Rattle.std.proofs.lemmas.Bool.{cases_lt}
 use Rattle.ig_text.specs.declared.text.Span.{Span}
 use Rattle.ig_text.proofs.Lists.{in_pushed, none_in_nil}
 use Rattle.ig_text.proofs.Options.{equal_parts}
-use Rattle.ig_forest.specs.Forest.{Forest, Node}
+use Rattle.ig_forest_tables.specs.Forest.{Forest, Node}
 use Rattle.ig_query.specs.Spans.{AreSpansOf, HasSpan, IsOfDeclaration, span_cmp}
 use Rattle.ig_query.proofs.Through.{old_in}
 

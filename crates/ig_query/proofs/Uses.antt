@@ -2,9 +2,9 @@
 use Rattle.std.proofs.Common.{◌≡◌, ◌⊎◌, ⊎_elim, inl, inr, ℕ, List, refl, subst, arith}
 use Rattle.ig_text.specs.Tree.{Tree, Trees}
 use Rattle.ig_text.proofs.Lists.{contains_from_at}
-use Rattle.ig_forest.specs.Forest.{Forest}
-use Rattle.ig_forest.specs.Unfold as ways
-use Rattle.ig_forest.specs.Unfold.{OfNode, OfItem, TheEntry, node_uses, item_uses, IsTrim}
+use Rattle.ig_forest_tables.specs.Forest.{Forest}
+use Rattle.ig_forest_tables.specs.Unfold as ways
+use Rattle.ig_forest_tables.specs.Unfold.{OfNode, OfItem, TheEntry, node_uses, item_uses, IsTrim}
 use Rattle.ig_query.specs.Ambiguity as forked
 use Rattle.ig_query.specs.Ambiguity.{IsAmbiguous, IsForked}
 use Rattle.ig_query.specs.CodeAmbiguity.{HasFork}

@@ -1,9 +1,9 @@
 -- What the functions that look for ambiguous nodes promise to each other.
 use Rattle.std.specs.Prelude.{◌≡◌, ◌↔◌, ◌⊎◌, ℕ, ◌<◌, List, Bool, true, IsTrue, length, Contains, Option, Some, None, slice_get}
 use Rattle.std.specs.List.Sorted.{IsStrictlyIncreasing}
-use Rattle.ig_forest.specs.Forest.{Forest, Node, ItemNode}
-use Rattle.ig_forest.specs.declared.entry.Choice.{Choice}
-use Rattle.ig_forest.specs.declared.entry.Entry.{Entry}
+use Rattle.ig_forest_tables.specs.Forest.{Forest, Node, ItemNode}
+use Rattle.ig_forest_tables.specs.declared.entry.Choice.{Choice}
+use Rattle.ig_forest_tables.specs.declared.entry.Entry.{Entry}
 use Rattle.ig_query.specs.Ambiguity.{IsForked, link}
 
 -- the marks tell of the first n item nodes whether links lead from them to one with two entries

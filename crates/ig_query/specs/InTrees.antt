@@ -2,10 +2,10 @@
 use Rattle.std.specs.Prelude.{◌≡◌, ◌⊎◌, ℕ, List, Contains, Some, slice_get}
 use Rattle.ig_text.specs.Tree.{Tree, Trees, Leaf, Node, none, more}
 use Rattle.ig_text.specs.declared.tag.Tag.{Tag}
-use Rattle.ig_forest.specs.Forest as forest
-use Rattle.ig_forest.specs.Forest.{Forest}
-use Rattle.ig_forest.specs.Unfold.{Unfold, Unfolds}
-use Rattle.ig_forest.specs.declared.entry.Choice.{Choice}
+use Rattle.ig_forest_tables.specs.Forest as forest
+use Rattle.ig_forest_tables.specs.Forest.{Forest}
+use Rattle.ig_forest_tables.specs.Unfold.{Unfold, Unfolds}
+use Rattle.ig_forest_tables.specs.declared.entry.Choice.{Choice}
 
 abbrev mutual
   -- the tree has a node with that tag from i to j

@@ -7,9 +7,9 @@ use Rattle.ig_item.specs.Core.{IsAlternative}
 use Rattle.ig_item.specs.WellKinded.{IsWellKinded}
 use Rattle.ig_item.specs.declared.core_grammar.CoreAlt.{CoreAlt}
 use Rattle.ig_item.specs.declared.core_grammar.Nonterminal.{Nonterminal}
-use Rattle.ig_forest.specs.Forest.{Forest}
+use Rattle.ig_forest_tables.specs.Forest.{Forest}
 use Rattle.ig_forest.specs.Reduced.{IsNamed, IsReduced}
-use Rattle.ig_forest.specs.Unfold.{IsTrim}
+use Rattle.ig_forest_tables.specs.Unfold.{IsTrim}
 use Rattle.ig_query.specs.Ambiguity.{IsAmbiguous}
 use Rattle.ig_query.specs.InTrees.{ForestHasNode, HasTwoTrees, TreesHaveNode, TreesHaveOneCursor}
 use Rattle.ig_query.specs.Spans.{HasSpan, IsRule}

@@ -6,8 +6,8 @@ use Rattle.std.specs.declared.cmp.Ordering.{Ordering}
 use Rattle.ig_text.specs.declared.tag.Tag.{Tag}
 use Rattle.ig_text.specs.declared.tag.Tag.TheVariants.{Rule}
 use Rattle.ig_text.specs.declared.text.Span.{Span}
-use Rattle.ig_forest.specs.Forest.{Forest, Node}
-use Rattle.ig_forest.specs.declared.entry.Choice.{Choice}
+use Rattle.ig_forest_tables.specs.Forest.{Forest, Node}
+use Rattle.ig_forest_tables.specs.declared.entry.Choice.{Choice}
 
 -- the tag of an alternative of a declaration
 abbrev pub IsRule : Tag → Type 0

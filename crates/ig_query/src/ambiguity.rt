@@ -1,6 +1,6 @@
 //! Ambiguous nodes.
 ghost use Rattle.std.specs.Prelude.{◌≡◌, ◌<◌, ◌↔◌, IfOk, IsTrue, Some, length, slice_get, true};
-ghost use Rattle.ig_forest.specs.Unfold.{IsTrim};
+ghost use Rattle.ig_forest_tables.specs.Unfold.{IsTrim};
 ghost use Rattle.ig_query.specs.Ambiguity.{AreAmbiguous, IsAmbiguous, link};
 ghost use Rattle.ig_query.specs.CodeAmbiguity.{AreMarks, AreNumbers, HasChoice, HasFork};
 ghost use Rattle.ig_query.specs.CodeAmbiguity.{IsMarked, LeadsToMark, LinksToMark};

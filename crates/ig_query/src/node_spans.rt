@@ -1,7 +1,7 @@
 //! The spans of a declaration's nodes.
 ghost use Rattle.std.specs.Prelude.{◌≡◌, ◌↔◌, Contains, IfOk, IsTrue, chars};
-ghost use Rattle.ig_forest.specs.CodeViews.{node_view};
-ghost use Rattle.ig_forest.specs.declared.entry.Choice.{Choice};
+ghost use Rattle.ig_forest_tables.specs.Views.{node_view};
+ghost use Rattle.ig_forest_tables.specs.declared.entry.Choice.{Choice};
 ghost use Rattle.ig_query.specs.Spans.{AreSpansOf, HasSpan, IsOfDeclaration, IsRule};
 ghost use Rattle.ig_text.specs.declared.text.Span.{Span};
 

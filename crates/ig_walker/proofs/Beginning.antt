@@ -1,6 +1,6 @@
 -- A walker behind a cursor, as the code holds the cursor.
 use Rattle.std.proofs.Common.{◌≡◌, ℕ, List, [], ◌∷◌, Some, subst}
-use Rattle.ig_forest.specs.Forest.{Forest}
+use Rattle.ig_forest_tables.specs.Forest.{Forest}
 use Rattle.ig_walker.specs.Listing.{HasTree, HasNoTree}
 use Rattle.ig_walker.specs.Options.{options, root_goal}
 use Rattle.ig_walker.specs.States.{IsAlong, IsWalkOf, listing_of}

@@ -1,6 +1,6 @@
 -- What a walker shows and keeps, by its fields.
 use Rattle.std.proofs.Common.{◌≡◌, ℕ, List, [], ◌∷◌, Some, None, refl, sym, ap, ◌∙◌, subst}
-use Rattle.ig_forest.specs.Forest.{Forest}
+use Rattle.ig_forest_tables.specs.Forest.{Forest}
 use Rattle.ig_walker.specs.Listing.{Listing, GivesTree, IsOver}
 use Rattle.ig_walker.specs.Options.{options, root_goal}
 use Rattle.ig_walker.specs.States.{HasWalked, HasNoNext, IsNextWalk, IsWalkOf, last_cursor, listing_of}

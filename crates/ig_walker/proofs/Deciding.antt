@@ -5,7 +5,7 @@ use Rattle.std.proofs.lemmas.Option.{same_Some}
 use Rattle.std.proofs.Math.Dec.{leb}
 use Rattle.ig_text.specs.declared.text.Span.{Span}
 use Rattle.ig_text.proofs.Booleans.{not_both}
-use Rattle.ig_forest.specs.Forest.{Forest}
+use Rattle.ig_forest_tables.specs.Forest.{Forest}
 use Rattle.ig_heights.specs.Heights.{Heights, AreHeights}
 use Rattle.ig_heights.specs.Laws.{DepthsAreHeights}
 use Rattle.ig_walker.specs.Behind.{listed}

@@ -5,8 +5,8 @@ use Rattle.std.proofs.lemmas.List.Elements.{All-contains_itself, Contains-append
 use Rattle.std.proofs.lemmas.List.Quantifiers.{all_pairs_push}
 use Rattle.ig_text.specs.Tree.{Tree}
 use Rattle.ig_text.proofs.Lists.{none_in_nil, contains_one, contains_from_at, contains_first, contains_later}
-use Rattle.ig_forest.specs.Forest.{Forest}
-use Rattle.ig_forest.specs.Unfold.{Unfold}
+use Rattle.ig_forest_tables.specs.Forest.{Forest}
+use Rattle.ig_forest_tables.specs.Unfold.{Unfold}
 use Rattle.ig_forest.specs.declared.tree.Part.{Part}
 use Rattle.ig_walker.specs.Laws.{ListingsGrow, ListingIsOne}
 use Rattle.ig_walker.specs.Listed.{Listed, AreListed, HasGiven, IsListing, IsReached}

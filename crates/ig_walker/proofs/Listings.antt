@@ -1,7 +1,7 @@
 -- What the walks of a listing give.
 use Rattle.std.proofs.Common.{◌≡◌, ℕ, List, [], ◌∷◌, Option, Some, inl, inr, refl, sym, ap, ◌∙◌, subst}
-use Rattle.ig_forest.specs.Forest.{Forest}
-use Rattle.ig_forest.specs.Unfold.{Unfold}
+use Rattle.ig_forest_tables.specs.Forest.{Forest}
+use Rattle.ig_forest_tables.specs.Unfold.{Unfold}
 use Rattle.ig_forest.specs.Cursors.{Less}
 use Rattle.ig_walker.specs.Listing.{Listing, GivesTree, IsOver, HasTree, HasNoTree}
 use Rattle.ig_walker.specs.Options.{options, root_goal}

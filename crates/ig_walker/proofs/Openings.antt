@@ -3,9 +3,9 @@ use Rattle.std.proofs.Common.{◌≡◌, ℕ, zero, suc, ◌<◌, ◌≤◌, Lis
 use Rattle.std.proofs.lemmas.Option.{slice_get_within}
 use Rattle.ig_text.specs.declared.text.Span.{Span}
 use Rattle.ig_text.specs.Tree.{Tree, Trees}
-use Rattle.ig_forest.specs.Forest.{Forest}
-use Rattle.ig_forest.specs.Unfold.{OfNode, OfItem}
-use Rattle.ig_forest.specs.Unfold as trees
+use Rattle.ig_forest_tables.specs.Forest.{Forest}
+use Rattle.ig_forest_tables.specs.Unfold.{OfNode, OfItem}
+use Rattle.ig_forest_tables.specs.Unfold as trees
 use Rattle.ig_heights.specs.Heights.{IsLeastOfNode, IsLeastOfItem}
 use Rattle.ig_heights.specs.Laws.{HasLowTrees}
 use Rattle.ig_walker.specs.Walks.{Walk, cursor, Opens}

@@ -1,7 +1,7 @@
 -- A cursor is followed from the root: each step keeps 'there is a walk with the rest of the cursor'.
 use Rattle.std.proofs.Common.{◌≡◌, ℕ, zero, suc, ◌<◌, ◌≤◌, List, [], ◌∷◌, ◌++◌, Some, length, slice_get, refl, sym, ap, ◌∙◌, subst, arith, append_assoc}
 use Rattle.std.proofs.lemmas.Option.{slice_get_within}
-use Rattle.ig_forest.specs.Unfold.{noted}
+use Rattle.ig_forest_tables.specs.Unfold.{noted}
 use Rattle.ig_walker.specs.Walks.{Walk, Leads, cursor, Before, Opens, Passed, Least, Next, Last}
 use Rattle.ig_walker.specs.Walks as w
 use Rattle.ig_walker.specs.States.{IsAlong}

@@ -1,7 +1,7 @@
 -- The states of the walker: going on to the least walk, and going back to the next option.
 use Rattle.std.proofs.Common.{◌≡◌, ℕ, suc, List, [], ◌∷◌, ◌++◌, length, refl, sym, ap, ◌∙◌, subst, arith, append_assoc}
 use Rattle.std.proofs.lemmas.List.{append-nil}
-use Rattle.ig_forest.specs.Forest.{Forest}
+use Rattle.ig_forest_tables.specs.Forest.{Forest}
 use Rattle.ig_walker.specs.Walks.{Walk, Leads, cursor, Before, Opens, Passed, Least, Next, Last}
 use Rattle.ig_walker.specs.Walks as w
 use Rattle.ig_walker.specs.Options.{options}

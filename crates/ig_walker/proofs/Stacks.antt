@@ -2,8 +2,8 @@
 use Rattle.std.proofs.Common.{◌≡◌, ℕ, suc, ◌<◌, List, [], ◌∷◌, ◌++◌, Some, length, slice_get, sym, ap, ◌∙◌, subst, arith, Bool, true, false, reverse}
 use Rattle.std.proofs.lemmas.List.{reverse-append}
 use Rattle.std.proofs.lemmas.Option.{slice_get_within}
-use Rattle.ig_forest.specs.Forest.{Forest}
-use Rattle.ig_forest.specs.Unfold.{IsTrim}
+use Rattle.ig_forest_tables.specs.Forest.{Forest}
+use Rattle.ig_forest_tables.specs.Unfold.{IsTrim}
 use Rattle.ig_walker.specs.Walks.{Opens, Passed, Next, Last}
 use Rattle.ig_walker.specs.Options.{options}
 use Rattle.ig_walker.specs.States.{FirstOption, Completes, Completed, Backs, Found, BackTo}

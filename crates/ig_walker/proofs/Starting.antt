@@ -1,7 +1,7 @@
 -- The walks of the root: the least one, and the next behind another.
 use Rattle.std.proofs.Common.{◌≡◌, ◌↔◌, ℕ, List, [], ◌∷◌, ◌++◌, Option, Some, None, Bool, true, false, IsTrue, MatchOption, reverse, refl, sym, ap, ◌∙◌, subst}
 use Rattle.ig_text.proofs.Booleans.{not_both}
-use Rattle.ig_forest.specs.Forest.{Forest}
+use Rattle.ig_forest_tables.specs.Forest.{Forest}
 use Rattle.ig_walker.specs.Options.{options, root_goal}
 use Rattle.ig_walker.specs.States.{Completed, HasWalked, HasNoNext, IsNextWalk}
 use Rattle.ig_walker.specs.Walks.{Walk, Opens, Least, Next, Last}

@@ -1,8 +1,8 @@
 -- The next walk is that of the next tree.
 use Rattle.std.proofs.Common.{◌≡◌, ℕ, List, [], ◌∷◌, ◌⊎◌, inl, inr, sym, ap, ◌∙◌, subst}
 use Rattle.ig_text.specs.Tree.{Tree}
-use Rattle.ig_forest.specs.Forest.{Forest}
-use Rattle.ig_forest.specs.Unfold.{OfNode, Unfold}
+use Rattle.ig_forest_tables.specs.Forest.{Forest}
+use Rattle.ig_forest_tables.specs.Unfold.{OfNode, Unfold}
 use Rattle.ig_forest.specs.Flat.{flat}
 use Rattle.ig_forest.specs.Cursors.{Less}
 use Rattle.ig_walker.specs.Walks.{Walk, cursor, Next, Last}

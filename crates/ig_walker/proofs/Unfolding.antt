@@ -4,14 +4,14 @@ use Rattle.std.proofs.lemmas.List.{append-nil, length-map}
 use Rattle.ig_text.specs.Tree.{Tree, Trees, none, more, one, join}
 use Rattle.ig_text.specs.Tree as shape
 use Rattle.ig_text.proofs.Lists.{mapped_at}
-use Rattle.ig_forest.specs.Forest as forest
-use Rattle.ig_forest.specs.Forest.{Forest, ItemNode}
-use Rattle.ig_forest.specs.Unfold.{noted, OfNode, OfItem, Unfold}
-use Rattle.ig_forest.specs.Unfold as trees
-use Rattle.ig_forest.specs.declared.entry.Choice.{Choice}
-use Rattle.ig_forest.specs.declared.entry.Entry.{Entry}
-use Rattle.ig_forest.specs.declared.entry.Entry.TheVariants.{Begin, Pass, Take}
-use Rattle.ig_forest.specs.declared.entry.Child.TheVariants as child
+use Rattle.ig_forest_tables.specs.Forest as forest
+use Rattle.ig_forest_tables.specs.Forest.{Forest, ItemNode}
+use Rattle.ig_forest_tables.specs.Unfold.{noted, OfNode, OfItem, Unfold}
+use Rattle.ig_forest_tables.specs.Unfold as trees
+use Rattle.ig_forest_tables.specs.declared.entry.Choice.{Choice}
+use Rattle.ig_forest_tables.specs.declared.entry.Entry.{Entry}
+use Rattle.ig_forest_tables.specs.declared.entry.Entry.TheVariants.{Begin, Pass, Take}
+use Rattle.ig_forest_tables.specs.declared.entry.Child.TheVariants as child
 use Rattle.ig_walker.specs.Walks.{Walk, Leads, cursor, Before, Opens, Passed, Least, Next, Last}
 use Rattle.ig_walker.specs.Walks as w
 use Rattle.ig_heights.specs.Table.{choices_in, entries_in}

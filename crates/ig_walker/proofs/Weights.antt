@@ -2,12 +2,12 @@
 use Rattle.std.proofs.Common.{◌≡◌, ℕ, zero, suc, ◌<◌, ◌≤◌, ◌+◌, List, [], ◌∷◌, ◌++◌, Option, Some, None, length, slice_get, map, refl, subst, arith}
 use Rattle.ig_text.proofs.Lists.{contains_from_at, unmapped_at}
 use Rattle.ig_text.specs.declared.text.Span.{Span}
-use Rattle.ig_forest.specs.Forest as forest
-use Rattle.ig_forest.specs.Forest.{Forest, ItemNode}
-use Rattle.ig_forest.specs.Unfold.{IsTrim}
-use Rattle.ig_forest.specs.declared.entry.Entry.{Entry}
-use Rattle.ig_forest.specs.declared.entry.Entry.TheVariants.{Begin, Pass, Take}
-use Rattle.ig_forest.specs.declared.entry.Child.TheVariants as child
+use Rattle.ig_forest_tables.specs.Forest as forest
+use Rattle.ig_forest_tables.specs.Forest.{Forest, ItemNode}
+use Rattle.ig_forest_tables.specs.Unfold.{IsTrim}
+use Rattle.ig_forest_tables.specs.declared.entry.Entry.{Entry}
+use Rattle.ig_forest_tables.specs.declared.entry.Entry.TheVariants.{Begin, Pass, Take}
+use Rattle.ig_forest_tables.specs.declared.entry.Child.TheVariants as child
 use Rattle.ig_heights.specs.Table.{choices_in, entries_in}
 use Rattle.ig_walker.specs.Options.{behind_choice, behind_entry, options}
 use Rattle.ig_walker.specs.declared.goal.Goal.{Goal}

@@ -2,8 +2,8 @@
 use Rattle.std.specs.Prelude.{◌≡◌, ◌⊎◌, ℕ, ◌≤◌, List, length, Contains, Option, Some, None}
 use Rattle.std.specs.List.{AllPairs}
 use Rattle.ig_text.specs.Tree.{Tree}
-use Rattle.ig_forest.specs.Forest.{Forest}
-use Rattle.ig_forest.specs.Unfold.{Unfold}
+use Rattle.ig_forest_tables.specs.Forest.{Forest}
+use Rattle.ig_forest_tables.specs.Unfold.{Unfold}
 use Rattle.ig_forest.specs.Cursors.{Less}
 use Rattle.ig_walker.specs.Listing.{Listing, IsBehind}
 

@@ -1,8 +1,8 @@
 -- The listing of the trees of a forest to a depth, in the order of their cursors.
 use Rattle.std.specs.Prelude.{◌≡◌, ◌⊎◌, ℕ, List, Option, Some, None}
 use Rattle.ig_text.specs.Tree.{Tree}
-use Rattle.ig_forest.specs.Forest.{Forest}
-use Rattle.ig_forest.specs.Unfold.{Unfold}
+use Rattle.ig_forest_tables.specs.Forest.{Forest}
+use Rattle.ig_forest_tables.specs.Unfold.{Unfold}
 use Rattle.ig_forest.specs.Flat.{flat}
 use Rattle.ig_forest.specs.Cursors.{Less}
 use Rattle.ig_forest.specs.declared.tree.Part.{Part}

@@ -1,7 +1,7 @@
 -- What holds while a walk goes on, goes back, or follows a cursor.
 use Rattle.std.specs.Prelude.{◌≡◌, ℕ, ◌<◌, ◌≤◌, List, [], ◌∷◌, ◌++◌, Option, Some, None, Bool, true, false, slice_get}
-use Rattle.ig_forest.specs.Forest.{Forest}
-use Rattle.ig_forest.specs.Unfold.{noted}
+use Rattle.ig_forest_tables.specs.Forest.{Forest}
+use Rattle.ig_forest_tables.specs.Unfold.{noted}
 use Rattle.ig_walker.specs.Listing.{Listing}
 use Rattle.ig_walker.specs.Options.{options, root_goal}
 use Rattle.ig_walker.specs.Walks.{Walk, Leads, cursor, Opens, Passed, Least, Last, Next}

@@ -1,7 +1,7 @@
 //! A forest whose heights are known.
 ghost use Rattle.std.specs.Prelude.{◌≡◌, ◌↔◌, [], ◌∷◌, IsTrue, option_map, slice_get};
-ghost use Rattle.ig_forest.specs.CodeViews.{item_node_view, node_view};
-ghost use Rattle.ig_forest.specs.Unfold.{IsTrim};
+ghost use Rattle.ig_forest_tables.specs.Views.{item_node_view, node_view};
+ghost use Rattle.ig_forest_tables.specs.Unfold.{IsTrim};
 ghost use Rattle.ig_walker.specs.Options.{options};
 ghost use Rattle.ig_walker.specs.Walks.{Opens};
 ghost use Rattle.ig_walker.specs.declared.goal.Goal.TheVariants as goal;
@@ -18,7 +18,7 @@ pub struct Measured<'f> {
 }
 
 impl<'f> Model for Measured<'f> {
-    ghost use Rattle.ig_forest.specs.Forest as parts;
+    ghost use Rattle.ig_forest_tables.specs.Forest as parts;
     ghost use Rattle.ig_heights.specs.Heights.{AreHeights};
 
     ghost Value = { parts.Forest };

@@ -2,7 +2,7 @@
 ghost use Rattle.std.specs.Prelude.{◌≡◌, ◌≤◌, ◌+◌, [], ◌++◌, IfOk, OnErr, OnOk, nat_lt};
 ghost use Rattle.std.specs.Prelude.{slice_get, vec_items};
 ghost use Rattle.ig_text.specs.Limits.{numbers_end};
-ghost use Rattle.ig_forest.specs.Unfold.{noted};
+ghost use Rattle.ig_forest_tables.specs.Unfold.{noted};
 ghost use Rattle.ig_walker.specs.Options.{options};
 ghost use Rattle.ig_walker.specs.Written.{bump_last, by_choice, by_entry, emits, written};
 ghost use Rattle.ig_walker.specs.Walks.{cursor};

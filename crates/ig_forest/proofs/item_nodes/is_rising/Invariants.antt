@@ -1,7 +1,7 @@
 use Rattle.std.proofs.Common.{◌≡◌}
 use Rattle.std.specs.List.{AllAdjacentBelow}
 use Rattle.std.specs.declared.cmp.Ordering.TheVariants.{Less}
-use Rattle.ig_forest.specs.Orders.{entry_cmp}
+use Rattle.ig_forest_tables.specs.Orders.{entry_cmp}
 use Rattle.ig_forest.proofs.item_nodes.is_rising.Given as goal
 
 abbrev pub invariant-loop-place : goal.invariant-loop-place

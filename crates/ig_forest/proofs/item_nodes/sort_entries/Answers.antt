@@ -3,8 +3,8 @@ use Rattle.std.specs.Cmp.{unsigned_ties}
 use Rattle.std.specs.List.{dedup}
 use Rattle.std.proofs.lemmas.Fn.{dedup_same}
 use Rattle.std.proofs.lemmas.List.Sorted.{answers_always}
-use Rattle.ig_forest.specs.Orders.{previous}
-use Rattle.ig_forest.specs.declared.entry.Entry.{Entry}
+use Rattle.ig_forest_tables.specs.Orders.{previous}
+use Rattle.ig_forest_tables.specs.declared.entry.Entry.{Entry}
 use Rattle.ig_forest.proofs.CodeItemNodes.{sorted_once}
 use Rattle.ig_forest.proofs.item_nodes.sort_entries.Goals as goal
 

@@ -1,8 +1,8 @@
 use Rattle.std.proofs.Common.{arith, sym, subst, ap, ◌∙◌}
 use Rattle.ig_forest.specs.CodeNodes.{Opens}
-use Rattle.ig_forest.specs.CodeNodeRows.{with_choice}
+use Rattle.ig_forest_tables.specs.StoredNodes.{with_choice}
 use Rattle.ig_forest.specs.CodeDone.{StandsLast}
-use Rattle.ig_forest.specs.declared.node_rows.NodeRow.{NodeRow}
+use Rattle.ig_forest_tables.specs.declared.node_rows.NodeRow.{NodeRow}
 use Rattle.ig_forest.proofs.CodeNodePass.{here_within, item_added, item_skips, nodes_count, order_short, stands_last}
 use Rattle.ig_forest.proofs.nodes.add_item.Goals as goal
 

@@ -1,6 +1,6 @@
 use Rattle.std.proofs.Common.{◌∙◌, ◌≤◌, ap, sym, subst}
 use Rattle.std.specs.Prelude.{option_map}
-use Rattle.ig_forest.specs.CodeViews.{item_node_view}
+use Rattle.ig_forest_tables.specs.Views.{item_node_view}
 use Rattle.ig_forest_text.specs.ForestText.{item_text}
 use Rattle.ig_forest_text.proofs.Listing.{next_numbered, none_numbered}
 use Rattle.ig_forest_text.proofs.forest_text.push_items.Goals as goal

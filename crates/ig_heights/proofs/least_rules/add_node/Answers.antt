@@ -1,5 +1,5 @@
 use Rattle.std.proofs.Common.{List, subst, ap, OnOk}
-use Rattle.ig_forest.specs.declared.entry.Choice.{Choice}
+use Rattle.ig_forest_tables.specs.declared.entry.Choice.{Choice}
 use Rattle.ig_heights.specs.Table.{Adds, IsRuleBy, choice_rule, choices_in, choices_at}
 use Rattle.ig_heights.proofs.Ruling.{made_nil}
 use Rattle.ig_heights.proofs.least_rules.add_node.Goals as goal

@@ -1,5 +1,5 @@
 use Rattle.std.proofs.Common.{◌≡◌, ℕ, ◌<◌, ◌≤◌, Some, length, slice_get}
-use Rattle.ig_forest.specs.Forest.{Node}
+use Rattle.ig_forest_tables.specs.Forest.{Node}
 use Rattle.ig_query.proofs.ambiguity.has_choice.Given as goal
 
 abbrev pub invariant-loop-number : goal.invariant-loop-number

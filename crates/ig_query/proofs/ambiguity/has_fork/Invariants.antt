@@ -1,5 +1,5 @@
 use Rattle.std.proofs.Common.{◌≡◌, ℕ, ◌<◌, ◌≤◌, Some, length, slice_get}
-use Rattle.ig_forest.specs.Forest.{ItemNode}
+use Rattle.ig_forest_tables.specs.Forest.{ItemNode}
 use Rattle.ig_query.proofs.ambiguity.has_fork.Given as goal
 
 abbrev pub invariant-loop-number : goal.invariant-loop-number

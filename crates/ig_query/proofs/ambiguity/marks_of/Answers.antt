@@ -1,6 +1,6 @@
 use Rattle.std.proofs.Common.{◌↔◌, IsTrue, ◌∙◌, ap, sym, subst}
 use Rattle.std.specs.Prelude.{option_map}
-use Rattle.ig_forest.specs.CodeViews.{item_node_view}
+use Rattle.ig_forest_tables.specs.Views.{item_node_view}
 use Rattle.ig_query.specs.CodeAmbiguity.{LinksToMark}
 use Rattle.ig_query.proofs.Forks.{marks_next}
 use Rattle.ig_query.proofs.ambiguity.marks_of.Goals as goal

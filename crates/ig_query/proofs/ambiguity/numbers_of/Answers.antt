@@ -1,6 +1,6 @@
 use Rattle.std.proofs.Common.{◌∙◌, ◌+◌, ap, sym, subst}
 use Rattle.std.specs.Prelude.{option_map}
-use Rattle.ig_forest.specs.CodeViews.{node_view}
+use Rattle.ig_forest_tables.specs.Views.{node_view}
 use Rattle.ig_query.specs.CodeAmbiguity.{AreNumbers}
 use Rattle.ig_query.proofs.Forks.{numbers_with, numbers_without}
 use Rattle.ig_query.proofs.ambiguity.numbers_of.Goals as goal

@@ -1,6 +1,6 @@
 use Rattle.std.proofs.Common.{◌∙◌, ◌+◌, ◌≤◌, ap, sym, subst}
 use Rattle.std.specs.Prelude.{option_map, chars}
-use Rattle.ig_forest.specs.CodeViews.{node_view}
+use Rattle.ig_forest_tables.specs.Views.{node_view}
 use Rattle.ig_query.proofs.Spanning.{SpansUpTo, spans_with, spans_without, spans_all}
 use Rattle.ig_query.proofs.node_spans.spans_of.Goals as goal
 use Rattle.ig_query.proofs.node_spans.spans_of.Goals.{then-is_of_declaration+in_ok-push, else-is_of_declaration}

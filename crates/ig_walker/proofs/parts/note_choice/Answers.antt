@@ -1,7 +1,7 @@
 use Rattle.std.proofs.Common.{◌≡◌, ℕ, suc, zero, ◌<◌, ◌≤◌, [], ◌∷◌, ◌++◌, refl, sym, ap, ◌∙◌, vec_items, arith}
 use Rattle.std.proofs.lemmas.Bool.{ltb-true, ltb-false}
 use Rattle.std.proofs.lemmas.List.{append-nil}
-use Rattle.ig_forest.specs.Unfold.{noted}
+use Rattle.ig_forest_tables.specs.Unfold.{noted}
 use Rattle.ig_walker.proofs.parts.note_choice.Goals as goal
 
 none_noted : (n i : ℕ) → n ≤ 1 → noted n i ≡ []

@@ -1,4 +1,7 @@
-use Rattle.ig_forest.proofs.CodeLiveItems.{complete_marks, entry_sources, fits_forest, is_reduced, node_within, order_below, order_once, root_node, root_within, there_marks}
+use Rattle.std.proofs.Common.{sym, ◌∙◌, subst}
+use Rattle.ig_forest_tables.specs.Unfold.{IsTrim}
+use Rattle.ig_forest.specs.Reduced.{IsReduced}
+use Rattle.ig_forest.proofs.CodeLiveItems.{complete_marks, entry_sources, fits_tables, is_reduced, node_within, order_below, order_once, root_node, root_within, there_marks}
 use Rattle.ig_forest.proofs.builder.LiveItems.forest.Goals as goal
 
 pub nodes_of-requires-clause-there : goal.nodes_of-requires-clause-there
@@ -34,19 +37,28 @@ node-root-requires-clause-number c =
     c.in_ok-table.ensures
     c.args.root c.requires.root
 
-pub invariant_of-result : goal.invariant_of-result
-invariant_of-result c =
+pub of-tables-requires : goal.of-tables-requires
+of-tables-requires c =
     let at =
     root_node c.args.self.now c.requires.live c.as_slice.result c.as_slice-2.result c.in_ok-places.places.items c.in_ok-table.field-0.numbers.items
     c.as_slice.ensures.value c.as_slice-2.ensures.value c.in_ok-places.ensures.long c.in_ok-places.ensures.numbers c.in_ok-table.field-0.table
     c.in_ok-table.ensures
     c.args.root c.requires.root c.node-root.result c.node-root.ensures in
-    fits_forest c.args.self.now c.requires.live c.as_slice.result c.as_slice-2.result c.in_ok-places.places.items c.in_ok-table.field-0.numbers.items
+    fits_tables c.args.self.now c.requires.live c.as_slice.result c.as_slice-2.result c.in_ok-places.places.items c.in_ok-table.field-0.numbers.items
     c.as_slice.ensures.value c.as_slice-2.ensures.value c.in_ok-places.ensures.long c.in_ok-places.ensures.numbers c.in_ok-table.field-0.table
     c.in_ok-table.ensures
     c.environments_fit.ensures c.nonterminals-nonterminals.ensures.well_kinded c.in_ok-names.names c.in_ok-names.ensures c.in_ok-items.items
     c.in_ok-items.ensures
     c.node-root.result at c.in_ok-lists.lists c.in_ok-lists.ensures
+
+pub of-requires : goal.of-requires
+of-requires c =
+    let at =
+    root_node c.args.self.now c.requires.live c.as_slice.result c.as_slice-2.result c.in_ok-places.places.items c.in_ok-table.field-0.numbers.items
+    c.as_slice.ensures.value c.as_slice-2.ensures.value c.in_ok-places.ensures.long c.in_ok-places.ensures.numbers c.in_ok-table.field-0.table
+    c.in_ok-table.ensures
+    c.args.root c.requires.root c.node-root.result c.node-root.ensures in
+    subst IsTrim (sym c.of-tables.ensures)
     (c.reduced_forest_is_trim.ensures c.args.self.now.core.now c.args.self.now.text.now _ c.nonterminals-nonterminals.ensures.well_kinded
     (is_reduced c.args.self.now c.requires.live c.as_slice.result c.as_slice-2.result c.in_ok-places.places.items c.in_ok-table.field-0.numbers.items
     c.as_slice.ensures.value c.as_slice-2.ensures.value c.in_ok-places.ensures.long c.in_ok-places.ensures.numbers c.in_ok-table.field-0.table
@@ -62,9 +74,10 @@ returns c =
     c.as_slice.ensures.value c.as_slice-2.ensures.value c.in_ok-places.ensures.long c.in_ok-places.ensures.numbers c.in_ok-table.field-0.table
     c.in_ok-table.ensures
     c.args.root c.requires.root c.node-root.result c.node-root.ensures in
-    is_reduced c.args.self.now c.requires.live c.as_slice.result c.as_slice-2.result c.in_ok-places.places.items c.in_ok-table.field-0.numbers.items
+    subst (IsReduced c.args.self.now.core.now c.args.self.now.text.now) (sym c.of-tables.ensures ∙ sym c.of.ensures)
+    (is_reduced c.args.self.now c.requires.live c.as_slice.result c.as_slice-2.result c.in_ok-places.places.items c.in_ok-table.field-0.numbers.items
     c.as_slice.ensures.value c.as_slice-2.ensures.value c.in_ok-places.ensures.long c.in_ok-places.ensures.numbers c.in_ok-table.field-0.table
     c.in_ok-table.ensures
     c.environments_fit.ensures c.nonterminals-nonterminals.ensures.well_kinded c.in_ok-names.names c.in_ok-names.ensures c.in_ok-items.items
     c.in_ok-items.ensures
-    c.node-root.result at c.in_ok-lists.lists c.in_ok-lists.ensures
+    c.node-root.result at c.in_ok-lists.lists c.in_ok-lists.ensures)

@@ -1,7 +1,7 @@
 use Rattle.std.proofs.Common.{List, [], sym, subst}
 use Rattle.ig_text.specs.Pairwise as pairwise
 use Rattle.ig_forest.specs.CodeItemNodes.{IsStoredItem}
-use Rattle.ig_forest.specs.CodeParts.{StoredItem}
+use Rattle.ig_forest_tables.specs.StoredItems.{StoredItem}
 use Rattle.std.proofs.lemmas.List.Elements.{Contains-get_or}
 use Rattle.ig_text.specs.Pairwise.{Each}
 use Rattle.ig_text.proofs.Pairwise.{each_next, each_all}

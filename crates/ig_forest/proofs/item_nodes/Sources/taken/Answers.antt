@@ -1,6 +1,6 @@
 use Rattle.std.proofs.Common.{◌<◌, ◌∙◌, length, slice_index, sym, ap, subst}
-use Rattle.ig_forest.specs.declared.entry.Entry.TheVariants.{Take}
-use Rattle.ig_forest.specs.declared.entry.Child.TheVariants as child
+use Rattle.ig_forest_tables.specs.declared.entry.Entry.TheVariants.{Take}
+use Rattle.ig_forest_tables.specs.declared.entry.Child.TheVariants as child
 use Rattle.ig_forest.specs.CodeItemNodes.{number_by}
 use Rattle.ig_forest.proofs.item_nodes.Sources.taken.Goals as goal
 

@@ -1,5 +1,5 @@
 use Rattle.std.proofs.Common.{arith, sym, subst, ◌↔◌, ◌<◌, ◌+◌, IsTrue, List, ℕ, length}
-use Rattle.ig_forest.specs.Forest.{Forest}
+use Rattle.ig_forest_tables.specs.Forest.{Forest}
 use Rattle.ig_heights.specs.Rules.{height_at, IsPart}
 use Rattle.ig_heights.specs.Table.{IsLeastTable}
 use Rattle.ig_heights.specs.declared.rule.Table.{Table}

@@ -1,0 +1,4 @@
+pub mod StoredNodes
+pub mod StoredNodeParts
+pub mod StoredItems
+pub mod Reading
