@@ -1,0 +1,5 @@
+pub mod Soundness
+pub mod Below
+pub mod Standing
+pub mod Choosing
+pub mod Fitting
