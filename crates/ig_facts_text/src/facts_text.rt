@@ -1,8 +1,7 @@
 //! The text of a grammar's facts.
-ghost use Rattle.std.specs.Prelude.{◌≡◌, ◌++◌, OnOk, IfOk, Some, string_bytes};
-ghost use Rattle.ig_facts_text.specs.FactsText.{declaration_text, facts_text, word_text, words_text};
-ghost use Rattle.ig_pieces.specs.Listed.{numbered_texts};
-ghost use Rattle.ig_text.specs.Lines.{line_end};
+ghost use Rattle.std.specs.Prelude.{◌≡◌, ◌++◌, OnOk, IfOk, string_bytes, slice_get};
+ghost use Rattle.ig_facts_text.specs.FactsText.{declaration_text, facts_text};
+ghost use Rattle.ig_facts_text.specs.FactsText.{found_text, word_text, words_text};
 
 use ig_analyse::{Fact, Facts};
 use ig_grammar::{Decl, Decls};
@@ -31,6 +30,17 @@ fn push_words(out: &mut String, fact: Fact) -> Result<(), AllocError>
     push_where(out, fact.cyclic, " cyclic")
 }
 
+/// Adds the words of the fact of that number, and nothing where there is none.
+fn push_found(out: &mut String, facts: &[Fact], number: usize) -> Result<(), AllocError>
+    ensures { OnOk result (string_bytes out.new ≡ string_bytes out.old ++
+        found_text (slice_get facts.now number)) }
+{
+    let Some(fact) = facts.get(number) else {
+        return Ok(());
+    };
+    push_words(out, *fact)
+}
+
 /// Adds the line of the declaration of that number.
 fn push_declaration(
     out: &mut String,
@@ -42,9 +52,7 @@ fn push_declaration(
         declaration_text facts.now number decl.now) }
 {
     push_word(out, &decl.name)?;
-    if let Some(fact) = facts.get(number) {
-        push_words(out, *fact)?;
-    }
+    push_found(out, facts, number)?;
     out.push_str("\n")
 }
 

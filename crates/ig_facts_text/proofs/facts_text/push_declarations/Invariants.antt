@@ -1,4 +1,4 @@
-use Rattle.std.proofs.Common.{◌≡◌, ◌++◌, suc, drop}
+use Rattle.std.proofs.Common.{◌≡◌, ◌+◌, ◌++◌, drop}
 use Rattle.std.specs.Prelude.{string_bytes}
 use Rattle.ig_pieces.specs.Listed.{numbered_texts}
 use Rattle.ig_facts_text.specs.FactsText.{declaration_text, facts_text}
@@ -6,5 +6,5 @@ use Rattle.ig_facts_text.proofs.facts_text.push_declarations.Given as goal
 
 abbrev pub invariant-loop-before : goal.invariant-loop-before
 invariant-loop-before l =
-    string_bytes l.out ++ numbered_texts (declaration_text l.facts) (suc l.before) (drop l.before l.decls) ≡
+    string_bytes l.out ++ numbered_texts (declaration_text l.facts) (l.before + 1) (drop l.before l.decls) ≡
     string_bytes l.fn.out ++ facts_text l.decls l.facts
