@@ -31,11 +31,9 @@ pub record TellOfTrees (core : List Nonterminal) (facts : List Fact) : Type 0 wh
   -- a nonterminal that isn't productive has no tree
   pub unproductive : (n : ℕ) (fact : Fact) → slice_get facts n ≡ Some fact → fact.productive ≡ false →
       (text : List ℕ) (vs : List Value) (i j : ℕ) (t : Tree) → HasTree core text n vs i j t → ⊥
-
   -- where no literal is empty, one that isn't nullable has none over an empty span
   pub not_nullable : IsRegular core → (n : ℕ) (fact : Fact) → slice_get facts n ≡ Some fact → fact.nullable ≡ false →
       (text : List ℕ) (vs : List Value) (i : ℕ) (t : Tree) → HasTree core text n vs i i t → ⊥
-
   -- where besides none is at once cyclic, productive and reachable, trees have a bounded height
   pub bounded : IsRegular core → NoneSaysRound facts → (text : List ℕ) (t : Tree) → CoreTree core text t →
       height t ≤ length core * (length text + 1)

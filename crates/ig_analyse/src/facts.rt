@@ -1,7 +1,10 @@
 //! The facts of all nonterminals.
-ghost use Rattle.std.specs.Prelude.{IfOk};
-ghost use Rattle.ig_analyse.specs.Told.{AreFactsOf, TellOfTrees};
+ghost use Rattle.std.specs.Prelude.{length, ◌<◌, IfOk};
+ghost use Rattle.ig_analyse.specs.Marks.{MarkFacts};
+ghost use Rattle.ig_analyse.specs.Told.{AreFactsOf, SaysOf, TellOfTrees};
 
+use crate::laws::{heights_are_bounded, others_have_no_empty_tree, unproductive_have_no_tree};
+use crate::marks::{Marks, marks_of};
 use ig_item::Core;
 use ig_text::Sequence;
 use std::alloc::{AllocError, Global};
@@ -30,5 +33,38 @@ pub fn analyse(alloc: Global, core: &Core) -> Result<Facts, AllocError>
     ensures exact { IfOk result (AreFactsOf core.now) }
     ensures trees { IfOk result (TellOfTrees core.now) }
 {
-    Err(AllocError)
+    unproductive_have_no_tree();
+    others_have_no_empty_tree();
+    heights_are_bounded();
+    let marks = marks_of(alloc, core)?;
+    let facts = facts_by(alloc, core, &marks)?;
+    Ok(facts)
+}
+
+/// The facts that the marks say.
+fn facts_by(alloc: Global, core: &Core, marks: &Marks) -> Result<Facts, AllocError>
+    requires { MarkFacts core.now marks.now }
+    ensures { IfOk result (AreFactsOf core.now) }
+{
+    let mut facts = Vec::new(alloc);
+    for number in 0..marks.nullable.len() {
+        let fact = fact_at(core, marks, number);
+        facts.push(fact)?;
+    }
+    Ok(Sequence::from_vec(facts))
+}
+
+/// The fact of the nonterminal of that number.
+fn fact_at(core: &Core, marks: &Marks, number: usize) -> Fact
+    requires exact { MarkFacts core.now marks.now }
+    requires number { number < length core.now }
+    ensures { SaysOf core.now number result }
+{
+    Fact {
+        nullable: marks.nullable[number],
+        productive: marks.productive[number],
+        reachable: marks.reachable[number],
+        left_recursive: marks.left_recursive[number],
+        cyclic: marks.cyclic[number],
+    }
 }

@@ -12,6 +12,7 @@
 mod edges;
 mod facts;
 mod laws;
+mod marks;
 mod rounds;
 mod walk;
 
