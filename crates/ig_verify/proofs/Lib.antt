@@ -2,4 +2,5 @@ pub mod Soundness
 pub mod Below
 pub mod Standing
 pub mod Choosing
+pub mod KindTable
 pub mod Fitting

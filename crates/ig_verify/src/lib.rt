@@ -14,6 +14,8 @@
 mod draft;
 mod entries;
 mod flaw;
+mod items;
+mod kind_table;
 mod kinds;
 mod laws;
 mod nodes;

@@ -9,6 +9,8 @@ ghost use Rattle.ig_verify.specs.Sound.{IsSound};
 use crate::draft::Draft;
 use crate::entries::Setting;
 use crate::flaw::Flaw;
+use crate::items::item_flaw;
+use crate::kind_table::kinds_of_core;
 use crate::laws::sound_forests_unfold_to_core_trees;
 use crate::nodes::node_flaw;
 use ig_item::Core;
@@ -47,6 +49,10 @@ fn first_flaw(
     if let Some(flaw) = node_flaw(draft, core, text) {
         return Ok(Some(flaw));
     }
+    let kinds = kinds_of_core(alloc, core)?;
+    if let Some(flaw) = item_flaw(draft, core, text, kinds.as_slice()) {
+        return Ok(Some(flaw));
+    }
     let dots = dots_of_core(alloc, core)?;
     let setting = Setting {
         draft,
@@ -54,8 +60,5 @@ fn first_flaw(
         text,
         dots: dots.as_slice(),
     };
-    if let Some(flaw) = setting.item_flaw(alloc)? {
-        return Ok(Some(flaw));
-    }
     Ok(setting.entries_flaw())
 }
