@@ -34,6 +34,8 @@ is_simple_row rows.Forest = refl
 is_simple_row rows.Trees = refl
 is_simple_row rows.Query = refl
 is_simple_row rows.Load = refl
+is_simple_row rows.Verify = refl
+is_simple_row rows.Analyse = refl
 
 ids_differ : (r : Row) → all_differ (places_of r ++ names_of r) ≡ true
 ids_differ rows.Check = refl
@@ -43,6 +45,8 @@ ids_differ rows.Forest = refl
 ids_differ rows.Trees = refl
 ids_differ rows.Query = refl
 ids_differ rows.Load = refl
+ids_differ rows.Verify = refl
+ids_differ rows.Analyse = refl
 
 are_few : (r : Row) → 1 + length (places_of r) < usize_max
 are_few rows.Check = omega arith
@@ -52,6 +56,8 @@ are_few rows.Forest = omega arith
 are_few rows.Trees = omega arith
 are_few rows.Query = omega arith
 are_few rows.Load = omega arith
+are_few rows.Verify = omega arith
+are_few rows.Analyse = omega arith
 
 abbrev rules_for : Row → Shape
 rules_for r = shape_of_rules label (R label (places_of r) (names_of r) (ids_differ r) (are_few r))
@@ -64,6 +70,8 @@ built_row rows.Forest = refl
 built_row rows.Trees = refl
 built_row rows.Query = refl
 built_row rows.Load = refl
+built_row rows.Verify = refl
+built_row rows.Analyse = refl
 
 -- no subcommand is entered
 alone : (s : Shape) (ws : List Text) →

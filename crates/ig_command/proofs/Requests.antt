@@ -8,9 +8,9 @@ use Rattle.ig_text.proofs.Booleans.{first_true, rest_true}
 use Rattle.ig_text.proofs.Options.{mapped}
 use Rattle.ig_command.specs.Words.{Parts, Setting, is_apart, is_equals, is_joined, is_long, is_value, no_parts, parts_of, with_positional, with_setting, word_before}
 use Rattle.ig_command.specs.Commands.{Listing, Request, are_among, listing_with, number_if, number_of, number_or, option_in, question_with, request_of, request_with, row, most_budget, most_count, most_depth, most_number, most_size, usual_budget, usual_count}
-use Rattle.ig_command.specs.Commands.{check, show, core, forest, trees, query, load, for_forest, for_grammar, for_load, for_query, for_trees}
+use Rattle.ig_command.specs.Commands.{check, show, core, forest, trees, query, load, verify, analyse, for_forest, for_grammar, for_load, for_query, for_trees, for_verify}
 use Rattle.ig_command.specs.Commands.{Reads, budget_in, count_in, listing_in, question_in, stored_request}
-use Rattle.ig_command.specs.Rows.{Answers, Finds, HasParts, IsRefused, asked, budget_found, listing_found, question_found, with_both, found_request, is_empty, may_stand, names_of, places_of, row_of}
+use Rattle.ig_command.specs.Rows.{Answers, Finds, HasParts, IsRefused, asked, budget_found, listing_found, question_found, with_both, with_three, found_request, is_empty, may_stand, names_of, places_of, row_of}
 use Rattle.clap.specs.Words.{first_value, found_of}
 use Rattle.clap.specs.declared.parser.matches.ArgMatches.{ArgMatches}
 use Rattle.ig_command.specs.declared.command.Command.{Command}
@@ -18,21 +18,23 @@ use Rattle.ig_command.specs.declared.rows.Row.{Row}
 use Rattle.ig_command.specs.declared.rows.Row.TheVariants as rows
 
 -- the table, by its rows
-by_row : (name : List ℕ) (p : Parts) (a b c d e f g : Bool) → is_word name (codes "check") ≡ a → is_word name (codes "show") ≡ b →
+by_row : (name : List ℕ) (p : Parts) (a b c d e f g v w : Bool) → is_word name (codes "check") ≡ a → is_word name (codes "show") ≡ b →
     is_word name (codes "core") ≡ c → is_word name (codes "forest") ≡ d → is_word name (codes "trees") ≡ e → is_word name (codes "query") ≡ f →
-    is_word name (codes "load") ≡ g →
+    is_word name (codes "load") ≡ g → is_word name (codes "verify") ≡ v → is_word name (codes "analyse") ≡ w →
     request_with name p ≡ option_and_then (λ r. row (names_of r) (asked r) p) (row_of name)
-by_row name p true b c d e f g h i j k l m n = rw h refl
-by_row name p false true c d e f g h i j k l m n = rw (h, i) refl
-by_row name p false false true d e f g h i j k l m n = rw (h, i, j) refl
-by_row name p false false false true e f g h i j k l m n = rw (h, i, j, k) refl
-by_row name p false false false false true f g h i j k l m n = rw (h, i, j, k, l) refl
-by_row name p false false false false false true g h i j k l m n = rw (h, i, j, k, l, m) refl
-by_row name p false false false false false false true h i j k l m n = rw (h, i, j, k, l, m, n) refl
-by_row name p false false false false false false false h i j k l m n = rw (h, i, j, k, l, m, n) refl
+by_row name p true b c d e f g v w h i j k l m n o q = rw h refl
+by_row name p false true c d e f g v w h i j k l m n o q = rw (h, i) refl
+by_row name p false false true d e f g v w h i j k l m n o q = rw (h, i, j) refl
+by_row name p false false false true e f g v w h i j k l m n o q = rw (h, i, j, k) refl
+by_row name p false false false false true f g v w h i j k l m n o q = rw (h, i, j, k, l) refl
+by_row name p false false false false false true g v w h i j k l m n o q = rw (h, i, j, k, l, m) refl
+by_row name p false false false false false false true v w h i j k l m n o q = rw (h, i, j, k, l, m, n) refl
+by_row name p false false false false false false false true w h i j k l m n o q = rw (h, i, j, k, l, m, n, o) refl
+by_row name p false false false false false false false false true h i j k l m n o q = rw (h, i, j, k, l, m, n, o, q) refl
+by_row name p false false false false false false false false false h i j k l m n o q = rw (h, i, j, k, l, m, n, o, q) refl
 
 pub table : (name : List ℕ) (p : Parts) → request_with name p ≡ option_and_then (λ r. row (names_of r) (asked r) p) (row_of name)
-table name p = by_row name p _ _ _ _ _ _ _ refl refl refl refl refl refl refl
+table name p = by_row name p _ _ _ _ _ _ _ _ _ refl refl refl refl refl refl refl refl refl
 
 -- one positional word, and two
 one_word : (x : Option (List ℕ)) (ys : List (List ℕ)) → x ∷ [] ≡ map Some ys → (y : List ℕ) × (x ≡ Some y) × (ys ≡ y ∷ [])
@@ -47,6 +49,14 @@ two_words w x (y ∷ []) e = absurd (cc)
 two_words w x (y ∷ z ∷ []) e = (y, z, (cc), (cc), refl)
 two_words w x (y ∷ z ∷ v ∷ vs) e = absurd (cc)
 
+three_words : (v w x : Option (List ℕ)) (ys : List (List ℕ)) → v ∷ w ∷ x ∷ [] ≡ map Some ys →
+    (a : List ℕ) × (b : List ℕ) × (c : List ℕ) × (v ≡ Some a) × (w ≡ Some b) × (x ≡ Some c) × (ys ≡ a ∷ b ∷ c ∷ [])
+three_words v w x [] e = absurd (cc)
+three_words v w x (a ∷ []) e = absurd (cc)
+three_words v w x (a ∷ b ∷ []) e = absurd (cc)
+three_words v w x (a ∷ b ∷ c ∷ []) e = (a, b, c, (cc), (cc), (cc), refl)
+three_words v w x (a ∷ b ∷ c ∷ d ∷ ds) e = absurd (cc)
+
 one_file : (ask : List ℕ → Request) (find : Finds) (words : List (List ℕ)) (options : List Setting) → find (codes "G") ∷ [] ≡ map Some words →
     option_map ask (find (codes "G")) ≡ for_grammar ask words options
 one_file ask find words options e =
@@ -59,6 +69,14 @@ two_files : (x y : Option (List ℕ)) (words : List (List ℕ)) → x ∷ y ∷ 
 two_files x y words e ask by_words same =
     let w = two_words x y words e in
     ap₂ (with_both ask) w.2 w.3 ∙ same w.0 w.1 ∙ sym (ap by_words w.4)
+
+-- with three
+three_files : (x y z : Option (List ℕ)) (words : List (List ℕ)) (options : List Setting) → x ∷ y ∷ z ∷ [] ≡ map Some words →
+    with_three (λ g i f. Some (verify g i f)) x y z ≡ for_verify words options
+three_files x y z words options e =
+    let w = three_words x y z words e in
+    ap (λ o. with_three (λ g i f. Some (verify g i f)) o y z) w.3 ∙ ap (λ o. with_three (λ g i f. Some (verify g i f)) (Some w.0) o z) w.4 ∙
+    ap (with_three (λ g i f. Some (verify g i f)) (Some w.0) (Some w.1)) w.5 ∙ sym (ap (λ xs. for_verify xs options) w.6)
 
 budget_same : (find : Finds) (options : List Setting) → option_in (codes "budget") options ≡ Some (find (codes "budget")) →
     budget_found find ≡ budget_in options
@@ -109,6 +127,9 @@ found_asked rows.Load find p has =
     (λ words. for_load words p.options)
     (λ size number. ap (λ b. option_and_then (λ s. option_and_then (λ n. option_map (load s n) b)
     (number_of 0 most_number number)) (number_of 1 most_size size)) (budget_same find p.options (has.options (codes "budget") refl)))
+found_asked rows.Verify find p has =
+    three_files (find (codes "G")) (find (codes "I")) (find (codes "F")) p.positional p.options has.files
+found_asked rows.Analyse find p has = one_file analyse find p.positional p.options has.files
 
 row_asked : (r : Row) (find : Finds) (p : Parts) → HasParts (places_of r) (names_of r) find p →
     found_request r find ≡ row (names_of r) (asked r) p
@@ -205,6 +226,14 @@ refused_asks rows.Load (size ∷ []) options h = refl
 refused_asks rows.Load (size ∷ number ∷ []) options h =
     load_twice (number_of 1 most_size size) (number_of 0 most_number number) (option_in (codes "budget") options) (h refl)
 refused_asks rows.Load (size ∷ number ∷ w ∷ ws) options h = refl
+refused_asks rows.Verify [] options h = refl
+refused_asks rows.Verify (g ∷ []) options h = refl
+refused_asks rows.Verify (g ∷ i ∷ []) options h = refl
+refused_asks rows.Verify (g ∷ i ∷ f ∷ []) options h = let e : true ≡ false = h refl in absurd (cc)
+refused_asks rows.Verify (g ∷ i ∷ f ∷ w ∷ ws) options h = refl
+refused_asks rows.Analyse [] options h = refl
+refused_asks rows.Analyse (g ∷ []) options h = let e : true ≡ false = h refl in absurd (cc)
+refused_asks rows.Analyse (g ∷ i ∷ ws) options h = refl
 
 row_refused : (r : Row) (p : Parts) → IsRefused (places_of r) (names_of r) p → row (names_of r) (asked r) p ≡ None
 row_refused r p h = by_test (are_among (names_of r) p.options) refl
@@ -289,6 +318,8 @@ all_named rows.Forest = refl
 all_named rows.Trees = refl
 all_named rows.Query = refl
 all_named rows.Load = refl
+all_named rows.Verify = refl
+all_named rows.Analyse = refl
 
 row_unread : (r : Row) (ws : List (List ℕ)) (p : Parts) → parts_of ws ≡ Some p → list_all may_stand ws ≡ false →
     row (names_of r) (asked r) p ≡ None

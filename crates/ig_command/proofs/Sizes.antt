@@ -7,8 +7,8 @@ use Rattle.std.proofs.lemmas.Option.{same_Some}
 use Rattle.ig_text.specs.Words.{is_digit}
 use Rattle.ig_expr.specs.Reading.{spelled}
 use Rattle.ig_command.specs.Words.{Parts, Setting, parts_of}
-use Rattle.ig_command.specs.Commands.{Request, check, show, core, forest, trees, query, load, IsCommand, request_of, request_with, row, are_among, number_of, most_size, most_number}
-use Rattle.ig_command.specs.Commands.{budget_in, listing_in, question_in, for_grammar, for_forest, for_trees, for_query, for_load}
+use Rattle.ig_command.specs.Commands.{Request, check, show, core, forest, trees, query, load, verify, analyse, IsCommand, request_of, request_with, row, are_among, number_of, most_size, most_number}
+use Rattle.ig_command.specs.Commands.{budget_in, listing_in, question_in, for_grammar, for_forest, for_trees, for_query, for_load, for_verify}
 use Rattle.ig_command.specs.Rows.{asked, names_of, row_of}
 use Rattle.ig_command.specs.declared.rows.Row.{Row}
 use Rattle.ig_command.specs.declared.rows.Row.TheVariants as rows
@@ -99,6 +99,13 @@ load_fits (s ∷ n ∷ []) options =
     (λ number read. mapped_fits (load size number) (budget_in options) (λ b. number_fits 1 most_size size s found)))
 load_fits (s ∷ n ∷ h ∷ others) options = none_fits
 
+verify_fits : (words : List (List ℕ)) (options : List Setting) → AllFit (for_verify words options)
+verify_fits [] options = none_fits
+verify_fits (g ∷ []) options = none_fits
+verify_fits (g ∷ i ∷ []) options = none_fits
+verify_fits (g ∷ i ∷ f ∷ []) options = some_fits (verify g i f) tt
+verify_fits (g ∷ i ∷ f ∷ h ∷ others) options = none_fits
+
 asked_fits : (r : Row) (words : List (List ℕ)) (options : List Setting) → AllFit (asked r words options)
 asked_fits rows.Check words options = grammar_fits check words options (λ g. tt)
 asked_fits rows.Show words options = grammar_fits show words options (λ g. tt)
@@ -107,6 +114,8 @@ asked_fits rows.Forest words options = forest_fits words options
 asked_fits rows.Trees words options = trees_fit words options
 asked_fits rows.Query words options = query_fits words options
 asked_fits rows.Load words options = load_fits words options
+asked_fits rows.Verify words options = verify_fits words options
+asked_fits rows.Analyse words options = grammar_fits analyse words options (λ g. tt)
 
 named_fits : (name : List ℕ) (p : Parts) → AllFit (request_with name p)
 named_fits name p r e =

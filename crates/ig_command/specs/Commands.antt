@@ -44,6 +44,10 @@ pub data Request : Type 0 where
   query : (grammar input : List ℕ) (budget : ℕ) (question : Question) → Request
   -- the numbers of the forest of a grammar and an input that are made
   load : (size number budget : ℕ) → Request
+  -- that a forest of the grammar and the input is checked, which its text tells
+  verify : (grammar input text : List ℕ) → Request
+  -- the facts of the grammar's nonterminals
+  analyse : (grammar : List ℕ) → Request
 
 -- the names of the files that a command reads, the grammar's first
 abbrev pub files_of : Request → List (List ℕ)
@@ -54,6 +58,8 @@ files_of (forest grammar input budget) = grammar ∷ input ∷ []
 files_of (trees grammar input budget listing) = grammar ∷ input ∷ []
 files_of (query grammar input budget question) = grammar ∷ input ∷ []
 files_of (load size number budget) = []
+files_of (verify grammar input text) = grammar ∷ input ∷ text ∷ []
+files_of (analyse grammar) = grammar ∷ []
 
 -- the name of the grammar, where one is read
 abbrev pub grammar_file : Request → Option (List ℕ)
@@ -64,6 +70,20 @@ grammar_file (forest grammar input budget) = Some grammar
 grammar_file (trees grammar input budget listing) = Some grammar
 grammar_file (query grammar input budget question) = Some grammar
 grammar_file (load size number budget) = None
+grammar_file (verify grammar input text) = Some grammar
+grammar_file (analyse grammar) = Some grammar
+
+-- the name of the input, where one is read
+abbrev pub input_file : Request → Option (List ℕ)
+input_file (check grammar) = None
+input_file (show grammar) = None
+input_file (core grammar) = None
+input_file (forest grammar input budget) = Some input
+input_file (trees grammar input budget listing) = Some input
+input_file (query grammar input budget question) = Some input
+input_file (load size number budget) = None
+input_file (verify grammar input text) = Some input
+input_file (analyse grammar) = None
 
 -- the limits of numbers, and the numbers that are meant where an option doesn't stand
 abbrev pub usual_budget : ℕ
@@ -172,6 +192,10 @@ for_load (size ∷ number ∷ []) options =
     (number_of 0 most_number number)) (number_of 1 most_size size)
 for_load words options = None
 
+abbrev pub for_verify : List (List ℕ) → List Setting → Option Request
+for_verify (grammar ∷ input ∷ text ∷ []) options = Some (verify grammar input text)
+for_verify words options = None
+
 -- each option has one of the names
 abbrev pub are_among : List (List ℕ) → List Setting → Bool
 are_among names options = list_all (λ option. list_any (is_word option.name) names) options
@@ -191,7 +215,9 @@ request_with name =
     then row (codes "budget" ∷ codes "depth" ∷ codes "count" ∷ codes "after" ∷ []) for_trees
     else (if is_word name (codes "query") then row (codes "budget" ∷ codes "what" ∷ codes "name" ∷ []) for_query
     else (if is_word name (codes "load") then row (codes "budget" ∷ []) for_load
-    else (λ parts. None)))))))
+    else (if is_word name (codes "verify") then row [] for_verify
+    else (if is_word name (codes "analyse") then row [] (for_grammar analyse)
+    else (λ parts. None)))))))))
 
 -- the request of the words: first the name of a command, then positional words and options in any order; none exactly where
 -- they are no command
@@ -221,6 +247,8 @@ stored_request (stored.Forest grammar input budget) = forest grammar.now input.n
 stored_request (stored.Trees grammar input budget listing) = trees grammar.now input.now budget (stored_listing listing)
 stored_request (stored.Query grammar input budget question) = query grammar.now input.now budget (stored_question question)
 stored_request (stored.Load size number budget) = load size number budget
+stored_request (stored.Verify grammar input text) = verify grammar.now input.now text.now
+stored_request (stored.Analyse grammar) = analyse grammar.now
 
 -- the words are this command, or none
 abbrev pub Reads : List (List ℕ) → Option Command → Type 0

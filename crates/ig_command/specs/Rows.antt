@@ -5,8 +5,8 @@ use Rattle.clap.specs.Words.{App, Rule, new_app, new_rule, first_value, found_of
 use Rattle.clap.specs.declared.parser.matches.ArgMatches.{ArgMatches}
 use Rattle.ig_text.specs.Words.{is_word}
 use Rattle.ig_command.specs.Words.{Parts, Setting, is_equals, is_long, is_value}
-use Rattle.ig_command.specs.Commands.{Listing, Question, Request, are_among, for_forest, for_grammar, for_load, for_query, for_trees, listing_with, most_budget, most_count, most_depth, most_number, most_size, number_if, number_of, number_or, option_in, question_with, usual_budget, usual_count}
-use Rattle.ig_command.specs.Commands.{check, show, core, forest, trees, query, load}
+use Rattle.ig_command.specs.Commands.{Listing, Question, Request, are_among, for_forest, for_grammar, for_load, for_query, for_trees, for_verify, listing_with, most_budget, most_count, most_depth, most_number, most_size, number_if, number_of, number_or, option_in, question_with, usual_budget, usual_count}
+use Rattle.ig_command.specs.Commands.{check, show, core, forest, trees, query, load, verify, analyse}
 use Rattle.ig_command.specs.declared.rows.Row.{Row}
 use Rattle.ig_command.specs.declared.rows.Row.TheVariants as rows
 
@@ -19,7 +19,9 @@ row_of name =
     else (if is_word name (codes "forest") then Some rows.Forest
     else (if is_word name (codes "trees") then Some rows.Trees
     else (if is_word name (codes "query") then Some rows.Query
-    else (if is_word name (codes "load") then Some rows.Load else None))))))
+    else (if is_word name (codes "load") then Some rows.Load
+    else (if is_word name (codes "verify") then Some rows.Verify
+    else (if is_word name (codes "analyse") then Some rows.Analyse else None))))))))
 
 -- the ids of its positional words, in order
 abbrev pub places_of : Row → List (List ℕ)
@@ -30,6 +32,8 @@ places_of rows.Forest = codes "G" ∷ codes "I" ∷ []
 places_of rows.Trees = codes "G" ∷ codes "I" ∷ []
 places_of rows.Query = codes "G" ∷ codes "I" ∷ []
 places_of rows.Load = codes "SIZE" ∷ codes "NUMBER" ∷ []
+places_of rows.Verify = codes "G" ∷ codes "I" ∷ codes "F" ∷ []
+places_of rows.Analyse = codes "G" ∷ []
 
 -- the names of its options
 abbrev pub names_of : Row → List (List ℕ)
@@ -40,6 +44,8 @@ names_of rows.Forest = codes "budget" ∷ []
 names_of rows.Trees = codes "budget" ∷ codes "depth" ∷ codes "count" ∷ codes "after" ∷ []
 names_of rows.Query = codes "budget" ∷ codes "what" ∷ codes "name" ∷ []
 names_of rows.Load = codes "budget" ∷ []
+names_of rows.Verify = []
+names_of rows.Analyse = []
 
 -- what its parts ask for
 abbrev pub asked : Row → List (List ℕ) → List Setting → Option Request
@@ -50,6 +56,8 @@ asked rows.Forest = for_forest
 asked rows.Trees = for_trees
 asked rows.Query = for_query
 asked rows.Load = for_load
+asked rows.Verify = for_verify
+asked rows.Analyse = for_grammar analyse
 
 -- a positional word that has to stand, and an option, as arguments of `clap`
 abbrev pub place : List ℕ → Rule
@@ -77,6 +85,9 @@ for_one ask find = option_map ask (find (codes "G"))
 
 abbrev pub with_both : (List ℕ → List ℕ → Option Request) → Option (List ℕ) → Option (List ℕ) → Option Request
 with_both ask first second = option_and_then (λ a. option_and_then (ask a) second) first
+
+abbrev pub with_three : (List ℕ → List ℕ → List ℕ → Option Request) → Option (List ℕ) → Option (List ℕ) → Option (List ℕ) → Option Request
+with_three ask first second third = option_and_then (λ a. option_and_then (λ b. option_and_then (ask a b) third) second) first
 
 abbrev pub budget_found : Finds → Option ℕ
 budget_found find = number_or usual_budget 1 most_budget (find (codes "budget"))
@@ -106,6 +117,9 @@ found_request rows.Query find =
 found_request rows.Load find =
     with_both (λ size number. option_and_then (λ s. option_and_then (λ n. option_map (load s n) (budget_found find))
     (number_of 0 most_number number)) (number_of 1 most_size size)) (find (codes "SIZE")) (find (codes "NUMBER"))
+found_request rows.Verify find =
+    with_three (λ g i f. Some (verify g i f)) (find (codes "G")) (find (codes "I")) (find (codes "F"))
+found_request rows.Analyse find = for_one analyse find
 
 abbrev pub is_empty : List ℕ → Bool
 is_empty [] = true

@@ -95,6 +95,16 @@ pub enum Command<'a> {
         number: u64,
         budget: u32,
     },
+    /// That a forest of the grammar and the input, which its text tells, is checked.
+    Verify {
+        grammar: &'a str,
+        input: &'a str,
+        forest: &'a str,
+    },
+    /// The facts of the grammar's nonterminals.
+    Analyse {
+        grammar: &'a str,
+    },
 }
 
 /// The command that the words are, as the table of commands says: a name, then positional words and
@@ -130,6 +140,8 @@ fn command_in<'a>(row: Row, matches: &ArgMatches<'a>) -> Option<Command<'a>>
         Row::Trees => trees_command(matches),
         Row::Query => query_command(matches),
         Row::Load => load_command(matches),
+        Row::Verify => verify_command(matches),
+        Row::Analyse => analyse_command(matches),
     }
 }
 
@@ -224,6 +236,30 @@ fn load_command<'a>(matches: &ArgMatches<'a>) -> Option<Command<'a>>
         number,
         budget,
     })
+}
+
+/// The command that checks a forest.
+fn verify_command<'a>(matches: &ArgMatches<'a>) -> Option<Command<'a>>
+    ensures { option_map stored_request result
+        ≡ found_request Row.Verify (first_value (found_of matches.now)) }
+{
+    let grammar = matches.get_str("G")?;
+    let input = matches.get_str("I")?;
+    let forest = matches.get_str("F")?;
+    Some(Command::Verify {
+        grammar,
+        input,
+        forest,
+    })
+}
+
+/// The command for the facts of the grammar's nonterminals.
+fn analyse_command<'a>(matches: &ArgMatches<'a>) -> Option<Command<'a>>
+    ensures { option_map stored_request result
+        ≡ found_request Row.Analyse (first_value (found_of matches.now)) }
+{
+    let grammar = matches.get_str("G")?;
+    Some(Command::Analyse { grammar })
 }
 
 /// The budget.

@@ -21,6 +21,8 @@ pub(crate) enum Row {
     Trees,
     Query,
     Load,
+    Verify,
+    Analyse,
 }
 
 /// The row of the command of this name.
@@ -47,6 +49,12 @@ pub(crate) fn row_named(name: &str) -> Option<Row>
     }
     if name == "load" {
         return Some(Row::Load);
+    }
+    if name == "verify" {
+        return Some(Row::Verify);
+    }
+    if name == "analyse" {
+        return Some(Row::Analyse);
     }
     None
 }
@@ -91,6 +99,8 @@ fn command_for<'a>(alloc: Global, row: Row) -> Result<Command<'a>, AllocError>
         Row::Trees => trees(alloc),
         Row::Query => query(alloc),
         Row::Load => load(alloc),
+        Row::Verify => verify(alloc),
+        Row::Analyse => one_file(alloc),
     }
 }
 
@@ -153,6 +163,16 @@ fn load<'a>(alloc: Global) -> Result<Command<'a>, AllocError>
     let size = with_place(alloc, bare(alloc), "SIZE")?;
     let both = with_place(alloc, size, "NUMBER")?;
     with_option(alloc, both, "budget")
+}
+
+/// The command that checks a forest.
+fn verify<'a>(alloc: Global) -> Result<Command<'a>, AllocError>
+    ensures { IfOk result (λ c. app_of c ≡ app_with (place (codes "G") ∷ place (codes "I")
+        ∷ place (codes "F") ∷ [])) }
+{
+    let grammar = one_file(alloc)?;
+    let both = with_place(alloc, grammar, "I")?;
+    with_place(alloc, both, "F")
 }
 
 /// A command with no arguments. It has no help flag: `--help` is an option as any other.

@@ -1,12 +1,12 @@
 -- The notes of a command, each a line.
-use Rattle.std.specs.Prelude.{ℕ, List, [], ◌++◌, codes}
+use Rattle.std.specs.Prelude.{ℕ, Bool, true, false, List, [], ◌++◌, codes}
 use Rattle.std.specs.Fmt.{decimal}
 use Rattle.ig_text.specs.Lines.{line_end}
 use Rattle.ig_text.specs.declared.text.TextFault.{TextFault}
 use Rattle.ig_text.specs.declared.text.TextFault.TheVariants as text_fault
 
 abbrev pub usage_note : List ℕ
-usage_note = codes "usage: iguana (check|show|core) G | (forest|trees|query) G I | load SIZE NUMBER" ++ line_end
+usage_note = codes "usage: iguana (check|show|core) G | (forest|trees|query) G I | load SIZE NUMBER | verify G I F | analyse G" ++ line_end
 
 abbrev pub cannot_read_note : List ℕ → List ℕ
 cannot_read_note name = codes "cannot read " ++ (name ++ line_end)
@@ -31,6 +31,17 @@ depth_needed_note = codes "depth needed: the forest is cyclic" ++ line_end
 
 abbrev pub no_cursor_note : List ℕ
 no_cursor_note = codes "no such cursor" ++ line_end
+
+-- the node or the item of that number breaks that rule
+abbrev pub not_sound_note : Bool → ℕ → ℕ → List ℕ
+not_sound_note false number rule = codes "not sound: node " ++ ((decimal number ++ (codes " rule " ++ decimal rule)) ++ line_end)
+not_sound_note true number rule = codes "not sound: item " ++ ((decimal number ++ (codes " rule " ++ decimal rule)) ++ line_end)
+
+abbrev pub long_forest_note : List ℕ
+long_forest_note = codes "forest: too long" ++ line_end
+
+abbrev pub no_forest_note : List ℕ
+no_forest_note = codes "forest: not a forest" ++ line_end
 
 abbrev pub cannot_write_note : List ℕ
 cannot_write_note = codes "cannot write" ++ line_end

@@ -3,6 +3,7 @@
 ghost use Rattle.std.specs.Prelude.{◌≡◌, ◌++◌, OnOk, codes};
 ghost use Rattle.std.specs.Fmt.{decimal};
 ghost use Rattle.ig_endings.specs.Notes.{depth_needed_note, no_cursor_note, no_parse_note};
+ghost use Rattle.ig_endings.specs.Notes.{long_forest_note, no_forest_note, not_sound_note};
 ghost use Rattle.ig_endings.specs.Notes.{usage_note};
 ghost use Rattle.ig_endings.specs.Stops.{IsBadAt, IsCannotRead, IsOverBudget, IsTooLong};
 ghost use Rattle.ig_endings.specs.Stops.{RefusesWith, StopsWith};
@@ -15,7 +16,8 @@ use std::alloc::{AllocError, Global};
 
 /// The line of wrong words.
 const USAGE: &[u8] =
-    b"usage: iguana (check|show|core) G | (forest|trees|query) G I | load SIZE NUMBER";
+    b"usage: iguana (check|show|core) G | (forest|trees|query) G I | load SIZE NUMBER | verify G I F \
+        | analyse G";
 
 /// The words are no command: how the program is called.
 pub fn usage(alloc: Global) -> Stop
@@ -109,4 +111,49 @@ pub fn no_cursor(alloc: Global) -> Stop
     ensures { StopsWith status.BadCursor no_cursor_note result }
 {
     stop_with(alloc, Status::BadCursor, b"no such cursor", b"")
+}
+
+/// The forest breaks the rule of this number at the item, or else the node, of that number.
+pub fn not_sound(alloc: Global, item: bool, number: u32, rule: u32) -> Stop
+    ensures { StopsWith status.NotSound (not_sound_note item number rule) result }
+{
+    let mut place = Vec::new(alloc);
+    match push_broken(&mut place, number, rule) {
+        Ok(()) => stop_with(
+            alloc,
+            Status::NotSound,
+            if item {
+                b"not sound: item "
+            } else {
+                b"not sound: node "
+            },
+            place.as_slice(),
+        ),
+        Err(error) => Stop::from(error),
+    }
+}
+
+/// Adds the number of a node or an item, and that of the rule that is broken there.
+fn push_broken(text: &mut Vec<u8>, number: u32, rule: u32) -> Result<(), AllocError>
+    ensures { OnOk result (text.new.items
+        ≡ text.old.items ++ (decimal number ++ (codes " rule " ++ decimal rule))) }
+{
+    let mut digits = Buffer::new();
+    text.extend_from_slice(digits.format(number).as_bytes())?;
+    text.extend_from_slice(b" rule ")?;
+    text.extend_from_slice(digits.format(rule).as_bytes())
+}
+
+/// The text of a forest is too long.
+pub fn long_forest(alloc: Global) -> Stop
+    ensures { StopsWith status.NotForest long_forest_note result }
+{
+    stop_with(alloc, Status::NotForest, b"forest: too long", b"")
+}
+
+/// The text is that of no forest.
+pub fn no_forest(alloc: Global) -> Stop
+    ensures { StopsWith status.NotForest no_forest_note result }
+{
+    stop_with(alloc, Status::NotForest, b"forest: not a forest", b"")
 }

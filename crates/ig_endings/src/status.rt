@@ -27,6 +27,10 @@ pub enum Status {
     BadCursor,
     /// A depth is wanted, since the forest is cyclic.
     DepthNeeded,
+    /// The forest of a text breaks a rule.
+    NotSound,
+    /// The text isn't that of a forest.
+    NotForest,
 }
 
 impl Status {
@@ -46,6 +50,8 @@ impl Status {
             Status::NoMemory => 8,
             Status::BadCursor => 9,
             Status::DepthNeeded => 10,
+            Status::NotSound => 12,
+            Status::NotForest => 13,
         }
     }
 }

@@ -14,8 +14,11 @@ use Rattle.ig_notation.specs.declared.fault.Large.TheVariants as large
 use Rattle.ig_sources.specs.Refusals.{large_text, too_many}
 use Rattle.ig_endings.specs.declared.stop.Stop.{Stop}
 use Rattle.ig_endings.specs.declared.stop.Stop.TheVariants as halt
-use Rattle.ig_endings.specs.Stops.{IsCannotRead, RefusesWith, IsTooLong}
-use Rattle.ig_sources.specs.Sources.{MayGive, missing, unread, refused, ReadsGrammar, ReadsInput, GivesGrammar, GivesInput}
+use Rattle.ig_endings.specs.Notes.{long_forest_note}
+use Rattle.ig_endings.specs.Stops.{IsCannotRead, RefusesWith, IsTooLong, StopsWith}
+use Rattle.ig_endings.specs.declared.status.Status.{Status}
+use Rattle.ig_endings.specs.declared.status.Status.TheVariants as status
+use Rattle.ig_sources.specs.Sources.{MayGive, missing, unread, refused, ReadsGrammar, ReadsInput, GivesGrammar, GivesInput, GivesForest, StopsFile, IsLongForest, most_forest_bytes}
 
 -- the shelf may give what it gave
 pub given : (told : Told) (most : ℕ) (v : Vec ℕ Global) → AnswersFetch told most (Ok v) → MayGive told v.items
@@ -58,17 +61,16 @@ grammar_long told name old new (halt.Note s line) a e h =
     (record { text = large_text large.Bytes; refused = too_many long.1.1; status_is = h.0; note_is = h.1 })
 grammar_long told name old new halt.Memory a e h = inl e
 
-pub grammar_unread : (told : Told) (name : List ℕ) (old new : ℕ) (stop : Stop) → Rose old new →
-    IsCannotRead name stop → GivesGrammar told name old new (Err stop)
-grammar_unread told name old new (halt.Note s line) rose h = unread s line.items rose h.0 h.1
-grammar_unread told name old new halt.Memory rose h = inr rose
+-- the file can't be read
+module _ (told : Told) (name : List ℕ) (old new : ℕ) (Refused : List ℕ → Status → List ℕ → Type 0) where
+  pub file_unread : (stop : Stop) → Rose old new → IsCannotRead name stop → StopsFile told name old new Refused stop
+  file_unread (halt.Note s line) rose h = unread s line.items rose h.0 h.1
+  file_unread halt.Memory rose h = inr rose
 
-pub grammar_missing : (told : Told) (name : List ℕ) (most old new : ℕ) (stop : Stop) →
-    AnswersFetch told most (Err fetch.Missing) → new ≡ old → IsCannotRead name stop →
-    GivesGrammar told name old new (Err stop)
-grammar_missing told name most old new (halt.Note s line) a e h =
-    missing s line.items e (missing_is_told told most a) h.0 h.1
-grammar_missing told name most old new halt.Memory a e h = inl e
+  pub file_missing : (most : ℕ) (stop : Stop) → AnswersFetch told most (Err fetch.Missing) → new ≡ old → IsCannotRead name stop →
+      StopsFile told name old new Refused stop
+  file_missing most (halt.Note s line) a e h = missing s line.items e (missing_is_told told most a) h.0 h.1
+  file_missing most halt.Memory a e h = inl e
 
 pub input_given : (told : Told) (name xs : List ℕ) (most old new : ℕ) (v : Vec ℕ Global) (r : Result Text Stop) →
     AnswersFetch told most (Ok v) → new ≡ old → xs ≡ v.items → ReadsInput xs r → GivesInput told name old new r
@@ -85,14 +87,14 @@ input_long told name old new (halt.Note s line) a e h =
     (record { fault = text_fault.TooLong; faulty = inl long.1.1; cause = λ i. cc; status_is = h.0; note_is = h.1 })
 input_long told name old new halt.Memory a e h = inl e
 
-pub input_unread : (told : Told) (name : List ℕ) (old new : ℕ) (stop : Stop) → Rose old new →
-    IsCannotRead name stop → GivesInput told name old new (Err stop)
-input_unread told name old new (halt.Note s line) rose h = unread s line.items rose h.0 h.1
-input_unread told name old new halt.Memory rose h = inr rose
+pub forest_given : (told : Told) (name : List ℕ) (old new : ℕ) (v : Vec ℕ Global) → AnswersFetch told most_forest_bytes (Ok v) →
+    new ≡ old → GivesForest told name old new (Ok v)
+forest_given told name old new v a e = (e, given told most_forest_bytes v a, given_few told most_forest_bytes v a)
 
-pub input_missing : (told : Told) (name : List ℕ) (most old new : ℕ) (stop : Stop) →
-    AnswersFetch told most (Err fetch.Missing) → new ≡ old → IsCannotRead name stop →
-    GivesInput told name old new (Err stop)
-input_missing told name most old new (halt.Note s line) a e h =
-    missing s line.items e (missing_is_told told most a) h.0 h.1
-input_missing told name most old new halt.Memory a e h = inl e
+pub forest_long : (told : Told) (name : List ℕ) (old new : ℕ) (stop : Stop) →
+    AnswersFetch told most_forest_bytes (Err fetch.Long) → new ≡ old → StopsWith status.NotForest long_forest_note stop →
+    GivesForest told name old new (Err stop)
+forest_long told name old new (halt.Note s line) a e h =
+    let long = given_long told most_forest_bytes a in
+    refused s line.items long.0 e long.1.0 (record { many = long.1.1; status_is = h.0; note_is = h.1 })
+forest_long told name old new halt.Memory a e h = inl e

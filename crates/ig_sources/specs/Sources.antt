@@ -1,5 +1,6 @@
 -- What comes of the files that a command names: a grammar, an input, or where it stops.
-use Rattle.std.specs.Prelude.{◌≡◌, ◌≢◌, ℕ, List, Result, Ok, Err}
+use Rattle.std.specs.Prelude.{◌≡◌, ◌≢◌, ℕ, ◌<◌, ◌≤◌, List, length, Result, Ok, Err, Vec}
+use Rattle.std.specs.declared.alloc.Global.{Global}
 use Rattle.ig_text.specs.Decoding.{IsDecoded, IsFaulty}
 use Rattle.ig_text.specs.declared.text.Text.{Text}
 use Rattle.ig_text.specs.declared.text.TextFault.{TextFault}
@@ -10,7 +11,7 @@ use Rattle.ig_outside.specs.Told.{Told, silent, nothing, bytes}
 use Rattle.ig_grammar.specs.Checked.{CheckedGrammar}
 use Rattle.ig_core_laws.specs.Notation.{unchanged}
 use Rattle.ig_endings.specs.Change.{Change, Stood}
-use Rattle.ig_endings.specs.Notes.{cannot_read_note, grammar_note, input_note}
+use Rattle.ig_endings.specs.Notes.{cannot_read_note, grammar_note, input_note, long_forest_note}
 use Rattle.ig_endings.specs.declared.status.Status.{Status}
 use Rattle.ig_endings.specs.declared.status.Status.TheVariants as status
 use Rattle.ig_endings.specs.declared.stop.Stop.{Stop}
@@ -57,6 +58,16 @@ ReadsInput xs (Ok text) = IsDecoded xs text
 ReadsInput xs (Err (halt.Note s line)) = IsNoInput xs s line.items
 ReadsInput xs (Err halt.Memory) = Unit {0}
 
+-- how many bytes the text of a forest may have
+abbrev pub most_forest_bytes : ℕ
+most_forest_bytes = 268435456
+
+-- the bytes are too many for the text of a forest
+pub record IsLongForest (xs : List ℕ) (s : Status) (note : List ℕ) : Type 0 where
+  pub many : most_forest_bytes < length xs
+  pub status_is : s ≡ status.NotForest
+  pub note_is : note ≡ long_forest_note
+
 -- why a file that was to be fetched gave nothing, by what the shelf tells of it and its counts of
 -- faults; `Refused` says which bytes are refused with a status and a line
 pub data StopsAt (told : Told) (name : List ℕ) (old new : ℕ) (Refused : List ℕ → Status → List ℕ → Type 0) : Status → List ℕ → Type 0 where
@@ -67,18 +78,27 @@ pub data StopsAt (told : Told) (name : List ℕ) (old new : ℕ) (Refused : List
   refused : (s : Status) (note xs : List ℕ) → new ≡ old → MayGive told xs → Refused xs s note →
       StopsAt told name old new Refused s note
 
+-- where such a file stops the command
+abbrev pub StopsFile : Told → List ℕ → ℕ → ℕ → (List ℕ → Status → List ℕ → Type 0) → Stop → Type 0
+StopsFile told name old new Refused (halt.Note s line) = StopsAt told name old new Refused s line.items
+StopsFile told name old new Refused halt.Memory = Stood old new
+
 -- a file that is to be a grammar
 abbrev pub GivesGrammar : Told → List ℕ → ℕ → ℕ → Result CheckedGrammar Stop → Type 0
 GivesGrammar told name old new (Ok checked) =
     (new ≡ old) × ((xs : List ℕ) × MayGive told xs × IsWrittenIn xs checked)
-GivesGrammar told name old new (Err (halt.Note s line)) = StopsAt told name old new IsNoGrammar s line.items
-GivesGrammar told name old new (Err halt.Memory) = Stood old new
+GivesGrammar told name old new (Err stop) = StopsFile told name old new IsNoGrammar stop
 
 -- a file that is to be an input
 abbrev pub GivesInput : Told → List ℕ → ℕ → ℕ → Result Text Stop → Type 0
 GivesInput told name old new (Ok text) = (new ≡ old) × ((xs : List ℕ) × MayGive told xs × IsDecoded xs text)
-GivesInput told name old new (Err (halt.Note s line)) = StopsAt told name old new IsNoInput s line.items
-GivesInput told name old new (Err halt.Memory) = Stood old new
+GivesInput told name old new (Err stop) = StopsFile told name old new IsNoInput stop
+
+-- the bytes of a file that is to be the text of a forest
+abbrev pub GivesForest : Told → List ℕ → ℕ → ℕ → Result (Vec ℕ Global) Stop → Type 0
+GivesForest told name old new (Ok text) =
+    (new ≡ old) × MayGive told text.items × (length text.items ≤ most_forest_bytes)
+GivesForest told name old new (Err stop) = StopsFile told name old new IsLongForest stop
 
 -- what is loaded from the shelf under the name
 abbrev pub LoadsGrammar : Change ShelfState → List ℕ → Result CheckedGrammar Stop → Type 0
@@ -86,3 +106,6 @@ LoadsGrammar shelf name = GivesGrammar (shelf.before.holds name) name shelf.befo
 
 abbrev pub LoadsInput : Change ShelfState → List ℕ → Result Text Stop → Type 0
 LoadsInput shelf name = GivesInput (shelf.before.holds name) name shelf.before.faults shelf.after.faults
+
+abbrev pub LoadsForest : Change ShelfState → List ℕ → Result (Vec ℕ Global) Stop → Type 0
+LoadsForest shelf name = GivesForest (shelf.before.holds name) name shelf.before.faults shelf.after.faults

@@ -1,8 +1,9 @@
 //! What comes of the files that a command names: a grammar, a text, or where the command stops.
 //!
 //! [`load_grammar`] fetches a file from a shelf and gives the well-scoped grammar that it is the
-//! text of; [`load_input`] gives the text of an input. Where there is none, the command stops with
-//! the line of the first test that fails (`specs/Refusals.antt`, by the texts of `ig_refusals`).
+//! text of; [`load_input`] gives the text of an input, and [`load_forest`] the bytes of what is to be
+//! the text of a forest. Where there is none, the command stops with the line of the first test that
+//! fails (`specs/Refusals.antt`, by the texts of `ig_refusals`).
 //! Each grammar that is read can be built, which [`read_grammars_are_buildable`] says;
 //! `specs/Accepted.antt` says which are accepted.
 #![tactic(auto)]
@@ -12,4 +13,4 @@ mod laws;
 mod load;
 
 pub use laws::{read_grammars_are_buildable, read_grammars_stay_regular};
-pub use load::{load_grammar, load_input};
+pub use load::{MOST_FOREST_BYTES, load_forest, load_grammar, load_input};

@@ -1,15 +1,18 @@
 //! Fetching and reading the files of a command.
 ghost use Rattle.std.specs.Prelude.{◌≡◌, ℕ, List};
 ghost use Rattle.ig_endings.specs.Change.{change, Fetched};
-ghost use Rattle.ig_sources.specs.Sources.{LoadsGrammar, LoadsInput, ReadsInput};
+ghost use Rattle.ig_sources.specs.Sources.{LoadsForest, LoadsGrammar, LoadsInput, ReadsInput};
 
 use crate::grammar_text::{read_grammar, too_large};
-use ig_endings::{Stop, cannot_read, not_utf8, too_long};
+use ig_endings::{Stop, cannot_read, long_forest, not_utf8, too_long};
 use ig_grammar::Checked;
 use ig_notation::{Large, MOST_BYTES};
 use ig_outside::{FetchFault, Shelf};
 use ig_text::{MOST_BYTES as MOST_INPUT_BYTES, Text, TextFault};
 use std::alloc::Global;
+
+/// How many bytes the text of a forest may have.
+pub const MOST_FOREST_BYTES: u64 = 268_435_456;
 
 /// The well-scoped grammar in the file of that name, which is fetched once.
 ///
@@ -44,6 +47,24 @@ pub fn load_input<F: Shelf>(alloc: Global, shelf: &mut F, name: &str) -> Result<
     match shelf.fetch(alloc, name, MOST_INPUT_BYTES as u64) {
         Ok(bytes) => read_input(alloc, bytes.as_slice()),
         Err(FetchFault::Long) => Err(too_long(alloc)),
+        Err(FetchFault::Failed) => Err(cannot_read(alloc, name)),
+        Err(FetchFault::Missing) => Err(cannot_read(alloc, name)),
+        Err(FetchFault::Memory) => Err(Stop::Memory),
+    }
+}
+
+/// The bytes in the file of that name, which is to be the text of a forest and is fetched once.
+///
+/// Stops with the status `ReadFault` where the shelf holds nothing under the name or fails; with
+/// `NotForest` where there are more than [`MOST_FOREST_BYTES`]; or for want of memory.
+pub fn load_forest<F: Shelf>(alloc: Global, shelf: &mut F, name: &str) -> Result<Vec<u8>, Stop>
+    ensures answer { LoadsForest (change (F.state shelf.old) (F.state shelf.new)) name.now result }
+    ensures counted { Fetched (change (F.state shelf.old) (F.state shelf.new)) 1 }
+    ensures same { (n : List ℕ) → (F.state shelf.new).holds n ≡ (F.state shelf.old).holds n }
+{
+    match shelf.fetch(alloc, name, MOST_FOREST_BYTES) {
+        Ok(bytes) => Ok(bytes),
+        Err(FetchFault::Long) => Err(long_forest(alloc)),
         Err(FetchFault::Failed) => Err(cannot_read(alloc, name)),
         Err(FetchFault::Missing) => Err(cannot_read(alloc, name)),
         Err(FetchFault::Memory) => Err(Stop::Memory),

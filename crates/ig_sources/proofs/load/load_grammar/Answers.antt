@@ -1,6 +1,7 @@
 use Rattle.std.proofs.Common.{◌≤◌, ℕ, List, length, subst, sym}
 use Rattle.ig_syntax.specs.Notation.{most_bytes}
-use Rattle.ig_sources.proofs.Loading.{given_few, grammar_given, grammar_long, grammar_unread, grammar_missing}
+use Rattle.ig_sources.proofs.Loading.{given_few, grammar_given, grammar_long, file_unread, file_missing}
+use Rattle.ig_sources.specs.Sources.{IsNoGrammar}
 use Rattle.ig_sources.proofs.load.load_grammar.Goals as goal
 
 pub returns-in-Ok-clause-answer : goal.returns-in-Ok-clause-answer
@@ -17,13 +18,13 @@ returns-in-Err-Long-clause-answer g c =
 pub returns-in-Err-Failed-clause-answer : goal.returns-in-Err-Failed-clause-answer
 returns-in-Err-Failed-clause-answer g c =
     let cause = rw c.in-Err-Failed.field-0-is at c.in-Err-Failed.ensures.cause in
-    grammar_unread _ c.args.name.now _ _ c.cannot_read.result cause c.cannot_read.ensures
+    file_unread _ c.args.name.now _ _ IsNoGrammar c.cannot_read.result cause c.cannot_read.ensures
 
 pub returns-in-Err-Missing-clause-answer : goal.returns-in-Err-Missing-clause-answer
 returns-in-Err-Missing-clause-answer g c =
     let answer = rw c.in-Err-Missing.field-0-is at c.in-Err-Missing.ensures.answer in
     let cause = rw c.in-Err-Missing.field-0-is at c.in-Err-Missing.ensures.cause in
-    grammar_missing _ c.args.name.now _ _ _ c.cannot_read-in-Err-Missing.result answer cause c.cannot_read-in-Err-Missing.ensures
+    file_missing _ c.args.name.now _ _ IsNoGrammar _ c.cannot_read-in-Err-Missing.result answer cause c.cannot_read-in-Err-Missing.ensures
 
 pub read_grammar-requires : goal.read_grammar-requires
 read_grammar-requires g c =

@@ -1,4 +1,5 @@
-use Rattle.ig_sources.proofs.Loading.{input_given, input_long, input_unread, input_missing}
+use Rattle.ig_sources.proofs.Loading.{input_given, input_long, file_unread, file_missing}
+use Rattle.ig_sources.specs.Sources.{IsNoInput}
 use Rattle.ig_sources.proofs.load.load_input.Goals as goal
 
 pub returns-in-Ok-clause-answer : goal.returns-in-Ok-clause-answer
@@ -15,10 +16,10 @@ returns-in-Err-Long-clause-answer g c =
 pub returns-in-Err-Failed-clause-answer : goal.returns-in-Err-Failed-clause-answer
 returns-in-Err-Failed-clause-answer g c =
     let cause = rw c.in-Err-Failed.field-0-is at c.in-Err-Failed.ensures.cause in
-    input_unread _ c.args.name.now _ _ c.cannot_read.result cause c.cannot_read.ensures
+    file_unread _ c.args.name.now _ _ IsNoInput c.cannot_read.result cause c.cannot_read.ensures
 
 pub returns-in-Err-Missing-clause-answer : goal.returns-in-Err-Missing-clause-answer
 returns-in-Err-Missing-clause-answer g c =
     let answer = rw c.in-Err-Missing.field-0-is at c.in-Err-Missing.ensures.answer in
     let cause = rw c.in-Err-Missing.field-0-is at c.in-Err-Missing.ensures.cause in
-    input_missing _ c.args.name.now _ _ _ c.cannot_read-in-Err-Missing.result answer cause c.cannot_read-in-Err-Missing.ensures
+    file_missing _ c.args.name.now _ _ IsNoInput _ c.cannot_read-in-Err-Missing.result answer cause c.cannot_read-in-Err-Missing.ensures
