@@ -1,14 +1,14 @@
 -- A work list that makes numbers by rules.
-use Rattle.std.proofs.Common.{◌≡◌, ◌↔◌, ◌⊎◌, inl, inr, ◌∙◌, ℕ, zero, suc, ◌+◌, ◌-◌, ◌<◌, ◌≤◌, List, [], ◌∷◌, ◌++◌, Some, None, Bool, true, false, Contains, length, take, drop, get_or, set, replicate, slice_get, refl, sym, ap, subst, arith, length-set, length-append, append_assoc, ⊎_elim}
+use Rattle.std.proofs.Common.{◌≡◌, ◌↔◌, ◌⊎◌, inl, inr, ◌∙◌, ℕ, zero, suc, ◌+◌, ◌-◌, ◌<◌, ◌≤◌, List, [], ◌∷◌, ◌++◌, Some, None, Bool, true, false, Contains, length, take, drop, get_or, set, replicate, slice_get, refl, sym, ap, subst, arith, length-set, append_assoc}
 use Rattle.std.specs.Prelude.{◌==◌, if◌then◌else◌}
 use Rattle.std.proofs.lemmas.List.{length-replicate, length_push, get_or-set_same, get_or-set_other, get_or_push, get_or_append_left, append-nil, take_more, take_all, length-take-le}
-use Rattle.std.proofs.lemmas.List.Elements.{Contains-append_left, Contains-append_right}
+use Rattle.std.proofs.lemmas.List.Elements.{Contains-append_left}
 use Rattle.std.proofs.lemmas.Bool.{cases_eq}
 use Rattle.std.proofs.lemmas.Bool.Decides.{nat_tests}
 use Rattle.std.proofs.lemmas.Option.{slice_get_within, slice_get-get_or, get_or_from_slice_get, same_Some}
 use Rattle.std.proofs.Math.Seq.{take-append_seam}
 use Rattle.ig_text.proofs.Orders.{le_or_lt, below_or_at}
-use Rattle.ig_text.proofs.Lists.{none_in_nil, at_from_contains, contains_from_at, contains_first, contains_later, in_rest, in_pushed, get_within, past_end, left_at, place_last, place_cases, it_is_in, split_at, take_at}
+use Rattle.ig_text.proofs.Lists.{none_in_nil, contains_from_at, contains_first, contains_later, in_rest, in_pushed, past_end, place_last, split_at, take_at}
 use Rattle.ig_analyse.specs.Marks.{is_marked, count_marks}
 use Rattle.ig_analyse.specs.Rules.{IsDerived, derive, occurs, AreInside, AreUsers, Marking, Uses, AreMade, IsWork, used_by, IsUsing, Begins, added_users, MarkDerived}
 use Rattle.ig_analyse.specs.declared.rules.Rule.{Rule}

@@ -1,4 +1,4 @@
-use Rattle.std.proofs.Common.{◌≡◌, length, Contains, subst, sym, ◌∙◌, ap, arith}
+use Rattle.std.proofs.Common.{Contains, subst, ◌∙◌, ap, arith}
 use Rattle.ig_analyse.specs.Rules.{added_users}
 use Rattle.ig_analyse.proofs.Counting.{users_begin, users_go, users_end, read_member}
 use Rattle.ig_analyse.proofs.making.users_of.Goals as goal

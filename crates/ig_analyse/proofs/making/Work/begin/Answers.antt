@@ -1,4 +1,4 @@
-use Rattle.std.proofs.Common.{◌≡◌, ◌<◌, length, Some, slice_get, arith}
+use Rattle.std.proofs.Common.{arith}
 use Rattle.ig_analyse.proofs.Counting.{works_begin, works_go, read_member}
 use Rattle.ig_analyse.proofs.making.Work.begin.Goals as goal
 

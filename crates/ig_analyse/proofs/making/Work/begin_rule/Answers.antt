@@ -1,4 +1,4 @@
-use Rattle.std.proofs.Common.{◌≡◌, ◌∷◌, ◌++◌, [], true, false, refl, ◌∙◌, ap}
+use Rattle.std.proofs.Common.{◌∷◌, ◌++◌, [], refl, ◌∙◌, ap}
 use Rattle.ig_analyse.specs.declared.making.Work.{Work}
 use Rattle.ig_analyse.proofs.Counting.{false_not_true}
 use Rattle.ig_analyse.proofs.Going.{ok_by}

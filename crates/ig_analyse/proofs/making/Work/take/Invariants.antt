@@ -1,4 +1,4 @@
-use Rattle.std.proofs.Common.{[], length, take, get_or}
+use Rattle.std.proofs.Common.{length, take}
 use Rattle.ig_analyse.specs.Rules.{IsUsing}
 use Rattle.ig_analyse.proofs.making.Work.take.Given as goal
 

@@ -1,9 +1,8 @@
-use Rattle.std.proofs.Common.{◌≡◌, ◌-◌, get_or, set, slice_get, Some, refl, ◌∙◌, ap, arith}
+use Rattle.std.proofs.Common.{◌≡◌, ◌-◌, get_or, set, refl, ◌∙◌, ap, arith}
 use Rattle.std.specs.Vec.{with_item}
 use Rattle.std.proofs.lemmas.List.{get_or_default}
 use Rattle.std.proofs.lemmas.Option.{slice_get-get_or}
 use Rattle.ig_text.proofs.Lists.{get_within}
-use Rattle.ig_analyse.specs.declared.making.Work.{Work}
 use Rattle.ig_analyse.proofs.Going.{ok_by}
 use Rattle.ig_analyse.proofs.making.Work.use_rule.Goals as goal
 
