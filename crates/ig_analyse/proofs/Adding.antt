@@ -1,5 +1,5 @@
 -- Loops that add to whom the calls of steps lead.
-use Rattle.std.proofs.Common.{◌≡◌, ◌∙◌, ap, sym, refl, ℕ, zero, suc, ◌+◌, ◌<◌, ◌≤◌, List, [], ◌∷◌, ◌++◌, Bool, true, false, if◌then◌else◌, map, drop, length, get_or, append_assoc, arith}
+use Rattle.std.proofs.Common.{◌≡◌, ◌∙◌, ap, sym, refl, ℕ, suc, ◌+◌, ◌<◌, List, [], ◌∷◌, ◌++◌, Bool, true, false, if◌then◌else◌, map, drop, length, get_or, append_assoc, arith}
 use Rattle.std.proofs.lemmas.List.{append-nil, drop_more}
 use Rattle.ig_item.specs.Step.{Step}
 use Rattle.ig_item.specs.View.{step_of}

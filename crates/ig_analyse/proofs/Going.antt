@@ -1,15 +1,14 @@
 -- The steps of a walk along edges, as the functions take them.
-use Rattle.std.proofs.Common.{◌≡◌, ◌↔◌, ◌⊎◌, inl, inr, ◌∙◌, ℕ, zero, suc, ◌+◌, ◌-◌, ◌<◌, ◌≤◌, List, [], ◌∷◌, ◌++◌, Some, None, Bool, true, false, Contains, length, take, get_or, set, replicate, slice_get, refl, sym, ap, subst, arith, length-set, length-append}
+use Rattle.std.proofs.Common.{◌≡◌, ◌↔◌, inl, inr, ◌∙◌, ℕ, zero, suc, ◌+◌, ◌<◌, ◌≤◌, List, [], ◌∷◌, ◌++◌, Some, Bool, true, false, Contains, length, take, get_or, set, replicate, slice_get, refl, sym, ap, subst, arith, length-set, length-append}
 use Rattle.std.specs.Prelude.{OnOk, Result, Ok, Err}
-use Rattle.std.proofs.lemmas.List.{length-replicate, length_push, get_or-set_same, get_or-set_other, get_or_push, get_or_append_left, append-nil}
+use Rattle.std.proofs.lemmas.List.{length-replicate, length_push, get_or-set_same, get_or-set_other}
 use Rattle.std.proofs.lemmas.Bool.{cases_eq}
 use Rattle.std.proofs.lemmas.Option.{slice_get_within, slice_get-get_or, same_Some}
 use Rattle.ig_text.proofs.Orders.{le_or_lt}
-use Rattle.ig_text.proofs.Lists.{none_in_nil, at_from_contains, contains_from_at, get_within, past_end, left_at, place_last, place_cases}
+use Rattle.ig_text.proofs.Lists.{none_in_nil, contains_from_at, get_within}
 use Rattle.ig_analyse.specs.Facts.{Onward, one, further}
 use Rattle.ig_analyse.specs.Marks.{is_marked}
 use Rattle.ig_analyse.specs.Search.{HasEdge, StayInside, MarkOnCycle}
-use Rattle.ig_analyse.specs.Groups as groups
 use Rattle.ig_analyse.specs.Groups.{IsWalk, Walks, Enters, Goes, Rests, IsTop, FromTop, Drops, none, more, EndsBy, Closes, AreOpen, left_to_do, left_to_see}
 use Rattle.ig_analyse.specs.declared.cycles.Group.{Group}
 use Rattle.ig_analyse.specs.declared.cycles.Walk.{Walk}

@@ -1,11 +1,11 @@
 -- A walk along all edges that finds which numbers lead back to themselves.
-use Rattle.std.proofs.Common.{◌≡◌, ◌↔◌, ◌⊎◌, inl, inr, ◌∙◌, ℕ, zero, suc, ◌+◌, ◌<◌, ◌≤◌, List, [], ◌∷◌, ◌++◌, Some, None, Option, Bool, true, false, Contains, length, take, get_or, set, replicate, slice_get, refl, sym, ap, subst, arith, length-set, length-append}
-use Rattle.std.proofs.lemmas.List.{length_push, length-take-le, get_or-set_same, get_or-set_other}
+use Rattle.std.proofs.Common.{◌≡◌, ◌↔◌, ◌⊎◌, inl, inr, ◌∙◌, ℕ, zero, suc, ◌+◌, ◌<◌, ◌≤◌, List, [], ◌∷◌, ◌++◌, Some, None, Option, Bool, true, Contains, length, take, set, slice_get, refl, sym, ap, subst, arith, length-set, length-append}
+use Rattle.std.proofs.lemmas.List.{length_push, length-take-le}
 use Rattle.std.proofs.lemmas.Bool.{cases_eq, cases_order}
 use Rattle.std.proofs.lemmas.List.Elements.{Contains-append_left}
 use Rattle.std.proofs.lemmas.Option.{slice_get_within, same_Some}
 use Rattle.ig_text.proofs.Orders.{le_or_lt}
-use Rattle.ig_text.proofs.Lists.{last_cases, none_in_nil, at_from_contains, contains_from_at, contains_first, contains_one, get_within, left_at, right_at, sides, place_last, place_cases, in_pushed, within_take, in_take, it_is_in}
+use Rattle.ig_text.proofs.Lists.{last_cases, none_in_nil, at_from_contains, contains_from_at, contains_first, contains_one, get_within, left_at, right_at, sides, place_last, place_cases, in_pushed, within_take, in_take}
 use Rattle.ig_analyse.specs.Facts.{Onward, one, further}
 use Rattle.ig_analyse.specs.Marks.{is_marked}
 use Rattle.ig_analyse.specs.Search.{HasEdge}

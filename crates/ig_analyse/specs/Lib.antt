@@ -5,4 +5,5 @@ pub mod Marks
 pub mod Search
 pub mod Rows
 pub mod Groups
+pub mod Rules
 pub mod Laws

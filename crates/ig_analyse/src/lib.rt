@@ -13,8 +13,10 @@ mod cycles;
 mod edges;
 mod facts;
 mod laws;
+mod making;
 mod marks;
-mod rounds;
+mod passing;
+mod rules;
 mod walk;
 
 pub use facts::{Fact, Facts, analyse};

@@ -5,7 +5,7 @@ ghost use Rattle.ig_analyse.specs.Marks.{MarkExactly, MarkFacts};
 
 use crate::cycles::on_cycles;
 use crate::edges::{Leading, rows_of};
-use crate::rounds::made;
+use crate::making::made;
 use crate::walk::found_from;
 use ig_item::Core;
 use std::alloc::{AllocError, Global};

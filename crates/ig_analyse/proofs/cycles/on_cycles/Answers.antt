@@ -1,4 +1,4 @@
-use Rattle.std.proofs.Common.{◌≡◌, length, subst, sym, arith}
+use Rattle.std.proofs.Common.{◌≡◌, length, subst, arith}
 use Rattle.ig_analyse.specs.Groups.{Rests}
 use Rattle.ig_analyse.proofs.Going.{walked}
 use Rattle.ig_analyse.proofs.cycles.on_cycles.Goals as goal

@@ -1,4 +1,4 @@
-use Rattle.std.proofs.Common.{◌≡◌, ◌<◌, length, vec_len, slice_get, slice_index_or, Some, sym, ◌∙◌, arith, rules}
+use Rattle.std.proofs.Common.{◌≡◌, length, vec_len, slice_get, slice_index_or, Some, ◌∙◌, arith, rules}
 use Rattle.std.proofs.lemmas.Option.{slice_get-get_or, slice_get_within}
 use Rattle.ig_analyse.proofs.Going.{still_open, one_shut, same_to_see}
 use Rattle.ig_analyse.proofs.cycles.shut.Goals as goal

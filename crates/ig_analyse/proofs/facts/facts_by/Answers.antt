@@ -1,4 +1,4 @@
-use Rattle.ig_analyse.proofs.Telling.{none_told, one_more_told, all_told}
+use Rattle.ig_analyse.proofs.Telling.{none_told, one_more_told}
 use Rattle.ig_analyse.proofs.facts.facts_by.Goals as goal
 
 pub loop-number-init : goal.loop-number-init

@@ -1,6 +1,5 @@
-use Rattle.std.proofs.Common.{◌≡◌, ◌↔◌, ◌≤◌, ◌<◌, ℕ, suc, true, length, slice_get, Some, sym, ◌∙◌, ap, subst, refl, arith}
+use Rattle.std.proofs.Common.{◌≤◌, ◌<◌, suc, length, slice_get, sym, ◌∙◌, ap, subst, refl, arith}
 use Rattle.std.proofs.lemmas.Option.{slice_get_within}
-use Rattle.ig_analyse.specs.Search.{HasEdge}
 use Rattle.ig_analyse.specs.Groups.{Closes}
 use Rattle.ig_analyse.specs.declared.cycles.Walk.{Walk}
 use Rattle.ig_analyse.proofs.Walking.{in_groups}

@@ -1,4 +1,4 @@
-use Rattle.std.proofs.Common.{sym, ◌∙◌, ap, refl, arith, length, ◌<◌}
+use Rattle.std.proofs.Common.{refl, arith, length, ◌<◌}
 use Rattle.ig_analyse.proofs.Walking.{all_lead}
 use Rattle.ig_analyse.proofs.Going.{entered_goes, joined_goes, closed_goes, read_at, ok_by}
 use Rattle.ig_analyse.proofs.cycles.Walk.follow.Goals as goal

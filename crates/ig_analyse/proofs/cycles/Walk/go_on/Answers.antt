@@ -1,6 +1,5 @@
-use Rattle.std.proofs.Common.{refl}
 use Rattle.ig_analyse.proofs.Walking.{takes, taken_from}
-use Rattle.ig_analyse.proofs.Going.{edge_inside, goes_on, goes_less, took_less, ok_by}
+use Rattle.ig_analyse.proofs.Going.{edge_inside}
 use Rattle.ig_analyse.proofs.cycles.Walk.go_on.Goals as goal
 
 pub follow-requires-clause-target : goal.follow-requires-clause-target
