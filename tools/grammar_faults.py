@@ -383,6 +383,10 @@ def in_declaration(source, stop):
     if "`(`" in stop.wanted and before is not None and (before.is_word("when") or before.is_sign("=")):
         kind = "guard" if before.is_word("when") else "let"
         return [f"The expression of a {kind} stands in parentheses: {'`when (x == 1)`' if kind == 'guard' else '`let x = (1)`'}."], None
+    if source.text.startswith("=>", stop.at):
+        return ["There are no actions, and alternatives have no names: trees are all that a grammar gives."], None
+    if token.is_sign("=") and before is not None and before.end == token.begin and not source.text[token.end : token.end + 1].isspace():
+        return [f"A label stands with a colon before its symbol: `{before.text}: X`."], None
     if token.is_sign("=", ":") and before is not None and before.kind in ("name", "head") and not is_marked(source, before):
         return [f"`{before.text} {token.text}` looks like another declaration: the one before it ends with `;`, and each begins with"
                 " `syntax`, `lexical` or `layout`."], None
