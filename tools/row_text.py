@@ -1,10 +1,11 @@
 """Reads files of worked rows, each a command with what it prints, and tries them.
 
 A file of rows has blocks of lines, parted by empty lines; lines that begin with `#` are comments. A block is one run of
-a command, in a folder with a grammar in the file `g` and an input in the file `i`:
+a command, in a folder with a grammar in the file `g`, an input in the file `i` and the text of a forest in the file `f`:
 
     $ WORDS     the command; else that of the row above
-    g TEXT      a line of the grammar, `i TEXT` one of the input; else that of the row above
+    g TEXT      a line of the grammar, `i TEXT` one of the input, `f TEXT` one of the forest's text; else the last ones
+    - LINE      a line that the last text of a forest has, but not here; `+ LINE` one in its place, or else at the end
     > TEXT      a line that out gets, whole; `>` alone where out gets nothing
     ~ TEXT      a line that out has somewhere, together with the `~` lines below it
     ! TEXT      a line that notes get, whole; without one they get nothing
@@ -12,9 +13,10 @@ a command, in a folder with a grammar in the file `g` and an input in the file `
     & WORDS     a command that ends the same, and that isn't refused for its words
     * TREES     how many trees the forest has: none, one, a number, or more
 
-Lines of a text are parted by a line feed, and out and notes end with one. Behind `g`, `i` and `~` may stand a plus, where
+Lines of a text are parted by a line feed, and out and notes end with one. Behind `g`, `i`, `f` and `~` may stand a plus, where
 the text goes on without a line feed; `*`, where a range `FIRST..LAST` follows and the text comes once for each number of
-it, in place of `{}`, without line feeds; and a backslash, where the text has the escapes of Python.
+it, in place of `{}`, without line feeds; and a backslash, where the text has the escapes of Python. The text of a forest
+ends with a line feed where its last line is `f` alone.
 """
 
 import os
@@ -25,7 +27,7 @@ from forest_text import count_trees, read_forest
 
 NO_PARSE = 1
 USAGE = 2
-LINE = re.compile(r"([$gi>~!=*&])([+*]?)(\\?)(?: (.*))?")
+LINE = re.compile(r"([$gif>~!=*&+-])([+*]?)(\\?)(?: (.*))?")
 RANGE = re.compile(r"(\d+)\.\.(\d+) (.*)")
 
 
@@ -56,8 +58,9 @@ class Row:
 
     def __init__(self, place, command):
         self.place, self.command = place, command
-        self.texts = {mark: Text() for mark in "gi>~!"}
+        self.texts = {mark: Text() for mark in "gif>~!"}
         self.status, self.trees, self.same = 0, None, None
+        self.forest, self.changes = None, []
 
     def read(self, line):
         """Takes a line of the row."""
@@ -68,6 +71,12 @@ class Row:
             self.status = int(text)
         elif mark == "&":
             self.same = shlex.split(text)
+        elif mark == "-":
+            self.changes.append((text, []))
+        elif mark == "+":
+            if not self.changes:
+                self.changes.append((None, []))
+            self.changes[-1][1].append(text)
         elif mark == "*":
             self.trees = text
             self.status = NO_PARSE if text == "none" else 0
@@ -78,8 +87,9 @@ class Row:
         """What is wrong with the run: `run` runs words in a folder."""
         for name in "gi":
             if self.texts[name].data is not None:
-                with open(os.path.join(folder, name), "wb") as file:
-                    file.write(self.texts[name].data)
+                write(folder, name, self.texts[name].data)
+        if self.forest is not None:
+            write(folder, "f", changed(self.forest.decode("utf-8"), self.changes).encode("utf-8"))
         said = run(self.command, folder)
         if self.same:
             yield from flaws_beside(said, run(self.same, folder))
@@ -109,6 +119,21 @@ class Row:
                 yield f"the forest has {'no end of' if number is None else number} trees in place of {self.trees}"
 
 
+def write(folder, name, data):
+    """Writes a file."""
+    with open(os.path.join(folder, name), "wb") as file:
+        file.write(data)
+
+
+def changed(text, changes):
+    """The text with other lines in place of some, or else before its last line, which is empty."""
+    lines = text.split("\n")
+    for old, new in changes:
+        at = lines.index(old) if old is not None else len(lines) - 1
+        lines[at : at + (old is not None)] = new
+    return "\n".join(lines)
+
+
 def is_meant(number, trees):
     """Whether a number of trees, None where there is no end of them, is what a row says of it."""
     if trees == "more":
@@ -127,7 +152,7 @@ def flaws_beside(said, other):
 
 def read_rows(path):
     """The rows of a file."""
-    rows, command, row = [], [], None
+    rows, command, row, forest = [], [], None, None
     name = os.path.basename(path)
     with open(path, encoding="utf-8") as file:
         for number, line in enumerate(file, 1):
@@ -142,4 +167,7 @@ def read_rows(path):
                 rows.append(row)
             row.read(line)
             command = row.command
+            if row.texts["f"].data is not None:
+                forest = row.texts["f"].data
+            row.forest = forest
     return rows

@@ -17,13 +17,15 @@ COMMANDS = {
     "check": (("G",), ()),
     "show": (("G",), ()),
     "core": (("G",), ()),
+    "analyse": (("G",), ()),
     "forest": (("G", "I"), ("budget",)),
     "trees": (("G", "I"), ("budget", "depth", "count", "after")),
     "query": (("G", "I"), ("budget", "what", "name")),
     "load": (("SIZE", "NUMBER"), ("budget",)),
+    "verify": (("G", "I", "F"), ()),
 }
 MOST_SIZE, MOST_NUMBER = 4000, (1 << 64) - 1
-PLACES = {"G": "a grammar", "I": "an input", "SIZE": "a number of operands", "NUMBER": "a number that decides which"}
+PLACES = {"G": "a grammar", "I": "an input", "F": "a forest", "SIZE": "a number of operands", "NUMBER": "a number that decides which"}
 
 
 def said_number(number):
@@ -55,7 +57,7 @@ def unknown_command(name):
     near = difflib.get_close_matches(name.lower(), COMMANDS, 1, 0.5)
     lines = [f"`{name}` is no command. The commands are {listed(COMMANDS)}."]
     if name in ("-h", "--help", "help", "--version"):
-        lines.append("The program has no help of its own; README.md has its commands, and each tool has `--help`.")
+        lines.append("The program has no help of its own; docs/COMMANDS.md has its commands, and each tool has `--help`.")
     elif name in ("parse", "run"):
         lines.append("`forest G I` parses the input I by the grammar G.")
     elif near:
@@ -127,7 +129,7 @@ def place_faults(command, found, places):
         fault = number_fault("SIZE", found[0], 1, MOST_SIZE) or number_fault("NUMBER", found[1], 0, MOST_NUMBER)
         if fault:
             return [fault]
-    return ["I see no fault in these words; README.md has the table of commands."]
+    return ["I see no fault in these words; docs/COMMANDS.md has the table of commands."]
 
 
 def explain_unread(name):
