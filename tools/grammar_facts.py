@@ -148,7 +148,7 @@ class Facts:
         for symbol in symbols:
             if self.begins_one(symbol, char, seen):
                 return True
-            if not self.may_be_empty(symbol):
+            if not self.may_be_empty(symbol) or keeps_away(symbol, char):
                 return False
         return False
 
@@ -192,7 +192,8 @@ class Facts:
 
     def after(self, rest, behind):
         nullable = all(self.may_be_empty(symbol) for symbol in rest)
-        return lambda char, seen: self.may_begin(rest, char) or nullable and behind(char, seen)
+        return lambda char, seen: self.may_begin(rest, char) or (
+            nullable and not any(keeps_away(symbol, char) for symbol in rest) and behind(char, seen))
 
     def sites_of(self, symbol, behind):
         if symbol.form == "call":
@@ -201,9 +202,7 @@ class Facts:
             for alternative in symbol.alternatives:
                 yield from self.sites_in(alternative.symbols, behind)
         elif symbol.form == "filtered":
-            excluded = [token for sign, token in symbol.filters if sign == "!>>"]
-            yield from self.sites_of(symbol.parts[0], lambda char, seen: not any(begins_with(token, char) for token in excluded)
-                                     and behind(char, seen))
+            yield from self.sites_of(symbol.parts[0], lambda char, seen: not keeps_away(symbol, char) and behind(char, seen))
         elif symbol.form in ("star", "plus"):
             yield from self.sites_of(symbol.parts[0], lambda char, seen: self.may_begin(symbol.parts, char) or behind(char, seen))
         elif symbol.form in ("sepstar", "sepplus"):
@@ -218,9 +217,11 @@ class Facts:
         return len(word) in Words(self.grammar, word).ends_of(declaration, 0)
 
 
-def begins_with(token, char):
-    """Whether a match of a pattern may begin with the character, and so a filter may keep it away."""
-    return literal_text(token.text) == char if token.kind == "literal" else class_test(token.text)(char)
+def keeps_away(symbol, char):
+    """Whether a follow filter of a symbol keeps the character away from its end."""
+    return symbol.form == "filtered" and any(
+        sign == "!>>" and (literal_text(token.text) == char if token.kind == "literal" else class_test(token.text)(char))
+        for sign, token in symbol.filters)
 
 
 class Words:
