@@ -4,4 +4,5 @@ pub mod Told
 pub mod Marks
 pub mod Search
 pub mod Rows
+pub mod Groups
 pub mod Laws

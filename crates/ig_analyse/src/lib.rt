@@ -9,6 +9,7 @@
 //! trees have a bounded height.
 #![tactic(auto)]
 
+mod cycles;
 mod edges;
 mod facts;
 mod laws;

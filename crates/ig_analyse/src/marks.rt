@@ -3,9 +3,10 @@ ghost use Rattle.std.specs.Prelude.{length, ◌<◌, IfOk};
 ghost use Rattle.ig_analyse.specs.Facts.{IsCircular, IsLeftRecursive, IsNullable, IsReached};
 ghost use Rattle.ig_analyse.specs.Marks.{MarkExactly, MarkFacts};
 
+use crate::cycles::on_cycles;
 use crate::edges::{Leading, rows_of};
 use crate::rounds::made;
-use crate::walk::{found_from, on_cycles};
+use crate::walk::found_from;
 use ig_item::Core;
 use std::alloc::{AllocError, Global};
 

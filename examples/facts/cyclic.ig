@@ -1,0 +1,3 @@
+start S;
+syntax S = S B | "a";
+syntax B = | "b";

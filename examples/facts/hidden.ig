@@ -1,0 +1,3 @@
+start S;
+syntax S = Mark S "." | "a";
+syntax Mark = | "!";

@@ -1,0 +1,2 @@
+start S;
+syntax S = S "a" | ;

@@ -1,0 +1,3 @@
+start E;
+syntax E = E "+" T | T;
+syntax T = "a" | "(" E ")";
