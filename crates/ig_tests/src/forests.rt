@@ -56,7 +56,7 @@ fn builds_a_forest(rt: HostRuntime) -> Result<(), Fail> {
     let Some(forest) = letter_forest(alloc, b"a")? else {
         return Err(Fail::new("no forest"));
     };
-    let shown = show_forest(alloc, &forest);
+    let shown = show_forest(alloc, forest.tables());
     drop(forest);
     assert_eq!(rt; shown?.as_slice(), FOREST.as_bytes());
     Ok(())

@@ -23,9 +23,9 @@ module _ {A : Type 0} (P : A → Type 0) (xs : List A) where
       elim (split_below k n less) [
         | inl before ↦ below k d before
         | inr same ↦
-          let one : get_or xs n e ≡ get_or xs n d =
-          same_Some _ _ (sym (slice_get-get_or xs n e lt) ∙ slice_get-get_or xs n d lt) in
-          subst (λ (m : ℕ). P (get_or xs m d)) (sym same) (subst P one p)
+            let one : get_or xs n e ≡ get_or xs n d =
+            same_Some _ _ (sym (slice_get-get_or xs n e lt) ∙ slice_get-get_or xs n d lt) in
+            subst (λ (m : ℕ). P (get_or xs m d)) (sym same) (subst P one p)
       ]
 
   pub each_member : (n : ℕ) → length xs ≤ n → EachBelow n → All P xs

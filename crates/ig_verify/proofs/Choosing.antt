@@ -1,8 +1,7 @@
 -- The alternatives of nodes.
-use Rattle.std.proofs.Common.{◌≡◌, ◌↔◌, ℕ, List, Option, Some, IsTrue, Bool, refl, sym, ap, ◌∙◌, subst, slice_get}
+use Rattle.std.proofs.Common.{◌≡◌, ◌↔◌, ℕ, List, Some, IsTrue, Bool, sym, ap, ◌∙◌, subst, slice_get}
 use Rattle.std.specs.Prelude.{option_map, option_and_then}
 use Rattle.std.proofs.lemmas.Option.{same_Some}
-use Rattle.ig_text.specs.declared.tag.Tag.{Tag}
 use Rattle.ig_item.specs.Core.{IsAlternative, alternative_at, numbered}
 use Rattle.ig_item.specs.Gives.{Completes}
 use Rattle.ig_item.specs.declared.core_grammar.Nonterminal.{Nonterminal}
@@ -10,7 +9,6 @@ use Rattle.ig_item.specs.declared.core_grammar.CoreAlt.{CoreAlt}
 use Rattle.ig_forest_tables.specs.Forest.{Forest, Node, ItemNode, item_of}
 use Rattle.ig_forest_tables.specs.declared.entry.Choice.{Choice}
 use Rattle.ig_verify.specs.Sound.{ChoiceFits, key_of}
-
 
 tagged : (core : List Nonterminal) (n a : ℕ) (nonterminal : Nonterminal) (alternative : CoreAlt) →
     IsAlternative core n a nonterminal alternative →
@@ -26,14 +24,14 @@ pub choice_by : (core : List Nonterminal) (f : Forest) (node : Node) (choice : C
     IsTrue b ↔ ChoiceFits core f node choice
 choice_by core f node choice it b at completes tells = (
   λ e.
-    let c = completes.complete in
-    let own = tagged core it.nonterminal it.alternative c.nonterminal c.alternative c.has in
-    record { it = it; there = sym at; completes = completes; tagged = same_Some _ _ (sym (tells.0 e) ∙ own) },
+      let c = completes.complete in
+      let own = tagged core it.nonterminal it.alternative c.nonterminal c.alternative c.has in
+      record { it = it; there = sym at; completes = completes; tagged = same_Some _ _ (sym (tells.0 e) ∙ own) },
   λ fits.
-    let same : fits.it ≡ it = same_Some fits.it it (sym fits.there ∙ sym at) in
-    let c = fits.completes.complete in
-    let own = tagged core fits.it.nonterminal fits.it.alternative c.nonterminal c.alternative c.has in
-    tells.1
-    (subst (λ (x : ItemNode). option_map (λ (a : CoreAlt). a.tag) (alternative_at core x.nonterminal x.alternative) ≡ Some choice.tag)
-    same (own ∙ ap Some (sym fits.tagged))),
+      let same : fits.it ≡ it = same_Some fits.it it (sym fits.there ∙ sym at) in
+      let c = fits.completes.complete in
+      let own = tagged core fits.it.nonterminal fits.it.alternative c.nonterminal c.alternative c.has in
+      tells.1
+      (subst (λ (x : ItemNode). option_map (λ (a : CoreAlt). a.tag) (alternative_at core x.nonterminal x.alternative) ≡ Some choice.tag)
+      same (own ∙ ap Some (sym fits.tagged))),
 )

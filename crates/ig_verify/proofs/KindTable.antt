@@ -1,5 +1,5 @@
 -- The kinds at the dots of an alternative: those behind its last step, as far as a dot sees them.
-use Rattle.std.proofs.Common.{◌≡◌, ℕ, zero, suc, ◌+◌, ◌-◌, ◌<◌, ◌≤◌, ◌++◌, List, [], ◌∷◌, Option, Some, None, Bor, refl, sym, ap, ap₂, ◌∙◌, subst, slice_get, length, map, take, drop, get_or, arith}
+use Rattle.std.proofs.Common.{◌≡◌, ℕ, zero, suc, ◌+◌, ◌-◌, ◌≤◌, ◌++◌, List, [], ◌∷◌, Option, Some, None, Bor, refl, sym, ap, ap₂, ◌∙◌, subst, slice_get, length, map, take, drop, arith}
 use Rattle.std.specs.Prelude.{option_map, option_and_then, MatchOption}
 use Rattle.std.specs.Option.{option_copied}
 use Rattle.std.specs.Slice.{IsGetRangeResult}
@@ -19,7 +19,7 @@ use Rattle.ig_item.specs.Step.{Step, Test, Bind, Term, Call, labels, names_of}
 use Rattle.ig_item.specs.View.{step_of}
 use Rattle.ig_item.specs.declared.step.Step as program
 use Rattle.ig_item.specs.Visible.{kinds_at, kinds_behind, kinds_of, kinds_of_label, names_at, names_at_dots}
-use Rattle.ig_item.specs.WellKinded.{IsWellKinded, ExpressionsFit, StepFits}
+use Rattle.ig_item.specs.WellKinded.{IsWellKinded, ExpressionsFit}
 use Rattle.ig_item.specs.declared.core_grammar.Nonterminal.{Nonterminal}
 use Rattle.ig_item.specs.declared.core_grammar.CoreAlt.{CoreAlt}
 use Rattle.ig_verify.specs.Kinds.{HasKinds, HasNoKinds, all_kinds, row_of, rows_of}
@@ -116,10 +116,12 @@ all_kinds_there names ks (s ∷ rest) fit =
     λ us. ap (option_and_then (λ (bs : List Kind). kinds_behind (names ++ names_of s) (ks ++ bs) us)) b.1 in
     let further_on = all_kinds_there (names ++ names_of s) (ks ++ b.0) rest (record {
       each = λ dot t at.
-          let g = fit.each (suc dot) t at in
-          (g.0, sym (unfolded (take dot rest)) ∙ g.1,
-          subst (λ (z : List (List ℕ)). ExpressionsFit z g.0 t)
-          (sym (append_assoc names (names_of s) (flat_map names_of (take dot rest)))) g.2);
+          let g = fit.each (suc dot) t at in (
+            g.0,
+            sym (unfolded (take dot rest)) ∙ g.1,
+            subst (λ (z : List (List ℕ)). ExpressionsFit z g.0 t)
+                (sym (append_assoc names (names_of s) (flat_map names_of (take dot rest)))) g.2,
+          );
     }) in
     (further_on.0, unfolded rest ∙ further_on.1)
 
@@ -148,10 +150,11 @@ prefix names ks steps all zero e = (ks, refl, begin_with names ks steps all e)
 prefix names ks [] all (suc dot) e = (ks, refl, begin_with names ks [] all e)
 prefix names ks (s ∷ rest) all (suc dot) e =
     let st = stepped (λ (bs : List Kind). kinds_behind (names ++ names_of s) (ks ++ bs) rest) (kinds_of names ks s) all e in
-    let h = prefix (names ++ names_of s) (ks ++ st.0) rest all dot st.2 in
-    (h.0,
-    ap (option_and_then (λ (bs : List Kind). kinds_behind (names ++ names_of s) (ks ++ bs) (take dot rest))) st.1 ∙ h.1,
-    h.2)
+    let h = prefix (names ++ names_of s) (ks ++ st.0) rest all dot st.2 in (
+      h.0,
+      ap (option_and_then (λ (bs : List Kind). kinds_behind (names ++ names_of s) (ks ++ bs) (take dot rest))) st.1 ∙ h.1,
+      h.2,
+    )
 
 -- as many as names
 seen_kinds : (names : List (List ℕ)) (ks : List Kind) (steps : List Step) (all : List Kind) (dot : ℕ) → length ks ≡ length names →
@@ -182,9 +185,9 @@ row_found : (core : List Nonterminal) (table : List (List KindRow)) (n a : ℕ) 
     IsRowOf core n a row
 row_found core table n a rows shown row table_is rows_at same row_at =
     let h = mapped rows_of (slice_get core n) rows
-        (sym (slice_get-map rows_of core n) ∙ ap (λ (z : List (List KindRow)). slice_get z n) (sym table_is) ∙ sym rows_at) in
+    (sym (slice_get-map rows_of core n) ∙ ap (λ (z : List (List KindRow)). slice_get z n) (sym table_is) ∙ sym rows_at) in
     let g = mapped (row_of h.0) (numbered h.0.alternatives a) row
-        (sym (numbered_image (row_of h.0) h.0.alternatives a) ∙ ap (λ (z : List KindRow). numbered z a) (sym (same ∙ h.2)) ∙ sym row_at) in
+    (sym (numbered_image (row_of h.0) h.0.alternatives a) ∙ ap (λ (z : List KindRow). numbered z a) (sym (same ∙ h.2)) ∙ sym row_at) in
     record { nonterminal = h.0; alternative = g.0; has = record { there = h.1; has = g.1 }; is = g.2 }
 
 module _ (each : NamesAreAtDots) (core : List Nonterminal) (well : IsWellKinded core) (table : List (List KindRow)) (n a dot : ℕ)

@@ -1,5 +1,5 @@
 -- The trees of a sound forest are trees of the core grammar.
-use Rattle.std.proofs.Common.{◌≡◌, ℕ, suc, List, [], ◌∷◌, Some, length, slice_get, refl, sym, ap, ◌∙◌, subst, arith}
+use Rattle.std.proofs.Common.{◌≡◌, ℕ, List, [], ◌∷◌, Some, length, slice_get, refl, sym, ap, ◌∙◌, subst, arith}
 use Rattle.std.proofs.lemmas.Option.{same_Some}
 use Rattle.std.proofs.lemmas.List.Elements.{All-contains}
 use Rattle.ig_text.specs.Tree.{Tree, Trees, Leaf, Node, none, one, join}
@@ -7,14 +7,14 @@ use Rattle.ig_text.proofs.Trees.{join-none}
 use Rattle.ig_text.proofs.Lists.{contains_from_at, get_within}
 use Rattle.ig_text.specs.declared.tag.Tag.{Tag}
 use Rattle.ig_text.specs.declared.text.Span.{Span}
-use Rattle.ig_item.specs.CoreTrees.{CoreTree, HasTree}
+use Rattle.ig_item.specs.CoreTrees.{HasTree}
 use Rattle.ig_text.specs.Pattern.{Matches}
 use Rattle.ig_item.specs.Step.{Step, Test, Bind, Term, Call}
 use Rattle.ig_item.specs.Items.{Item, first, past, span_of, MatchesNone, StandsBefore, Calls}
 use Rattle.ig_item.specs.ItemTrees as reached
 use Rattle.ig_item.specs.ItemTrees.{Comes}
 use Rattle.ig_item.specs.Laws.{InstanceTrees}
-use Rattle.ig_item.specs.Gives.{NodeKey, Taken, nothing, leaf, tree}
+use Rattle.ig_item.specs.Gives.{NodeKey, nothing, leaf, tree}
 use Rattle.ig_item.specs.declared.core_grammar.Nonterminal.{Nonterminal}
 use Rattle.ig_item.specs.declared.items.Instance.{Instance}
 use Rattle.ig_expr.specs.declared.value.Value.{Value}

@@ -1,7 +1,6 @@
 -- Drafts, and which of them are sound: five rules, each of a node or of an item.
 use Rattle.std.specs.Prelude.{◌≡◌, ℕ, List, [], ◌∷◌, ◌++◌, length, All, Some, slice_get}
 use Rattle.ig_expr.specs.declared.value.Value.{Value}
-use Rattle.ig_item.specs.Items.{first}
 use Rattle.ig_item.specs.Gives.{NodeKey, Taken, nothing, leaf, tree, Completes}
 use Rattle.ig_item.specs.Laws.{EnvironmentFits, IsInText}
 use Rattle.ig_item.specs.declared.core_grammar.Nonterminal.{Nonterminal}

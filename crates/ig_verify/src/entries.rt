@@ -137,7 +137,16 @@ impl<'a> Setting<'a> {
                 };
                 let callee = *nonterminal;
                 let args = args.as_slice();
-                call_leads(&stands.known, callee, args, &qualifiers, it, to, node, self.text)
+                call_leads(
+                    &stands.known,
+                    callee,
+                    args,
+                    &qualifiers,
+                    it,
+                    to,
+                    node,
+                    self.text,
+                )
             }
         }
     }
@@ -221,9 +230,9 @@ impl<'a> Setting<'a> {
         requires { self.now.dots.now ≡ all_dots self.now.core.now }
         ensures { MatchOption result
             (EntriesHold self.now.core.now self.now.text.now self.now.draft.now
-                (item_node_view it.now))
+            (item_node_view it.now))
             (EntriesBreak self.now.core.now self.now.text.now self.now.draft.now
-                (item_node_view it.now)) }
+            (item_node_view it.now)) }
     {
         if it.dot == 0 {
             return if is_first(it) { None } else { Some(4) };

@@ -113,8 +113,8 @@ pub(crate) fn kinds_at(
 ) -> Option<&[Kind]>
     ensures { (core : List core.Nonterminal) → IsWellKinded core → table.now ≡ all_kinds core →
         MatchOption (option_copied result)
-            (HasNoKinds core nonterminal alternative dot)
-            (HasKinds core nonterminal alternative dot) }
+        (HasNoKinds core nonterminal alternative dot)
+        (HasKinds core nonterminal alternative dot) }
 {
     names_are_at_dots();
     let rows = rows_at(table, nonterminal)?;

@@ -1,16 +1,15 @@
-use Rattle.std.proofs.Common.{◌≡◌, ◌↔◌, ◌∙◌, Some, None, IsTrue, map, ap, subst}
-use Rattle.std.specs.Option.{option_copied}
-use Rattle.ig_expr.specs.Kinds.{kind_of_value}
+use Rattle.std.proofs.Common.{◌∙◌}
 use Rattle.std.proofs.lemmas.Bool.{false≢true}
 use Rattle.ig_verify.specs.Code.{shown}
-use Rattle.ig_verify.proofs.Fitting.{missing, fits_by, fitting_has}
+use Rattle.ig_verify.proofs.Fitting.{fits_by, fitting_has}
 use Rattle.ig_verify.proofs.items.environment_fits.Goals as goal
 
 pub returns-in_default : goal.returns-in_default
 returns-in_default c =
-    let well = c.nonterminals-number.ensures.well_kinded in
-    (λ e. absurd (false≢true e),
-    λ f. absurd ((c.in_default.ensures c.args.core.now well c.requires) f.kinds (fitting_has _ _ f)))
+    let well = c.nonterminals-number.ensures.well_kinded in (
+      λ e. absurd (false≢true e),
+      λ f. absurd ((c.in_default.ensures c.args.core.now well c.requires) f.kinds (fitting_has _ _ f)),
+    )
 
 pub returns : goal.returns
 returns c =

@@ -1,4 +1,4 @@
-use Rattle.std.proofs.Common.{refl, sym}
+use Rattle.std.proofs.Common.{refl}
 use Rattle.std.proofs.lemmas.Option.{slice_get_read}
 use Rattle.ig_verify.proofs.KindTable.{further}
 use Rattle.ig_verify.proofs.kind_table.kinds_at_end.Goals as goal
