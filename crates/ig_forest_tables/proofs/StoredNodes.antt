@@ -141,6 +141,12 @@ row_at choices [] k = refl
 row_at choices (first ∷ begun) zero = refl
 row_at choices (first ∷ begun) (suc k) = row_at choices begun k
 
+pub row_code : (choices : List Choice) (begun lent : List Begun) (all : List StoredNode) (k : ℕ) (found : Option Begun) → nodes_from choices begun ≡ all →
+    lent ≡ begun → found ≡ slice_get lent k → option_map (λ (node : Begun). node.row) found ≡ slice_get (rows_in all) k
+row_code choices begun lent all k found view lent_is e =
+    ap (option_map (λ (node : Begun). node.row)) (e ∙ ap (λ (z : List Begun). slice_get z k) lent_is) ∙ sym (row_at choices begun k) ∙
+    ap (λ (z : List StoredNode). slice_get (rows_in z) k) view
+
 pub last_code : (choices : List Choice) (begun lent : List Begun) (all : List StoredNode) (count last : ℕ) (found : Option Begun) → nodes_from choices begun ≡ all →
     lent ≡ begun → count ≡ length begun → last ≡ count - 1 → found ≡ slice_get lent last →
     option_map (λ (node : Begun). node.row) found ≡ slice_get (rows_in all) (length all - 1)

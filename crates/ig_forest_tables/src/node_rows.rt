@@ -82,6 +82,17 @@ impl NodeRows {
         }
     }
 
+    /// The row of a node by its number, from 0; `None` exactly where the number isn't there. Takes
+    /// no memory.
+    pub fn row(&self, k: u32) -> Option<NodeRow>
+        ensures { result ≡ slice_get (rows_in self.now) k }
+    {
+        match begun_at(self.begun.as_slice(), k as usize) {
+            Some(node) => Some(node.row),
+            None => None,
+        }
+    }
+
     /// A node by its number; `None` exactly where the number isn't there.
     pub(crate) fn get(&self, k: u32) -> Option<Stored<'_>>
         ensures { option_map stored_view result ≡ slice_get self.now k }

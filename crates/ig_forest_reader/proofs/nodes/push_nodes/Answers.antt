@@ -1,0 +1,34 @@
+use Rattle.std.proofs.Common.{arith}
+use Rattle.ig_forest_text.specs.ForestText.{node_text}
+use Rattle.ig_forest_reader.specs.Runs.{IsChoice}
+use Rattle.ig_forest_reader.specs.Shown.{ShowsNode}
+use Rattle.ig_forest_reader.specs.Written.{IsNodeOf}
+use Rattle.ig_forest_reader.proofs.Composing.{read_ok, failed_on}
+use Rattle.ig_forest_reader.proofs.PartsRead.{none_so_far, all_read, no_more, one_more, so_far_kept}
+use Rattle.ig_forest_reader.proofs.TellingForests.{node_stops}
+use Rattle.ig_forest_reader.proofs.Whole.{still_shown_node}
+use Rattle.ig_forest_reader.proofs.nodes.push_nodes.Goals as goal
+
+pub loop-init : goal.loop-init
+loop-init c = none_so_far (ShowsNode c.args.lists.now) (IsNodeOf c.args.core.now) node_text IsChoice c.args.many c.args.bytes.now c.args.nodes.now c.requires.none
+
+pub returns-in_err-rest : goal.returns-in_err-rest
+returns-in_err-rest c =
+    failed_on _ _ _ _ c.read_node.result c.in_err-rest.field-0.0 c.from_residual.result c.read_node.ensures.read c.in_err-rest.was
+    c.from_residual.ensures.1
+    (no_more (ShowsNode c.loop.lists) (IsNodeOf c.args.core.now) node_text IsChoice node_stops c.loop.counter c.args.many c.args.bytes.now
+    c.loop.rest.now c.loop.nodes c.loop-test.true c.ranges.many.fits c.loop.invariant)
+
+pub loop-preserved : goal.loop-preserved
+loop-preserved c =
+    one_more (ShowsNode c.read_node.new.lists) (IsNodeOf c.args.core.now) node_text IsChoice node_stops c.loop.counter c.args.many
+    c.args.bytes.now c.loop.rest.now c.in_ok-rest.rest.now c.loop.nodes _ c.loop-test.true c.ranges.many.fits
+    (so_far_kept (ShowsNode c.loop.lists) (ShowsNode c.read_node.new.lists) (IsNodeOf c.args.core.now) node_text IsChoice c.loop.counter
+    c.args.many c.args.bytes.now c.loop.rest.now c.loop.nodes (still_shown_node c.loop.lists c.read_node.new.lists c.in_ok-rest.ensures.keeps)
+    c.loop.invariant)
+    (read_ok _ _ _ _ c.read_node.ensures.read c.in_ok-rest.was)
+
+pub returns : goal.returns
+returns c =
+    all_read (ShowsNode c.loop.lists) (IsNodeOf c.args.core.now) node_text IsChoice c.args.many c.loop.counter c.args.bytes.now c.loop.rest.now
+    c.loop.nodes (grind (arith, c.loop-test.false, c.loop.auto.counter-end)) c.loop.invariant

@@ -1,0 +1,5 @@
+pub mod Written
+pub mod Runs
+pub mod Shown
+pub mod Checks
+pub mod Fronts
