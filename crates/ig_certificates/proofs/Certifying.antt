@@ -1,0 +1,60 @@
+-- The text of a reduced forest is read and verified.
+use Rattle.std.proofs.Common.{◌≡◌, ◌∙◌, ℕ, List, Option, Some, None, refl, sym, ap}
+use Rattle.ig_item.specs.declared.core_grammar.Nonterminal.{Nonterminal}
+use Rattle.ig_core_laws.specs.Laws.{CoreTreesArePermitted}
+use Rattle.ig_core_laws.specs.Lowered.{CoreOf}
+use Rattle.ig_core_laws.specs.Notation.{unchanged}
+use Rattle.ig_core_integers.specs.Laws.{ReadCoresHaveSmallIntegers}
+use Rattle.ig_core_names.specs.Laws.{CoresCallNoRoot, CoresHaveSmallTags, CoresTellNames}
+use Rattle.ig_forest_tables.specs.Forest.{Forest}
+use Rattle.ig_forest_text.specs.ForestText.{forest_text}
+use Rattle.ig_notation.specs.Outcome.{ReadNamesAreNames}
+use Rattle.ig_sources.specs.Laws.{ReadGrammarsAreBuildable, ReadGrammarsStayRegular}
+use Rattle.ig_verify.specs.Laws.{SoundUnfoldsToCoreTrees}
+use Rattle.ig_forest_reader.specs.Written.{IsDraftOf, TellsNames, TextsTellDrafts}
+use Rattle.ig_verify_laws.specs.Laws.{ReducedIsDraft, ReducedIsSound, SoundHasNoFlaw}
+use Rattle.ig_certificates.specs.Laws.{Reads, ReadCoresTellNames, ReducedIsCertified, VerifiedIsPermitted}
+
+pub cores_told : CoresTellNames → ReadGrammarsAreBuildable → ReadGrammarsStayRegular → ReadNamesAreNames → ReadCoresTellNames
+cores_told tell can regular named bytes g accepted =
+    let text = accepted.text in
+    tell g (can bytes g text) (regular bytes g text).numbered (named bytes g text.reading).declared accepted.few_dots
+
+-- what is read of the text of a draft is that draft
+read_so : TextsTellDrafts → (core : List Nonterminal) (f : Forest) → TellsNames core → IsDraftOf core f →
+    (answer : Option Forest) → Reads core (forest_text f) answer → answer ≡ Some f
+read_so tell core f told draft None none = absurd (none f draft refl)
+read_so tell core f told draft (Some g) some = ap Some (tell core g f told some.0 draft (sym some.1))
+
+pub record Given : Type 0 where
+  pub uncalled : CoresCallNoRoot
+  pub tags : CoresHaveSmallTags
+  pub told : ReadCoresTellNames
+  pub draft : ReducedIsDraft
+  pub sound : ReducedIsSound
+  pub integers : ReadCoresHaveSmallIntegers
+  pub whole : SoundHasNoFlaw
+  pub tell : TextsTellDrafts
+
+pub certified : Given → ReducedIsCertified
+certified given bytes g text f accepted well short reduced few =
+    let c = unchanged g in
+    let told = given.told bytes g accepted in
+    let draft =
+    given.draft (CoreOf c) text f
+    (record { well = well; uncalled = given.uncalled c; tags = given.tags c accepted.few_dots; integers = given.integers bytes g accepted.text.utf8 accepted.text.reading }) short reduced
+    few in
+    let sound = given.sound (CoreOf c) text f well reduced draft.draft.forest in
+    record {
+      told = told;
+      draft = draft;
+      sound = sound;
+      read = read_so given.tell (CoreOf c) f told draft;
+      verified = λ flaw h. given.whole (CoreOf c) text f flaw sound h;
+    }
+
+pub permitted : CoreTreesArePermitted → ReadGrammarsAreBuildable → ReadGrammarsStayRegular → SoundUnfoldsToCoreTrees →
+    VerifiedIsPermitted
+permitted same can regular trees bytes g text f d t is forest sound tree =
+    (same (unchanged g) text t (can bytes g is) (regular bytes g is).numbered).0
+    (trees (CoreOf (unchanged g)) text f d t forest sound tree)

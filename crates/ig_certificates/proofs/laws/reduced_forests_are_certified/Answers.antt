@@ -1,0 +1,16 @@
+use Rattle.ig_certificates.proofs.Certifying.{certified}
+use Rattle.ig_certificates.proofs.laws.reduced_forests_are_certified.Goals as goal
+
+pub returns : goal.returns
+returns c =
+    certified
+    (record {
+      uncalled = c.cores_call_no_root.ensures;
+      tags = c.cores_have_small_tags.ensures;
+      told = c.read_cores_tell_names.ensures;
+      draft = c.reduced_forests_are_drafts.ensures;
+      integers = c.cores_have_small_integers.ensures;
+      sound = c.reduced_forests_are_sound.ensures;
+      whole = c.sound_forests_have_no_flaw.ensures;
+      tell = c.texts_tell_drafts.ensures;
+    })

@@ -1,0 +1,51 @@
+//! What forests are as certificates. The functions do nothing: their contracts are the laws.
+ghost use Rattle.ig_certificates.specs.Laws.{ReadCoresTellNames, ReducedIsCertified};
+ghost use Rattle.ig_certificates.specs.Laws.{VerifiedIsPermitted};
+
+use ig_core_integers::cores_have_small_integers;
+use ig_core_laws::core_trees_are_permitted_trees;
+use ig_core_names::{cores_call_no_root, cores_have_small_tags, cores_tell_names};
+use ig_forest_reader::texts_tell_drafts;
+use ig_notation::read_names_are_names;
+use ig_sources::{read_grammars_are_buildable, read_grammars_stay_regular};
+use ig_verify::sound_forests_unfold_to_core_trees;
+use ig_verify_laws::{
+    reduced_forests_are_drafts, reduced_forests_are_sound, sound_forests_have_no_flaw,
+};
+
+/// What is printed of the core grammar of an accepted grammar tells its parts. This law computes
+/// nothing.
+pub fn read_cores_tell_names()
+    ensures { ReadCoresTellNames }
+{
+    cores_tell_names();
+    read_grammars_are_buildable();
+    read_grammars_stay_regular();
+    read_names_are_names();
+}
+
+/// The text of the reduced forest of an accepted grammar and an input is read as that forest, and
+/// verified, where the forest has fewer than 4,294,967,296 items. This law computes nothing.
+pub fn reduced_forests_are_certified()
+    ensures { ReducedIsCertified }
+{
+    cores_call_no_root();
+    cores_have_small_integers();
+    cores_have_small_tags();
+    read_cores_tell_names();
+    reduced_forests_are_drafts();
+    reduced_forests_are_sound();
+    sound_forests_have_no_flaw();
+    texts_tell_drafts();
+}
+
+/// Each tree to which a sound forest unfolds is one that the grammar permits. This law computes
+/// nothing.
+pub fn verified_trees_are_permitted()
+    ensures { VerifiedIsPermitted }
+{
+    core_trees_are_permitted_trees();
+    read_grammars_are_buildable();
+    read_grammars_stay_regular();
+    sound_forests_unfold_to_core_trees();
+}
