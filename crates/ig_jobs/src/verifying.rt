@@ -47,12 +47,7 @@ pub fn verify_text(
 }
 
 /// What comes of a forest that was read, by its rules.
-fn verify_draft(
-    alloc: Global,
-    core: &Core,
-    input: &Text,
-    draft: &Draft,
-) -> Result<Vec<u8>, Stop>
+fn verify_draft(alloc: Global, core: &Core, input: &Text, draft: &Draft) -> Result<Vec<u8>, Stop>
     ensures { VerifiesDraft core.now input.now draft.now result }
 {
     match verify(alloc, draft, core, input)? {

@@ -76,7 +76,14 @@ fn checks_what_it_prints(rt: HostRuntime) -> Result<(), Fail> {
     let printed = end_of(alloc, &["forest", "g", "i"], PAIRS, b"aaaa")?;
     let mut shelf = shelf_of(alloc, PAIRS, b"aaaa")?;
     shelf.add("f", printed.out.bytes())?;
-    expect_end(&rt, alloc, VERIFY, &mut shelf, Status::Done, ("verified\n", ""))?;
+    expect_end(
+        &rt,
+        alloc,
+        VERIFY,
+        &mut shelf,
+        Status::Done,
+        ("verified\n", ""),
+    )?;
     shelf.add("i", b"aaab")?;
     let broken = ("", "not sound: item 24 rule 5\n");
     expect_end(&rt, alloc, VERIFY, &mut shelf, Status::NotSound, broken)
@@ -88,17 +95,45 @@ fn checks_files_in_order(rt: HostRuntime) -> Result<(), Fail> {
     let alloc = rt.alloc();
     let mut shelf = MemoryShelf::new(alloc);
     let unread = Status::ReadFault;
-    expect_end(&rt, alloc, VERIFY, &mut shelf, unread, ("", "cannot read g\n"))?;
+    expect_end(
+        &rt,
+        alloc,
+        VERIFY,
+        &mut shelf,
+        unread,
+        ("", "cannot read g\n"),
+    )?;
     shelf.add("g", LETTER.as_bytes())?;
-    expect_end(&rt, alloc, VERIFY, &mut shelf, unread, ("", "cannot read i\n"))?;
+    expect_end(
+        &rt,
+        alloc,
+        VERIFY,
+        &mut shelf,
+        unread,
+        ("", "cannot read i\n"),
+    )?;
     shelf.add("i", b"\xff")?;
     let refused = ("", "input: not UTF-8 at byte 0\n");
     expect_end(&rt, alloc, VERIFY, &mut shelf, Status::Input, refused)?;
     shelf.add("i", b"a")?;
-    expect_end(&rt, alloc, VERIFY, &mut shelf, unread, ("", "cannot read f\n"))?;
+    expect_end(
+        &rt,
+        alloc,
+        VERIFY,
+        &mut shelf,
+        unread,
+        ("", "cannot read f\n"),
+    )?;
     shelf.fail(11)?;
     shelf.add("f", LETTER_FOREST.as_bytes())?;
-    expect_end(&rt, alloc, VERIFY, &mut shelf, unread, ("", "cannot read f\n"))?;
+    expect_end(
+        &rt,
+        alloc,
+        VERIFY,
+        &mut shelf,
+        unread,
+        ("", "cannot read f\n"),
+    )?;
     assert_eq!(rt; shelf.count(), 1);
     Ok(())
 }
@@ -138,8 +173,18 @@ fn tells_no_facts(rt: HostRuntime) -> Result<(), Fail> {
     let alloc = rt.alloc();
     let analyse = &["analyse", "g"];
     let mut shelf = MemoryShelf::new(alloc);
-    expect_end(&rt, alloc, analyse, &mut shelf, Status::ReadFault, ("", "cannot read g\n"))?;
+    expect_end(
+        &rt,
+        alloc,
+        analyse,
+        &mut shelf,
+        Status::ReadFault,
+        ("", "cannot read g\n"),
+    )?;
     shelf.add("g", b"start S;")?;
-    let refused = ("", "grammar: unknown name at declaration 0, alternative 0, symbol 0\n");
+    let refused = (
+        "",
+        "grammar: unknown name at declaration 0, alternative 0, symbol 0\n",
+    );
     expect_end(&rt, alloc, analyse, &mut shelf, Status::Grammar, refused)
 }

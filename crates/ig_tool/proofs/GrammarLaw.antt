@@ -1,5 +1,5 @@
 -- What is answered where a task with a grammar is asked for, from the answer by cases.
-use Rattle.std.proofs.Common.{◌≡◌, ℕ, List, [], ◌⊎◌, inl, inr, refl, sym, ◌∙◌, ap, subst, Option, Some}
+use Rattle.std.proofs.Common.{◌≡◌, ℕ, List, [], ◌⊎◌, inl, inr, refl, sym, ◌∙◌, ap, subst, Option, Some, None}
 use Rattle.std.proofs.lemmas.Option.{same_Some}
 use Rattle.ig_outside.specs.States.{ShelfState, SinkState}
 use Rattle.ig_outside.specs.Told.{bytes}
@@ -88,7 +88,7 @@ module _ (laws : Laws) (words : List (List ℕ)) (shelf : Change ShelfState) (t 
   decided_text s out note k (answer.forest_missing f i n h text e files held_not) calm =
       let same = of_one_sort (verify f i n) _ files.command refl in absurd (cc)
   decided_text s out note k (answer.forest_unread f i n h text rose files) calm = absurd (calm rose)
-  decided_text s out note k (answer.checked f i n h text zs u made line e files gives is) calm =
+  decided_text s out note k (answer.checked f i n h text zs u made line e files gives is passes) calm =
       let same = of_one_sort (verify f i n) _ files.command refl in absurd (cc)
 
 pub grammar_commands : (laws : Laws) (words : List (List ℕ)) (shelf : Change ShelfState) (out notes : Change SinkState) (s : Status) →

@@ -88,7 +88,7 @@ module _ (laws : Laws) (words : List (List ℕ)) (shelf : Change ShelfState) (gr
   decided_outcome s out note k (answer.forest_missing f t n h text e files held_not) calm =
       let same = of_one_sort (verify f t n) _ files.command refl in absurd (cc)
   decided_outcome s out note k (answer.forest_unread f t n h text rose files) calm = absurd (calm rose)
-  decided_outcome s out note k (answer.checked f t n h text zs u made line e files gives is) calm =
+  decided_outcome s out note k (answer.checked f t n h text zs u made line e files gives is passes) calm =
       let same = of_one_sort (verify f t n) _ files.command refl in absurd (cc)
 
   answer_outcome : (out notes : Change SinkState) (s : Status) →

@@ -57,7 +57,7 @@ module _ (words : List (List ℕ)) (shelf : Change ShelfState) (size number budg
         let same = of_one_sort (verify f i n) _ files.command refl in absurd (cc)
     decided_load t text note k (answer.forest_unread f i n g input rose files) =
         let same = of_one_sort (verify f i n) _ files.command refl in absurd (cc)
-    decided_load t text note k (answer.checked f i n g input zs s out line e files gives is) =
+    decided_load t text note k (answer.checked f i n g input zs s out line e files gives is passes) =
         let same = of_one_sort (verify f i n) _ files.command refl in absurd (cc)
 
 pub load_commands : (words : List (List ℕ)) (shelf : Change ShelfState) (out notes : Change SinkState) (s : Status) →

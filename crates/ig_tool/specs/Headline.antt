@@ -30,13 +30,11 @@ use Rattle.ig_jobs.specs.Finishes.{IsNoParseNote, Finishes}
 -- grammar, which is accepted, the second is the input
 pub record Asks (words : List (List ℕ)) (shelf : ShelfState) (request : Request) (g : Grammar) (input : List ℕ) : Type 0 where
   pub command : IsCommand words request
-
   pub grammar_name : List ℕ
   pub names_grammar : grammar_file request ≡ Some grammar_name
   pub grammar_bytes : List ℕ
   pub holds_grammar : shelf.holds grammar_name ≡ bytes grammar_bytes
   pub accepted : IsAccepted grammar_bytes g
-
   pub input_name : List ℕ
   pub names_input : input_file request ≡ Some input_name
   pub input_bytes : List ℕ
