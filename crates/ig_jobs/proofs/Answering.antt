@@ -5,8 +5,8 @@ use Rattle.ig_grammar.specs.Checked.{CheckedGrammar}
 use Rattle.ig_item.specs.WellKinded.{IsWellKinded}
 use Rattle.ig_core_laws.specs.Lowered.{CoreOf}
 use Rattle.ig_core_laws.specs.Notation.{unchanged}
-use Rattle.ig_forest.specs.Forest.{Forest}
-use Rattle.ig_forest.specs.Unfold.{IsTrim}
+use Rattle.ig_forest_tables.specs.Forest.{Forest}
+use Rattle.ig_forest_tables.specs.Unfold.{IsTrim}
 use Rattle.ig_heights.specs.Laws.{DepthsAreHeights}
 use Rattle.ig_query.specs.Ambiguity.{AreAmbiguous, IsAmbiguous}
 use Rattle.ig_parse.specs.Laws.{AmbiguityIsTwoPermitted, CyclicIsWithoutHighest, HasNoHighest, PermitsTwo, SpansAreOfDeclarations}

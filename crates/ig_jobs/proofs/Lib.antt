@@ -1,3 +1,5 @@
 pub mod Answering
 pub mod Listings
 pub mod Parsed
+pub mod Tasked
+pub mod Verified

@@ -6,8 +6,8 @@ use Rattle.ig_grammar.specs.Checked.{CheckedGrammar}
 use Rattle.ig_item.specs.declared.core_grammar.Nonterminal.{Nonterminal}
 use Rattle.ig_core_laws.specs.Lowered.{CoreOf}
 use Rattle.ig_forest.specs.Cursors.{Less}
-use Rattle.ig_forest.specs.Forest.{Forest}
-use Rattle.ig_forest.specs.Unfold.{Unfold}
+use Rattle.ig_forest_tables.specs.Forest.{Forest}
+use Rattle.ig_forest_tables.specs.Unfold.{Unfold}
 use Rattle.ig_heights.specs.Heights.{IsCyclic}
 use Rattle.ig_heights.specs.Laws.{HasLowTrees}
 use Rattle.ig_parse.specs.Laws.{HasNoHighest}

@@ -2,7 +2,7 @@
 use Rattle.std.proofs.Common.{◌≡◌, ℕ, List, Result, Ok, Err, Vec, Global, [], ◌<◌, ◌≤◌, sym, subst, ◌∙◌}
 use Rattle.ig_grammar.specs.Checked.{CheckedGrammar}
 use Rattle.ig_grammar.specs.declared.grammar.Grammar.{Grammar}
-use Rattle.ig_forest.specs.Forest.{Forest}
+use Rattle.ig_forest_tables.specs.Forest.{Forest}
 use Rattle.ig_item.specs.Core.{dots}
 use Rattle.ig_item.specs.Limits.{most_dots}
 use Rattle.ig_core_laws.specs.Lowered.{CoreOf}
@@ -10,7 +10,7 @@ use Rattle.ig_core_laws.specs.Notation.{unchanged}
 use Rattle.ig_item.specs.WellKinded.{IsWellKinded}
 use Rattle.ig_item.specs.declared.core_grammar.Nonterminal.{Nonterminal}
 use Rattle.ig_forest.specs.Reduced.{IsReduced}
-use Rattle.ig_forest.specs.Unfold.{IsTrim}
+use Rattle.ig_forest_tables.specs.Unfold.{IsTrim}
 use Rattle.ig_forest.specs.TreeLaws.{TagsNameNonterminals, CursorsAreShort}
 use Rattle.ig_parse.specs.Parses.{IsOver, IsUnparsed, IsForestOf, HasForest}
 use Rattle.ig_query.specs.Report.{IsReport}

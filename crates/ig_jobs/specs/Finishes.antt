@@ -4,7 +4,7 @@ use Rattle.ig_text.specs.Tree.{Tree}
 use Rattle.ig_text.specs.declared.text.Span.{Span}
 use Rattle.ig_grammar.specs.Checked.{CheckedGrammar}
 use Rattle.ig_core_laws.specs.Lowered.{CoreOf}
-use Rattle.ig_forest.specs.Forest.{Forest}
+use Rattle.ig_forest_tables.specs.Forest.{Forest}
 use Rattle.ig_walker.specs.Listed.{Listed}
 use Rattle.ig_query.specs.Ambiguity.{AreAmbiguous}
 use Rattle.ig_query.specs.Report.{IsReport}

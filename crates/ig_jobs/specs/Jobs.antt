@@ -1,6 +1,6 @@
 -- What is done with a grammar, or with a grammar and an input.
 use Rattle.std.specs.Prelude.{ℕ, List}
-use Rattle.ig_command.specs.Commands.{Request, check, show, core, forest, trees, query, load, Listing, Question, stored_listing, stored_question}
+use Rattle.ig_command.specs.Commands.{Request, check, show, core, forest, trees, query, load, verify, analyse, Listing, Question, stored_listing, stored_question}
 use Rattle.ig_jobs.specs.declared.job.Job.{Job as StoredJob}
 use Rattle.ig_jobs.specs.declared.job.Job.TheVariants as stored
 use Rattle.ig_jobs.specs.declared.job.Task.{Task}
@@ -13,6 +13,7 @@ abbrev pub task_request : Task → List ℕ → Request
 task_request task.Check grammar = check grammar
 task_request task.Show grammar = show grammar
 task_request task.Core grammar = core grammar
+task_request task.Analyse grammar = analyse grammar
 
 pub data Job : Type 0 where
   -- the forest is printed
@@ -38,4 +39,5 @@ stored_job (stored.Ask question) = ask (stored_question question)
 abbrev pub work_request : Work → Request
 work_request (work.OnGrammar grammar task) = task_request task grammar.now
 work_request (work.OnInput files budget job) = request_for (stored_job job) files.grammar.now files.input.now budget
+work_request (work.OnForest files text) = verify files.grammar.now files.input.now text.now
 work_request (work.OfLoad size number budget) = load size number budget

@@ -4,3 +4,4 @@ pub mod Tasks
 pub mod Finishes
 pub mod Pages
 pub mod Texts
+pub mod Verifying

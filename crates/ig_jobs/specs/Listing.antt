@@ -5,8 +5,8 @@ use Rattle.ig_text.specs.Tree.{Tree, height}
 use Rattle.ig_grammar.specs.Checked.{CheckedGrammar}
 use Rattle.ig_meaning.specs.Order.{Precedes}
 use Rattle.ig_meaning.specs.Permitted.{Permitted}
-use Rattle.ig_forest.specs.Forest.{Forest}
-use Rattle.ig_forest.specs.Unfold.{Unfold}
+use Rattle.ig_forest_tables.specs.Forest.{Forest}
+use Rattle.ig_forest_tables.specs.Unfold.{Unfold}
 use Rattle.ig_parse.specs.Laws.{HasNoHighest}
 use Rattle.ig_print.specs.TreeText.{cursor_text}
 use Rattle.ig_walker.specs.Listed.{Listed}

@@ -4,7 +4,7 @@ use Rattle.std.specs.declared.alloc.Global.{Global}
 use Rattle.ig_grammar.specs.Checked.{CheckedGrammar}
 use Rattle.ig_item.specs.declared.core_grammar.Nonterminal.{Nonterminal}
 use Rattle.ig_core_laws.specs.Lowered.{CoreOf}
-use Rattle.ig_forest.specs.Forest.{Forest}
+use Rattle.ig_forest_tables.specs.Forest.{Forest}
 use Rattle.ig_command.specs.Commands.{Listing, Question}
 use Rattle.ig_answers.specs.Questions.{Tells}
 use Rattle.ig_pages.specs.Pages.{IsDepthFor, NeedsDepth, IsLost, IsListed}

@@ -2,12 +2,17 @@
 use Rattle.std.specs.Prelude.{◌≡◌, ℕ, List, ◌++◌, Result, Ok, Err, Vec, codes, encode_utf8_all}
 use Rattle.std.specs.declared.alloc.Global.{Global}
 use Rattle.ig_text.specs.Lines.{line_end}
+use Rattle.ig_analyse.specs.Told.{AreFactsOf}
+use Rattle.ig_analyse.specs.declared.facts.Fact.{Fact}
+use Rattle.ig_facts_text.specs.FactsText.{facts_text}
 use Rattle.ig_grammar.specs.Checked.{CheckedGrammar}
 use Rattle.ig_grammar.specs.declared.grammar.Grammar.{Grammar}
 use Rattle.ig_core_laws.specs.Lowered.{CoreOf}
 use Rattle.ig_core_laws.specs.Notation.{unchanged}
 use Rattle.ig_core_text.specs.CoreText.{core_text}
 use Rattle.ig_show.specs.CanonicalText.{text_of}
+use Rattle.ig_jobs.specs.declared.job.Task.{Task}
+use Rattle.ig_jobs.specs.declared.job.Task.TheVariants as task
 use Rattle.ig_endings.specs.declared.stop.Stop.{Stop}
 use Rattle.ig_endings.specs.declared.stop.Stop.TheVariants as halt
 
@@ -19,6 +24,25 @@ shown_text g = encode_utf8_all (text_of g)
 
 abbrev pub shown_core : Grammar → List ℕ
 shown_core g = core_text (CoreOf (unchanged g))
+
+-- the text of facts of which each is said exactly where it holds of a nonterminal of the core grammar
+pub record AreFactsText (c : CheckedGrammar) (text : List ℕ) : Type 0 where
+  pub facts : List Fact
+  pub are : AreFactsOf (CoreOf c) facts
+  pub text_is : text ≡ facts_text c.grammar.decls facts
+
+-- what out gets of a grammar, by the task
+pub data GrammarText (g : Grammar) : Task → List ℕ → Type 0 where
+  accepted : GrammarText g task.Check ok_text
+  shown : GrammarText g task.Show (shown_text g)
+  core_shown : GrammarText g task.Core (shown_core g)
+  analysed : (text : List ℕ) → AreFactsText (unchanged g) text → GrammarText g task.Analyse text
+
+-- what comes of a task with a grammar
+abbrev pub DoesTask : Grammar → Task → Result (Vec ℕ Global) Stop → Type 0
+DoesTask g t (Ok text) = GrammarText g t text.items
+DoesTask g t (Err (halt.Note s line)) = ⊥
+DoesTask g t (Err halt.Memory) = Unit {0}
 
 -- the canonical text of the grammar
 abbrev pub ShowsGrammar : Grammar → Result (Vec ℕ Global) Stop → Type 0
@@ -37,3 +61,9 @@ abbrev pub ShowsCore : CheckedGrammar → Result (Vec ℕ Global) Stop → Type 
 ShowsCore c (Ok text) = text.items ≡ core_text (CoreOf c)
 ShowsCore c (Err (halt.Note s line)) = ⊥
 ShowsCore c (Err halt.Memory) = Unit {0}
+
+-- the text of its facts
+abbrev pub SaysFacts : CheckedGrammar → Result (Vec ℕ Global) Stop → Type 0
+SaysFacts c (Ok text) = AreFactsText c text.items
+SaysFacts c (Err (halt.Note s line)) = ⊥
+SaysFacts c (Err halt.Memory) = Unit {0}

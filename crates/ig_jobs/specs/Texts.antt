@@ -8,7 +8,7 @@ use Rattle.ig_item.specs.Limits.{most_dots}
 use Rattle.ig_item.specs.declared.run_fault.RunFault.TheVariants.{Budget}
 use Rattle.ig_core_laws.specs.Lowered.{CoreOf}
 use Rattle.ig_core_laws.specs.Notation.{unchanged}
-use Rattle.ig_forest.specs.Forest.{Forest}
+use Rattle.ig_forest_tables.specs.Forest.{Forest}
 use Rattle.ig_parse.specs.Parses.{IsUnparsed, IsOver, HasForest}
 use Rattle.ig_forest_text.specs.ForestText.{forest_text}
 use Rattle.ig_print.specs.declared.report.Report.{Report}

@@ -47,7 +47,7 @@ pub(crate) fn finish(
 fn show(alloc: Global, forest: &Forest) -> Result<Vec<u8>, Stop>
     ensures { ShowsForest forest.now result }
 {
-    let text = show_forest(alloc, forest)?;
+    let text = show_forest(alloc, forest.tables())?;
     Ok(text)
 }
 

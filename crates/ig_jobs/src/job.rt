@@ -1,4 +1,4 @@
-//! What a command asks for: a task with a grammar, a job by a forest, or a load.
+//! What a command asks for: a task with a grammar, a job by a forest, a check of a forest, or a load.
 ghost use Rattle.std.specs.Prelude.{◌≡◌};
 ghost use Rattle.ig_command.specs.Commands.{stored_request};
 ghost use Rattle.ig_jobs.specs.Jobs.{work_request};
@@ -14,6 +14,8 @@ pub enum Task {
     Show,
     /// The text of its core grammar is printed.
     Core,
+    /// The facts of its declarations are told.
+    Analyse,
 }
 
 /// What is done with the forest of a grammar and an input.
@@ -27,7 +29,7 @@ pub enum Job<'a> {
     Ask(Question<'a>),
 }
 
-/// The names of the files of a job.
+/// The names of the files of a job, or of a check of a forest.
 #[derive(Clone, Copy)]
 pub struct Files<'a> {
     /// That of the grammar.
@@ -43,6 +45,8 @@ pub enum Work<'a> {
     OnGrammar(&'a str, Task),
     /// A job with a grammar and an input, where no more items are reachable than that many.
     OnInput(Files<'a>, u32, Job<'a>),
+    /// The forest is checked that the text in the file of that name tells.
+    OnForest(Files<'a>, &'a str),
     /// The line of a load of this size and number, where no more items are reachable than the
     /// budget.
     OfLoad { size: u32, number: u64, budget: u32 },
@@ -82,5 +86,11 @@ pub fn work_of(command: Command<'_>) -> Work<'_>
             number,
             budget,
         },
+        Command::Verify {
+            grammar,
+            input,
+            forest,
+        } => Work::OnForest(Files { grammar, input }, forest),
+        Command::Analyse { grammar } => Work::OnGrammar(grammar, Task::Analyse),
     }
 }

@@ -1,33 +1,61 @@
 //! What comes of a task with a grammar.
-ghost use Rattle.ig_jobs.specs.Tasks.{SaysOk, ShowsCore, ShowsGrammar};
+ghost use Rattle.std.specs.Prelude.{◌≡◌};
+ghost use Rattle.ig_core_laws.specs.Notation.{unchanged};
+ghost use Rattle.ig_jobs.specs.Tasks.{DoesTask, SaysOk, ShowsCore, ShowsGrammar, SaysFacts};
 
+use crate::job::Task;
+use ig_analyse::analyse;
 use ig_core_text::show_core;
 use ig_endings::Stop;
+use ig_facts_text::show_facts;
 use ig_grammar::Grammar;
 use ig_parse::Parser;
 use ig_show::show_grammar;
 use std::alloc::Global;
 
-/// The text that says that a grammar is accepted. Stops for want of memory alone.
-pub fn say_ok(alloc: Global) -> Result<Vec<u8>, Stop>
+/// What comes of a task with the parser's grammar, which no pass has changed. Stops for want of
+/// memory alone.
+pub fn do_task(alloc: Global, parser: &Parser<'_>, task: Task) -> Result<Vec<u8>, Stop>
+    requires as_it_is { parser.now ≡ unchanged parser.now.grammar }
+    ensures { DoesTask parser.now.grammar task result }
+{
+    match task {
+        Task::Check => say_ok(alloc),
+        Task::Show => show(alloc, parser.grammar().grammar()),
+        Task::Core => shown_core(alloc, parser),
+        Task::Analyse => facts(alloc, parser),
+    }
+}
+
+/// The text that says that a grammar is accepted.
+fn say_ok(alloc: Global) -> Result<Vec<u8>, Stop>
     ensures { SaysOk result }
 {
     let text = Vec::from_slice(alloc, b"ok\n")?;
     Ok(text)
 }
 
-/// The canonical text of the grammar. Stops for want of memory alone.
-pub fn show(alloc: Global, grammar: &Grammar) -> Result<Vec<u8>, Stop>
+/// The canonical text of the grammar.
+fn show(alloc: Global, grammar: &Grammar) -> Result<Vec<u8>, Stop>
     ensures { ShowsGrammar grammar.now result }
 {
     let text = show_grammar(alloc, grammar)?;
     Ok(text)
 }
 
-/// The text of the parser's core grammar. Stops for want of memory alone.
-pub fn shown_core(alloc: Global, parser: &Parser<'_>) -> Result<Vec<u8>, Stop>
+/// The text of the parser's core grammar.
+fn shown_core(alloc: Global, parser: &Parser<'_>) -> Result<Vec<u8>, Stop>
     ensures { ShowsCore parser.now result }
 {
     let text = show_core(alloc, parser.core())?;
+    Ok(text)
+}
+
+/// The text of the facts of the parser's core grammar.
+fn facts(alloc: Global, parser: &Parser<'_>) -> Result<Vec<u8>, Stop>
+    ensures { SaysFacts parser.now result }
+{
+    let facts = analyse(alloc, parser.core())?;
+    let text = show_facts(alloc, &parser.grammar().grammar().decls, &facts)?;
     Ok(text)
 }

@@ -3,9 +3,12 @@
 //! `parsing` parses, and tries parsers; its forests are walked and asked in `listings` and
 //! `queries`. The passes, the crates of their parts included, run there inside a parser, once over
 //! each form of symbol. `top_call` tries the commands over a shelf and sinks in memory, which may
-//! fail. Tests of libraries by themselves stand in `ig_tests`.
+//! fail, and `checks` those that tell facts of a grammar and check a forest. Tests of libraries by
+//! themselves stand in `ig_tests`.
 #![tactic(auto)]
 
+#[cfg(test)]
+mod checks;
 #[cfg(test)]
 mod listings;
 #[cfg(test)]

@@ -71,7 +71,7 @@ fn parses(rt: HostRuntime) -> Result<(), Fail> {
     let forest = forest_under(alloc, LETTER, b"a")?;
     assert_eq!(rt; forest.nodes(), 2);
     assert_eq!(rt; forest.items(), 4);
-    let shown = show_forest(alloc, &forest);
+    let shown = show_forest(alloc, forest.tables());
     drop(forest);
     assert_eq!(rt; shown?.as_slice(), LETTER_FOREST.as_bytes());
     Ok(())

@@ -9,18 +9,18 @@ use std::process::Abort;
 use std::test::Fail;
 
 /// The grammar of one letter, whose forest on that letter is written out in `LETTER_FOREST`.
-const LETTER: &str = "start S; syntax S = \"a\";";
+pub(crate) const LETTER: &str = "start S; syntax S = \"a\";";
 
-const LETTER_FOREST: &str =
+pub(crate) const LETTER_FOREST: &str =
     "forest 2 4\nnode 0 $root () 0..1\nalt $root 2\nnode 1 S () 0..1\nalt S.1 3\nitem 0 $root () \
         1 0 [] 0..0\nbegin\nitem 1 S () 1 0 [] 0..0\nbegin\nitem 2 $root () 1 1 [] 0..1\ntake 0 \
         node 1\nitem 3 S () 1 1 [] 0..1\ntake 1 leaf 0..1\n";
 
 /// More bytes than any output of these rows.
-const ROOM: u64 = 100_000;
+pub(crate) const ROOM: u64 = 100_000;
 
 /// The words of a command.
-fn words_of(alloc: Global, words: &[&str]) -> Result<Vec<String>, Fail> {
+pub(crate) fn words_of(alloc: Global, words: &[&str]) -> Result<Vec<String>, Fail> {
     let mut all = Vec::new(alloc);
     for word in words {
         all.push(String::from_str(alloc, word)?)?;
@@ -29,7 +29,7 @@ fn words_of(alloc: Global, words: &[&str]) -> Result<Vec<String>, Fail> {
 }
 
 /// A shelf that holds the grammar under `g` and the input under `i`.
-fn shelf_of(alloc: Global, grammar: &[u8], input: &[u8]) -> Result<MemoryShelf, Fail> {
+pub(crate) fn shelf_of(alloc: Global, grammar: &[u8], input: &[u8]) -> Result<MemoryShelf, Fail> {
     let mut shelf = MemoryShelf::new(alloc);
     shelf.add("g", grammar)?;
     shelf.add("i", input)?;
@@ -69,7 +69,7 @@ fn prints_a_forest(rt: HostRuntime) -> Result<(), Fail> {
 }
 
 /// The grammar of pairs, under which three letters have two trees.
-const PAIRS: &[u8] = b"start S; syntax S = S S | \"a\";";
+pub(crate) const PAIRS: &[u8] = b"start S; syntax S = S S | \"a\";";
 
 const PAIRS_TREES: &[u8] =
     b"0 ($root 0..3 (S.1 0..3 (S.2 0..1 0..1) (S.1 1..3 (S.2 1..2 1..2) (S.2 2..3 2..3))))\n\

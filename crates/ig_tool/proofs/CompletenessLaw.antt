@@ -6,7 +6,7 @@ use Rattle.ig_outside.specs.States.{ShelfState, SinkState}
 use Rattle.ig_grammar.specs.Checked.{CheckedGrammar}
 use Rattle.ig_grammar.specs.declared.grammar.Grammar.{Grammar}
 use Rattle.ig_core_laws.specs.Notation.{unchanged}
-use Rattle.ig_forest.specs.Forest.{Forest}
+use Rattle.ig_forest_tables.specs.Forest.{Forest}
 use Rattle.ig_parse.specs.Parses.{IsParsed, IsOver, IsForestOf}
 use Rattle.ig_endings.specs.declared.status.Status.{Status}
 use Rattle.ig_endings.specs.declared.status.Status.TheVariants as status
@@ -16,7 +16,8 @@ use Rattle.ig_jobs.specs.Listing.{IsBounded, IsNoCursor, Begins, at_first, at_cu
 use Rattle.ig_jobs.specs.Finishes.{Finishes, printed, depth_needed, bad_cursor, listed, told_ambiguous, told_cyclic, told_spans, told_report}
 use Rattle.ig_tool.specs.Outcome.{Answers}
 use Rattle.ig_tool.specs.Headline.{Outcome, over_budget, no_parse, parsed, Says, IsLawful, Completeness, GotText}
-use Rattle.ig_tool.proofs.HeadlineLaw.{Laws, headline}
+use Rattle.ig_tool.proofs.Asked.{Laws}
+use Rattle.ig_tool.proofs.HeadlineLaw.{headline}
 
 -- the word behind which a listing begins is the text of a cursor
 not_lost : (c : CheckedGrammar) (input : List ℕ) (f : Forest) (depth : Option ℕ) (after : Option (List ℕ)) (last : Option Tree) (word : List ℕ) →
@@ -68,6 +69,6 @@ module _ (g : Grammar) (input : List ℕ) (budget : ℕ) (job : Job) (few : IsOv
 
 pub completeness : (laws : Laws) (words : List (List ℕ)) (shelf : Change ShelfState) (out notes : Change SinkState) (s : Status) →
     Answers words shelf out notes s → Completeness words shelf out notes s
-completeness laws words shelf out notes s answers g input budget job asked calm a b few some lawful =
+completeness laws words shelf out notes s answers grammar_name input_name g input budget job asked calm a b few some lawful =
     said g input budget job few some lawful out notes s
-    (headline laws words shelf out notes s answers g input budget job asked calm a b)
+    (headline laws words shelf out notes s answers grammar_name input_name g input budget job asked calm a b)

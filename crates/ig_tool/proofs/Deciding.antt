@@ -1,5 +1,5 @@
 -- What the top call decides, from what was loaded and run, and what it answers.
-use Rattle.std.proofs.Common.{◌≡◌, ◌≢◌, ℕ, suc, ◌≤◌, List, length, [], inl, inr, refl, sym, ◌∙◌, ap, subst, subst₂, arith, Some, Result, Ok, Err, Vec, Global}
+use Rattle.std.proofs.Common.{◌≡◌, ◌≢◌, ℕ, suc, ◌<◌, ◌≤◌, List, length, [], inl, inr, refl, sym, ◌∙◌, ap, subst, subst₂, arith, Some, Result, Ok, Err, Vec, Global}
 use Rattle.std.specs.Result.{IsErrAnd}
 use Rattle.ig_text.specs.declared.text.Text.{Text}
 use Rattle.ig_text.specs.Decoding.{IsDecoded}
@@ -10,13 +10,12 @@ use Rattle.ig_grammar.specs.Checked.{CheckedGrammar}
 use Rattle.ig_grammar.specs.declared.grammar.Grammar.{Grammar}
 use Rattle.ig_core_laws.specs.Lowered.{CoreOf, IsBuildable}
 use Rattle.ig_core_laws.specs.Notation.{unchanged}
-use Rattle.ig_core_text.specs.CoreText.{core_text}
 use Rattle.ig_endings.specs.Change.{Change, change, raised, Fetched, Stood, Untouched}
 use Rattle.ig_endings.specs.declared.stop.Stop.{Stop}
 use Rattle.ig_endings.specs.declared.stop.Stop.TheVariants as halt
 use Rattle.ig_endings.specs.declared.status.Status.{Status}
 use Rattle.ig_endings.specs.declared.status.Status.TheVariants as status
-use Rattle.ig_command.specs.Commands.{Request, check, show, core, forest, trees, query, load, grammar_file, files_of, IsCommand}
+use Rattle.ig_command.specs.Commands.{Request, check, show, core, forest, trees, query, load, verify, analyse, grammar_file, input_file, files_of, IsCommand}
 use Rattle.ig_jobs.specs.Jobs.{Job, print, list, ask, request_for, task_request}
 use Rattle.ig_jobs.specs.declared.job.Task.{Task}
 use Rattle.ig_jobs.specs.declared.job.Task.TheVariants as task
@@ -27,13 +26,15 @@ use Rattle.ig_tool.specs.Outcome as decided
 use Rattle.ig_endings.specs.Notes.{usage_note}
 use Rattle.ig_endings.specs.Stops.{Ends, StopsWith, WritesText, WritesNote}
 use Rattle.ig_sources.specs.Sources as sources
-use Rattle.ig_sources.specs.Sources.{MayGive, StopsAt, IsNoGrammar, IsNoInput, IsWrittenIn, LoadsGrammar, LoadsInput}
-use Rattle.ig_jobs.specs.Tasks.{SaysOk, ShowsGrammar, ShowsCore}
+use Rattle.ig_sources.specs.Sources.{MayGive, StopsAt, IsNoGrammar, IsNoInput, IsLongForest, IsWrittenIn, LoadsGrammar, LoadsInput, LoadsForest, most_forest_bytes}
+use Rattle.ig_jobs.specs.Tasks.{DoesTask, GrammarText}
+use Rattle.ig_jobs.specs.Verifying as verifying
+use Rattle.ig_jobs.specs.Verifying.{IsReducedText, IsTaken, Verifies, VerifiesText}
 use Rattle.ig_jobs.specs.Texts as texts
 use Rattle.ig_jobs.specs.Texts.{IsPrepared, Prepares, IsParse, StopsParse, LoadsText, ParsesText}
-use Rattle.ig_tool.specs.Outcome.{never, for_names, HasFiles, Decided, usage, load_over_budget, load_summed, grammar_missing, grammar_unread, grammar_refused, checked, shown, core_shown, input_missing, input_unread, input_refused, over_budget, no_parse, parsed, Answers, noted, unwritten, unnoted, no_memory}
+use Rattle.ig_tool.specs.Outcome.{never, for_names, HasFiles, HasGrammar, HasInput, Decided, usage, load_over_budget, load_summed, grammar_missing, grammar_unread, grammar_refused, told_grammar, input_missing, input_unread, input_refused, over_budget, no_parse, parsed, forest_missing, forest_unread, checked, Answers, noted, unwritten, unnoted, no_memory}
 use Rattle.ig_tool.specs.Decisions as decisions
-use Rattle.ig_tool.specs.Decisions.{StopsRun, GivesText, RunsJob, Decides}
+use Rattle.ig_tool.specs.Decisions.{StopsRun, GivesText, RunsJob, StopsCheck, GivesLine, RunsCheck, Decides}
 
 -- the words are no command
 pub decides_usage : (words : List (List ℕ)) (shelf : ShelfState) (stop : Stop) →
@@ -64,11 +65,37 @@ one_file (forest grammar input budget) file e = omega arith
 one_file (trees grammar input budget listing) file e = omega arith
 one_file (query grammar input budget question) file e = omega arith
 one_file (load size number budget) file e = absurd (cc)
+one_file (verify grammar input text) file e = omega arith
+one_file (analyse grammar) file e = omega arith
+
+-- and each that names an input names two
+two_files : (request : Request) (file : List ℕ) → input_file request ≡ Some file → 2 ≤ length (files_of request)
+two_files (check grammar) file e = absurd (cc)
+two_files (show grammar) file e = absurd (cc)
+two_files (core grammar) file e = absurd (cc)
+two_files (forest grammar input budget) file e = omega arith
+two_files (trees grammar input budget listing) file e = omega arith
+two_files (query grammar input budget question) file e = omega arith
+two_files (load size number budget) file e = absurd (cc)
+two_files (verify grammar input text) file e = omega arith
+two_files (analyse grammar) file e = absurd (cc)
 
 pub named_of_task : (t : Task) (file : List ℕ) → grammar_file (task_request t file) ≡ Some file
 named_of_task task.Check file = refl
 named_of_task task.Show file = refl
 named_of_task task.Core file = refl
+named_of_task task.Analyse file = refl
+
+-- a job names a grammar and an input
+pub grammar_of_job : (job : Job) (grammar input : List ℕ) (budget : ℕ) → grammar_file (request_for job grammar input budget) ≡ Some grammar
+grammar_of_job print grammar input budget = refl
+grammar_of_job (list listing) grammar input budget = refl
+grammar_of_job (ask question) grammar input budget = refl
+
+input_of_job : (job : Job) (grammar input : List ℕ) (budget : ℕ) → input_file (request_for job grammar input budget) ≡ Some input
+input_of_job print grammar input budget = refl
+input_of_job (list listing) grammar input budget = refl
+input_of_job (ask question) grammar input budget = refl
 
 -- memory ran out before a file was fetched
 pub decides_memory : (words : List (List ℕ)) (shelf : ShelfState) (r : Result (Vec ℕ Global) Stop) →
@@ -129,30 +156,29 @@ module _ (words : List (List ℕ)) (shelf : Change ShelfState) (name : List ℕ)
     accepted : IsAccepted lg.1.0 c.grammar
     accepted = accepted_text lg.1.0 c parser lg.1.2 prepared
 
+    -- the parser's grammar is accepted, as it is written
+    pub is_taken : IsTaken parser
+    is_taken =
+        let P : CheckedGrammar → Type 0 = IsTaken in
+        subst P (sym prepared.0) (record { as_it_is = refl; bytes = lg.1.0; accepted = accepted })
+
+    pub has_grammar : (request : Request) → grammar_file request ≡ Some name → HasGrammar shelf.before request c.grammar
+    has_grammar request named =
+        record { name = name; named = named; bytes = lg.1.0; gives = lg.1.1; accepted = accepted }
+
     -- the grammar is all that was asked for
-    pub decides_check : (r : Result (Vec ℕ Global) Stop) → IsCommand words (check name) → SaysOk r → Decides words shelf r
-    decides_check (Ok text) command h =
-        let Q : List ℕ → Type 0 = λ z. Decided words shelf status.Done z [] 1 in
-        (1, subst Q (sym h) (checked name lg.1.0 c.grammar lg.0 command lg.1.1 accepted), count)
-    decides_check (Err (halt.Note s line)) command h = absurd h
-    decides_check (Err halt.Memory) command h = (1, for_names (check name) 1 command (omega arith), count, inl lg.0)
-
-    pub decides_show : (g : Grammar) (r : Result (Vec ℕ Global) Stop) → IsCommand words (show name) → g ≡ c.grammar →
-        ShowsGrammar g r → Decides words shelf r
-    decides_show g (Ok text) command e h =
-        let Q : List ℕ → Type 0 = λ z. Decided words shelf status.Done z [] 1 in
-        let A : Grammar → Type 0 = IsAccepted lg.1.0 in
-        (1, subst Q (sym h) (shown name lg.1.0 g lg.0 command lg.1.1 (subst A (sym e) accepted)), count)
-    decides_show g (Err (halt.Note s line)) command e h = absurd h
-    decides_show g (Err halt.Memory) command e h = (1, for_names (show name) 1 command (omega arith), count, inl lg.0)
-
-    pub decides_core : (r : Result (Vec ℕ Global) Stop) → IsCommand words (core name) → ShowsCore parser r → Decides words shelf r
-    decides_core (Ok text) command h =
-        let Q : List ℕ → Type 0 = λ z. Decided words shelf status.Done z [] 1 in
-        let same = h ∙ ap (λ (z : CheckedGrammar). core_text (CoreOf z)) prepared.0 in
-        (1, subst Q (sym same) (core_shown name lg.1.0 c.grammar lg.0 command lg.1.1 accepted), count)
-    decides_core (Err (halt.Note s line)) command h = absurd h
-    decides_core (Err halt.Memory) command h = (1, for_names (core name) 1 command (omega arith), count, inl lg.0)
+    pub decides_task : (t : Task) (r : Result (Vec ℕ Global) Stop) → IsCommand words (task_request t name) →
+        DoesTask parser.grammar t r → Decides words shelf r
+    decides_task t (Ok text) command h =
+        let P : CheckedGrammar → Type 0 = λ z. GrammarText z.grammar t text.items in (
+          1,
+          told_grammar t name text.items c.grammar lg.0 command (has_grammar (task_request t name) (named_of_task t name))
+              (subst P prepared.0 h),
+          count,
+        )
+    decides_task t (Err (halt.Note s line)) command h = absurd h
+    decides_task t (Err halt.Memory) command h =
+        (1, for_names (task_request t name) 1 command (one_file (task_request t name) name (named_of_task t name)), count, inl lg.0)
 
 -- what comes of a parser and an input
 module _ (c : CheckedGrammar) (budget : ℕ) (job : Job) (shelf : Change ShelfState) (name : List ℕ) where
@@ -167,10 +193,21 @@ module _ (c : CheckedGrammar) (budget : ℕ) (job : Job) (shelf : Change ShelfSt
   runs_parse text (Err (halt.Note s line)) li h = decisions.at_parse s line.items li.1.0 text li.0 li.1.1 li.1.2 h
   runs_parse text (Err halt.Memory) li h = inl li.0
 
--- a job was asked for, and the grammar was accepted
-module _ (words : List (List ℕ)) (shelf : Change ShelfState) (job : Job) (grammar input : List ℕ) (budget : ℕ) (xs : List ℕ)
-    (g : Grammar) (command : IsCommand words (request_for job grammar input budget)) (gives : MayGive (shelf.before.holds grammar) xs)
-    (accepted : IsAccepted xs g) (parser : CheckedGrammar) (prepared : IsPrepared g parser) where
+-- what comes of a parser, an input and the text of a forest
+module _ (c : CheckedGrammar) (input : List ℕ) (shelf : Change ShelfState) (name : List ℕ) where
+  pub checks_at_file : (stop : Stop) → LoadsForest shelf name (Err stop) → RunsCheck c input shelf name (Err stop)
+  checks_at_file (halt.Note s line) lf = decisions.at_file s line.items lf
+  checks_at_file halt.Memory lf = lf
+
+  pub checks_text : (bytes : Vec ℕ Global) (r : Result (Vec ℕ Global) Stop) → LoadsForest shelf name (Ok bytes) →
+      VerifiesText c input bytes.items r → RunsCheck c input shelf name r
+  checks_text bytes (Ok line) lf h = record { calm = lf.0; bytes = bytes.items; gives = lf.1; verifies = h }
+  checks_text bytes (Err (halt.Note s line)) lf h = decisions.at_text s line.items bytes.items lf.0 lf.1 h.0 h.1 h.2
+  checks_text bytes (Err halt.Memory) lf h = inl lf.0
+
+-- the grammar that the request names was accepted, and it names an input
+module _ (words : List (List ℕ)) (shelf : Change ShelfState) (request : Request) (g : Grammar) (command : IsCommand words request)
+    (has : HasGrammar shelf.before request g) (input : List ℕ) (named : input_file request ≡ Some input) where
   abbrev told : Told
   told = shelf.before.holds input
 
@@ -184,66 +221,64 @@ module _ (words : List (List ℕ)) (shelf : Change ShelfState) (job : Job) (gram
   stopped_at_input : (s : Status) (note : List ℕ) → StopsAt told input old new IsNoInput s note →
       Decided words shelf s [] note 2 × (s ≢ status.Done)
   stopped_at_input s note (sources.missing z line e n p q) =
-      (rw (p, q) (input_missing job grammar input budget xs g e command gives accepted n), λ d. cc)
+      (rw (p, q) (input_missing request g input e command has named n), λ d. cc)
   stopped_at_input s note (sources.unread z line rose p q) =
-      (rw (p, q) (input_unread job grammar input budget xs g rose command gives accepted), λ d. cc)
-  stopped_at_input s note (sources.refused z line ys e gives_input r) = (
-    rw (r.status_is, r.note_is)
-        (input_refused job grammar input budget xs ys g r.fault e command gives accepted gives_input r.faulty r.cause),
+      (rw (p, q) (input_unread request g input rose command has named), λ d. cc)
+  stopped_at_input s note (sources.refused z line ys e gives r) = (
+    rw (r.status_is, r.note_is) (input_refused request g input ys r.fault e command has named gives r.faulty r.cause),
     λ d. let p = r.status_is in cc,
   )
 
-  has_files : (ys text : List ℕ) → MayGive told ys → IsDecoded ys text → HasFiles words shelf.before g text budget job
-  has_files ys text gives_input decoded =
+  has_files : (ys text : List ℕ) → MayGive told ys → IsDecoded ys text → HasFiles words shelf.before request g text
+  has_files ys text gives decoded =
       record {
-        grammar_file = grammar;
-        input_file = input;
         command = command;
-        grammar_bytes = xs;
-        gives_grammar = gives;
-        accepted = accepted;
-        input_bytes = ys;
-        gives_input = gives_input;
-        decoded = decoded;
+        of_grammar = has;
+        of_input = record { name = input; named = named; bytes = ys; gives = gives; decoded = decoded };
       }
 
-  stopped_at_parse : (s : Status) (note text : List ℕ) → new ≡ old → HasFiles words shelf.before g text budget job →
-      StopsParse (unchanged g) text budget job s note → Decided words shelf s [] note 2 × (s ≢ status.Done)
-  stopped_at_parse s note text e files (texts.over_budget z line more p q) =
-      (rw (p, q) (over_budget g text budget job e files more), λ d. cc)
-  stopped_at_parse s note text e files (texts.no_parse z line suffices none p told) =
-      (rw p (no_parse g text budget job note e files suffices none told), λ d. cc)
-  stopped_at_parse s note text e files (texts.at_job z line is not_done) =
-      (parsed g text budget job is.forest s [] note e files is.is is.finishes, not_done)
+-- a job was asked for, and the grammar was accepted
+module _ (words : List (List ℕ)) (shelf : Change ShelfState) (job : Job) (grammar input : List ℕ) (budget : ℕ) (g : Grammar)
+    (command : IsCommand words (request_for job grammar input budget))
+    (has : HasGrammar shelf.before (request_for job grammar input budget) g) (parser : CheckedGrammar) (prepared : IsPrepared g parser)
+  where
+    abbrev asked : Request
+    asked = request_for job grammar input budget
 
-  stopped_run : (s : Status) (note : List ℕ) → StopsRun parser budget job told input old new s note →
-      Decided words shelf s [] note 2 × (s ≢ status.Done)
-  stopped_run s note (decisions.at_input z line at) = stopped_at_input s note at
-  stopped_run s note (decisions.at_parse z line ys text e gives_input decoded at) =
-      let P : CheckedGrammar → Type 0 = λ z. StopsParse z text budget job s note in
-      stopped_at_parse s note text e (has_files ys text gives_input decoded) (subst P prepared.0 at)
+    abbrev files_with : (ys text : List ℕ) → MayGive (shelf.before.holds input) ys → IsDecoded ys text →
+        HasFiles words shelf.before asked g text
+    files_with = has_files words shelf asked g command has input (input_of_job job grammar input budget)
 
-  made_text : (text : List ℕ) → GivesText parser budget job told old new text → Decided words shelf status.Done text [] 2
-  made_text text h =
-      let Q : CheckedGrammar → Type 0 = λ z. IsParse z h.input budget job status.Done text [] in
-      let is = subst Q prepared.0 h.is_parse in
-      parsed g h.input budget job is.forest status.Done text [] h.calm
-      (has_files h.input_bytes h.input h.gives_input h.decoded) is.is is.finishes
+    stopped_at_parse : (s : Status) (note text : List ℕ) → shelf.after.faults ≡ shelf.before.faults →
+        HasFiles words shelf.before asked g text →
+        StopsParse (unchanged g) text budget job s note → Decided words shelf s [] note 2 × (s ≢ status.Done)
+    stopped_at_parse s note text e files (texts.over_budget z line more p q) =
+        (rw (p, q) (over_budget grammar input g text budget job e files more), λ d. cc)
+    stopped_at_parse s note text e files (texts.no_parse z line suffices none p told) =
+        (rw p (no_parse grammar input g text budget job note e files suffices none told), λ d. cc)
+    stopped_at_parse s note text e files (texts.at_job z line is not_done) =
+        (parsed grammar input g text budget job is.forest s [] note e files is.is is.finishes, not_done)
+
+    stopped_run : (s : Status) (note : List ℕ) →
+        StopsRun parser budget job (shelf.before.holds input) input shelf.before.faults shelf.after.faults s note →
+        Decided words shelf s [] note 2 × (s ≢ status.Done)
+    stopped_run s note (decisions.at_input z line at) =
+        stopped_at_input words shelf asked g command has input (input_of_job job grammar input budget) s note at
+    stopped_run s note (decisions.at_parse z line ys text e gives_input decoded at) =
+        let P : CheckedGrammar → Type 0 = λ z. StopsParse z text budget job s note in
+        stopped_at_parse s note text e (files_with ys text gives_input decoded) (subst P prepared.0 at)
+
+    made_text : (text : List ℕ) →
+        GivesText parser budget job (shelf.before.holds input) shelf.before.faults shelf.after.faults text →
+        Decided words shelf status.Done text [] 2
+    made_text text h =
+        let Q : CheckedGrammar → Type 0 = λ z. IsParse z h.input budget job status.Done text [] in
+        let is = subst Q prepared.0 h.is_parse in
+        parsed grammar input g h.input budget job is.forest status.Done text [] h.calm
+        (files_with h.input_bytes h.input h.gives_input h.decoded) is.is is.finishes
 
 once_more : (k before between after : ℕ) → between ≡ risen before → after ≡ raised k between → after ≡ raised (suc k) before
 once_more k before between after c1 c2 = c2 ∙ ap (raised k) c1
-
--- a job names two files
-two_files : (job : Job) (grammar input : List ℕ) (budget : ℕ) → 2 ≤ length (files_of (request_for job grammar input budget))
-two_files print grammar input budget = omega arith
-two_files (list listing) grammar input budget = omega arith
-two_files (ask question) grammar input budget = omega arith
-
--- the first is the grammar
-pub grammar_of_job : (job : Job) (grammar input : List ℕ) (budget : ℕ) → grammar_file (request_for job grammar input budget) ≡ Some grammar
-grammar_of_job print grammar input budget = refl
-grammar_of_job (list listing) grammar input budget = refl
-grammar_of_job (ask question) grammar input budget = refl
 
 -- the grammar was loaded, and then a job was run
 pub decides_job : (words : List (List ℕ)) (first loaded last : ShelfState) (job : Job) (file input : List ℕ) (budget : ℕ)
@@ -254,8 +289,12 @@ pub decides_job : (words : List (List ℕ)) (first loaded last : ShelfState) (jo
     RunsJob parser budget job (change loaded last) input r → Decides words (change first last) r
 decides_job words first loaded last job file input budget c parser r command count same lg prepared count_2 h = go r h
   where
-    taken : IsAccepted lg.1.0 c.grammar
-    taken = accepted_text lg.1.0 c parser lg.1.2 prepared
+    asked : Request
+    asked = request_for job file input budget
+
+    has : HasGrammar first asked c.grammar
+    has =
+        has_grammar words (change first loaded) file c count lg parser prepared asked (grammar_of_job job file input budget)
 
     twice : Fetched (change first last) 2
     twice = once_more 1 first.fetches loaded.fetches last.fetches count count_2
@@ -264,19 +303,98 @@ decides_job words first loaded last job file input budget c parser r command cou
     go (Ok text) h =
         let P : Told → ℕ → Type 0 = λ told old. GivesText parser budget job told old last.faults text.items in (
           2,
-          made_text words (change first last) job file input budget lg.1.0 c.grammar command lg.1.1 taken parser prepared text.items (subst₂ P (same input) lg.0 h),
+          made_text words (change first last) job file input budget c.grammar command has parser prepared text.items
+              (subst₂ P (same input) lg.0 h),
           twice,
         )
     go (Err (halt.Note s line)) h =
         let P : Told → ℕ → Type 0 = λ told old. StopsRun parser budget job told input old last.faults s line.items in
-        let d = stopped_run words (change first last) job file input budget lg.1.0 c.grammar command lg.1.1 taken parser prepared s line.items (subst₂ P (same input) lg.0 h) in
+        let d = stopped_run words (change first last) job file input budget c.grammar command has parser prepared s line.items
+        (subst₂ P (same input) lg.0 h) in
         (2, d.0, twice, d.1)
     go (Err halt.Memory) h = (
       2,
-      for_names (request_for job file input budget) 2 command (two_files job file input budget),
+      for_names asked 2 command (two_files asked input (input_of_job job file input budget)),
       twice,
       subst (λ z. Stood z last.faults) lg.0 h,
     )
+
+-- a forest is to be checked, and the grammar was loaded
+module _ (words : List (List ℕ)) (file input name : List ℕ) (command : IsCommand words (verify file input name))
+    (first loaded : ShelfState) (c parser : CheckedGrammar) (count : Fetched (change first loaded) 1)
+    (same : (n : List ℕ) → loaded.holds n ≡ first.holds n) (lg : LoadsGrammar (change first loaded) file (Ok c))
+    (prepared : IsPrepared c.grammar parser) (read : ShelfState) (count_2 : Fetched (change loaded read) 1) where
+  has_one : HasGrammar first (verify file input name) c.grammar
+  has_one = has_grammar words (change first loaded) file c count lg parser prepared (verify file input name) refl
+
+  twice : Fetched (change first read) 2
+  twice = once_more 1 first.fetches loaded.fetches read.fetches count count_2
+
+  -- then the input stops the command
+  pub decides_at_input : (stop : Stop) → LoadsInput (change loaded read) input (Err stop) → Decides words (change first read) (Err stop)
+  decides_at_input (halt.Note s line) h =
+      let P : Told → ℕ → Type 0 = λ told old. StopsAt told input old read.faults IsNoInput s line.items in
+      let d = stopped_at_input words (change first read) (verify file input name) c.grammar command has_one input refl s line.items
+      (subst₂ P (same input) lg.0 h) in
+      (2, d.0, twice, d.1)
+  decides_at_input halt.Memory h =
+      (2, for_names (verify file input name) 2 command (omega arith), twice, subst (λ z. Stood z read.faults) lg.0 h)
+
+  -- or the input was loaded, and then the text of the forest looked at
+  module _ (last : ShelfState) (text : Text) (same_2 : (n : List ℕ) → read.holds n ≡ loaded.holds n)
+      (li : LoadsInput (change loaded read) input (Ok text)) (count_3 : Fetched (change read last) 1) where
+    abbrev both : Change ShelfState
+    both = change first last
+
+    calm_before : read.faults ≡ first.faults
+    calm_before = li.0 ∙ lg.0
+
+    thrice : Fetched both 3
+    thrice = once_more 2 first.fetches loaded.fetches last.fetches count (once_more 1 loaded.fetches read.fetches last.fetches count_2 count_3)
+
+    files : HasFiles words first (verify file input name) c.grammar text
+    files =
+        has_files words both (verify file input name) c.grammar command has_one input refl li.1.0 text
+        (subst (λ z. MayGive z li.1.0) (same input) li.1.1) li.1.2
+
+    held : read.holds name ≡ first.holds name
+    held = same_2 name ∙ same name
+
+    stopped_check : (s : Status) (note : List ℕ) → StopsCheck parser text (first.holds name) name first.faults last.faults s note →
+        Decided words both s [] note 3 × (s ≢ status.Done)
+    stopped_check s note (decisions.at_file z line (sources.missing _ _ e n p q)) =
+        (rw (p, q) (forest_missing file input name c.grammar text e files n), λ d. cc)
+    stopped_check s note (decisions.at_file z line (sources.unread _ _ rose p q)) =
+        (rw (p, q) (forest_unread file input name c.grammar text rose files), λ d. cc)
+    stopped_check s note (decisions.at_file z line (sources.refused _ _ zs e gives long)) = (
+      rw (long.status_is, long.note_is)
+          (checked file input name c.grammar text zs status.NotForest [] _ e files gives (verifying.too_long long.many)
+          (λ few is. let many : most_forest_bytes < length zs = long.many in absurd (omega arith))),
+      λ d. let p = long.status_is in cc,
+    )
+    stopped_check s note (decisions.at_text z line zs e gives h not_done not_reduced) =
+        let P : CheckedGrammar → Type 0 = λ z. Verifies z text zs s [] note in
+        let Q : CheckedGrammar → Type 0 = λ z. IsReducedText z text zs → ⊥ in (
+          checked file input name c.grammar text zs s [] note e files gives (subst P prepared.0 h)
+              (λ few is. absurd (subst Q prepared.0 not_reduced is)),
+          not_done,
+        )
+
+    pub decides_check : (r : Result (Vec ℕ Global) Stop) → RunsCheck parser text (change read last) name r → Decides words both r
+    decides_check (Ok line) h =
+        let P : CheckedGrammar → Type 0 = λ z. Verifies z text h.bytes status.Done line.items [] in
+        let M : Told → Type 0 = λ z. MayGive z h.bytes in (
+          3,
+          checked file input name c.grammar text h.bytes status.Done line.items [] (h.calm ∙ calm_before) files
+              (subst M held h.gives) (subst P prepared.0 h.verifies) (λ few is. refl),
+          thrice,
+        )
+    decides_check (Err (halt.Note s line)) h =
+        let P : Told → ℕ → Type 0 = λ told old. StopsCheck parser text told name old last.faults s line.items in
+        let d = stopped_check s line.items (subst₂ P held calm_before h) in
+        (3, d.0, thrice, d.1)
+    decides_check (Err halt.Memory) h =
+        (3, for_names (verify file input name) 3 command (omega arith), thrice, subst (λ z. Stood z last.faults) calm_before h)
 
 -- what was decided is answered
 answers_text : (words : List (List ℕ)) (shelf : Change ShelfState) (out notes : Change SinkState)

@@ -3,13 +3,13 @@ use Rattle.std.proofs.Common.{◌≡◌, ℕ, List, [], inl, inr, refl, ap, subs
 use Rattle.ig_outside.specs.States.{ShelfState, SinkState}
 use Rattle.ig_endings.specs.declared.status.Status.{Status}
 use Rattle.ig_endings.specs.declared.status.Status.TheVariants as status
-use Rattle.ig_command.specs.Commands.{Request, check, show, core, load, grammar_file, IsCommand}
-use Rattle.ig_jobs.specs.Jobs.{Job, request_for}
+use Rattle.ig_command.specs.Commands.{Request, load, verify, grammar_file, IsCommand}
+use Rattle.ig_jobs.specs.Jobs.{request_for, task_request}
 use Rattle.ig_endings.specs.Change.{Change}
 use Rattle.ig_tool.specs.Outcome as answer
 use Rattle.ig_tool.specs.Outcome.{Decided, Answers, written, noted, unwritten, unnoted, no_memory}
 use Rattle.ig_tool.specs.Headline.{LoadOutcome, too_large, summed, LoadCommands}
-use Rattle.ig_tool.proofs.HeadlineLaw.{same_request, named_grammar, got_none}
+use Rattle.ig_tool.proofs.Asked.{Sort, of_load, got_none, one_sort, same_request, sort_of, sort_of_job, sort_of_task}
 
 -- the sizes, numbers and budgets of one load
 same_load : (s n b t m c : ℕ) → load s n b ≡ load t m c → (s ≡ t) × (n ≡ m) × (b ≡ c)
@@ -17,13 +17,13 @@ same_load s n b t m c e = (cc, cc, cc)
 
 module _ (words : List (List ℕ)) (shelf : Change ShelfState) (size number budget : ℕ) (asked : IsCommand words (load size number budget))
   where
+    of_one_sort : (r : Request) (m : Sort) → IsCommand words r → sort_of r ≡ m → m ≡ of_load
+    of_one_sort r m command e = one_sort words r (load size number budget) m of_load command asked e refl
+
     -- no grammar is read
     no_grammar : (r : Request) (f : List ℕ) → IsCommand words r → grammar_file r ≡ Some f → ⊥
     no_grammar r f command named =
         let none : grammar_file r ≡ None = ap grammar_file (same_request words r (load size number budget) command asked) in cc
-
-    no_job : (job : Job) (f i : List ℕ) (b : ℕ) → IsCommand words (request_for job f i b) → ⊥
-    no_job job f i b command = no_grammar (request_for job f i b) f command (named_grammar job f i b)
 
     moved : (s n b : ℕ) (t : Status) (text note : List ℕ) → IsCommand words (load s n b) → LoadOutcome s n b t text note →
         LoadOutcome size number budget t text note
@@ -41,19 +41,24 @@ module _ (words : List (List ℕ)) (shelf : Change ShelfState) (size number budg
     decided_load t text note k (answer.grammar_missing r f e command named held) = absurd (no_grammar r f command named)
     decided_load t text note k (answer.grammar_unread r f rose command named) = absurd (no_grammar r f command named)
     decided_load t text note k (answer.grammar_refused r f xs line e command named gives refused) = absurd (no_grammar r f command named)
-    decided_load t text note k (answer.checked f xs g e command gives accepted) = absurd (no_grammar (check f) f command refl)
-    decided_load t text note k (answer.shown f xs g e command gives accepted) = absurd (no_grammar (show f) f command refl)
-    decided_load t text note k (answer.core_shown f xs g e command gives accepted) = absurd (no_grammar (core f) f command refl)
-    decided_load t text note k (answer.input_missing job f i b xs g e command gives accepted held) = absurd (no_job job f i b command)
-    decided_load t text note k (answer.input_unread job f i b xs g rose command gives accepted) = absurd (no_job job f i b command)
-    decided_load t text note k (answer.input_refused job f i b xs ys g fault e command gives accepted given faulty cause) =
-        absurd (no_job job f i b command)
-    decided_load t text note k (answer.over_budget g input b job e files more) =
-        absurd (no_job job files.grammar_file files.input_file b files.command)
-    decided_load t text note k (answer.no_parse g input b job line e files few none told) =
-        absurd (no_job job files.grammar_file files.input_file b files.command)
-    decided_load t text note k (answer.parsed g input b job f s out line e files is finishes) =
-        absurd (no_job job files.grammar_file files.input_file b files.command)
+    decided_load t text note k (answer.told_grammar u f line g e command has is) =
+        let same = of_one_sort (task_request u f) _ command (sort_of_task u f) in absurd (cc)
+    decided_load t text note k (answer.input_missing r g f e command has n held) = absurd (no_grammar r has.name command has.named)
+    decided_load t text note k (answer.input_unread r g f rose command has n) = absurd (no_grammar r has.name command has.named)
+    decided_load t text note k (answer.input_refused r g f ys fault e command has n gives faulty cause) =
+        absurd (no_grammar r has.name command has.named)
+    decided_load t text note k (answer.over_budget f i g input b job e files more) =
+        let same = of_one_sort (request_for job f i b) _ files.command (sort_of_job job f i b) in absurd (cc)
+    decided_load t text note k (answer.no_parse f i g input b job line e files few none told) =
+        let same = of_one_sort (request_for job f i b) _ files.command (sort_of_job job f i b) in absurd (cc)
+    decided_load t text note k (answer.parsed f i g input b job forest s out line e files is finishes) =
+        let same = of_one_sort (request_for job f i b) _ files.command (sort_of_job job f i b) in absurd (cc)
+    decided_load t text note k (answer.forest_missing f i n g input e files held) =
+        let same = of_one_sort (verify f i n) _ files.command refl in absurd (cc)
+    decided_load t text note k (answer.forest_unread f i n g input rose files) =
+        let same = of_one_sort (verify f i n) _ files.command refl in absurd (cc)
+    decided_load t text note k (answer.checked f i n g input zs s out line e files gives is passes) =
+        let same = of_one_sort (verify f i n) _ files.command refl in absurd (cc)
 
 pub load_commands : (words : List (List ℕ)) (shelf : Change ShelfState) (out notes : Change SinkState) (s : Status) →
     Answers words shelf out notes s → LoadCommands words out notes s

@@ -10,9 +10,10 @@ use Rattle.ig_endings.specs.declared.stop.Stop.{Stop}
 use Rattle.ig_endings.specs.declared.stop.Stop.TheVariants as halt
 use Rattle.ig_endings.specs.declared.status.Status.{Status}
 use Rattle.ig_endings.specs.declared.status.Status.TheVariants as status
-use Rattle.ig_sources.specs.Sources.{MayGive, StopsAt, IsNoInput}
+use Rattle.ig_sources.specs.Sources.{MayGive, StopsAt, IsNoInput, IsLongForest}
 use Rattle.ig_jobs.specs.Jobs.{Job}
 use Rattle.ig_jobs.specs.Texts.{IsParse, StopsParse}
+use Rattle.ig_jobs.specs.Verifying.{IsReducedText, Verifies}
 use Rattle.ig_tool.specs.Outcome.{Decided, MayFetch}
 
 -- why a parser and the input of this name give no text, by what the shelf tells of it and its counts of faults
@@ -39,6 +40,30 @@ RunsJob c budget job shelf name (Ok text) =
 RunsJob c budget job shelf name (Err (halt.Note s line)) =
     StopsRun c budget job (shelf.before.holds name) name shelf.before.faults shelf.after.faults s line.items
 RunsJob c budget job shelf name (Err halt.Memory) = Stood shelf.before.faults shelf.after.faults
+
+-- why a parser, an input and the text of a forest that has this name give no line, by what the shelf tells of it and its counts
+-- of faults
+pub data StopsCheck (c : CheckedGrammar) (input : List ℕ) (told : Told) (name : List ℕ) (old new : ℕ) :
+    Status → List ℕ → Type 0 where
+  at_file : (s : Status) (note : List ℕ) → StopsAt told name old new IsLongForest s note →
+      StopsCheck c input told name old new s note
+  at_text : (s : Status) (note zs : List ℕ) → new ≡ old → MayGive told zs → Verifies c input zs s [] note → s ≢ status.Done →
+      (IsReducedText c input zs → ⊥) → StopsCheck c input told name old new s note
+
+-- the line that comes of the parser, the input and the text of a forest
+pub record GivesLine (c : CheckedGrammar) (input : List ℕ) (told : Told) (old new : ℕ) (line : List ℕ) : Type 0 where
+  pub calm : new ≡ old
+  pub bytes : List ℕ
+  pub gives : MayGive told bytes
+  pub verifies : Verifies c input bytes status.Done line []
+
+-- a check of the forest whose text has this name
+abbrev pub RunsCheck : CheckedGrammar → List ℕ → Change ShelfState → List ℕ → Result (Vec ℕ Global) Stop → Type 0
+RunsCheck c input shelf name (Ok text) =
+    GivesLine c input (shelf.before.holds name) shelf.before.faults shelf.after.faults text.items
+RunsCheck c input shelf name (Err (halt.Note s line)) =
+    StopsCheck c input (shelf.before.holds name) name shelf.before.faults shelf.after.faults s line.items
+RunsCheck c input shelf name (Err halt.Memory) = Stood shelf.before.faults shelf.after.faults
 
 -- what is decided before anything is written
 abbrev pub Decides : List (List ℕ) → Change ShelfState → Result (Vec ℕ Global) Stop → Type 0

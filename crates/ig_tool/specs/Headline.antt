@@ -1,12 +1,12 @@
 -- The main theorem: which trees the printed forest has, and when there is none.
-use Rattle.std.specs.Prelude.{◌≡◌, ℕ, ◌⊎◌, List, [], Option}
+use Rattle.std.specs.Prelude.{◌≡◌, ℕ, ◌≤◌, ◌⊎◌, List, [], length, Option, Some}
 use Rattle.ig_text.specs.Decoding.{IsDecoded}
 use Rattle.ig_text.specs.Tree.{Tree}
 use Rattle.ig_outside.specs.States.{ShelfState, SinkState}
 use Rattle.ig_outside.specs.Told.{bytes}
 use Rattle.ig_grammar.specs.declared.grammar.Grammar.{Grammar}
 use Rattle.ig_core_laws.specs.Notation.{unchanged}
-use Rattle.ig_forest.specs.Forest.{Forest}
+use Rattle.ig_forest_tables.specs.Forest.{Forest}
 use Rattle.ig_grammar.specs.Checked.{CheckedGrammar}
 use Rattle.ig_parse.specs.Parses.{IsParsed, IsUnparsed, IsOver, IsForestOf, HasForest}
 use Rattle.ig_endings.specs.declared.status.Status.{Status}
@@ -14,27 +14,31 @@ use Rattle.ig_endings.specs.declared.status.Status.TheVariants as status
 use Rattle.ig_load.specs.Summary.{IsLoadSummary, IsTooLarge}
 use Rattle.ig_load_texts.specs.Line.{summary_text}
 use Rattle.ig_load_texts.specs.declared.summary.Summary.{Summary}
-use Rattle.ig_command.specs.Commands.{check, show, core, load, IsCommand}
-use Rattle.ig_jobs.specs.Jobs.{Job, print, list, ask, request_for}
+use Rattle.ig_command.specs.Commands.{Request, load, verify, grammar_file, input_file, IsCommand}
+use Rattle.ig_jobs.specs.Jobs.{Job, print, list, ask, request_for, task_request}
+use Rattle.ig_jobs.specs.declared.job.Task.{Task}
 use Rattle.ig_jobs.specs.Listing.{IsBounded, Begins}
 use Rattle.ig_sources.specs.Accepted.{IsAccepted}
 use Rattle.ig_endings.specs.Change.{Change, FetchFailed, PutFailed, Got, Untouched}
 use Rattle.ig_endings.specs.Notes.{budget_note}
-use Rattle.ig_jobs.specs.Tasks.{ok_text, shown_text, shown_core}
+use Rattle.ig_jobs.specs.Tasks.{GrammarText}
+use Rattle.ig_jobs.specs.Verifying.{IsReducedText, Verifies, verified_text}
+use Rattle.ig_sources.specs.Sources.{most_forest_bytes}
 use Rattle.ig_jobs.specs.Finishes.{IsNoParseNote, Finishes}
 
--- the words ask for the job with two files, and the shelf tells that it holds them: the first is the text of the grammar,
--- which is accepted, the second is the input
-pub record Asks (words : List (List ℕ)) (shelf : ShelfState) (g : Grammar) (input : List ℕ) (budget : ℕ) (job : Job) :
-    Type 0 where
-  pub grammar_file : List ℕ
-  pub input_file : List ℕ
-  pub command : IsCommand words (request_for job grammar_file input_file budget)
+-- the words are the request, and the shelf tells that it holds its grammar and its input: the first is the text of the
+-- grammar, which is accepted, the second is the input
+pub record Asks (words : List (List ℕ)) (shelf : ShelfState) (request : Request) (g : Grammar) (input : List ℕ) : Type 0 where
+  pub command : IsCommand words request
+  pub grammar_name : List ℕ
+  pub names_grammar : grammar_file request ≡ Some grammar_name
   pub grammar_bytes : List ℕ
-  pub holds_grammar : shelf.holds grammar_file ≡ bytes grammar_bytes
+  pub holds_grammar : shelf.holds grammar_name ≡ bytes grammar_bytes
   pub accepted : IsAccepted grammar_bytes g
+  pub input_name : List ℕ
+  pub names_input : input_file request ≡ Some input_name
   pub input_bytes : List ℕ
-  pub holds_input : shelf.holds input_file ≡ bytes input_bytes
+  pub holds_input : shelf.holds input_name ≡ bytes input_bytes
   pub decoded : IsDecoded input_bytes input
 
 -- the status, out's text and notes' line, from the grammar as it is written, the input, the budget and the job
@@ -59,7 +63,8 @@ Says g input budget job out notes answer =
 -- outcome, or memory ran out
 abbrev pub Headline : List (List ℕ) → Change ShelfState → Change SinkState → Change SinkState → Status → Type 0
 Headline words shelf out notes answer =
-    (g : Grammar) (input : List ℕ) (budget : ℕ) (job : Job) → Asks words shelf.before g input budget job →
+    (grammar_name input_name : List ℕ) (g : Grammar) (input : List ℕ) (budget : ℕ) (job : Job) →
+    Asks words shelf.before (request_for job grammar_name input_name budget) g input →
     (FetchFailed shelf → ⊥) → (PutFailed out → ⊥) → (PutFailed notes → ⊥) → Says g input budget job out notes answer
 
 -- a listing is lawful where a depth is given, or the permitted trees have a highest one, and where the word of the cursor, if
@@ -84,25 +89,42 @@ pub record GotText (g : Grammar) (input : List ℕ) (budget : ℕ) (job : Job) (
 -- ran out
 abbrev pub Completeness : List (List ℕ) → Change ShelfState → Change SinkState → Change SinkState → Status → Type 0
 Completeness words shelf out notes answer =
-    (g : Grammar) (input : List ℕ) (budget : ℕ) (job : Job) → Asks words shelf.before g input budget job →
+    (grammar_name input_name : List ℕ) (g : Grammar) (input : List ℕ) (budget : ℕ) (job : Job) →
+    Asks words shelf.before (request_for job grammar_name input_name budget) g input →
     (FetchFailed shelf → ⊥) → (PutFailed out → ⊥) → (PutFailed notes → ⊥) → (IsOver (unchanged g) input budget → ⊥) →
     IsParsed (unchanged g) input → IsLawful (unchanged g) input job →
     ((answer ≡ status.NoMemory) × Untouched out) ⊎ ((answer ≡ status.Done) × GotText g input budget job out notes)
 
--- what out gets where the words ask that the grammar of this file be checked or shown, or for its core grammar
-pub data IsGrammarCommand (words : List (List ℕ)) (file : List ℕ) (g : Grammar) : List ℕ → Type 0 where
-  checks : IsCommand words (check file) → IsGrammarCommand words file g ok_text
-  shows : IsCommand words (show file) → IsGrammarCommand words file g (shown_text g)
-  cores : IsCommand words (core file) → IsGrammarCommand words file g (shown_core g)
-
--- where the shelf tells that it holds the grammar, it is accepted and nothing failed outside, the answer is status 0 and
--- out got the text, or memory ran out, and out got nothing
+-- where the words ask for a task with a grammar, the shelf tells that it holds it, it is accepted and nothing failed outside, the
+-- answer is status 0 and out got the text of the task, or memory ran out, and out got nothing
 abbrev pub GrammarCommands : List (List ℕ) → Change ShelfState → Change SinkState → Change SinkState → Status → Type 0
 GrammarCommands words shelf out notes answer =
-    (file xs : List ℕ) (g : Grammar) (text : List ℕ) → IsGrammarCommand words file g text →
+    (task : Task) (file xs : List ℕ) (g : Grammar) → IsCommand words (task_request task file) →
     shelf.before.holds file ≡ bytes xs → IsAccepted xs g → (FetchFailed shelf → ⊥) → (PutFailed out → ⊥) →
     (PutFailed notes → ⊥) →
-    ((answer ≡ status.NoMemory) × Untouched out) ⊎ ((answer ≡ status.Done) × Got out text × Untouched notes)
+    ((answer ≡ status.NoMemory) × Untouched out) ⊎
+    ((answer ≡ status.Done) × ((text : List ℕ) × (GrammarText g task text × Got out text × Untouched notes)))
+
+-- where the words ask that a forest be checked, the shelf tells that it holds the grammar, the input and the text of the forest,
+-- the first two are accepted and nothing failed outside, the answer is what comes of the text, or memory ran out, and out got
+-- nothing
+abbrev pub Verification : List (List ℕ) → Change ShelfState → Change SinkState → Change SinkState → Status → Type 0
+Verification words shelf out notes answer =
+    (grammar_name input_name name : List ℕ) (g : Grammar) (input zs : List ℕ) →
+    Asks words shelf.before (verify grammar_name input_name name) g input → shelf.before.holds name ≡ bytes zs →
+    (FetchFailed shelf → ⊥) → (PutFailed out → ⊥) → (PutFailed notes → ⊥) →
+    ((answer ≡ status.NoMemory) × Untouched out) ⊎
+    ((text : List ℕ) × ((note : List ℕ) × (Verifies (unchanged g) input zs answer text note × Got out text × Got notes note)))
+
+-- where moreover the text is that of the reduced forest of the grammar and the input, and isn't too long, the answer is status 0
+-- with the line, or memory ran out
+abbrev pub Certification : List (List ℕ) → Change ShelfState → Change SinkState → Change SinkState → Status → Type 0
+Certification words shelf out notes answer =
+    (grammar_name input_name name : List ℕ) (g : Grammar) (input zs : List ℕ) →
+    Asks words shelf.before (verify grammar_name input_name name) g input → shelf.before.holds name ≡ bytes zs →
+    (FetchFailed shelf → ⊥) → (PutFailed out → ⊥) → (PutFailed notes → ⊥) → length zs ≤ most_forest_bytes →
+    IsReducedText (unchanged g) input zs →
+    ((answer ≡ status.NoMemory) × Untouched out) ⊎ ((answer ≡ status.Done) × Got out verified_text × Got notes [])
 
 -- what a load of this size and number puts: the line of its summary, or the note where more items are reachable than the
 -- budget allows

@@ -1,5 +1,5 @@
 -- What the top call answers, by cases.
-use Rattle.std.specs.Prelude.{◌≡◌, ◌≢◌, ◌≤◌, ℕ, zero, List, [], length, Some}
+use Rattle.std.specs.Prelude.{◌≡◌, ◌≢◌, ◌≤◌, ℕ, zero, List, [], length, Option, Some}
 use Rattle.ig_text.specs.Decoding.{IsDecoded, IsFaulty}
 use Rattle.ig_text.specs.declared.text.TextFault.{TextFault}
 use Rattle.ig_text.specs.declared.text.TextFault.TheVariants as text_fault
@@ -7,12 +7,12 @@ use Rattle.ig_outside.specs.Told.{nothing}
 use Rattle.ig_outside.specs.States.{ShelfState, SinkState}
 use Rattle.ig_grammar.specs.declared.grammar.Grammar.{Grammar}
 use Rattle.ig_core_laws.specs.Notation.{unchanged}
-use Rattle.ig_forest.specs.Forest.{Forest}
+use Rattle.ig_forest_tables.specs.Forest.{Forest}
 use Rattle.ig_parse.specs.Parses.{IsUnparsed, IsOver, HasForest}
 use Rattle.ig_load.specs.Summary.{IsLoadSummary, IsTooLarge}
 use Rattle.ig_load_texts.specs.Line.{summary_text}
 use Rattle.ig_load_texts.specs.declared.summary.Summary.{Summary}
-use Rattle.ig_command.specs.Commands.{Request, check, show, core, load, grammar_file, files_of, IsCommand}
+use Rattle.ig_command.specs.Commands.{Request, load, verify, grammar_file, input_file, files_of, IsCommand}
 use Rattle.ig_endings.specs.Change.{Change, Fetched, IsCalm, FetchFailed, Stood, Got, Failed, Untouched, Noted}
 use Rattle.ig_endings.specs.Notes.{budget_note, cannot_read_note, cannot_write_note, grammar_note, input_note, no_memory_note, usage_note}
 use Rattle.ig_endings.specs.declared.status.Status.{Status}
@@ -20,23 +20,33 @@ use Rattle.ig_endings.specs.declared.status.Status.TheVariants as status
 use Rattle.ig_sources.specs.Accepted.{IsAccepted}
 use Rattle.ig_sources.specs.Refusals.{IsRefused}
 use Rattle.ig_sources.specs.Sources.{MayGive}
-use Rattle.ig_jobs.specs.Jobs.{Job, request_for}
-use Rattle.ig_jobs.specs.Tasks.{ok_text, shown_text, shown_core}
+use Rattle.ig_jobs.specs.Jobs.{Job, request_for, task_request}
+use Rattle.ig_jobs.specs.declared.job.Task.{Task}
+use Rattle.ig_jobs.specs.Tasks.{GrammarText}
+use Rattle.ig_jobs.specs.Verifying.{Verifies, PassesReduced}
 use Rattle.ig_jobs.specs.Finishes.{IsNoParseNote, Finishes}
 
--- the words ask for the job with two files, of which the first may give the grammar, which is accepted, and the second the
--- input
-pub record HasFiles (words : List (List ℕ)) (shelf : ShelfState) (g : Grammar) (input : List ℕ) (budget : ℕ) (job : Job) :
-    Type 0 where
-  pub grammar_file : List ℕ
-  pub input_file : List ℕ
-  pub command : IsCommand words (request_for job grammar_file input_file budget)
-  pub grammar_bytes : List ℕ
-  pub gives_grammar : MayGive (shelf.holds grammar_file) grammar_bytes
-  pub accepted : IsAccepted grammar_bytes g
-  pub input_bytes : List ℕ
-  pub gives_input : MayGive (shelf.holds input_file) input_bytes
-  pub decoded : IsDecoded input_bytes input
+-- the file of the request's grammar may give it, and it is accepted
+pub record HasGrammar (shelf : ShelfState) (request : Request) (g : Grammar) : Type 0 where
+  pub name : List ℕ
+  pub named : grammar_file request ≡ Some name
+  pub bytes : List ℕ
+  pub gives : MayGive (shelf.holds name) bytes
+  pub accepted : IsAccepted bytes g
+
+-- the file of the request's input may give it
+pub record HasInput (shelf : ShelfState) (request : Request) (input : List ℕ) : Type 0 where
+  pub name : List ℕ
+  pub named : input_file request ≡ Some name
+  pub bytes : List ℕ
+  pub gives : MayGive (shelf.holds name) bytes
+  pub decoded : IsDecoded bytes input
+
+-- the words are the request, whose files may give the grammar, which is accepted, and the input
+pub record HasFiles (words : List (List ℕ)) (shelf : ShelfState) (request : Request) (g : Grammar) (input : List ℕ) : Type 0 where
+  pub command : IsCommand words request
+  pub of_grammar : HasGrammar shelf request g
+  pub of_input : HasInput shelf request input
 
 -- the status that is decided before anything is written, the text for out, the line for notes, and
 -- the number of fetches
@@ -62,42 +72,48 @@ pub data Decided (words : List (List ℕ)) (shelf : Change ShelfState) : Status 
   grammar_refused : (request : Request) (file xs text : List ℕ) → IsCalm shelf → IsCommand words request →
       grammar_file request ≡ Some file → MayGive (shelf.before.holds file) xs → IsRefused xs text →
       Decided words shelf status.Grammar [] (grammar_note text) 1
-  -- the grammar is accepted, which is all that was asked
-  checked : (grammar xs : List ℕ) (g : Grammar) → IsCalm shelf → IsCommand words (check grammar) →
-      MayGive (shelf.before.holds grammar) xs → IsAccepted xs g → Decided words shelf status.Done ok_text [] 1
-  -- the grammar is accepted, and the text is its canonical one
-  shown : (grammar xs : List ℕ) (g : Grammar) → IsCalm shelf → IsCommand words (show grammar) →
-      MayGive (shelf.before.holds grammar) xs → IsAccepted xs g → Decided words shelf status.Done (shown_text g) [] 1
-  -- the grammar is accepted, and the text is that of its core grammar
-  core_shown : (grammar xs : List ℕ) (g : Grammar) → IsCalm shelf → IsCommand words (core grammar) →
-      MayGive (shelf.before.holds grammar) xs → IsAccepted xs g → Decided words shelf status.Done (shown_core g) [] 1
+  -- the grammar is accepted, and the text is what was asked of it
+  told_grammar : (task : Task) (file text : List ℕ) (g : Grammar) → IsCalm shelf → IsCommand words (task_request task file) →
+      HasGrammar shelf.before (task_request task file) g → GrammarText g task text → Decided words shelf status.Done text [] 1
   -- the grammar is accepted, and nothing is held under the input's name
-  input_missing : (job : Job) (grammar input : List ℕ) (budget : ℕ) (xs : List ℕ) (g : Grammar) → IsCalm shelf →
-      IsCommand words (request_for job grammar input budget) → MayGive (shelf.before.holds grammar) xs → IsAccepted xs g →
-      shelf.before.holds input ≡ nothing →
-      Decided words shelf status.ReadFault [] (cannot_read_note input) 2
+  input_missing : (request : Request) (g : Grammar) (file : List ℕ) → IsCalm shelf → IsCommand words request →
+      HasGrammar shelf.before request g → input_file request ≡ Some file → shelf.before.holds file ≡ nothing →
+      Decided words shelf status.ReadFault [] (cannot_read_note file) 2
   -- the grammar is accepted, and the fetch of the input failed
-  input_unread : (job : Job) (grammar input : List ℕ) (budget : ℕ) (xs : List ℕ) (g : Grammar) → FetchFailed shelf →
-      IsCommand words (request_for job grammar input budget) → MayGive (shelf.before.holds grammar) xs → IsAccepted xs g →
-      Decided words shelf status.ReadFault [] (cannot_read_note input) 2
+  input_unread : (request : Request) (g : Grammar) (file : List ℕ) → FetchFailed shelf → IsCommand words request →
+      HasGrammar shelf.before request g → input_file request ≡ Some file →
+      Decided words shelf status.ReadFault [] (cannot_read_note file) 2
   -- the grammar is accepted, and the input's bytes are no text
-  input_refused : (job : Job) (grammar input : List ℕ) (budget : ℕ) (xs ys : List ℕ) (g : Grammar) (fault : TextFault) →
-      IsCalm shelf → IsCommand words (request_for job grammar input budget) → MayGive (shelf.before.holds grammar) xs →
-      IsAccepted xs g → MayGive (shelf.before.holds input) ys → IsFaulty ys fault → fault ≢ text_fault.Memory →
+  input_refused : (request : Request) (g : Grammar) (file ys : List ℕ) (fault : TextFault) → IsCalm shelf →
+      IsCommand words request → HasGrammar shelf.before request g → input_file request ≡ Some file →
+      MayGive (shelf.before.holds file) ys → IsFaulty ys fault → fault ≢ text_fault.Memory →
       Decided words shelf status.Input [] (input_note fault) 2
   -- more items than the budget are reachable
-  over_budget : (g : Grammar) (input : List ℕ) (budget : ℕ) (job : Job) → IsCalm shelf →
-      HasFiles words shelf.before g input budget job → IsOver (unchanged g) input budget →
-      Decided words shelf status.Budget [] (budget_note budget) 2
+  over_budget : (grammar_name input_name : List ℕ) (g : Grammar) (input : List ℕ) (budget : ℕ) (job : Job) → IsCalm shelf →
+      HasFiles words shelf.before (request_for job grammar_name input_name budget) g input →
+      IsOver (unchanged g) input budget → Decided words shelf status.Budget [] (budget_note budget) 2
   -- the budget suffices, and no tree is permitted
-  no_parse : (g : Grammar) (input : List ℕ) (budget : ℕ) (job : Job) (note : List ℕ) → IsCalm shelf →
-      HasFiles words shelf.before g input budget job → (IsOver (unchanged g) input budget → ⊥) →
-      IsUnparsed (unchanged g) input → IsNoParseNote (unchanged g) input note →
+  no_parse : (grammar_name input_name : List ℕ) (g : Grammar) (input : List ℕ) (budget : ℕ) (job : Job) (note : List ℕ) →
+      IsCalm shelf → HasFiles words shelf.before (request_for job grammar_name input_name budget) g input →
+      (IsOver (unchanged g) input budget → ⊥) → IsUnparsed (unchanged g) input → IsNoParseNote (unchanged g) input note →
       Decided words shelf status.NoParse [] note 2
   -- the budget suffices, a tree is permitted, and the forest says what comes of the job
-  parsed : (g : Grammar) (input : List ℕ) (budget : ℕ) (job : Job) (f : Forest) (s : Status) (out note : List ℕ) →
-      IsCalm shelf → HasFiles words shelf.before g input budget job → HasForest (unchanged g) input budget f →
-      Finishes (unchanged g) input f job s out note → Decided words shelf s out note 2
+  parsed : (grammar_name input_name : List ℕ) (g : Grammar) (input : List ℕ) (budget : ℕ) (job : Job) (f : Forest) (s : Status)
+      (out note : List ℕ) → IsCalm shelf → HasFiles words shelf.before (request_for job grammar_name input_name budget) g input →
+      HasForest (unchanged g) input budget f → Finishes (unchanged g) input f job s out note → Decided words shelf s out note 2
+  -- a forest is to be checked, and nothing is held under the name of its text
+  forest_missing : (grammar_name input_name file : List ℕ) (g : Grammar) (input : List ℕ) → IsCalm shelf →
+      HasFiles words shelf.before (verify grammar_name input_name file) g input → shelf.before.holds file ≡ nothing →
+      Decided words shelf status.ReadFault [] (cannot_read_note file) 3
+  -- the fetch of its text failed
+  forest_unread : (grammar_name input_name file : List ℕ) (g : Grammar) (input : List ℕ) → FetchFailed shelf →
+      HasFiles words shelf.before (verify grammar_name input_name file) g input →
+      Decided words shelf status.ReadFault [] (cannot_read_note file) 3
+  -- the forest was checked; the reduced one passes
+  checked : (grammar_name input_name file : List ℕ) (g : Grammar) (input zs : List ℕ) (s : Status) (out note : List ℕ) →
+      IsCalm shelf → HasFiles words shelf.before (verify grammar_name input_name file) g input →
+      MayGive (shelf.before.holds file) zs → Verifies (unchanged g) input zs s out note → PassesReduced (unchanged g) input zs s →
+      Decided words shelf s out note 3
 
 -- how often files may be fetched: never where the words are no command, else once for each file at most
 pub data MayFetch (words : List (List ℕ)) : ℕ → Type 0 where

@@ -1,23 +1,25 @@
 //! The top call.
 ghost use Rattle.std.specs.Prelude.{◌≡◌, ℕ, List, map, string_bytes};
 ghost use Rattle.ig_core_laws.specs.Notation.{unchanged};
-ghost use Rattle.ig_command.specs.Commands.{IsCommand};
+ghost use Rattle.ig_command.specs.Commands.{IsCommand, verify};
 ghost use Rattle.ig_endings.specs.Change.{change, Fetched};
 ghost use Rattle.ig_jobs.specs.Jobs.{request_for, stored_job, task_request};
+ghost use Rattle.ig_jobs.specs.Verifying.{IsTaken};
 ghost use Rattle.ig_tool.specs.Outcome.{Answers};
-ghost use Rattle.ig_tool.specs.Decisions.{Decides, RunsJob};
+ghost use Rattle.ig_tool.specs.Decisions.{Decides, RunsCheck, RunsJob};
 ghost use Rattle.ig_tool.specs.Headline.{Completeness, GrammarCommands, Headline};
-ghost use Rattle.ig_tool.specs.Headline.{LoadCommands};
+ghost use Rattle.ig_tool.specs.Headline.{Certification, LoadCommands, Verification};
 
 use ig_command::{command_of, load_sizes_are_few};
 use ig_endings::{Status, Stop, end, usage};
 use ig_jobs::{
-    Files, Job, Task, Work, parse, parser_of, say_ok, show, shown_core, summary_line, work_of,
+    Files, Job, Task, Work, do_task, parse, parser_of, summary_line, verify_text, work_of,
 };
 use ig_notation::{one_reading, texts_are_read_or_refused};
 use ig_outside::{Shelf, Sink};
 use ig_parse::Parser;
-use ig_sources::{load_grammar, load_input, read_grammars_are_buildable};
+use ig_sources::{load_forest, load_grammar, load_input, read_grammars_are_buildable};
+use ig_text::Text;
 use std::alloc::Global;
 
 /// Does all that the program does: reads the words of a command, fetches the files that they name
@@ -25,7 +27,7 @@ use std::alloc::Global;
 /// empty output isn't put.
 ///
 /// `check G` puts `ok`, `show G` the canonical text of the grammar, `core G` the text of its core
-/// grammar, and `forest G I` the text of the reduced forest of the grammar and the input, where no
+/// grammar, `analyse G` a line of facts for each declaration, and `forest G I` the text of the reduced forest of the grammar and the input, where no
 /// more items are reachable than the option `--budget` says, or 1,000,000. `trees G I` puts a line
 /// for each tree of that forest in the order of their cursors: its cursor, a space and the tree.
 /// `--depth` is the greatest height that a tree may have; without it a forest that has no highest
@@ -40,6 +42,10 @@ use std::alloc::Global;
 ///
 /// `load SIZE NUMBER` fetches nothing: it puts the line of
 /// [`show_summary`](ig_load_texts::show_summary) for the load of that size and number.
+///
+/// `verify G I F` puts the line `verified` where F is the text of a forest that keeps to the rules
+/// of one of the grammar and the input, so that each of its trees is permitted; it need not have all
+/// of them.
 ///
 /// The words come without the program's name. All memory is taken before the first put.
 pub fn iguana<F: Shelf, O: Sink, N: Sink>(
@@ -62,6 +68,14 @@ pub fn iguana<F: Shelf, O: Sink, N: Sink>(
         (change (O.state out.old) (O.state out.new))
         (change (N.state notes.old) (N.state notes.new)) result }
     ensures grammar_commands { GrammarCommands (map string_bytes words.now)
+        (change (F.state shelf.old) (F.state shelf.new))
+        (change (O.state out.old) (O.state out.new))
+        (change (N.state notes.old) (N.state notes.new)) result }
+    ensures verification { Verification (map string_bytes words.now)
+        (change (F.state shelf.old) (F.state shelf.new))
+        (change (O.state out.old) (O.state out.new))
+        (change (N.state notes.old) (N.state notes.new)) result }
+    ensures certification { Certification (map string_bytes words.now)
         (change (F.state shelf.old) (F.state shelf.new))
         (change (O.state out.old) (O.state out.new))
         (change (N.state notes.old) (N.state notes.new)) result }
@@ -89,6 +103,7 @@ fn decide<F: Shelf>(alloc: Global, words: &[String], shelf: &mut F) -> Result<Ve
     match work_of(command) {
         Work::OnGrammar(grammar, task) => on_grammar(alloc, shelf, grammar, task),
         Work::OnInput(files, budget, job) => on_input(alloc, shelf, files, budget, job),
+        Work::OnForest(files, text) => on_forest(alloc, shelf, files, text),
         Work::OfLoad {
             size,
             number,
@@ -111,11 +126,7 @@ fn on_grammar<F: Shelf>(
     read_grammars_are_buildable();
     let checked = load_grammar(alloc, shelf, name)?;
     let parser = parser_of(alloc, &checked)?;
-    match task {
-        Task::Check => say_ok(alloc),
-        Task::Show => show(alloc, checked.grammar()),
-        Task::Core => shown_core(alloc, &parser),
-    }
+    do_task(alloc, &parser, task)
 }
 
 /// What comes of a job with the grammar and the input in these files.
@@ -156,4 +167,43 @@ fn run<F: Shelf>(
 {
     let input = load_input(alloc, shelf, name)?;
     parse(alloc, parser, &input, budget, job)
+}
+
+/// What comes of a check of the forest whose text has that name, with the grammar and the input in
+/// these files.
+fn on_forest<F: Shelf>(
+    alloc: Global,
+    shelf: &mut F,
+    files: Files<'_>,
+    name: &str,
+) -> Result<Vec<u8>, Stop>
+    ensures answer { (words : List (List ℕ)) →
+        IsCommand words (verify files.entry.grammar.now files.entry.input.now name.now) →
+        Decides words (change (F.state shelf.old) (F.state shelf.new)) result }
+    ensures same { (n : List ℕ) → (F.state shelf.new).holds n ≡ (F.state shelf.old).holds n }
+{
+    read_grammars_are_buildable();
+    let checked = load_grammar(alloc, shelf, files.grammar)?;
+    let parser = parser_of(alloc, &checked)?;
+    let input = load_input(alloc, shelf, files.input)?;
+    check_forest(alloc, shelf, &parser, &input, name)
+}
+
+/// What comes of the text of a forest in the file of that name, with the parser's grammar and the
+/// input.
+fn check_forest<F: Shelf>(
+    alloc: Global,
+    shelf: &mut F,
+    parser: &Parser<'_>,
+    input: &Text,
+    name: &str,
+) -> Result<Vec<u8>, Stop>
+    requires taken { IsTaken parser.now }
+    ensures answer { RunsCheck parser.now input.now
+        (change (F.state shelf.old) (F.state shelf.new)) name.now result }
+    ensures counted { Fetched (change (F.state shelf.old) (F.state shelf.new)) 1 }
+    ensures same { (n : List ℕ) → (F.state shelf.new).holds n ≡ (F.state shelf.old).holds n }
+{
+    let bytes = load_forest(alloc, shelf, name)?;
+    verify_text(alloc, parser, input, bytes)
 }

@@ -23,6 +23,12 @@ returns-in-OnInput-clause-answer g c =
     let asked = rw c.in-OnInput.is at c.work_of.ensures in
     c.on_input.ensures.answer _ (subst (IsCommand (map string_bytes c.args.words.now)) (sym asked) read)
 
+pub returns-in-OnForest-clause-answer : goal.returns-in-OnForest-clause-answer
+returns-in-OnForest-clause-answer g c =
+    let read = rw c.in-Some.is at c.in_ok-command.ensures in
+    let asked = rw c.in-OnForest.is at c.work_of.ensures in
+    c.on_forest.ensures.answer _ (subst (IsCommand (map string_bytes c.args.words.now)) (sym asked) read)
+
 pub summary_line-requires : goal.summary_line-requires
 summary_line-requires g c =
     let read = rw c.in-Some.is at c.in_ok-command.ensures in

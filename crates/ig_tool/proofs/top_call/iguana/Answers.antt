@@ -1,7 +1,10 @@
 use Rattle.ig_tool.proofs.Deciding.{answers_end}
 use Rattle.ig_tool.proofs.CompletenessLaw.{completeness}
-use Rattle.ig_tool.proofs.HeadlineLaw.{given, headline, grammar_commands}
+use Rattle.ig_tool.proofs.Asked.{given}
+use Rattle.ig_tool.proofs.GrammarLaw.{grammar_commands}
+use Rattle.ig_tool.proofs.HeadlineLaw.{headline}
 use Rattle.ig_tool.proofs.LoadLaw.{load_commands}
+use Rattle.ig_tool.proofs.VerificationLaw.{certification, verification}
 use Rattle.ig_tool.proofs.top_call.iguana.Goals as goal
 
 pub returns-clause-answer : goal.returns-clause-answer
@@ -19,6 +22,14 @@ returns-clause-completeness g c =
 pub returns-clause-grammar_commands : goal.returns-clause-grammar_commands
 returns-clause-grammar_commands g c =
     grammar_commands (given c.one_reading.ensures c.texts_are_read_or_refused.ensures) _ _ _ _ _ (returns-clause-answer g c)
+
+pub returns-clause-verification : goal.returns-clause-verification
+returns-clause-verification g c =
+    verification (given c.one_reading.ensures c.texts_are_read_or_refused.ensures) _ _ _ _ _ (returns-clause-answer g c)
+
+pub returns-clause-certification : goal.returns-clause-certification
+returns-clause-certification g c =
+    certification (given c.one_reading.ensures c.texts_are_read_or_refused.ensures) _ _ _ _ _ (returns-clause-answer g c)
 
 pub returns-clause-loads : goal.returns-clause-loads
 returns-clause-loads g c = load_commands _ _ _ _ _ (returns-clause-answer g c)

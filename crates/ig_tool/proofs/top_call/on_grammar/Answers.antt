@@ -3,7 +3,7 @@ use Rattle.ig_text.proofs.Options.{passed_on}
 use Rattle.ig_endings.specs.Change.{change}
 use Rattle.ig_tool.specs.Decisions.{Decides}
 use Rattle.ig_tool.proofs.top_call.on_grammar.Goals as goal
-use Rattle.ig_tool.proofs.Deciding.{named_of_task, decides_at_grammar, decides_at_dots, decides_check, decides_show, decides_core, loaded_is_buildable}
+use Rattle.ig_tool.proofs.Deciding.{named_of_task, decides_at_grammar, decides_at_dots, decides_task, loaded_is_buildable, still_unchanged}
 
 pub returns-in_err-checked-clause-answer : goal.returns-in_err-checked-clause-answer
 returns-in_err-checked-clause-answer g c = λ words command.
@@ -26,18 +26,11 @@ returns-in_err-parser-clause-answer g c = λ words command.
     (decides_at_dots words _ c.args.name.now c.in_ok-checked.checked c.in_ok-checked.ensures.counted c.in_ok-checked.ensures.answer
     _ c.in_err-parser.field-0.0 command (named_of_task c.args.task c.args.name.now) c.in_err-parser.ensures)
 
-pub returns-in-Check-clause-answer : goal.returns-in-Check-clause-answer
-returns-in-Check-clause-answer g c = λ words command.
-    decides_check words _ c.args.name.now c.in_ok-checked.checked c.in_ok-checked.ensures.counted c.in_ok-checked.ensures.answer
-    c.in_ok-parser.parser c.in_ok-parser.ensures c.say_ok.result (rw c.in-Check.is at command) c.say_ok.ensures
-
-pub returns-in-Show-clause-answer : goal.returns-in-Show-clause-answer
-returns-in-Show-clause-answer g c = λ words command.
-    decides_show words _ c.args.name.now c.in_ok-checked.checked c.in_ok-checked.ensures.counted c.in_ok-checked.ensures.answer
-    c.in_ok-parser.parser c.in_ok-parser.ensures c.grammar.result.now c.show.result
-    (rw c.in-Show.is at command) c.grammar.ensures.same c.show.ensures
+pub do_task-requires : goal.do_task-requires
+do_task-requires g c =
+    record { as_it_is = still_unchanged c.in_ok-checked.checked.grammar c.in_ok-parser.parser c.in_ok-parser.ensures.0 }
 
 pub returns-clause-answer : goal.returns-clause-answer
 returns-clause-answer g c = λ words command.
-    decides_core words _ c.args.name.now c.in_ok-checked.checked c.in_ok-checked.ensures.counted c.in_ok-checked.ensures.answer
-    c.in_ok-parser.parser c.in_ok-parser.ensures c.shown_core.result (rw c.in-Core.is at command) c.shown_core.ensures
+    decides_task words _ c.args.name.now c.in_ok-checked.checked c.in_ok-checked.ensures.counted c.in_ok-checked.ensures.answer
+    c.in_ok-parser.parser c.in_ok-parser.ensures c.args.task c.do_task.result command c.do_task.ensures
