@@ -8,6 +8,7 @@ use Rattle.std.proofs.lemmas.List.Elements.{All-contains, All-from_recursion}
 use Rattle.std.proofs.lemmas.Option.{same_Some, none-some, slice_get_within, get_or_from_slice_get}
 use Rattle.ig_text.proofs.Lists.{all_at, mapped_at}
 use Rattle.ig_text.specs.Limits.{numbers_end}
+use Rattle.ig_text.proofs.Pairwise.{key_at, partner, same_length}
 use Rattle.ig_text.specs.Pairwise as pairs
 use Rattle.ig_text.specs.Pairwise.{Each}
 use Rattle.ig_expr.specs.declared.value.Value.{Value}
@@ -28,12 +29,6 @@ use Rattle.ig_forest_reader.proofs.TellingLines.{by_parts, named_there}
 use Rattle.ig_forest_reader.proofs.TellingForests.{heading_joined, items_of, items_stop, same_forest, same_root}
 
 module _ {S A : Type 0} (P : S → A → Type 0) where
-  pub each_long : (xs : List S) (ys : List A) → Each P xs ys → length xs ≡ length ys
-  each_long [] [] pairs.none = refl
-  each_long [] (y ∷ ys) e = elim e [ ]
-  each_long (x ∷ xs) [] e = elim e [ ]
-  each_long (x ∷ xs) (y ∷ ys) (pairs.more _ _ _ _ p e) = ap suc (each_long xs ys e)
-
   -- what the first ones have by the others
   pub each_has : (In : A → Type 0) (Q : S → Type 0) → ((x : S) (y : A) → P x y → In y → Q x) → (xs : List S) (ys : List A) →
       Each P xs ys → AllByRecursion In ys → AllByRecursion Q xs
@@ -49,23 +44,6 @@ module _ {S A : Type 0} (P : S → A → Type 0) where
   each_map In f same (x ∷ xs) [] e a = elim e [ ]
   each_map In f same (x ∷ xs) (y ∷ ys) (pairs.more _ _ _ _ p e) a =
       ap₂ (λ (z : A) (zs : List A). z ∷ zs) (same x y p a.0) (each_map In f same xs ys e a.1)
-
-  -- what stands beside a member
-  pub beside : (xs : List S) (ys : List A) (k : ℕ) (x : S) → Each P xs ys → slice_get xs k ≡ Some x →
-      (y : A) × (slice_get ys k ≡ Some y) × P x y
-  beside [] [] k x pairs.none e = absurd (none-some _ e)
-  beside [] (y ∷ ys) k x e at = elim e [ ]
-  beside (z ∷ xs) [] k x e at = elim e [ ]
-  beside (z ∷ xs) (y ∷ ys) zero x (pairs.more _ _ _ _ p e) at = (y, refl, subst (λ (w : S). P w y) (same_Some z x at) p)
-  beside (z ∷ xs) (y ∷ ys) (suc k) x (pairs.more _ _ _ _ p e) at = beside xs ys k x e at
-
-  pub beside_back : (xs : List S) (ys : List A) (k : ℕ) (y : A) → Each P xs ys → slice_get ys k ≡ Some y →
-      (x : S) × (slice_get xs k ≡ Some x) × P x y
-  beside_back [] [] k y pairs.none e = absurd (none-some _ e)
-  beside_back [] (z ∷ ys) k y e at = elim e [ ]
-  beside_back (x ∷ xs) [] k y e at = elim e [ ]
-  beside_back (x ∷ xs) (z ∷ ys) zero y (pairs.more _ _ _ _ p e) at = (x, refl, subst (λ (w : A). P x w) (same_Some z y at) p)
-  beside_back (x ∷ xs) (z ∷ ys) (suc k) y (pairs.more _ _ _ _ p e) at = beside_back xs ys k y e at
 
 abbrev pub names_of : List Nonterminal → List (List ℕ)
 names_of core = map (λ n. n.name) core
@@ -151,18 +129,17 @@ module _ (core : List Nonterminal) (lists : List (List Value)) where
       let b = each_map (ShowsItem lists) (IsBegunItem core) (item_node_by (names_of core) lists) item_same items ys items_shown q in
       λ i. record { root = root; nodes = a i; items = b i }
 
--- longer lists show the same nodes
-pub still_shown : (lists grown : List (List Value)) (nodes : List StoredNode) (xs : List Node) → Keeps lists grown →
-    Each (ShowsNode lists) nodes xs → Each (ShowsNode grown) nodes xs
-still_shown lists grown nodes xs keeps shown =
-    each_weaker (ShowsNode lists) (ShowsNode grown)
-    (λ n x s. record {
+-- longer lists show the same
+pub still_shown_node : (lists grown : List (List Value)) → Keeps lists grown → (n : StoredNode) (x : Node) → ShowsNode lists n x →
+    ShowsNode grown n x
+still_shown_node lists grown keeps n x s =
+    record {
       nonterminal = s.nonterminal;
       values = keeps n.row.values x.values s.values;
       begin = s.begin;
       end = s.end;
       alternatives = s.alternatives;
-    }) nodes xs shown
+    }
 
 pub still_shown_item : (lists grown : List (List Value)) → Keeps lists grown → (n : StoredItem) (x : ItemNode) → ShowsItem lists n x →
     ShowsItem grown n x
@@ -178,16 +155,10 @@ still_shown_item lists grown keeps n x s =
       entries = s.entries;
     }
 
-pub still_shown_node : (lists grown : List (List Value)) → Keeps lists grown → (n : StoredNode) (x : Node) → ShowsNode lists n x →
-    ShowsNode grown n x
-still_shown_node lists grown keeps n x s =
-    record {
-      nonterminal = s.nonterminal;
-      values = keeps n.row.values x.values s.values;
-      begin = s.begin;
-      end = s.end;
-      alternatives = s.alternatives;
-    }
+pub still_shown : (lists grown : List (List Value)) (nodes : List StoredNode) (xs : List Node) → Keeps lists grown →
+    Each (ShowsNode lists) nodes xs → Each (ShowsNode grown) nodes xs
+still_shown lists grown nodes xs keeps shown =
+    each_weaker (ShowsNode lists) (ShowsNode grown) (still_shown_node lists grown keeps) nodes xs shown
 
 -- the root
 root_shown : (lists : List (List Value)) (nodes : List StoredNode) (xs : List Node) (ys : List ItemNode) (r : ℕ) →
@@ -202,20 +173,20 @@ root_shown lists nodes xs ys r shown is = go (row_back nodes r is.root.row is.ro
 
     go : (n : StoredNode) × (slice_get nodes r ≡ Some n) × (n.row ≡ is.root.row) → HasFirstRoot (record { root = r; nodes = xs; items = ys })
     go (n, at, same) =
-        let x = beside (ShowsNode lists) nodes xs r n shown at in
+        let x = partner shown r n at in
         record {
           node = x.0;
           there = x.1;
           of_root = sym x.2.nonterminal ∙ ap (λ (z : NodeRow). z.nonterminal) same ∙ is.root.of_root;
           first = λ v other less there zero_is.
-              let m = beside_back (ShowsNode lists) nodes xs v other shown there in
+              let m = key_at shown v other there in
               is.first v less (record { row = m.0.row; there = mapped_at (λ (z : StoredNode). z.row) nodes v m.0 m.1; of_root = m.2.nonterminal ∙ zero_is });
         }
 
 no_root_shown : (lists : List (List Value)) (nodes : List StoredNode) (xs : List Node) → Each (ShowsNode lists) nodes xs →
     NoRoot (rows_in nodes) → (v : ℕ) (x : Node) → slice_get xs v ≡ Some x → x.nonterminal ≡ 0 → ⊥
 no_root_shown lists nodes xs shown none v x there zero_is =
-    let m = beside_back (ShowsNode lists) nodes xs v x shown there in
+    let m = key_at shown v x there in
     none v (record { row = m.0.row; there = mapped_at (λ (z : StoredNode). z.row) nodes v m.0 m.1; of_root = m.2.nonterminal ∙ zero_is })
 
 -- what reading the heading says
@@ -271,7 +242,7 @@ module _ (core : List Nonterminal) (tells : TellsNames core) (bytes : List ℕ) 
           (ap (λ (z : List Node). slice_get z g.root) told.1 ∙ of.root.there) of.root.of_root
 
       pub nodes_long : many_nodes ≡ length nodes
-      nodes_long = sym (each_long (ShowsNode lists) nodes read.all read.show ∙ read.long)
+      nodes_long = sym (same_length read.show ∙ read.long)
 
       module _ (grown : List (List Value)) (rest : List ℕ) (items : List StoredItem) (keeps : Keeps lists grown)
           (more : ItemsRead core grown many_items behind rest items) (few_nodes : many_nodes < numbers_end)
@@ -280,7 +251,7 @@ module _ (core : List Nonterminal) (tells : TellsNames core) (bytes : List ℕ) 
         all_fit =
             tables_fit core grown nodes items read.all more.all (still_shown lists grown nodes read.all keeps read.show) read.meant
             more.show more.meant (subst (λ (n : ℕ). n < numbers_end) nodes_long few_nodes)
-            (subst (λ (n : ℕ). n < numbers_end) (sym (each_long (ShowsItem grown) items more.all more.show ∙ more.long)) few_items)
+            (subst (λ (n : ℕ). n < numbers_end) (sym (same_length more.show ∙ more.long)) few_items)
 
         pub tables_read : (root : ℕ) (f : Forest) → IsFirstRoot (rows_in nodes) root →
             f ≡ forest_by root (names_of core) grown nodes items → TablesRead core bytes f
