@@ -211,6 +211,12 @@ def read_forest(data):
         raise NotAForest("not as a forest is written") from None
 
 
+def told_size(data):
+    """How many nodes and items together the first line of a forest tells; 0 where there is no such line."""
+    first = FIRST.fullmatch(data[:64].partition(b"\n")[0].decode("utf-8", "replace"))
+    return int(first[1]) + int(first[2]) if first else 0
+
+
 def demand(*facts):
     """Raises `Unread` where one of the facts isn't so."""
     if not all(facts):
