@@ -24,7 +24,7 @@ ALT = re.compile(rf"^(?:node ({NUMBER}) (\S+ \(\S*\)) ({NUMBER})\.\.({NUMBER})\n
                  rf"alt (\S+) ({NUMBER})$", re.MULTILINE)
 WAY = re.compile(rf"^(?:item ({NUMBER}) (\S+ \(\S*\) {NUMBER}) ({NUMBER}) \[\S*\] ({NUMBER})\.\.({NUMBER})\n)?"
                  rf"(?:take ({NUMBER}) (?:node ({NUMBER})|leaf ({NUMBER})\.\.({NUMBER}))|begin|pass ({NUMBER}))$", re.MULTILINE)
-PIECE = 1 << 17  # characters that are read at once
+PIECE = 1 << 14  # characters that are read at once: what is made of them is used up while it is near
 NO_NODE = -1
 
 
