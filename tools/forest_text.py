@@ -24,7 +24,7 @@ ALT = re.compile(rf"^(?:node ({NUMBER}) (\S+ \(\S*\)) ({NUMBER})\.\.({NUMBER})\n
                  rf"alt (\S+) ({NUMBER})$", re.MULTILINE)
 WAY = re.compile(rf"^(?:item ({NUMBER}) (\S+ \(\S*\) {NUMBER}) ({NUMBER}) \[\S*\] ({NUMBER})\.\.({NUMBER})\n)?"
                  rf"(?:take ({NUMBER}) (?:node ({NUMBER})|leaf ({NUMBER})\.\.({NUMBER}))|begin|pass ({NUMBER}))$", re.MULTILINE)
-PIECE = 1 << 17  # characters that are read at once
+PIECE = 1 << 14  # characters that are read at once: what is made of them is used up while it is near
 NO_NODE = -1
 
 
@@ -209,6 +209,12 @@ def read_forest(data):
     except (Unread, OverflowError):
         find_fault(text[:-1].split("\n"))
         raise NotAForest("not as a forest is written") from None
+
+
+def told_size(data):
+    """How many nodes and items together the first line of a forest tells; 0 where there is no such line."""
+    first = FIRST.fullmatch(data[:64].partition(b"\n")[0].decode("utf-8", "replace"))
+    return int(first[1]) + int(first[2]) if first else 0
 
 
 def demand(*facts):

@@ -166,11 +166,12 @@ export class Picture {
     if (box.way !== null) {
       g.append(make("circle", { cx: box.x, cy: top + 16, r: 11 }), this.word(box.x, top + 20, "name", String(box.way + 1)));
       if (box.tag) g.append(this.word(box.x + 16 + [...box.tag].length * CHAR / 2, top + 20, "name", box.tag));
+      if (box.below.length && !box.open) g.append(this.word(box.x, top + TALL + 5, "label", "▾"));
       return g;
     }
     g.append(make("rect", { x: box.x - box.width / 2, y: top, width: box.width, height: TALL, rx: 6 }));
     box.said.forEach(([kind, text], n) => g.append(this.word(box.x, top + (box.said.length === 1 ? 21 : 14 + 14 * n), kind, text)));
-    if (box.below.length && !box.open) g.append(this.word(box.x, top + TALL + 11, "label", box.several ? `▾ ${box.below.length} ways` : "▾"));
+    if (box.below.length && !box.open) g.append(this.word(box.x, top + TALL + 11, "label", box.several ? `▾${box.below.length}` : "▾"));
     if (box.part.cut) g.append(this.word(box.x, top + TALL + 11, "label", "…"));
     return g;
   }
