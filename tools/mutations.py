@@ -10,6 +10,7 @@ HERE = os.path.dirname(os.path.dirname(os.path.abspath(__file__)))
 EXAMPLES, ROWS = os.path.join(HERE, "examples"), os.path.join(HERE, "rows")
 EXAMPLE = re.compile(r"\| `([^`]+)` \| `([^`]+)` \| (?:\d+|infinite) \| (?:yes|no) \|")
 MOST_GRAMMAR, MOST_INPUT = 20_000, 5_000  # bytes of a seed
+SMALL = 400  # bytes of a grammar with which most texts of its literals may have trees
 SHARES = (6, 12, 1)  # of the examples, the rows and what is refused
 REFUSED = 3
 LIMITS = [0, 1, 2, 9, 15, 16, 17, 31, 32, 33, 63, 64, 65, 255, 256, 4095, 4096, 4097, 65535, 65536, 2**31 - 1, 2**31, 2**32 - 1,
@@ -52,12 +53,20 @@ def draw_case(draw, seeds):
     """A grammar and an input that came from one of the seeds."""
     grammar, text = draw.choice(draw.choices(seeds, SHARES)[0])
     way = draw.randrange(10)
-    if way >= 3:
+    if way >= 2:
         grammar = changed_grammar(draw, grammar)
-    if way <= 4:
+    if way >= 8 and len(grammar) <= SMALL:
+        text = fresh_text(draw, grammar)
+    elif way <= 2:
         for _ in range(turns(draw)):
             text = changed_text(draw, text, grammar)
     return grammar, text
+
+
+def fresh_text(draw, grammar):
+    """A text of some literals of the grammar, and of single letters."""
+    pieces = re.findall(rb'"([^"\\]+)"', grammar) + [b"a"]
+    return b"".join(draw.choices(pieces, k=draw.randrange(9)))
 
 
 def turns(draw):
@@ -126,6 +135,12 @@ def is_operand(words, place):
     return kind == "number" or before[0] != "keyword" and before[1] not in ("(", ",", "!>>", "!<<", "\\")
 
 
+def copy_operand(draw, words, place):
+    """A symbol stands before or behind another one, too."""
+    places = [k for k in range(1, len(words)) if words[k][0] != "number" and is_operand(words, k)] or [place]
+    words.insert(draw.choice(places) + draw.randrange(2), words[draw.choice(places)])
+
+
 def insert_sign(draw, words, place):
     """What may follow a symbol follows one: an option, a list, a filter, or the end of an alternative."""
     places = [k for k in range(1, len(words)) if words[k][0] != "number" and is_operand(words, k)] or [place]
@@ -141,7 +156,7 @@ def drop_range(draw, words, place):
     del words[place:place + draw.randrange(1, 9)]
 
 
-MILD_CHANGES = (replace_operand, insert_sign)  # of which mostly a grammar comes
+MILD_CHANGES = (replace_operand, copy_operand, insert_sign)  # of which mostly a grammar comes
 CHANGES = (drop, double, swap, replace_alike, insert_piece, copy_range, drop_range)
 
 
