@@ -30,6 +30,7 @@ NOTES = {status: re.compile(form, re.DOTALL) for status, form in NOTES.items()}
 BUDGETS = (1, 100, *(2_000,) * 7, *(20_000,) * 3)
 MOST_PARTS = 100_000  # of a tree that is listed
 MOST_TREES = 40  # that are listed
+MOST_CURSOR = 100_000  # bytes of a cursor that is given as a word; Linux takes 131,071
 MOST_HEIGHT = 12
 PER_FOREST = 40_000  # lines that are read here
 
@@ -174,8 +175,8 @@ class Case:
             self.flaw("a tree twice", *options)
         if len(lines) > 1 and [cursor for cursor, _ in pairs] != sorted((cursor for cursor, _ in pairs), key=numbers_of):
             self.flaw("trees out of order", *options)
-        if lines:
-            place = self.draw.randrange(len(lines))
+        place = self.draw.randrange(len(lines)) if lines else None
+        if lines and len(pairs[place][0]) < MOST_CURSOR:
             after = self.run(*words, f"--count={len(lines)}", "--after", pairs[place][0])
             if after.status != DONE or not after.out.decode("utf-8", "replace").startswith("".join(lines[place + 1:])):
                 self.flaw("other trees after a cursor", pairs[place][0], after)
