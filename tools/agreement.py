@@ -2,7 +2,8 @@
 
 import re
 
-from forest_text import NotAForest, count_trees, read_forest
+from forest_count import count_trees
+from forest_text import NotAForest, read_forest
 from mutations import LIMITS
 from unfoldings import Unfolding
 

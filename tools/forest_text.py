@@ -1,16 +1,15 @@
-"""Reads the text of a forest, and counts its trees.
+"""Reads the text of a forest.
 
-A forest has millions of lines where its input is long. So its text is read by one expression for all lines of a kind,
-in pieces, into columns that are compared whole. Where something is wrong, `forest_faults` looks for it line by line.
+A forest has millions of lines where its input is long. So its text is read in pieces, each of which is cut into words at
+once, and the words into columns, which are turned into numbers, compared and kept whole. Where something is wrong,
+`forest_faults` looks for it line by line.
 """
 
 import re
 import sys
-from array import array
 from collections import defaultdict, namedtuple
-from itertools import accumulate, compress, count
-from math import prod
-from operator import add, eq, not_
+from itertools import accumulate, compress, count, repeat
+from operator import add, eq, itemgetter
 
 from forest_faults import NotAForest, find_fault
 
@@ -19,87 +18,120 @@ Item = namedtuple("Item", "name values alternative dot begin end")
 
 NUMBER = r"(?:0|[1-9][0-9]*)"
 FIRST = re.compile(rf"forest ({NUMBER}) ({NUMBER})")
-# A line below a node or an item; before the first of them stands the line of that one.
-ALT = re.compile(rf"^(?:node ({NUMBER}) (\S+ \(\S*\)) ({NUMBER})\.\.({NUMBER})\n)?"
-                 rf"alt (\S+) ({NUMBER})$", re.MULTILINE)
-WAY = re.compile(rf"^(?:item ({NUMBER}) (\S+ \(\S*\) {NUMBER}) ({NUMBER}) \[\S*\] ({NUMBER})\.\.({NUMBER})\n)?"
-                 rf"(?:take ({NUMBER}) (?:node ({NUMBER})|leaf ({NUMBER})\.\.({NUMBER}))|begin|pass ({NUMBER}))$", re.MULTILINE)
-PIECE = 1 << 14  # characters that are read at once: what is made of them is used up while it is near
+# Where words belong together, a tab stands between them while those of a line are parted.
+NODE_KEY = re.compile(r"\S+\t\(\S*\)")
+ITEM_KEY = re.compile(rf"\S+\t\(\S*\)\t{NUMBER}")
+DOT = re.compile(rf"({NUMBER})\t\[\S*\]")  # with the values that are bound
+VALUES, ALTERNATIVE, BOUND = (" (", "\t("), (") ", ")\t"), (" [", "\t[")
+TAG = re.compile(r"\S+")
+# Lines below items, made as long as those with `take` are.
+BEGIN, PASS = ("\nbegin", "\nbegin 0 - -"), ("\npass ", "\npass - - ")
+NODE, LEAF, NEITHER = range(3)
+KINDS = {"node": NODE, "leaf": LEAF, "-": NEITHER}
+ONLY = [bytes.maketrans(bytes(range(3)), bytes(one == kind for one in range(3))) for kind in range(3)]
+PIECE = 1 << 15  # characters that are read at once: what is made of them is used up while it is near
 NO_NODE = -1
+THOUSAND = [f"{number:03}" for number in range(1000)]
 
 
 class Unread(Exception):
     """The text isn't as a forest is written."""
 
 
+class Ids(defaultdict):
+    """Numbers for words, from 0 on."""
+
+    def __init__(self):
+        super().__init__(count().__next__)
+
+
 class Forest:
-    """Nodes and items by their numbers, in columns; ways, which are the lines below items, by theirs."""
+    """Nodes and items by their numbers, in columns; ways, which are the lines below items, by theirs.
+
+    Keys are numbers of names with values, of items with their alternatives too. Spans are numbers of pairs of positions.
+    """
 
     def __init__(self, text):
         end = text.find("\nitem ")
-        demand(end >= 0)
-        self.read_nodes(text, text.find("\n") + 1, end)
-        self.read_items(text, end + 1)
+        demand(end >= 0, "\t" not in text)
+        spans = Ids()
+        self.read_nodes(text, text.find("\n") + 1, end, spans)
+        self.read_items(text, end + 1, spans)
+        self.span_begins, self.span_ends = read_spans(spans)
+        self.owners = self.owners_of_ways()
+        for way in self.begun:
+            self.before[way] = self.owners[way]
+        self.child = [NO_NODE] * len(self.before)
+        for way, node in zip(self.nodes, self.taken):
+            self.child[way] = node
         self.check_nodes()
         self.check_items()
 
-    def read_nodes(self, text, at, end):
+    def read_nodes(self, text, at, end, spans):
         keys, tags = Ids(), Ids()
-        self.node_keys, self.begins, self.ends, self.first_line = numbers(4)
-        self.tags, self.complete = numbers(2)
-        for found in pieces(text, "node", ALT, at, end):
-            heads, key, begin, end, tag, item = zip(*found)
-            self.first_line.extend(compress(count(len(self.complete)), heads))
-            check_ordinals(heads, len(self.begins))
-            add_all(self.node_keys, key, keys.__getitem__)
-            add_all(self.begins, begin)
-            add_all(self.ends, end)
-            add_all(self.tags, tag, tags.__getitem__)
-            add_all(self.complete, item)
-        self.node_names = [key.split(" ") for key in keys]
+        self.node_keys, self.node_spans, self.first_line, self.tags, self.complete = [], [], [], [], []
+        for heads, lines, starts in pieces(text, "node", at, end):
+            self.first_line += moved(starts, len(self.complete))
+            words, ordinals, key, span = columns(heads, 4, VALUES)
+            check_heads(words, "\nnode", ordinals, len(self.node_keys))
+            self.node_keys += map(keys.__getitem__, key)
+            self.node_spans += map(spans.__getitem__, span)
+            words, tag, item = columns(lines, 3)
+            demand(words.count("\nalt") == len(lines))
+            self.tags += map(tags.__getitem__, tag)
+            self.complete += integers(item)
+        demand(*map(NODE_KEY.fullmatch, keys), *map(TAG.fullmatch, tags))
+        self.node_names = [key.split("\t") for key in keys]
         self.tag_names = list(tags)
-        close(self.first_line, len(self.complete))
+        self.first_line.append(len(self.complete))
 
-    def read_items(self, text, at):
-        keys = Ids()
-        self.item_keys, self.dots, self.item_begins, self.item_ends, self.first_way = numbers(5)
-        self.before, self.begun, self.passed, self.nodes, self.taken = numbers(5)
-        self.leaves, self.leaf_begins, self.leaf_ends = numbers(3)
-        for found in pieces(text, "item", WAY, at, len(text) - 1):
-            heads, key, dot, begin, end, *below = zip(*found)
-            self.first_way.extend(compress(count(len(self.before)), heads))
-            check_ordinals(heads, len(self.dots))
-            add_all(self.item_keys, key, keys.__getitem__)
-            add_all(self.dots, dot)
-            add_all(self.item_begins, begin)
-            add_all(self.item_ends, end)
-            self.read_ways(*below)
-        self.item_names = [key.split(" ") for key in keys]
-        close(self.first_way, len(self.before))
-        self.owners = range(self.item_count)
-        if self.has_choices:
-            starts = bytearray(len(self.before))
-            for way in self.first_way[1:-1]:
-                starts[way] = 1
-            self.owners = array("q", accumulate(starts))
-        for way in self.begun:
-            self.before[way] = self.owners[way]
-        self.child = array("q", [NO_NODE]) * len(self.before)
-        for way, node in zip(self.nodes, self.taken):
-            self.child[way] = node
+    def read_items(self, text, at, spans):
+        keys, dots = Ids(), Ids()
+        self.item_keys, self.dots, self.item_spans, self.first_way = [], [], [], []
+        self.before, self.begun, self.passed, self.nodes, self.taken = [], [], [], [], []
+        self.leaves, self.leaf_spans = [], []
+        for heads, lines, starts in pieces(text, "item", at, len(text) - 1):
+            self.first_way += moved(starts, len(self.before))
+            words, ordinals, key, dot, span = columns(heads, 5, VALUES, ALTERNATIVE, BOUND)
+            check_heads(words, "\nitem", ordinals, len(self.dots))
+            self.item_keys += map(keys.__getitem__, key)
+            self.dots += map(dots.__getitem__, dot)
+            self.item_spans += map(spans.__getitem__, span)
+            self.read_ways(lines, spans)
+        found = list(map(DOT.fullmatch, dots))
+        demand(*map(ITEM_KEY.fullmatch, keys), *found)
+        self.item_names = [key.split("\t") for key in keys]
+        self.dots = picked([int(dot[1]) for dot in found], self.dots)
+        self.first_way.append(len(self.before))
 
-    def read_ways(self, before, node, leaf_begin, leaf_end, passed):
+    def read_ways(self, lines, spans):
+        """Reads lines below items. What begins is before itself; until all items are read it has 0 there."""
         first = len(self.before)
-        self.nodes.extend(compress(count(first), node))
-        add_all(self.taken, node)
-        self.leaves.extend(compress(count(first), leaf_begin))
-        add_all(self.leaf_begins, leaf_begin)
-        add_all(self.leaf_ends, leaf_end)
-        before = list(before)
-        for way in compress(count(), list(map(not_, before))):
-            before[way] = passed[way] or 0
-            (self.passed if passed[way] else self.begun).append(first + way)
-        self.before.extend(map(int, before))
+        words, before, kinds, children = columns(lines, 4, BEGIN, PASS)
+        kinds = bytes(map(KINDS.__getitem__, kinds))
+        others = kinds.count(NEITHER)
+        demand(words.count("\ntake") == len(lines) - others)
+        if others:
+            self.begun += compress(count(first), map(eq, words, repeat("\nbegin")))
+            for way in [way for way in compress(count(), kinds.translate(ONLY[NEITHER])) if words[way] == "\npass"]:
+                self.passed.append(first + way)
+                before[way], children[way] = children[way], before[way]
+            demand(words.count("\nbegin") + words.count("\npass") == children.count("-") == others)
+        self.before += integers(before)
+        is_node, is_leaf = kinds.translate(ONLY[NODE]), kinds.translate(ONLY[LEAF])
+        self.nodes += compress(count(first), is_node)
+        self.taken += integers(list(compress(children, is_node)))
+        self.leaves += compress(count(first), is_leaf)
+        self.leaf_spans += map(spans.__getitem__, compress(children, is_leaf))
+
+    def owners_of_ways(self):
+        """For each way the item above it."""
+        if not self.has_choices:
+            return range(self.item_count)
+        starts = bytearray(len(self.before))
+        for way in self.first_way[1:-1]:
+            starts[way] = 1
+        return list(accumulate(starts))
 
     def check_nodes(self):
         """Each line `alt` names an item of its node."""
@@ -108,45 +140,38 @@ class Forest:
         of_item = [ids.get((name, values), NO_NODE) for name, values, _ in self.item_names]
         owners = range(self.node_count)
         if len(self.complete) > self.node_count:
-            owners = [k for k in range(self.node_count) for _ in range(self.first_line[k], self.first_line[k + 1])]
-        demand(alike(picked(self.node_keys, owners), picked(of_item, picked(self.item_keys, self.complete))),
-               alike(picked(self.begins, owners), picked(self.item_begins, self.complete)),
-               alike(picked(self.ends, owners), picked(self.item_ends, self.complete)))
-        roots = [k for k, key in enumerate(self.node_keys) if self.node_names[key][0] == "$root"]
-        demand(len(roots) == 1)
-        self.root = roots[0]
+            owners = [k for k in owners for _ in self.lines(k)]
+        demand(picked(self.node_keys, owners) == picked(of_item, picked(self.item_keys, self.complete)),
+               picked(self.node_spans, owners) == picked(self.item_spans, self.complete))
+        roots = [key for key, (name, _) in enumerate(self.node_names) if name == "$root"]
+        demand(len(roots) == 1, self.node_keys.count(*roots[:1] or [NO_NODE]) == 1)
+        self.root = self.node_keys.index(roots[0])
 
     def check_items(self):
         """Each item is reached from the item before by what it took, or begins, and then it is the item before itself."""
-        demand(max(self.before) < self.item_count, max(self.child) < self.node_count)
-        steps = bytearray(b"\1") * len(self.before)
+        demand(max(self.before) < self.item_count, max(self.taken, default=0) < self.node_count)
+        begins, ends = (picked(column, self.item_spans) for column in (self.span_begins, self.span_ends))
+        dots = list(map(add, picked(self.dots, self.before), repeat(1)))
         for way in self.begun:
-            steps[way] = 0
-        owners, before = self.owners, self.before
-        for column, of_before in (
-            (self.item_keys, picked(self.item_keys, before)), (self.item_begins, picked(self.item_begins, before)),
-            (self.dots, map(add, picked(self.dots, before), steps)),
-        ):
-            demand(alike(picked(column, owners) if self.has_choices else column, of_before))
-        begun = array("q", picked(owners, self.begun))
-        demand(not any(picked(self.dots, begun)), alike(picked(self.item_begins, begun), picked(self.item_ends, begun)))
-        self.check_ends(self.nodes, picked(self.begins, self.taken), picked(self.ends, self.taken))
-        self.check_ends(self.leaves, self.leaf_begins, self.leaf_ends)
-        demand(alike(picked(self.item_ends, picked(before, self.passed)),
-                     picked(self.item_ends, picked(owners, self.passed))))
-
-    def check_ends(self, ways, begins, ends):
-        """What is taken goes from the end of the item before to that of the item."""
-        demand(alike(begins, picked(self.item_ends, picked(self.before, ways))),
-               alike(ends, picked(self.item_ends, picked(self.owners, ways))))
+            dots[way] = 0
+        for column, wanted in ((self.item_keys, picked(self.item_keys, self.before)),
+                               (begins, picked(begins, self.before)), (self.dots, tuple(dots))):
+            demand((picked(column, self.owners) if self.has_choices else tuple(column)) == wanted)
+        of_before = picked(ends, self.before)
+        of_owners = picked(ends, self.owners) if self.has_choices else ends
+        demand(picked(begins, picked(self.owners, self.begun)) == picked(of_owners, self.begun),
+               picked(of_before, self.passed) == picked(of_owners, self.passed))
+        for ways, spans in ((self.nodes, picked(self.node_spans, self.taken)), (self.leaves, self.leaf_spans)):
+            demand(picked(self.span_begins, spans) == picked(of_before, ways),
+                   picked(self.span_ends, spans) == picked(of_owners, ways))
 
     @property
     def node_count(self):
-        return len(self.begins)
+        return len(self.node_keys)
 
     @property
     def item_count(self):
-        return len(self.dots)
+        return len(self.item_keys)
 
     @property
     def has_choices(self):
@@ -154,11 +179,13 @@ class Forest:
         return len(self.complete) > self.node_count or len(self.before) > self.item_count
 
     def node(self, k):
-        return Node(*self.node_names[self.node_keys[k]], self.begins[k], self.ends[k])
+        span = self.node_spans[k]
+        return Node(*self.node_names[self.node_keys[k]], self.span_begins[span], self.span_ends[span])
 
     def item(self, k):
         name, values, alternative = self.item_names[self.item_keys[k]]
-        return Item(name, values, int(alternative), self.dots[k], self.item_begins[k], self.item_ends[k])
+        span = self.item_spans[k]
+        return Item(name, values, int(alternative), self.dots[k], self.span_begins[span], self.span_ends[span])
 
     def lines(self, k):
         """The numbers of the lines below a node."""
@@ -179,15 +206,8 @@ class Forest:
     def took(self, way, k):
         if self.child[way] != NO_NODE:
             return self.child[way]
-        begin, end = self.item_ends[self.before[way]], self.item_ends[k]
+        begin, end = (self.span_ends[self.item_spans[item]] for item in (self.before[way], k))
         return (begin, end) if begin < end else None
-
-
-class Ids(defaultdict):
-    """Numbers for words, from 0 on."""
-
-    def __init__(self):
-        super().__init__(count().__next__)
 
 
 def read_forest(data):
@@ -206,7 +226,7 @@ def read_forest(data):
         forest = Forest(text)
         demand((forest.node_count, forest.item_count) == (int(first[1]), int(first[2])))
         return forest
-    except (Unread, OverflowError):
+    except (Unread, KeyError, ValueError):
         find_fault(text[:-1].split("\n"))
         raise NotAForest("not as a forest is written") from None
 
@@ -223,134 +243,91 @@ def demand(*facts):
         raise Unread
 
 
-def pieces(text, word, form, at, end):
-    """The lines below heads that begin with the word, piece by piece, as the form finds them. It skips none."""
+def pieces(text, word, at, end):
+    """The lines piece by piece: the heads, which begin with the word, those below them, and where these begin for each head."""
+    head = f"{word} "
     while at < end:
-        stop = text.find(f"\n{word} ", at + PIECE, end)
+        stop = text.find(f"\n{head}", at + PIECE, end)
         stop = end if stop < 0 else stop
-        found = form.findall(text, at, stop)
-        demand(found, len(found) + sum(1 for one in found if one[0]) == text.count("\n", at, stop) + 1)
-        yield found
+        lines = text[at:stop].split("\n")
+        if text.count(f"\n{head}", at, stop) * 2 + 2 == len(lines):  # mostly there is one below each head
+            yield lines[::2], lines[1::2], range(len(lines) // 2)
+        else:
+            yield parted(lines, head)
         at = stop + 1
 
 
-def numbers(columns):
-    """Empty columns of numbers."""
-    return [array("q") for _ in range(columns)]
+def parted(lines, head):
+    """Heads, the lines below them, and where these begin for each head."""
+    heads, below, starts = [], [], []
+    for line in lines:
+        if line.startswith(head):
+            demand(len(below) > (starts[-1] if starts else -1))
+            starts.append(len(below))
+            heads.append(line)
+        else:
+            below.append(line)
+    demand(starts[:1] == [0])
+    demand(len(below) > starts[-1])
+    return heads, below, starts
 
 
-def add_all(column, words, number=int):
-    """Adds the numbers of the words that aren't empty."""
-    column.extend(map(number, filter(None, words)))
+def columns(lines, width, *changes):
+    """The words of the lines as columns, where each line has as many words once it is changed. The first one has a `\\n` before it.
+
+    No other word has one, so where the first column is as it should be, all lines are as long as they should be.
+    """
+    text = "\n" + " \n".join(lines)
+    for old, new in changes:
+        text = text.replace(old, new)
+    words = text.split(" ")
+    demand(len(words) == width * len(lines))
+    return [words[k::width] for k in range(width)]
 
 
-def check_ordinals(words, first):
-    """The words that aren't empty are the numbers from the first on."""
-    demand(all(map(eq, map(int, filter(None, words)), count(first))))
+def check_heads(words, wanted, ordinals, first):
+    """Each line begins with the wanted word, and the ordinals go on from the first one."""
+    demand(words.count(wanted) == len(words), " ".join(ordinals) == said_range(first, first + len(ordinals)))
 
 
-def close(starts, end):
-    """Ends the starts of parts, of which the first one is 0, with the end of the last one."""
-    demand(starts[:1] == array("q", [0]))
-    starts.append(end)
+def said_range(first, end):
+    """The numbers from the first one to before the end, with blanks between; those of a thousand are written at once."""
+    said = []
+    while first < end:
+        thousands, rest = divmod(first, 1000)
+        some = min(end - first, 1000 - rest)
+        if thousands:
+            said.append(f" {thousands}".join(["", *THOUSAND[rest : rest + some]])[1:])
+        else:
+            said += map(str, range(first, first + some))
+        first += some
+    return " ".join(said)
+
+
+def integers(words):
+    """The numbers that words are, without zeros in front of them."""
+    text = " " + " ".join(words)
+    digits = text.replace(" ", "")
+    demand(digits.isdecimal() and digits.isascii() or not words, text.count(" 0") == words.count("0"))
+    return list(map(int, words))
+
+
+def read_spans(spans):
+    """The begins and the ends of spans, each of which is two numbers with two points between."""
+    begins, ends = columns(spans, 2, ("..", " "))
+    begins = "".join(begins)[1:].split("\n")
+    demand(len(begins) == len(ends))
+    return integers(begins), integers(ends)
+
+
+def moved(starts, by):
+    """Places, moved on by a number."""
+    return range(by, by + len(starts)) if isinstance(starts, range) else map(add, starts, repeat(by))
 
 
 def picked(column, places):
-    """What a column has at the places, one by one."""
-    return map(column.__getitem__, places)
-
-
-def alike(some, others):
-    """Whether two things of one length have the same at each place."""
-    return all(map(eq, some, others))
-
-
-def is_ambiguous(forest):
-    """Whether there is a choice anywhere."""
-    return forest.has_choices
-
-
-def count_trees(forest):
-    """The number of trees of the root; None where a part leads back to itself, so that there is no end of them.
-
-    A node has the trees of its alternatives together. An item has, for each of its ways, those of the item before
-    times those of the node that it took.
-    """
-    if not is_ambiguous(forest) and not has_cycle(forest):
-        return 1
-    first = forest.item_count
-    below = Below(forest)
-    trees, entered, stack = [None] * (first + forest.node_count), set(), [first + forest.root]
-    while stack:
-        part = stack[-1]
-        if trees[part] is not None:
-            stack.pop()
-            continue
-        ways = below.ways(part)
-        waiting = [inner for way in ways for inner in way if trees[inner] is None]
-        if not waiting:
-            trees[part] = sum(prod(trees[inner] for inner in way) for way in ways)
-            stack.pop()
-        elif part in entered:
-            return None
-        else:
-            entered.add(part)
-            stack += waiting
-    return trees[first + forest.root]
-
-
-class Below:
-    """What items and nodes consist of: these are counted together, items first."""
-
-    def __init__(self, forest):
-        self.forest, self.first_node = forest, forest.item_count
-        self.pairs = [(before,) for before in forest.before]
-        for way in forest.begun:
-            self.pairs[way] = ()
-        for way, node in zip(forest.nodes, forest.taken):
-            self.pairs[way] = (forest.before[way], self.first_node + node)
-
-    def ways(self, part):
-        """For each way of the part all that it has below it."""
-        forest, k = self.forest, part - self.first_node
-        if k < 0:
-            return [self.pairs[way] for way in forest.ways_of(part)]
-        return [(forest.complete[line],) for line in forest.lines(k)]
-
-
-def has_cycle(forest):
-    """Whether a node leads back to itself, in a forest without a choice: then through nodes with its own span."""
-    begins, ends, child = forest.item_begins, forest.item_ends, forest.child
-
-    def below(node):
-        """The nodes that it took with its own span."""
-        item, found = forest.complete[node], []
-        while (before := forest.before[item]) != item:
-            same = ends[before] == begins[before]
-            if same and child[item] != NO_NODE:
-                found.append(child[item])
-            if ends[before] != ends[item]:
-                break
-            item = before
-        return found
-
-    done, path = set(), set()
-    stack = [node for item, node in zip(forest.nodes, forest.taken) if ends[forest.before[item]] == begins[item]]
-    while stack:
-        node = stack[-1]
-        if node in done:
-            stack.pop()
-        elif node in path:
-            path.discard(node)
-            done.add(node)
-            stack.pop()
-        else:
-            path.add(node)
-            waiting = [one for one in below(node) if one not in done]
-            if not path.isdisjoint(waiting):
-                return True
-            stack += waiting
-    return False
+    """What a column has at the places."""
+    return itemgetter(*places)(column) if len(places) > 1 else tuple(column[place] for place in places)
 
 
 def fetch(name):

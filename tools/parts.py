@@ -8,7 +8,7 @@ import heapq
 import re
 from collections import namedtuple
 
-from forest_text import count_trees
+from forest_count import count_trees
 
 TREE = re.compile(r"\((\S+) (\d+)\.\.(\d+)|(\d+)\.\.(\d+)|\)")
 Row = namedtuple("Row", "depth label name kind begin end text part")

@@ -12,7 +12,8 @@ import threading
 from collections import OrderedDict
 
 from core_text import Core
-from forest_text import NotAForest, count_trees, is_ambiguous, read_forest
+from forest_count import count_trees, is_ambiguous
+from forest_text import NotAForest, read_forest
 from parts import Forested, View, read_tree
 from program import BUDGET, NO_DEPTH, PRINTED, USAGE, Ended, Run, find_program, put_texts, run
 

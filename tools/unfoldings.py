@@ -1,6 +1,7 @@
 """What a forest unfolds to, by its text alone: its trees up to a height, how large they are, and what leads back to itself."""
 
-from forest_text import NO_NODE, Below
+from forest_count import Below
+from forest_text import NO_NODE
 
 
 class Unfolding(Below):
