@@ -1,11 +1,11 @@
 //! Which numbers lead back to themselves along edges, by one walk along all edges.
 //!
 //! The walk has a path of open numbers, each of which leads to all behind it. Groups part the path,
-//! and the numbers of each lead to each other. The walk goes an edge of the last group that is left:
-//! one to a new number makes this a group of its own, one to an open number joins all groups behind
-//! where that stands. A group without an edge that is left is closed, since it leads to closed
-//! numbers alone. This is Gabow's path-based search for strong components, without recursion. Each
-//! number and each edge is looked at a few times.
+//! and the numbers of each lead to each other. The walk goes an edge of the last group that is
+//! left: one to a new number makes this a group of its own, one to an open number joins all groups
+//! behind where that stands. A group without an edge that is left is closed, since it leads to
+//! closed numbers alone. This is Gabow's path-based search for strong components, without
+//! recursion. Each number and each edge is looked at a few times.
 ghost use Rattle.std.specs.Prelude.{◌≡◌, ◌<◌, ◌≤◌, ◌↔◌, ◌++◌, ◌∷◌, [], true, suc, length};
 ghost use Rattle.std.specs.Prelude.{ℕ, List, Some, slice_get, Contains, IfOk, OnOk, MatchOption};
 ghost use Rattle.ig_analyse.specs.Facts.{Onward};
@@ -91,7 +91,8 @@ impl Walk {
     fn finish(&mut self, rows: &[Row]) -> Result<(), AllocError>
         requires inside { StayInside rows.now }
         requires walks { Walks rows.now self.old [] }
-        ensures goes { OnOk result (Goes rows.now self.old self.new (left_to_do rows.now self.old)) }
+        ensures goes { OnOk result
+            (Goes rows.now self.old self.new (left_to_do rows.now self.old)) }
         ensures closed { OnOk result (self.new.groups.items ≡ []) }
     {
         while let Some(group) = last_of(&self.groups) {
@@ -105,7 +106,8 @@ impl Walk {
         requires inside { StayInside rows.now }
         requires walks { Walks rows.now self.old [] }
         requires last { IsTop self.old.groups.items group }
-        ensures goes { OnOk result (Goes rows.now self.old self.new (left_to_do rows.now self.old)) }
+        ensures goes { OnOk result
+            (Goes rows.now self.old self.new (left_to_do rows.now self.old)) }
         ensures less { OnOk result (left_to_do rows.now self.new < left_to_do rows.now self.old) }
     {
         let Some(target) = take_edge(&mut self.edges, group.edges) else {
@@ -173,7 +175,8 @@ impl Walk {
 
 /// Takes the last edge, unless so many are all.
 fn take_edge(edges: &mut Vec<u32>, least: usize) -> Option<u32>
-    ensures none { MatchOption result (length edges.old.items ≤ least) (λ v. least < length edges.old.items) }
+    ensures none { MatchOption result (length edges.old.items ≤ least)
+        (λ v. least < length edges.old.items) }
     ensures taken { MatchOption result (edges.new.items ≡ edges.old.items)
         (λ v. edges.old.items ≡ edges.new.items ++ v ∷ []) }
 {

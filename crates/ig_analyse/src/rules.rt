@@ -17,8 +17,8 @@ pub struct Rule {
     pub callees: Row,
 }
 
-/// The rules of all alternatives; where it is bare, of those without a terminal. Refused for want of
-/// memory.
+/// The rules of all alternatives; where it is bare, of those without a terminal. Refused for want
+/// of memory.
 pub fn rules_of(alloc: Global, core: &Core, bare: bool) -> Result<Vec<Rule>, AllocError>
     ensures { IfOk result (λ rules. rules.items ≡ rules_from bare 0 core.now) }
 {
@@ -54,7 +54,8 @@ fn push_rule(
     bare: bool,
     rules: &mut Vec<Rule>,
 ) -> Result<(), AllocError>
-    ensures { OnOk result (rules.new.items ≡ rules.old.items ++ rule_of bare number alternative.now) }
+    ensures { OnOk result
+        (rules.new.items ≡ rules.old.items ++ rule_of bare number alternative.now) }
 {
     if bare && has_terminal(alternative) {
         return Ok(());

@@ -1,10 +1,10 @@
 -- What stands at the front of some bytes.
-use Rattle.std.proofs.Common.{◌≡◌, inl, inr, ℕ, suc, ◌+◌, ◌++◌, List, [], ◌∷◌, Bool, true, false, nat_lt, nat_eq, MatchBool, Option, Some, None, Bor, MatchOption, refl, sym, ap, ap₂, ◌∙◌, subst, length, take, drop, cond, arith}
+use Rattle.std.proofs.Common.{◌≡◌, inl, inr, ℕ, suc, ◌+◌, ◌++◌, List, [], ◌∷◌, Bool, true, false, nat_lt, nat_eq, MatchBool, Option, Some, None, MatchOption, refl, sym, ap, ap₂, ◌∙◌, subst, length, take, drop, cond, arith}
 use Rattle.std.specs.List.{prefix_len}
 use Rattle.std.proofs.lemmas.Bool.Decides.{eqb_tells}
 use Rattle.std.specs.Char.{is_ascii_digit}
 use Rattle.std.proofs.Math.Seq.{take-append_seam, drop-append_seam}
-use Rattle.std.proofs.lemmas.List.{append_cancel_left}
+use Rattle.std.proofs.lemmas.List.{take-append-drop}
 use Rattle.ig_forest_reader.specs.Runs.{Each, more, Stops, at, IsDigit, IsPlain, IsInner, is_inner}
 
 one_more : (n : ℕ) → 1 + n ≡ suc n
@@ -36,10 +36,9 @@ cut_there bytes xs us front back n a b e is = (
   b ∙ ap₂ (λ (m : ℕ) (z : List ℕ). drop m z) e is ∙ drop-append_seam xs us,
 )
 
-pub behind_told : (s p us : List ℕ) (r : Option (Bor (List ℕ))) →
-    MatchOption r ((rest : List ℕ) → s ≡ p ++ rest → ⊥) (λ x. s ≡ p ++ x.now) → s ≡ p ++ us → MatchOption r ⊥ (λ x. x.now ≡ us)
-behind_told s p us None m e = m us e
-behind_told s p us (Some x) m e = append_cancel_left p x.now us (sym m ∙ e)
+-- a cut anywhere
+pub cut_whole : (bytes front back : List ℕ) (n : ℕ) → front ≡ take n bytes → back ≡ drop n bytes → bytes ≡ front ++ back
+cut_whole bytes front back n a b = sym (take-append-drop n bytes) ∙ ap₂ (λ (y z : List ℕ). y ++ z) (sym a) (sym b)
 
 -- what was read, and that it was
 pub none_read : {A : Type 0} (P : A → Type 0) (r : Option A) → MatchOption r ⊥ P → r ≡ None → ⊥
@@ -66,11 +65,6 @@ other_ends c not = grind arith
 
 pub inner_length : (xs us : List ℕ) → Each IsInner xs → Stops IsInner us → prefix_len is_inner (xs ++ us) ≡ length xs
 inner_length = run_length is_inner IsInner inner_passes other_ends
-
-pub behind_is : (s p : List ℕ) (r : Option (Bor (List ℕ))) →
-    MatchOption r ((rest : List ℕ) → s ≡ p ++ rest → ⊥) (λ x. s ≡ p ++ x.now) → MatchOption r (Unit {0}) (λ x. s ≡ p ++ x.now)
-behind_is s p None m = tt
-behind_is s p (Some x) m = m
 
 pub some_is : {A : Type 0} (P : A → Type 0) (r : Option A) (x : A) → MatchOption r (Unit {0}) P → r ≡ Some x → P x
 some_is P r x m e = subst (λ (o : Option _). MatchOption o (Unit {0}) P) e m

@@ -2,11 +2,13 @@ pub mod Telling
 pub mod TellingLines
 pub mod TellingForests
 pub mod Leading
+pub mod Behind
+pub mod Numerals
 pub mod Values
+pub mod Spelled
 pub mod Children
 pub mod LinesLeft
 pub mod Composing
-pub mod Same
 pub mod ValuesTold
 pub mod LinesRead
 pub mod PartsRead

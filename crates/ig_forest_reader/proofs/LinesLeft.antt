@@ -6,6 +6,7 @@ use Rattle.std.proofs.lemmas.List.{append_assoc, append-nil, length-append}
 use Rattle.ig_forest_reader.specs.Runs.{Stops, at_end, at}
 use Rattle.ig_forest_reader.specs.Shown.{Added}
 use Rattle.ig_forest_reader.proofs.Leading.{none_read, some_read}
+use Rattle.ig_forest_reader.proofs.Spelled.{one_more_text}
 use Rattle.ig_forest_reader.proofs.TellingLines.{Begins, not_begun}
 
 module _ {A : Type 0} (In : A → Type 0) (shown : A → List ℕ) where
@@ -132,22 +133,17 @@ pub joined_parts : {A : Type 0} (P : A → Type 0) (xs ys : List A) → AllByRec
 joined_parts P [] ys a b = b
 joined_parts P (x ∷ xs) ys a b = (a.0, joined_parts P xs ys a.1 b)
 
-pub none_added : {A : Type 0} (P : A → Type 0) (old : List A) → Added P old old
-none_added P old = record { members = []; have = tt; is = sym (append-nil old) }
+pub none_added : {A : Type 0} (P : A → Type 0) (shown : A → List ℕ) (bytes : List ℕ) (old : List A) →
+    Added P (flat_map shown) bytes bytes old old
+none_added P shown bytes old = record { members = []; have = tt; is = sym (append-nil old); spelled = refl }
 
-pub one_added : {A : Type 0} (P : A → Type 0) (old out new : List A) (x : A) → Added P old out → P x → new ≡ out ++ x ∷ [] →
-    Added P old new
-one_added P old out new x a p is =
+pub one_added : {A : Type 0} (P : A → Type 0) (shown : A → List ℕ) (bytes rest behind : List ℕ) (old out new : List A) (x : A) →
+    Added P (flat_map shown) bytes rest old out → P x → rest ≡ shown x ++ behind → new ≡ out ++ x ∷ [] →
+    Added P (flat_map shown) bytes behind old new
+one_added P shown bytes rest behind old out new x a p e is =
     record {
       members = a.members ++ x ∷ [];
       have = joined_parts P a.members (x ∷ []) a.have (p, tt);
       is = is ∙ ap (λ (z : List _). z ++ x ∷ []) a.is ∙ append_assoc old a.members (x ∷ []);
-    }
-
-pub both_added : {A : Type 0} (P : A → Type 0) (old out new : List A) → Added P old out → Added P out new → Added P old new
-both_added P old out new a b =
-    record {
-      members = a.members ++ b.members;
-      have = joined_parts P a.members b.members a.have b.have;
-      is = b.is ∙ ap (λ (z : List _). z ++ b.members) a.is ∙ append_assoc old a.members b.members;
+      spelled = one_more_text shown bytes rest behind a.members x a.spelled e;
     }

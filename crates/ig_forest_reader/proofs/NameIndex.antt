@@ -18,6 +18,8 @@ use Rattle.ig_forest_reader.proofs.TellingLines.{named_there}
 pub record IndexBelow (core : List Nonterminal) (n : ℕ) (index : BTreeMap (Bor (List ℕ)) ℕ) : Type 0 where
   pub finds : (m : ℕ) (x : Nonterminal) → m < n → slice_get core m ≡ Some x → lookup index (encode_utf8_all x.name) ≡ Some m
   pub there : (bytes : List ℕ) (m : ℕ) → lookup index bytes ≡ Some m → m < n
+  pub names : (bytes : List ℕ) (m : ℕ) (x : Nonterminal) → lookup index bytes ≡ Some m → slice_get core m ≡ Some x →
+      bytes ≡ encode_utf8_all x.name
 
 pub index_begins : (core : List Nonterminal) (index : BTreeMap (Bor (List ℕ)) ℕ) → index.entries ≡ [] → IndexBelow core 0 index
 index_begins core index empty =
@@ -25,6 +27,7 @@ index_begins core index empty =
     record {
       finds = λ m x less there. absurd (omega (arith, less));
       there = λ bytes m e. absurd (none-some _ (sym (none bytes) ∙ e));
+      names = λ bytes m x e there. absurd (none-some _ (sym (none bytes) ∙ e));
     }
 
 below_next : (m n : ℕ) → m < n + 1 → (m < n) ⊎ (m ≡ n)
@@ -47,6 +50,7 @@ index_grows core n x m t bytes tells at is below u =
                 (bytes_eq bytes (encode_utf8_all y.name)) refl (updated (encode_utf8_all y.name))
           ];
       there = λ key k e. within key k e (bytes_eq bytes key) (updated key);
+      names = λ key k y e there. named key k y e there (bytes_eq bytes key) refl (updated key);
     }
   where
     updated : (key : List ℕ) → lookup t key ≡ cond (bytes_eq bytes key) (Some n) (lookup m key)
@@ -67,12 +71,21 @@ index_grows core n x m t bytes tells at is below u =
     within key k found true e = let same = same_Some n k (sym e ∙ found) in omega (arith, same)
     within key k found false e = let less = below.there key k (sym e ∙ found) in omega (arith, less)
 
+    named : (key : List ℕ) (k : ℕ) (y : Nonterminal) → lookup t key ≡ Some k → slice_get core k ≡ Some y → (b : Bool) →
+        bytes_eq bytes key ≡ b → lookup t key ≡ cond b (Some n) (lookup m key) → key ≡ encode_utf8_all y.name
+    named key k y found there true q e =
+        let same : n ≡ k = same_Some n k (sym e ∙ found) in
+        let one : x ≡ y = same_Some x y (sym at ∙ ap (slice_get core) same ∙ there) in
+        sym ((bytes_eq-Decides bytes key).0 q) ∙ is ∙ ap (λ (z : Nonterminal). encode_utf8_all z.name) one
+    named key k y found there false q e = below.names key k y (sym e ∙ found) there
+
 pub index_whole : (core : List Nonterminal) (n : ℕ) (index : BTreeMap (Bor (List ℕ)) ℕ) → length core ≤ n → n ≤ length core →
     IndexBelow core n index → IsIndex core index
 index_whole core n index past upto below =
     record {
       finds = λ m x at. (let within = slice_get_within core m x at in below.finds m x (omega (arith, within, past)) at);
       there = λ bytes m e. (let less = below.there bytes m e in omega (arith, less, upto));
+      names = below.names;
     }
 
 pub found_name : (core : List Nonterminal) (index : BTreeMap (Bor (List ℕ)) ℕ) (n : ℕ) (name word : List ℕ) → IsIndex core index →

@@ -30,6 +30,17 @@ pub none_paired : {S A : Type 0} (P : S → A → Type 0) (xs : List S) → xs �
 none_paired P [] e = pairs.none
 none_paired P (x ∷ xs) e = absurd (cc)
 
+-- numbered texts, and one more
+numbered_more : {A : Type 0} (shown : ℕ → A → List ℕ) (k : ℕ) (xs : List A) (x : A) (us : List ℕ) (m : ℕ) → m ≡ k + length xs →
+    numbered_texts shown k (xs ++ x ∷ []) ++ us ≡ numbered_texts shown k xs ++ (shown m x ++ us)
+numbered_more shown k [] x us m e =
+    let same : k ≡ m = omega (arith, e) in
+    append_assoc (shown k x) [] us ∙ ap (λ (n : ℕ). shown n x ++ us) same
+numbered_more shown k (y ∷ xs) x us m e =
+    append_assoc (shown k y) (numbered_texts shown (suc k) (xs ++ x ∷ [])) us ∙
+    ap (λ (z : List ℕ). shown k y ++ z) (numbered_more shown (suc k) xs x us m (omega (arith, e))) ∙
+    sym (append_assoc (shown k y) (numbered_texts shown (suc k) xs) (shown m x ++ us))
+
 module _ {A : Type 0} (In : A → Type 0) (shown : ℕ → A → List ℕ) where
   -- what is left to be read
   pub record Remains (n : ℕ) (us rest : List ℕ) (all whole : List A) : Type 0 where
@@ -45,6 +56,7 @@ module _ {S A : Type 0} (Shows : S → A → Type 0) (In : A → Type 0) (shown 
     pub show : Each Shows parts all
     pub meant : AllByRecursion In all
     pub long : length all ≡ n
+    pub spelled : bytes ≡ numbered_texts shown 0 all ++ rest
     pub told : (xs : List A) (us : List ℕ) → length xs ≡ many → AllByRecursion In xs → Stops Goes us →
         bytes ≡ numbered_texts shown 0 xs ++ us → Remains In shown n us rest all xs
 
@@ -55,6 +67,7 @@ module _ {S A : Type 0} (Shows : S → A → Type 0) (In : A → Type 0) (shown 
         show = none_paired Shows parts none;
         meant = tt;
         long = refl;
+        spelled = refl;
         told = λ xs us long small stops e. record { others = xs; meant = small; sum = refl; here = e };
       }
 
@@ -73,6 +86,7 @@ module _ {S A : Type 0} (Shows : S → A → Type 0) (In : A → Type 0) (shown 
         show = s.show;
         meant = s.meant;
         long = s.long ∙ same;
+        spelled = s.spelled;
         told = λ xs us long small stops e.
             let left = s.told xs us long small stops e in
             ended n us rest s.all xs left.others s.long (long ∙ sym same) left.sum left.here;
@@ -110,15 +124,15 @@ module _ {S A : Type 0} (Shows : S → A → Type 0) (In : A → Type 0) (shown 
         subst (Stops Goes) (sym (append_assoc (shown k x) (numbered_texts shown (suc k) xs) us)) (stops k x _)
 
     pub no_more : (n many : ℕ) (bytes rest : List ℕ) (parts : List S) → n < many → many < numbers_end →
-        SoFar n many bytes rest parts → NoPart Shows In shown Goes rest → NoParts Shows In shown Goes many bytes
+        SoFar n many bytes rest parts → NoPart Shows In shown Goes n rest → NoParts Shows In shown Goes many bytes
     no_more n many bytes rest parts less few s none xs us long small end e =
         let left = s.told xs us long small end e in
         let x = next_of n many us rest s.all xs left.others s.long long less left.meant left.sum left.here in
-        none n x.first (numbered_texts shown (suc n) x.others ++ us) (omega (arith, less, few)) x.meant
+        none x.first (numbered_texts shown (suc n) x.others ++ us) (omega (arith, less, few)) x.meant
         (others_stop (suc n) x.others us end) x.here
 
     pub one_more : (n many : ℕ) (bytes rest after : List ℕ) (parts new : List S) → n < many → many < numbers_end →
-        SoFar n many bytes rest parts → PartRead Shows In shown Goes rest after parts new → SoFar (n + 1) many bytes after new
+        SoFar n many bytes rest parts → PartRead Shows In shown Goes n rest after parts new → SoFar (n + 1) many bytes after new
     one_more n many bytes rest after parts new less few s read =
         record {
           all = s.all ++ read.it ∷ [];
@@ -126,10 +140,13 @@ module _ {S A : Type 0} (Shows : S → A → Type 0) (In : A → Type 0) (shown 
               (each_more Shows parts s.all read.part read.it s.show read.shows);
           meant = joined_parts In s.all (read.it ∷ []) s.meant (read.meant, tt);
           long = length-append s.all (read.it ∷ []) ∙ ap (λ (m : ℕ). m + 1) s.long;
+          spelled =
+              s.spelled ∙ ap (λ (z : List ℕ). numbered_texts shown 0 s.all ++ z) read.spelled ∙
+              sym (numbered_more shown 0 s.all read.it after n (let long = s.long in omega (arith, long)));
           told = λ xs us long small end e.
               let left = s.told xs us long small end e in
               let x = next_of n many us rest s.all xs left.others s.long long less left.meant left.sum left.here in
-              let same = read.told n x.first (numbered_texts shown (suc n) x.others ++ us) (omega (arith, less, few)) x.meant
+              let same = read.told x.first (numbered_texts shown (suc n) x.others ++ us) (omega (arith, less, few)) x.meant
               (others_stop (suc n) x.others us end) x.here in
               let next : suc n ≡ n + 1 = omega arith in
               record {
@@ -145,4 +162,4 @@ pub so_far_kept : {S A : Type 0} (Shows Still : S → A → Type 0) (In : A → 
     (n many : ℕ) (bytes rest : List ℕ) (parts : List S) → ((x : S) (y : A) → Shows x y → Still x y) →
     SoFar Shows In shown Goes n many bytes rest parts → SoFar Still In shown Goes n many bytes rest parts
 so_far_kept Shows Still In shown Goes n many bytes rest parts still s =
-    record { all = s.all; show = each_weaker Shows Still still parts s.all s.show; meant = s.meant; long = s.long; told = s.told }
+    record { all = s.all; show = each_weaker Shows Still still parts s.all s.show; meant = s.meant; long = s.long; spelled = s.spelled; told = s.told }

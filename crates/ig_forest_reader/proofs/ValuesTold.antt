@@ -1,8 +1,9 @@
 -- Lists of values in brackets.
-use Rattle.std.proofs.Common.{◌≡◌, ℕ, ◌++◌, List, [], ◌∷◌, Result, Ok, Err, sym, ◌∙◌, subst, arith}
+use Rattle.std.proofs.Common.{◌≡◌, ℕ, ◌++◌, List, [], ◌∷◌, Result, Ok, Err, sym, ap, ◌∙◌, subst, arith}
+use Rattle.std.specs.Prelude.{codes, flat_map}
 use Rattle.std.specs.Result.{IsErrAnd}
 use Rattle.std.specs.List.{AllByRecursion}
-use Rattle.std.proofs.lemmas.List.{append-nil, append_cancel_left}
+use Rattle.std.proofs.lemmas.List.{append_assoc, append-nil, append_cancel_left}
 use Rattle.ig_expr.specs.declared.value.Value.{Value}
 use Rattle.ig_pieces.specs.Listed.{comma_separated}
 use Rattle.ig_pieces.specs.ValueText.{value_text}
@@ -11,6 +12,7 @@ use Rattle.ig_forest_reader.specs.Shown.{Added, NoValues, Reads, ValuesRead}
 use Rattle.ig_forest_reader.specs.declared.fault.ForestFault.{ForestFault}
 use Rattle.ig_forest_reader.specs.declared.fault.ForestFault.TheVariants.{NotAForest, Memory}
 use Rattle.ig_forest_reader.specs.Written.{Closes, round, square, IsSmall}
+use Rattle.ig_forest_reader.proofs.Spelled.{first_spelled}
 use Rattle.ig_forest_reader.proofs.Telling.{lists_told}
 
 pub closes_inner : (close : ℕ) (us : List ℕ) → Closes close → Stops IsInner (close ∷ us)
@@ -29,7 +31,20 @@ none_read_up close bytes rest old closes is =
       values = [];
       small = tt;
       is = sym (append-nil old);
+      spelled = is;
       told = λ xs us small e. lists_told close [] xs rest us closes tt small (sym is ∙ e);
+    }
+
+-- a first value was added, and others after it
+pub first_added : (bytes behind rest : List ℕ) (old out new : List Value) (x : Value) → IsSmall x → bytes ≡ value_text x ++ behind →
+    out ≡ old ++ x ∷ [] → Added IsSmall (flat_map (λ y. codes "," ++ value_text y)) behind rest out new →
+    Added IsSmall (comma_separated value_text) bytes rest old new
+first_added bytes behind rest old out new x small e is added =
+    record {
+      members = x ∷ added.members;
+      have = (small, added.have);
+      is = added.is ∙ ap (λ (z : List Value). z ++ added.members) is ∙ append_assoc old (x ∷ []) added.members;
+      spelled = first_spelled bytes behind rest x added.members e added.spelled;
     }
 
 -- what a first value and others give
@@ -57,10 +72,17 @@ no_bracket close bytes behind old new closes bracket told last (x ∷ xs) us sma
     last us (told x xs (close ∷ us) small.0 small.1 (closes_inner close us closes) (closes_comma close us closes) e).0
 
 pub values_read_up : (close : ℕ) (bytes behind rest : List ℕ) (old new : List Value) → Closes close →
-    ((us : List ℕ) → bytes ≡ close ∷ us → ⊥) → Added IsSmall old new → FirstTold bytes behind old new → behind ≡ close ∷ rest →
+    ((us : List ℕ) → bytes ≡ close ∷ us → ⊥) → Added IsSmall (comma_separated value_text) bytes behind old new →
+    FirstTold bytes behind old new → behind ≡ close ∷ rest →
     ValuesRead close bytes rest old new
 values_read_up close bytes behind rest old new closes bracket added told is =
-    record { values = added.members; small = added.have; is = added.is; told = whole }
+    record {
+      values = added.members;
+      small = added.have;
+      is = added.is;
+      spelled = added.spelled ∙ ap (λ (z : List ℕ). comma_separated value_text added.members ++ z) is;
+      told = whole;
+    }
   where
     whole : (xs : List Value) (us : List ℕ) → AllByRecursion IsSmall xs → bytes ≡ comma_separated value_text xs ++ close ∷ us →
         (added.members ≡ xs) × (rest ≡ us)

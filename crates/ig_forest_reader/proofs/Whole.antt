@@ -196,6 +196,10 @@ HeadingTold bytes begun many_nodes many_items =
     bytes ≡ codes "forest " ++ (decimal m ++ (32 ∷ (decimal n ++ (10 ∷ us)))) →
     (many_nodes ≡ m) × (many_items ≡ n) × (begun ≡ us)
 
+abbrev pub HeadingSpelled : List ℕ → List ℕ → ℕ → ℕ → Type 0
+HeadingSpelled bytes begun many_nodes many_items =
+    bytes ≡ codes "forest " ++ (decimal many_nodes ++ (32 ∷ (decimal many_items ++ (10 ∷ begun))))
+
 abbrev pub NoHeading : List ℕ → Type 0
 NoHeading bytes =
     (m n : ℕ) (us : List ℕ) → m < numbers_end → n < numbers_end →
@@ -253,9 +257,26 @@ module _ (core : List Nonterminal) (tells : TellsNames core) (bytes : List ℕ) 
             more.show more.meant (subst (λ (n : ℕ). n < numbers_end) nodes_long few_nodes)
             (subst (λ (n : ℕ). n < numbers_end) (sym (same_length more.show ∙ more.long)) few_items)
 
-        pub tables_read : (root : ℕ) (f : Forest) → IsFirstRoot (rows_in nodes) root →
+        -- more stands after the last line
+        pub no_rest : (rest ≡ [] → ⊥) → NoForest core bytes
+        no_rest not g of e =
+            let told = told_nodes g of e in
+            not (more.told g.items [] (sym told.0) (items_of core tells g of) at_end (told.2 ∙ sym (append-nil (items_shown g)))).1
+
+        text_read : (root : ℕ) → HeadingSpelled bytes begun many_nodes many_items → rest ≡ [] →
+            bytes ≡ forest_text (record { root = root; nodes = read.all; items = more.all })
+        text_read root head ends =
+            let f : Forest = record { root = root; nodes = read.all; items = more.all } in
+            let lines : begun ≡ nodes_shown f ++ items_shown f =
+            read.spelled ∙ ap (λ (z : List ℕ). nodes_shown f ++ z)
+            (more.spelled ∙ ap (λ (z : List ℕ). items_shown f ++ z) ends ∙ append-nil (items_shown f)) in
+            head ∙ ap₂ (λ (m n : ℕ). codes "forest " ++ (decimal m ++ (32 ∷ (decimal n ++ (10 ∷ begun))))) (sym read.long) (sym more.long) ∙
+            ap (λ (z : List ℕ). codes "forest " ++ (decimal (length read.all) ++ (32 ∷ (decimal (length more.all) ++ (10 ∷ z))))) lines ∙
+            sym (heading_joined (decimal (length read.all)) (decimal (length more.all)) (nodes_shown f ++ items_shown f))
+
+        pub tables_read : (root : ℕ) (f : Forest) → HeadingSpelled bytes begun many_nodes many_items → rest ≡ [] → IsFirstRoot (rows_in nodes) root →
             f ≡ forest_by root (names_of core) grown nodes items → TablesRead core bytes f
-        tables_read root f first is =
+        tables_read root f head ends first is =
             let view = is ∙ view_is core grown root nodes items read.all more.all (still_shown lists grown nodes read.all keeps read.show)
             read.meant more.show more.meant in
             let root_is = root_shown lists nodes read.all more.all root read.show first in
@@ -266,6 +287,7 @@ module _ (core : List Nonterminal) (tells : TellsNames core) (bytes : List ℕ) 
               nodes = read.meant;
               items = more.meant;
               root = root_is;
+              spelled = text_read root head ends;
               told = λ g of e.
                   let told = told_nodes g of e in
                   let same = more.told g.items [] (sym told.0) (items_of core tells g of) at_end
@@ -299,7 +321,3 @@ draft_of_read core bytes f read is =
 pub no_forest_read : (core : List Nonterminal) (bytes : List ℕ) (f : Forest) → TablesRead core bytes f → (IsForest f → ⊥) →
     NoForest core bytes
 no_forest_read core bytes f read not g of e = not (subst IsForest (sym (read.told g of e)) of.draft.forest)
-
-pub no_text_read : (core : List Nonterminal) (bytes : List ℕ) (f : Forest) → TablesRead core bytes f → (bytes ≡ forest_text f → ⊥) →
-    NoForest core bytes
-no_text_read core bytes f read not g of e = not (e ∙ ap forest_text (sym (read.told g of e)))

@@ -2,4 +2,3 @@ pub mod Written
 pub mod Runs
 pub mod Shown
 pub mod Checks
-pub mod Fronts

@@ -15,6 +15,12 @@ pub data Stops (P : ℕ → Type 0) : List ℕ → Type 0 where
 abbrev pub IsDigit : ℕ → Type 0
 IsDigit c = (48 ≤ c) × (c < 58)
 
+-- there are digits, of which the first is no zero before others
+abbrev pub LeadsWell : List ℕ → Type 0
+LeadsWell [] = ⊥
+LeadsWell (c ∷ []) = Unit {0}
+LeadsWell (c ∷ d ∷ ds) = c ≡ 48 → ⊥
+
 -- what the texts of values are made of: no comma, blank or closing bracket
 abbrev pub IsInner : ℕ → Type 0
 IsInner c = (44 < c) × (c ≡ 93 → ⊥)

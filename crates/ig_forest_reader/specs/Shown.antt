@@ -1,5 +1,5 @@
 -- What the functions of the reader promise one another; who reads the law and the contract of the reader need not read it.
-use Rattle.std.specs.Prelude.{◌≡◌, ℕ, ◌<◌, List, [], ◌∷◌, ◌++◌, Option, Some, Ok, Err, Result, length, encode_utf8_all, slice_get}
+use Rattle.std.specs.Prelude.{◌≡◌, ℕ, ◌<◌, List, [], ◌∷◌, ◌++◌, Option, Some, Ok, Err, Result, length, codes, encode_utf8_all, slice_get}
 use Rattle.std.specs.List.{AllByRecursion}
 use Rattle.std.specs.Fmt.{decimal}
 use Rattle.std.specs.Cmp.Lexicographic.{slice_cmp}
@@ -32,11 +32,12 @@ Reads P none (Ok x) = P x
 Reads P none (Err NotAForest) = none
 Reads P none (Err Memory) = Unit {0}
 
--- members with the property were added at the end
-pub record Added {A : Type 0} (P : A → Type 0) (old new : List A) : Type 0 where
+-- members with the property were added at the end, whose texts stand before the rest
+pub record Added {A : Type 0} (P : A → Type 0) (texts : List A → List ℕ) (bytes rest : List ℕ) (old new : List A) : Type 0 where
   pub members : List A
   pub have : AllByRecursion P members
   pub is : new ≡ old ++ members
+  pub spelled : bytes ≡ texts members ++ rest
 
 -- what is in a list stays there
 abbrev pub Keeps : {A : Type 0} → List A → List A → Type 0
@@ -51,6 +52,8 @@ pub record IsIndex (core : List Nonterminal) (index : BTreeMap (Bor (List ℕ)) 
   pub finds : (n : ℕ) (nonterminal : Nonterminal) → slice_get core n ≡ Some nonterminal →
       lookup index (encode_utf8_all nonterminal.name) ≡ Some n
   pub there : (bytes : List ℕ) (n : ℕ) → lookup index bytes ≡ Some n → n < length core
+  pub names : (bytes : List ℕ) (n : ℕ) (nonterminal : Nonterminal) → lookup index bytes ≡ Some n →
+      slice_get core n ≡ Some nonterminal → bytes ≡ encode_utf8_all nonterminal.name
 
 -- some alternative of the nonterminal has the tag
 pub record HasTag (core : List Nonterminal) (n : ℕ) (tag : Tag) : Type 0 where
@@ -66,6 +69,7 @@ pub record ValuesRead (close : ℕ) (bytes rest : List ℕ) (old new : List Valu
   pub values : List Value
   pub small : AllByRecursion IsSmall values
   pub is : new ≡ old ++ values
+  pub spelled : bytes ≡ comma_separated value_text values ++ close ∷ rest
   pub told : (xs : List Value) (us : List ℕ) → AllByRecursion IsSmall xs →
       bytes ≡ comma_separated value_text xs ++ close ∷ us → (values ≡ xs) × (rest ≡ us)
 
@@ -100,23 +104,34 @@ abbrev pub place_line : ℕ → ℕ → List Value → ℕ → ℕ → List ℕ 
 place_line a d xs i j us =
     decimal a ++ (32 ∷ (decimal d ++ (32 ∷ (91 ∷ (comma_separated value_text xs ++ (93 ∷ (32 ∷ (places_text i j ++ (10 ∷ us)))))))))
 
--- the start of a line was read: what it is of, a number, the nonterminal, and values, which were added
-pub record StartRead (core : List Nonterminal) (what bytes rest : List ℕ) (old new : List Value) (n : ℕ) : Type 0 where
+-- the name of a nonterminal stands where the number of a line does, and what is before its values
+pub record HeadRead (core : List Nonterminal) (what : List ℕ) (k : ℕ) (bytes rest : List ℕ) (n : ℕ) : Type 0 where
+  pub there : n < length core
+  pub name : List ℕ
+  pub named : IsNamed core n name
+  pub spelled : bytes ≡ what ++ (decimal k ++ (32 ∷ (encode_utf8_all name ++ (32 ∷ (40 ∷ rest)))))
+
+-- the start of the line of number k was read: what it is of, the nonterminal, and values, which were added
+pub record StartRead (core : List Nonterminal) (what : List ℕ) (k : ℕ) (bytes rest : List ℕ) (old new : List Value) (n : ℕ) :
+    Type 0 where
   pub values : List Value
   pub small : AllByRecursion IsSmall values
   pub is : new ≡ old ++ values
   pub there : n < length core
-  pub told : (k m : ℕ) (name : List ℕ) (xs : List Value) (us : List ℕ) → k < numbers_end → IsNamed core m name →
+  pub name : List ℕ
+  pub named : IsNamed core n name
+  pub spelled : bytes ≡ what ++ (head_text k name values ++ (32 ∷ rest))
+  pub told : (m : ℕ) (name : List ℕ) (xs : List Value) (us : List ℕ) → k < numbers_end → IsNamed core m name →
       AllByRecursion IsSmall xs → bytes ≡ what ++ (head_text k name xs ++ (32 ∷ us)) →
       (n ≡ m) × (values ≡ xs) × (rest ≡ us)
 
-abbrev pub NoStart : List Nonterminal → List ℕ → List ℕ → Type 0
-NoStart core what bytes =
-    (k m : ℕ) (name : List ℕ) (xs : List Value) (us : List ℕ) → k < numbers_end → IsNamed core m name →
+abbrev pub NoStart : List Nonterminal → List ℕ → ℕ → List ℕ → Type 0
+NoStart core what k bytes =
+    (m : ℕ) (name : List ℕ) (xs : List Value) (us : List ℕ) → k < numbers_end → IsNamed core m name →
     AllByRecursion IsSmall xs → bytes ≡ what ++ (head_text k name xs ++ (32 ∷ us)) → ⊥
 
--- the line of a node was read, whose values are a place in the lists
-pub record NodeLineRead (core : List Nonterminal) (lists : List (List Value)) (bytes rest : List ℕ) (row : NodeRow) :
+-- the line of node k was read, whose values are a place in the lists
+pub record NodeLineRead (core : List Nonterminal) (lists : List (List Value)) (k : ℕ) (bytes rest : List ℕ) (row : NodeRow) :
     Type 0 where
   pub values : List Value
   pub small : AllByRecursion IsSmall values
@@ -124,13 +139,17 @@ pub record NodeLineRead (core : List Nonterminal) (lists : List (List Value)) (b
   pub there : row.nonterminal < length core
   pub begin : row.start < numbers_end
   pub end : row.end < numbers_end
-  pub told : (k : ℕ) (x : Node) (us : List ℕ) → k < numbers_end → IsNodeOf core x → bytes ≡ node_line k x ++ us →
+  pub name : List ℕ
+  pub named : IsNamed core row.nonterminal name
+  pub spelled : bytes ≡
+      codes "node " ++ (head_text k name values ++ (32 ∷ (places_text row.start row.end ++ (10 ∷ rest))))
+  pub told : (x : Node) (us : List ℕ) → k < numbers_end → IsNodeOf core x → bytes ≡ node_line k x ++ us →
       (row.nonterminal ≡ x.nonterminal) × (values ≡ x.values) × (row.start ≡ x.span.begin) × (row.end ≡ x.span.end) ×
       (rest ≡ us)
 
-abbrev pub NoNodeLine : List Nonterminal → List ℕ → Type 0
-NoNodeLine core bytes =
-    (k : ℕ) (x : Node) (us : List ℕ) → k < numbers_end → IsNodeOf core x → bytes ≡ node_line k x ++ us → ⊥
+abbrev pub NoNodeLine : List Nonterminal → ℕ → List ℕ → Type 0
+NoNodeLine core k bytes =
+    (x : Node) (us : List ℕ) → k < numbers_end → IsNodeOf core x → bytes ≡ node_line k x ++ us → ⊥
 
 -- the rest of an item's line was read, after its values; its environment is a place in the lists, and begins with these
 pub record PlaceRead (lists : List (List Value)) (bytes rest : List ℕ) (values : List Value) (row : ItemRow) : Type 0 where
@@ -141,6 +160,7 @@ pub record PlaceRead (lists : List (List Value)) (bytes rest : List ℕ) (values
   pub alternative : row.alternative < numbers_end
   pub dot : row.dot < numbers_end
   pub position : row.position < numbers_end
+  pub spelled : bytes ≡ place_line row.alternative row.dot bound row.start row.position rest
   pub told : (a d i j : ℕ) (xs : List Value) (us : List ℕ) → AreFew a d i j → AllByRecursion IsSmall xs →
       bytes ≡ place_line a d xs i j us →
       (row.alternative ≡ a) × (row.dot ≡ d) × (bound ≡ xs) × (row.start ≡ i) × (row.position ≡ j) × (rest ≡ us)
@@ -150,8 +170,8 @@ NoPlace bytes =
     (a d i j : ℕ) (xs : List Value) (us : List ℕ) → AreFew a d i j → AllByRecursion IsSmall xs →
     bytes ≡ place_line a d xs i j us → ⊥
 
--- the line of an item was read, whose values and environment are places in the lists
-pub record ItemLineRead (core : List Nonterminal) (lists : List (List Value)) (bytes rest : List ℕ) (row : ItemRow) :
+-- the line of item k was read, whose values and environment are places in the lists
+pub record ItemLineRead (core : List Nonterminal) (lists : List (List Value)) (k : ℕ) (bytes rest : List ℕ) (row : ItemRow) :
     Type 0 where
   pub values : List Value
   pub bound : List Value
@@ -164,12 +184,17 @@ pub record ItemLineRead (core : List Nonterminal) (lists : List (List Value)) (b
   pub alternative : row.alternative < numbers_end
   pub dot : row.dot < numbers_end
   pub position : row.position < numbers_end
-  pub told : (k : ℕ) (x : ItemNode) (us : List ℕ) → k < numbers_end → IsBegunItem core x → bytes ≡ item_line k x ++ us →
+  pub name : List ℕ
+  pub named : IsNamed core row.nonterminal name
+  pub spelled : bytes ≡
+      codes "item " ++ (head_text k name values ++
+      (32 ∷ place_line row.alternative row.dot bound row.start row.position rest))
+  pub told : (x : ItemNode) (us : List ℕ) → k < numbers_end → IsBegunItem core x → bytes ≡ item_line k x ++ us →
       SameItemLine row values bound x × (rest ≡ us)
 
-abbrev pub NoItemLine : List Nonterminal → List ℕ → Type 0
-NoItemLine core bytes =
-    (k : ℕ) (x : ItemNode) (us : List ℕ) → k < numbers_end → IsBegunItem core x → bytes ≡ item_line k x ++ us → ⊥
+abbrev pub NoItemLine : List Nonterminal → ℕ → List ℕ → Type 0
+NoItemLine core k bytes =
+    (x : ItemNode) (us : List ℕ) → k < numbers_end → IsBegunItem core x → bytes ≡ item_line k x ++ us → ⊥
 
 -- the rows show the node, and the item
 pub record ShowsNode (lists : List (List Value)) (n : StoredNode) (x : Node) : Type 0 where
@@ -191,18 +216,19 @@ pub record ShowsItem (lists : List (List Value)) (it : StoredItem) (x : ItemNode
 
 -- parts with a number each: how they are stored, which ones are meant, how they print, and what stands at no end of one
 module _ {S A : Type 0} (Shows : S → A → Type 0) (In : A → Type 0) (shown : ℕ → A → List ℕ) (Goes : ℕ → Type 0) where
-  -- one was read, and added
-  pub record PartRead (bytes rest : List ℕ) (old new : List S) : Type 0 where
+  -- the one of number k was read, and added
+  pub record PartRead (k : ℕ) (bytes rest : List ℕ) (old new : List S) : Type 0 where
     pub part : S
     pub it : A
     pub added : new ≡ old ++ part ∷ []
     pub shows : Shows part it
     pub meant : In it
-    pub told : (k : ℕ) (x : A) (us : List ℕ) → k < numbers_end → In x → Stops Goes us → bytes ≡ shown k x ++ us →
+    pub spelled : bytes ≡ shown k it ++ rest
+    pub told : (x : A) (us : List ℕ) → k < numbers_end → In x → Stops Goes us → bytes ≡ shown k x ++ us →
         (it ≡ x) × (rest ≡ us)
 
-  abbrev pub NoPart : List ℕ → Type 0
-  NoPart bytes = (k : ℕ) (x : A) (us : List ℕ) → k < numbers_end → In x → Stops Goes us → bytes ≡ shown k x ++ us → ⊥
+  abbrev pub NoPart : ℕ → List ℕ → Type 0
+  NoPart k bytes = (x : A) (us : List ℕ) → k < numbers_end → In x → Stops Goes us → bytes ≡ shown k x ++ us → ⊥
 
   -- so many were read
   pub record PartsRead (many : ℕ) (bytes rest : List ℕ) (parts : List S) : Type 0 where
@@ -210,6 +236,7 @@ module _ {S A : Type 0} (Shows : S → A → Type 0) (In : A → Type 0) (shown 
     pub show : Each Shows parts all
     pub meant : AllByRecursion In all
     pub long : length all ≡ many
+    pub spelled : bytes ≡ numbered_texts shown 0 all ++ rest
     pub told : (xs : List A) (us : List ℕ) → length xs ≡ many → AllByRecursion In xs → Stops Goes us →
         bytes ≡ numbered_texts shown 0 xs ++ us → (all ≡ xs) × (rest ≡ us)
 
@@ -219,10 +246,10 @@ module _ {S A : Type 0} (Shows : S → A → Type 0) (In : A → Type 0) (shown 
       bytes ≡ numbered_texts shown 0 xs ++ us → ⊥
 
 -- a node, nodes, an item and items of the core grammar
-abbrev pub NodeRead : List Nonterminal → List (List Value) → List ℕ → List ℕ → List StoredNode → List StoredNode → Type 0
+abbrev pub NodeRead : List Nonterminal → List (List Value) → ℕ → List ℕ → List ℕ → List StoredNode → List StoredNode → Type 0
 NodeRead core lists = PartRead (ShowsNode lists) (IsNodeOf core) node_text IsChoice
 
-abbrev pub NoNode : List Nonterminal → List (List Value) → List ℕ → Type 0
+abbrev pub NoNode : List Nonterminal → List (List Value) → ℕ → List ℕ → Type 0
 NoNode core lists = NoPart (ShowsNode lists) (IsNodeOf core) node_text IsChoice
 
 abbrev pub NodesRead : List Nonterminal → List (List Value) → ℕ → List ℕ → List ℕ → List StoredNode → Type 0
@@ -231,10 +258,10 @@ NodesRead core lists = PartsRead (ShowsNode lists) (IsNodeOf core) node_text IsC
 abbrev pub NoNodes : List Nonterminal → List (List Value) → ℕ → List ℕ → Type 0
 NoNodes core lists = NoParts (ShowsNode lists) (IsNodeOf core) node_text IsChoice
 
-abbrev pub ItemRead : List Nonterminal → List (List Value) → List ℕ → List ℕ → List StoredItem → List StoredItem → Type 0
+abbrev pub ItemRead : List Nonterminal → List (List Value) → ℕ → List ℕ → List ℕ → List StoredItem → List StoredItem → Type 0
 ItemRead core lists = PartRead (ShowsItem lists) (IsBegunItem core) item_text NoItem
 
-abbrev pub NoItemRead : List Nonterminal → List (List Value) → List ℕ → Type 0
+abbrev pub NoItemRead : List Nonterminal → List (List Value) → ℕ → List ℕ → Type 0
 NoItemRead core lists = NoPart (ShowsItem lists) (IsBegunItem core) item_text NoItem
 
 abbrev pub ItemsRead : List Nonterminal → List (List Value) → ℕ → List ℕ → List ℕ → List StoredItem → Type 0
@@ -257,13 +284,14 @@ pub record IsFirstRoot (rows : List NodeRow) (r : ℕ) : Type 0 where
 abbrev pub NoRoot : List NodeRow → Type 0
 NoRoot rows = (k : ℕ) → IsRootRow rows k → ⊥
 
--- a draft of the core grammar was read, but for whether its parts fit one another and the bytes are its text
+-- a draft of the core grammar was read, of which the bytes are the text, but for whether its parts fit one another
 pub record TablesRead (core : List Nonterminal) (bytes : List ℕ) (f : Forest) : Type 0 where
   pub few_nodes : length f.nodes < numbers_end
   pub few_items : length f.items < numbers_end
   pub nodes : AllByRecursion (IsNodeOf core) f.nodes
   pub items : AllByRecursion (IsBegunItem core) f.items
   pub root : HasFirstRoot f
+  pub spelled : bytes ≡ forest_text f
   pub told : (g : Forest) → IsDraftOf core g → bytes ≡ forest_text g → f ≡ g
 
 abbrev pub NoForest : List Nonterminal → List ℕ → Type 0

@@ -2,7 +2,8 @@
 ghost use Rattle.std.specs.Prelude.{◌↔◌, ◌<◌, All, IsTrue, length};
 ghost use Rattle.ig_forest_tables.specs.Forest.{EntryFits, IsForest, IsPrevious};
 ghost use Rattle.ig_forest_tables.specs.Views.{item_node_view};
-ghost use Rattle.ig_forest_reader.specs.Checks.{BeginsAlone, ChoicesThere, ItemFits, ItemsFit, NodesFit};
+ghost use Rattle.ig_forest_reader.specs.Checks.{BeginsAlone, ChoicesThere, ItemFits, ItemsFit};
+ghost use Rattle.ig_forest_reader.specs.Checks.{NodesFit};
 
 use ig_forest_tables::{Child, Choice, Entry, ForestTables, ItemNode};
 

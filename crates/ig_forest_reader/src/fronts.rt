@@ -1,8 +1,8 @@
 //! Reading the parts of a text of a draft, each where it stands at the front of some bytes. A
-//! reader says what it answers where such a part stands there, and nothing else: what was read is
-//! written down again, and compared.
-ghost use Rattle.std.specs.Prelude.{◌≡◌, ◌∷◌, ℕ, List, ◌++◌, ◌<◌, MatchOption};
-ghost use Rattle.std.specs.Prelude.{nat_lt, IsTrue, ◌↔◌, Contains, ℤ};
+//! reader says what it answers where such a part stands there, and that the bytes begin with the
+//! text of what it gives.
+ghost use Rattle.std.specs.Prelude.{◌≡◌, ◌∷◌, ℕ, List, [], ◌++◌, ◌<◌, ◌≤◌, ◌+◌, ◌*◌, ◌-◌};
+ghost use Rattle.std.specs.Prelude.{nat_lt, IsTrue, ◌↔◌, Contains, ℤ, MatchOption, codes};
 ghost use Rattle.std.specs.Int.Signed.{mag};
 ghost use Rattle.std.specs.Fmt.{decimal, signed_decimal};
 ghost use Rattle.std.specs.List.{prefix_len};
@@ -17,11 +17,13 @@ ghost use Rattle.ig_forest_tables.specs.declared.entry.Entry.{Entry as entry_typ
 ghost use Rattle.ig_forest_tables.specs.declared.entry.Entry.TheVariants as an_entry;
 ghost use Rattle.ig_pieces.specs.ValueText.{span_text, value_text};
 ghost use Rattle.ig_forest_reader.specs.Runs.{Each, Stops, IsDigit, IsPlain, IsInner, is_inner};
+ghost use Rattle.ig_forest_reader.specs.Runs.{LeadsWell};
 ghost use Rattle.ig_forest_reader.specs.Written.{IsSmallSpan, IsSmall, IsSmallChild, IsSmallEntry};
 
 use ig_expr::Value;
 use ig_forest_tables::{Child, Entry};
 use ig_text::Span;
+use itoa::Buffer;
 
 /// The number of digits at the front.
 fn digits_end(bytes: &[u8]) -> usize
@@ -32,21 +34,51 @@ fn digits_end(bytes: &[u8]) -> usize
 
 /// The digits at the front, and what stands after them.
 fn split_digits(bytes: &[u8]) -> (&[u8], &[u8])
-    ensures { (ds us : List ℕ) → Each IsDigit ds → Stops IsDigit us → bytes.now ≡ ds ++ us →
-        (result.0.now ≡ ds) × (result.1.now ≡ us) }
+    ensures whole { bytes.now ≡ result.0.now ++ result.1.now }
+    ensures told { (ds us : List ℕ) → Each IsDigit ds → Stops IsDigit us →
+        bytes.now ≡ ds ++ us → (result.0.now ≡ ds) × (result.1.now ≡ us) }
 {
     let end = digits_end(bytes);
     bytes.split_at(end)
 }
 
-/// The number with these digits.
-fn number_of(digits: &[u8]) -> Option<u32>
-    ensures { (n : ℕ) → n < numbers_end → digits.now ≡ decimal n → result ≡ Some n }
+/// Whether there are digits, and the first is no zero before others.
+fn leads_well(digits: &[u8]) -> bool
+    ensures { IsTrue result ↔ LeadsWell digits.now }
 {
-    let Ok(text) = std::str::from_utf8(digits) else {
+    match digits {
+        [] => false,
+        [_] => true,
+        [first, ..] => *first != b'0',
+    }
+}
+
+/// The number with a digit more at its end, where it has 32 bits.
+#[inline(always)]
+fn with_digit(number: u32, digit: u8) -> Option<u32>
+    ensures { MatchOption result (IsDigit digit → numbers_end ≤ number * 10 + (digit - 48))
+        (λ n. IsDigit digit × (n ≡ number * 10 + (digit - 48)) × (n < numbers_end)) }
+{
+    if !digit.is_ascii_digit() {
         return None;
-    };
-    text.parse::<u32>().ok()
+    }
+    number.checked_mul(10)?.checked_add(u32::from(digit - b'0'))
+}
+
+/// The number that prints as these digits.
+fn number_of(digits: &[u8]) -> Option<u32>
+    ensures told { (n : ℕ) → n < numbers_end → digits.now ≡ decimal n → result ≡ Some n }
+    ensures exact { MatchOption result (Unit {0})
+        (λ n. (n < numbers_end) × (digits.now ≡ decimal n)) }
+{
+    if !leads_well(digits) {
+        return None;
+    }
+    let mut number = 0;
+    for digit in digits {
+        number = with_digit(number, *digit)?;
+    }
+    Some(number)
 }
 
 /// The number itself, which is in the range of its type.
@@ -60,29 +92,72 @@ pub(crate) fn in_range(number: u32) -> u32
 /// A number.
 pub(crate) fn read_number(bytes: &[u8]) -> Option<(u32, &[u8])>
     ensures small { MatchOption result (Unit {0}) (λ r. r.0 < numbers_end) }
-    ensures told { (n : ℕ) (us : List ℕ) → n < numbers_end → Stops IsDigit us → bytes.now ≡ decimal n ++ us →
-        MatchOption result ⊥ (λ r. (r.0 ≡ n) × (r.1.now ≡ us)) }
+    ensures exact { MatchOption result (Unit {0}) (λ r. bytes.now ≡ decimal r.0 ++ r.1.now) }
+    ensures told { (n : ℕ) (us : List ℕ) → n < numbers_end → Stops IsDigit us →
+        bytes.now ≡ decimal n ++ us → MatchOption result ⊥ (λ r. (r.0 ≡ n) × (r.1.now ≡ us)) }
 {
     let (digits, rest) = split_digits(bytes);
     let Some(number) = number_of(digits) else {
         return None;
     };
-    Some((in_range(number), rest))
+    Some((number, rest))
 }
 
-/// What stands after that text.
+/// What stands after that byte.
+#[inline(always)]
+fn read_byte(bytes: &[u8], byte: u8) -> Option<&[u8]>
+    ensures told { (us : List ℕ) → bytes.now ≡ byte ∷ us →
+        MatchOption result ⊥ (λ r. r.now ≡ us) }
+    ensures exact { MatchOption result (Unit {0}) (λ r. bytes.now ≡ byte ∷ r.now) }
+{
+    let (first, rest) = bytes.split_first()?;
+    if *first == byte {
+        return Some(rest);
+    }
+    None
+}
+
+/// What stands after that text. Texts are short, so they are compared byte by byte.
 pub(crate) fn read_behind<'a>(bytes: &'a [u8], text: &[u8]) -> Option<&'a [u8]>
-    ensures told { (us : List ℕ) → bytes.now ≡ text.now ++ us → MatchOption result ⊥ (λ r. r.now ≡ us) }
+    ensures told { (us : List ℕ) → bytes.now ≡ text.now ++ us →
+        MatchOption result ⊥ (λ r. r.now ≡ us) }
     ensures exact { MatchOption result (Unit {0}) (λ r. bytes.now ≡ text.now ++ r.now) }
 {
-    bytes.strip_prefix(text)
+    let mut rest = bytes;
+    for byte in text {
+        rest = read_byte(rest, *byte)?;
+    }
+    Some(rest)
+}
+
+/// What stands after that number.
+pub(crate) fn read_behind_number(bytes: &[u8], number: u32) -> Option<&[u8]>
+    ensures exact { MatchOption result (Unit {0}) (λ r. bytes.now ≡ decimal number ++ r.now) }
+    ensures told { (us : List ℕ) → number < numbers_end → Stops IsDigit us →
+        bytes.now ≡ decimal number ++ us → MatchOption result ⊥ (λ r. r.now ≡ us) }
+{
+    let Some((found, rest)) = read_number(bytes) else {
+        return None;
+    };
+    if is_same(found, number) {
+        return Some(rest);
+    }
+    None
+}
+
+/// Whether both numbers are one.
+fn is_same(number: u32, other: u32) -> bool
+    ensures { IsTrue result ↔ (number ≡ other) }
+{
+    number == other
 }
 
 /// A span.
 pub(crate) fn read_span(bytes: &[u8]) -> Option<(Span, &[u8])>
     ensures small { MatchOption result (Unit {0}) (λ r. IsSmallSpan r.0) }
-    ensures told { (s : a_span) (us : List ℕ) → IsSmallSpan s → Stops IsDigit us → bytes.now ≡ span_text s ++ us →
-        MatchOption result ⊥ (λ r. (r.0 ≡ s) × (r.1.now ≡ us)) }
+    ensures exact { MatchOption result (Unit {0}) (λ r. bytes.now ≡ span_text r.0 ++ r.1.now) }
+    ensures told { (s : a_span) (us : List ℕ) → IsSmallSpan s → Stops IsDigit us →
+        bytes.now ≡ span_text s ++ us → MatchOption result ⊥ (λ r. (r.0 ≡ s) × (r.1.now ≡ us)) }
 {
     let Some((begin, behind)) = read_number(bytes) else {
         return None;
@@ -105,8 +180,9 @@ fn word_end(bytes: &[u8]) -> usize
 
 /// The word at the front, and what stands after it.
 pub(crate) fn split_word(bytes: &[u8]) -> (&[u8], &[u8])
-    ensures { (ws us : List ℕ) → Each IsPlain ws → Stops IsPlain us → bytes.now ≡ ws ++ us →
-        (result.0.now ≡ ws) × (result.1.now ≡ us) }
+    ensures whole { bytes.now ≡ result.0.now ++ result.1.now }
+    ensures told { (ws us : List ℕ) → Each IsPlain ws → Stops IsPlain us →
+        bytes.now ≡ ws ++ us → (result.0.now ≡ ws) × (result.1.now ≡ us) }
 {
     let end = word_end(bytes);
     bytes.split_at(end)
@@ -126,7 +202,7 @@ fn has_point(bytes: &[u8]) -> bool
     bytes.contains(&46)
 }
 
-/// The integer with that text.
+/// The integer with that text, which may have zeros before it or a sign that isn't printed.
 fn integer_of(word: &[u8]) -> Option<i64>
     ensures { (z : ℤ) → mag z < integers_end → word.now ≡ signed_decimal z → result ≡ Some z }
 {
@@ -136,28 +212,46 @@ fn integer_of(word: &[u8]) -> Option<i64>
     text.parse::<i64>().ok()
 }
 
+/// The integer as a value, where it prints as that word.
+fn integer_value(word: &[u8], number: i64) -> Option<Value>
+    ensures small { MatchOption result (Unit {0}) IsSmall }
+    ensures exact { MatchOption result (Unit {0}) (λ v. word.now ≡ value_text v) }
+    ensures told { word.now ≡ signed_decimal number → result ≡ Some (a_value.Int number) }
+{
+    let mut buffer = Buffer::new();
+    if is_text(word, buffer.format(number).as_bytes()) {
+        return Some(Value::Int(number));
+    }
+    None
+}
+
+/// Whether there are no bytes.
+pub(crate) fn is_end(bytes: &[u8]) -> bool
+    ensures { IsTrue result ↔ (bytes.now ≡ []) }
+{
+    bytes.is_empty()
+}
+
 /// The span with that text, as a value.
 fn span_of(word: &[u8]) -> Option<Value>
     ensures small { MatchOption result (Unit {0}) IsSmall }
-    ensures told { (s : a_span) → IsSmallSpan s → word.now ≡ span_text s → result ≡ Some (a_value.Span s) }
+    ensures exact { MatchOption result (Unit {0}) (λ v. word.now ≡ value_text v) }
+    ensures told { (s : a_span) → IsSmallSpan s → word.now ≡ span_text s →
+        result ≡ Some (a_value.Span s) }
 {
-    let Some((span, _)) = read_span(word) else {
+    let Some((span, rest)) = read_span(word) else {
         return None;
     };
+    if !is_end(rest) {
+        return None;
+    }
     Some(Value::Span(span))
-}
-
-/// The integer as a value, which is in the range of its type.
-fn small_integer(number: i64) -> Value
-    ensures same { result ≡ a_value.Int number }
-    ensures small { mag number < integers_end }
-{
-    Value::Int(number)
 }
 
 /// The value with that text.
 fn value_of(word: &[u8]) -> Option<Value>
     ensures small { MatchOption result (Unit {0}) IsSmall }
+    ensures exact { MatchOption result (Unit {0}) (λ v. word.now ≡ value_text v) }
     ensures told { (v : value_type) → IsSmall v → word.now ≡ value_text v → result ≡ Some v }
 {
     if has_point(word) {
@@ -172,7 +266,7 @@ fn value_of(word: &[u8]) -> Option<Value>
     let Some(number) = integer_of(word) else {
         return None;
     };
-    Some(small_integer(number))
+    integer_value(word, number)
 }
 
 /// The number of bytes at the front that the text of a value may have.
@@ -191,8 +285,9 @@ fn is_inner(c: u8) -> bool
 
 /// What may be the text of a value, at the front, and what stands after it.
 fn split_inner(bytes: &[u8]) -> (&[u8], &[u8])
-    ensures { (ws us : List ℕ) → Each IsInner ws → Stops IsInner us → bytes.now ≡ ws ++ us →
-        (result.0.now ≡ ws) × (result.1.now ≡ us) }
+    ensures whole { bytes.now ≡ result.0.now ++ result.1.now }
+    ensures told { (ws us : List ℕ) → Each IsInner ws → Stops IsInner us →
+        bytes.now ≡ ws ++ us → (result.0.now ≡ ws) × (result.1.now ≡ us) }
 {
     let end = inner_end(bytes);
     bytes.split_at(end)
@@ -201,8 +296,9 @@ fn split_inner(bytes: &[u8]) -> (&[u8], &[u8])
 /// A value.
 pub(crate) fn read_value(bytes: &[u8]) -> Option<(Value, &[u8])>
     ensures small { MatchOption result (Unit {0}) (λ r. IsSmall r.0) }
-    ensures told { (v : value_type) (us : List ℕ) → IsSmall v → Stops IsInner us → bytes.now ≡ value_text v ++ us →
-        MatchOption result ⊥ (λ r. (r.0 ≡ v) × (r.1.now ≡ us)) }
+    ensures exact { MatchOption result (Unit {0}) (λ r. bytes.now ≡ value_text r.0 ++ r.1.now) }
+    ensures told { (v : value_type) (us : List ℕ) → IsSmall v → Stops IsInner us →
+        bytes.now ≡ value_text v ++ us → MatchOption result ⊥ (λ r. (r.0 ≡ v) × (r.1.now ≡ us)) }
 {
     let (word, rest) = split_inner(bytes);
     let Some(value) = value_of(word) else {
@@ -214,6 +310,8 @@ pub(crate) fn read_value(bytes: &[u8]) -> Option<(Value, &[u8])>
 /// A number and the end of its line.
 pub(crate) fn read_last_number(bytes: &[u8]) -> Option<(u32, &[u8])>
     ensures small { MatchOption result (Unit {0}) (λ r. r.0 < numbers_end) }
+    ensures exact { MatchOption result (Unit {0})
+        (λ r. bytes.now ≡ decimal r.0 ++ (10 ∷ r.1.now)) }
     ensures told { (n : ℕ) (us : List ℕ) → n < numbers_end → bytes.now ≡ decimal n ++ (10 ∷ us) →
         MatchOption result ⊥ (λ r. (r.0 ≡ n) × (r.1.now ≡ us)) }
 {
@@ -229,7 +327,10 @@ pub(crate) fn read_last_number(bytes: &[u8]) -> Option<(u32, &[u8])>
 /// A span and the end of its line.
 pub(crate) fn read_last_span(bytes: &[u8]) -> Option<(Span, &[u8])>
     ensures small { MatchOption result (Unit {0}) (λ r. IsSmallSpan r.0) }
-    ensures told { (s : a_span) (us : List ℕ) → IsSmallSpan s → bytes.now ≡ span_text s ++ (10 ∷ us) →
+    ensures exact { MatchOption result (Unit {0})
+        (λ r. bytes.now ≡ span_text r.0 ++ (10 ∷ r.1.now)) }
+    ensures told { (s : a_span) (us : List ℕ) → IsSmallSpan s →
+        bytes.now ≡ span_text s ++ (10 ∷ us) →
         MatchOption result ⊥ (λ r. (r.0 ≡ s) × (r.1.now ≡ us)) }
 {
     let Some((span, behind)) = read_span(bytes) else {
@@ -244,7 +345,10 @@ pub(crate) fn read_last_span(bytes: &[u8]) -> Option<(Span, &[u8])>
 /// What a step took, and the end of its line.
 fn read_child(bytes: &[u8]) -> Option<(Child, &[u8])>
     ensures small { MatchOption result (Unit {0}) (λ r. IsSmallChild r.0) }
-    ensures told { (x : a_child) (us : List ℕ) → IsSmallChild x → bytes.now ≡ child_text x ++ (10 ∷ us) →
+    ensures exact { MatchOption result (Unit {0})
+        (λ r. bytes.now ≡ child_text r.0 ++ (10 ∷ r.1.now)) }
+    ensures told { (x : a_child) (us : List ℕ) → IsSmallChild x →
+        bytes.now ≡ child_text x ++ (10 ∷ us) →
         MatchOption result ⊥ (λ r. (r.0 ≡ x) × (r.1.now ≡ us)) }
 {
     if let Some(behind) = read_behind(bytes, b"node ") {
@@ -265,6 +369,8 @@ fn read_child(bytes: &[u8]) -> Option<(Child, &[u8])>
 /// The number of the previous item, and the end of the line.
 fn read_pass(bytes: &[u8]) -> Option<(Entry, &[u8])>
     ensures small { MatchOption result (Unit {0}) (λ r. IsSmallEntry r.0) }
+    ensures exact { MatchOption result (Unit {0})
+        (λ r. codes "pass " ++ bytes.now ≡ entry_text r.0 ++ r.1.now) }
     ensures told { (i : ℕ) (us : List ℕ) → i < numbers_end → bytes.now ≡ decimal i ++ (10 ∷ us) →
         MatchOption result ⊥ (λ r. (r.0 ≡ an_entry.Pass i) × (r.1.now ≡ us)) }
 {
@@ -277,6 +383,8 @@ fn read_pass(bytes: &[u8]) -> Option<(Entry, &[u8])>
 /// The number of the previous item, what the step took, and the end of the line.
 fn read_take(bytes: &[u8]) -> Option<(Entry, &[u8])>
     ensures small { MatchOption result (Unit {0}) (λ r. IsSmallEntry r.0) }
+    ensures exact { MatchOption result (Unit {0})
+        (λ r. codes "take " ++ bytes.now ≡ entry_text r.0 ++ r.1.now) }
     ensures told { (i : ℕ) (x : a_child) (us : List ℕ) → i < numbers_end → IsSmallChild x →
         bytes.now ≡ decimal i ++ (32 ∷ (child_text x ++ (10 ∷ us))) →
         MatchOption result ⊥ (λ r. (r.0 ≡ an_entry.Take i x) × (r.1.now ≡ us)) }
@@ -296,8 +404,9 @@ fn read_take(bytes: &[u8]) -> Option<(Entry, &[u8])>
 /// The line of an entry.
 pub(crate) fn read_entry(bytes: &[u8]) -> Option<(Entry, &[u8])>
     ensures small { MatchOption result (Unit {0}) (λ r. IsSmallEntry r.0) }
-    ensures told { (x : entry_type) (us : List ℕ) → IsSmallEntry x → bytes.now ≡ entry_text x ++ us →
-        MatchOption result ⊥ (λ r. (r.0 ≡ x) × (r.1.now ≡ us)) }
+    ensures exact { MatchOption result (Unit {0}) (λ r. bytes.now ≡ entry_text r.0 ++ r.1.now) }
+    ensures told { (x : entry_type) (us : List ℕ) → IsSmallEntry x →
+        bytes.now ≡ entry_text x ++ us → MatchOption result ⊥ (λ r. (r.0 ≡ x) × (r.1.now ≡ us)) }
 {
     if let Some(rest) = read_behind(bytes, b"begin\n") {
         return Some((Entry::Begin, rest));

@@ -24,6 +24,8 @@ use std::collections::BTreeMap;
 fn read_dot(bytes: &[u8]) -> Option<(u32, u32, &[u8])>
     ensures small { MatchOption result (Unit {0})
         (λ r. (r.0 < numbers_end) × (r.1 < numbers_end)) }
+    ensures exact { MatchOption result (Unit {0}) (λ r. bytes.now ≡
+        decimal r.0 ++ (32 ∷ (decimal r.1 ++ (32 ∷ (91 ∷ r.2.now))))) }
     ensures told { (a d : ℕ) (us : List ℕ) → a < numbers_end → d < numbers_end →
         bytes.now ≡ decimal a ++ (32 ∷ (decimal d ++ (32 ∷ (91 ∷ us)))) →
         MatchOption result ⊥ (λ r. (r.0 ≡ a) × (r.1 ≡ d) × (r.2.now ≡ us)) }
@@ -79,45 +81,47 @@ fn read_place<'a>(
     Ok((row, rest))
 }
 
-/// The line of an item, whose values and environment are added to the lists.
+/// The line of the item of that number, whose values and environment are added to the lists.
 fn read_item_line<'a>(
     alloc: Global,
     lists: &mut EnvironmentTable,
     index: &BTreeMap<&[u8], u32>,
+    number: u32,
     bytes: &'a [u8],
 ) -> Result<(ItemRow, &'a [u8]), ForestFault>
     ensures keeps { OnOk result (Keeps lists.old lists.new) }
     ensures read { (core : List nonterminal_type) → TellsNames core → IsIndex core index.now →
-        Reads (λ r. ItemLineRead core lists.new bytes.now r.1.now r.0) (NoItemLine core bytes.now)
-        result }
+        Reads (λ r. ItemLineRead core lists.new number bytes.now r.1.now r.0)
+        (NoItemLine core number bytes.now) result }
 {
     let mut env = Vec::new(alloc);
-    let (nonterminal, behind) = read_start(&mut env, index, b"item ", bytes)?;
+    let (nonterminal, behind) = read_start(&mut env, index, b"item ", number, bytes)?;
     let values = push_list(lists, env.as_slice())?;
     read_place(lists, &mut env, nonterminal, values, behind)
 }
 
-/// An item with its entries.
+/// The item of that number with its entries.
 fn read_item<'a>(
     alloc: Global,
     lists: &mut EnvironmentTable,
     items: &mut ItemTable,
     index: &BTreeMap<&[u8], u32>,
+    number: u32,
     bytes: &'a [u8],
 ) -> Result<&'a [u8], ForestFault>
     ensures keeps { OnOk result (Keeps lists.old lists.new) }
     ensures read { (core : List nonterminal_type) → TellsNames core → IsIndex core index.now →
-        Reads (λ rest. ItemRead core lists.new bytes.now rest.now items.old items.new)
-        (NoItemRead core lists.new bytes.now) result }
+        Reads (λ rest. ItemRead core lists.new number bytes.now rest.now items.old items.new)
+        (NoItemRead core lists.new number bytes.now) result }
 {
-    let (row, behind) = read_item_line(alloc, lists, index, bytes)?;
+    let (row, behind) = read_item_line(alloc, lists, index, number, bytes)?;
     let mut entries: Vec<Entry> = Vec::new(alloc);
     let rest = push_entries(&mut entries, behind)?;
     items.push(row, entries.as_slice())?;
     Ok(rest)
 }
 
-/// So many items.
+/// So many items, which are numbered from 0.
 pub(crate) fn push_items<'a>(
     alloc: Global,
     lists: &mut EnvironmentTable,
@@ -133,8 +137,8 @@ pub(crate) fn push_items<'a>(
         (NoItems core lists.new many bytes.now) result }
 {
     let mut rest = bytes;
-    for _ in 0..many {
-        rest = read_item(alloc, lists, items, index, rest)?;
+    for number in 0..many {
+        rest = read_item(alloc, lists, items, index, number, rest)?;
     }
     Ok(rest)
 }

@@ -1,17 +1,17 @@
 //! Reading the text of a forest that somebody wrote down.
 //!
 //! [`read_forest`] gives the draft of which bytes are the text, with the names and the tags of a
-//! core grammar, and refuses bytes that are the text of none (`specs/Written.antt`). It needs a core
-//! grammar whose texts tell its parts; then a text is of one draft at most ([`texts_tell_drafts`]).
+//! core grammar, and refuses bytes that are the text of none (`specs/Written.antt`). It needs a
+//! core grammar whose texts tell its parts; then a text is of one draft at most
+//! ([`texts_tell_drafts`]).
 //!
-//! Readers of parts are lenient: each says what it answers where such a part stands at the front of
-//! the bytes. What was read is then tested, written down again line by line, and compared. Nothing
+//! Each reader of a part says what it answers where such a part stands at the front of the bytes,
+//! and gives only what is spelled there as it prints, so nothing is written down again. Nothing
 //! rests on the depth of a forest, and no memory is taken by numbers that the text says: lines that
 //! it lacks are found lacking first.
 #![tactic(auto)]
 
 mod checks;
-mod comparison;
 mod fault;
 mod fronts;
 mod items;

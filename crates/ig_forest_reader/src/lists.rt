@@ -1,5 +1,6 @@
 //! Reading lists of lines from the front of some bytes.
-ghost use Rattle.std.specs.Prelude.{◌≡◌, ◌∷◌, ℕ, List, [], ◌++◌, IfOk, OnOk, MatchBool, flat_map, codes};
+ghost use Rattle.std.specs.Prelude.{◌≡◌, ◌∷◌, ℕ, List, [], ◌++◌, IfOk, OnOk, MatchBool};
+ghost use Rattle.std.specs.Prelude.{flat_map, codes};
 ghost use Rattle.std.specs.List.{AllByRecursion};
 ghost use Rattle.ig_forest_text.specs.ForestText.{entry_text};
 ghost use Rattle.ig_forest_tables.specs.declared.entry.Entry.{Entry as entry_type};
@@ -32,9 +33,10 @@ pub(crate) fn push_entries<'a>(
     out: &mut Vec<Entry>,
     bytes: &'a [u8],
 ) -> Result<&'a [u8], AllocError>
-    ensures added { OnOk result (Added IsSmallEntry out.old.items out.new.items) }
-    ensures told { (xs : List entry_type) (us : List ℕ) → AllByRecursion IsSmallEntry xs → Stops NoItem us →
-        bytes.now ≡ flat_map entry_text xs ++ us →
+    ensures added { IfOk result (λ rest. Added IsSmallEntry (flat_map entry_text)
+        bytes.now rest.now out.old.items out.new.items) }
+    ensures told { (xs : List entry_type) (us : List ℕ) → AllByRecursion IsSmallEntry xs →
+        Stops NoItem us → bytes.now ≡ flat_map entry_text xs ++ us →
         IfOk result (λ rest. (rest.now ≡ us) × (out.new.items ≡ out.old.items ++ xs)) }
 {
     let mut rest = bytes;
@@ -54,8 +56,10 @@ pub(crate) fn push_entries<'a>(
 /// Adds the values that stand at the front, each after a comma, and answers what stands after
 /// them.
 fn push_others<'a>(out: &mut Vec<Value>, bytes: &'a [u8]) -> Result<&'a [u8], AllocError>
-    ensures added { OnOk result (Added IsSmall out.old.items out.new.items) }
-    ensures told { (xs : List value_type) (us : List ℕ) → AllByRecursion IsSmall xs → Stops IsInner us → Stops IsComma us →
+    ensures added { IfOk result (λ rest. Added IsSmall (flat_map (λ y. codes "," ++ value_text y))
+        bytes.now rest.now out.old.items out.new.items) }
+    ensures told { (xs : List value_type) (us : List ℕ) → AllByRecursion IsSmall xs →
+        Stops IsInner us → Stops IsComma us →
         bytes.now ≡ flat_map (λ y. codes "," ++ value_text y) xs ++ us →
         IfOk result (λ rest. (rest.now ≡ us) × (out.new.items ≡ out.old.items ++ xs)) }
 {
@@ -83,7 +87,8 @@ fn push_value(out: &mut Vec<Value>, value: Value) -> Result<(), AllocError>
 
 /// Adds a first value and those after it, and answers what stands after them.
 fn push_first<'a>(out: &mut Vec<Value>, bytes: &'a [u8]) -> Result<&'a [u8], ForestFault>
-    ensures added { OnOk result (Added IsSmall out.old.items out.new.items) }
+    ensures added { IfOk result (λ rest. Added IsSmall (comma_separated value_text)
+        bytes.now rest.now out.old.items out.new.items) }
     ensures told { (x : value_type) (xs : List value_type) (us : List ℕ) → IsSmall x →
         AllByRecursion IsSmall xs → Stops IsInner us → Stops IsComma us →
         bytes.now ≡ comma_separated value_text (x ∷ xs) ++ us →

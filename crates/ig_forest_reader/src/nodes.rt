@@ -1,16 +1,16 @@
 //! Reading nodes.
 ghost use Rattle.std.specs.Prelude.{◌≡◌, ◌++◌, ◌∷◌, ◌<◌, ℕ, List, [], MatchOption, OnOk};
-ghost use Rattle.std.specs.Prelude.{encode_utf8_all, length};
+ghost use Rattle.std.specs.Prelude.{encode_utf8_all};
 ghost use Rattle.std.specs.Fmt.{decimal};
 ghost use Rattle.ig_text.specs.Limits.{numbers_end};
 ghost use Rattle.ig_item.specs.declared.core_grammar.Nonterminal.{Nonterminal as nonterminal_type};
 ghost use Rattle.ig_forest_reader.specs.Shown.{IsIndex, Keeps, NoNode, NoNodeLine, NoNodes};
 ghost use Rattle.ig_forest_reader.specs.Shown.{NodeLineRead, NodeRead, NodesRead};
-ghost use Rattle.ig_forest_reader.specs.Shown.{NoStart, Reads, StartRead};
+ghost use Rattle.ig_forest_reader.specs.Shown.{HeadRead, NoStart, Reads, StartRead};
 ghost use Rattle.ig_forest_reader.specs.Written.{IsNamed, TellsNames};
 
 use crate::fault::ForestFault;
-use crate::fronts::{read_behind, read_last_span, read_number, split_word};
+use crate::fronts::{read_behind, read_behind_number, read_last_span, split_word};
 use crate::lists::push_values;
 use crate::names::nonterminal_of;
 use crate::tables::{push_list, push_node};
@@ -21,23 +21,27 @@ use ig_item::{Core, EnvironmentTable};
 use std::alloc::Global;
 use std::collections::BTreeMap;
 
-/// What stands at the front of a line up to its values: what it is of, a number, and a name.
+/// What stands at the front of the line of that number up to its values: what it is of, the
+/// number, and the name of its nonterminal.
 pub(crate) fn read_head<'a>(
     index: &BTreeMap<&[u8], u32>,
     what: &[u8],
+    number: u32,
     bytes: &'a [u8],
 ) -> Option<(u32, &'a [u8])>
-    ensures there { (core : List nonterminal_type) → IsIndex core index.now →
-        MatchOption result (Unit {0}) (λ r. r.0 < length core) }
-    ensures told { (core : List nonterminal_type) (k n : ℕ) (name us : List ℕ) → TellsNames core →
-        IsIndex core index.now → k < numbers_end → IsNamed core n name →
-        bytes.now ≡ what.now ++ (decimal k ++ (32 ∷ (encode_utf8_all name ++ (32 ∷ (40 ∷ us))))) →
+    ensures read { (core : List nonterminal_type) → IsIndex core index.now →
+        MatchOption result (Unit {0})
+        (λ r. HeadRead core what.now number bytes.now r.1.now r.0) }
+    ensures told { (core : List nonterminal_type) (n : ℕ) (name us : List ℕ) → TellsNames core →
+        IsIndex core index.now → number < numbers_end → IsNamed core n name →
+        bytes.now ≡ what.now ++
+        (decimal number ++ (32 ∷ (encode_utf8_all name ++ (32 ∷ (40 ∷ us))))) →
         MatchOption result ⊥ (λ r. (r.0 ≡ n) × (r.1.now ≡ us)) }
 {
     let Some(begun) = read_behind(bytes, what) else {
         return None;
     };
-    let Some((_, behind)) = read_number(begun) else {
+    let Some(behind) = read_behind_number(begun, number) else {
         return None;
     };
     let Some(named) = read_behind(behind, b" ") else {
@@ -53,18 +57,19 @@ pub(crate) fn read_head<'a>(
     Some((nonterminal, values))
 }
 
-/// What stands at the front of a line with its values, which are added.
+/// What stands at the front of the line of that number with its values, which are added.
 pub(crate) fn read_start<'a>(
     out: &mut Vec<Value>,
     index: &BTreeMap<&[u8], u32>,
     what: &[u8],
+    number: u32,
     bytes: &'a [u8],
 ) -> Result<(u32, &'a [u8]), ForestFault>
-    ensures { (core : List nonterminal_type) → TellsNames core → IsIndex core index.now →
-        Reads (λ r. StartRead core what.now bytes.now r.1.now out.old.items out.new.items r.0)
-        (NoStart core what.now bytes.now) result }
+    ensures { (core : List nonterminal_type) → TellsNames core → IsIndex core index.now → Reads
+        (λ r. StartRead core what.now number bytes.now r.1.now out.old.items out.new.items r.0)
+        (NoStart core what.now number bytes.now) result }
 {
-    let Some((nonterminal, begun)) = read_head(index, what, bytes) else {
+    let Some((nonterminal, begun)) = read_head(index, what, number, bytes) else {
         return Err(ForestFault::NotAForest);
     };
     let behind = push_values(out, begun, b')')?;
@@ -74,20 +79,21 @@ pub(crate) fn read_start<'a>(
     Ok((nonterminal, rest))
 }
 
-/// The line of a node, whose values are added to the lists.
+/// The line of the node of that number, whose values are added to the lists.
 fn read_node_line<'a>(
     alloc: Global,
     lists: &mut EnvironmentTable,
     index: &BTreeMap<&[u8], u32>,
+    number: u32,
     bytes: &'a [u8],
 ) -> Result<(NodeRow, &'a [u8]), ForestFault>
     ensures keeps { OnOk result (Keeps lists.old lists.new) }
     ensures read { (core : List nonterminal_type) → TellsNames core → IsIndex core index.now →
-        Reads (λ r. NodeLineRead core lists.new bytes.now r.1.now r.0) (NoNodeLine core bytes.now)
-        result }
+        Reads (λ r. NodeLineRead core lists.new number bytes.now r.1.now r.0)
+        (NoNodeLine core number bytes.now) result }
 {
     let mut values = Vec::new(alloc);
-    let (nonterminal, behind) = read_start(&mut values, index, b"node ", bytes)?;
+    let (nonterminal, behind) = read_start(&mut values, index, b"node ", number, bytes)?;
     let Some((span, rest)) = read_last_span(behind) else {
         return Err(ForestFault::NotAForest);
     };
@@ -101,30 +107,31 @@ fn read_node_line<'a>(
     Ok((row, rest))
 }
 
-/// A node with its alternatives.
+/// The node of that number with its alternatives.
 fn read_node<'a>(
     alloc: Global,
     lists: &mut EnvironmentTable,
     nodes: &mut NodeRows,
     index: &BTreeMap<&[u8], u32>,
     core: &Core,
+    number: u32,
     bytes: &'a [u8],
 ) -> Result<&'a [u8], ForestFault>
     requires tells { TellsNames core.now }
     requires index { IsIndex core.now index.now }
     ensures keeps { OnOk result (Keeps lists.old lists.new) }
     ensures read { Reads
-        (λ rest. NodeRead core.now lists.new bytes.now rest.now nodes.old nodes.new)
-        (NoNode core.now lists.new bytes.now) result }
+        (λ rest. NodeRead core.now lists.new number bytes.now rest.now nodes.old nodes.new)
+        (NoNode core.now lists.new number bytes.now) result }
 {
-    let (row, behind) = read_node_line(alloc, lists, index, bytes)?;
+    let (row, behind) = read_node_line(alloc, lists, index, number, bytes)?;
     let mut choices: Vec<Choice> = Vec::new(alloc);
     let rest = push_choices(&mut choices, core, row.nonterminal, behind)?;
     push_node(nodes, row, choices.as_slice())?;
     Ok(rest)
 }
 
-/// So many nodes.
+/// So many nodes, which are numbered from 0.
 pub(crate) fn push_nodes<'a>(
     alloc: Global,
     lists: &mut EnvironmentTable,
@@ -141,8 +148,8 @@ pub(crate) fn push_nodes<'a>(
         (NoNodes core.now lists.new many bytes.now) result }
 {
     let mut rest = bytes;
-    for _ in 0..many {
-        rest = read_node(alloc, lists, nodes, index, core, rest)?;
+    for number in 0..many {
+        rest = read_node(alloc, lists, nodes, index, core, number, rest)?;
     }
     Ok(rest)
 }

@@ -12,9 +12,8 @@ ghost use Rattle.ig_forest_reader.specs.Written.{IsDraftOf, TellsNames};
 ghost use Rattle.ig_forest_reader.specs.declared.fault.ForestFault.TheVariants.{NotAForest};
 
 use crate::checks::is_forest;
-use crate::comparison::is_text_of;
 use crate::fault::ForestFault;
-use crate::fronts::{read_behind, read_last_number, read_number};
+use crate::fronts::{is_end, read_behind, read_last_number, read_number};
 use crate::items::push_items;
 use crate::names::index_names;
 use crate::nodes::push_nodes;
@@ -28,6 +27,8 @@ use std::alloc::{AllocError, Global};
 fn read_heading(bytes: &[u8]) -> Option<(u32, u32, &[u8])>
     ensures small { MatchOption result (Unit {0})
         (λ r. (r.0 < numbers_end) × (r.1 < numbers_end)) }
+    ensures exact { MatchOption result (Unit {0}) (λ r. bytes.now ≡
+        codes "forest " ++ (decimal r.0 ++ (32 ∷ (decimal r.1 ++ (10 ∷ r.2.now))))) }
     ensures told { (m n : ℕ) (us : List ℕ) → m < numbers_end → n < numbers_end →
         bytes.now ≡ codes "forest " ++ (decimal m ++ (32 ∷ (decimal n ++ (10 ∷ us)))) →
         MatchOption result ⊥ (λ r. (r.0 ≡ m) × (r.1 ≡ n) × (r.2.now ≡ us)) }
@@ -88,7 +89,7 @@ fn push_name(names: &mut Words, name: Word) -> Result<(), AllocError>
     names.push(name).map_err(|(_, error)| error)
 }
 
-/// What is read, whether or not its parts fit one another and the bytes are its text.
+/// What is read, whether or not its parts fit one another.
 fn read_tables(alloc: Global, bytes: &[u8], core: &Core) -> Result<ForestTables, ForestFault>
     requires { TellsNames core.now }
     ensures { Reads (TablesRead core.now bytes.now) (NoForest core.now bytes.now) result }
@@ -104,7 +105,10 @@ fn read_tables(alloc: Global, bytes: &[u8], core: &Core) -> Result<ForestTables,
         alloc, &mut lists, &mut nodes, &index, core, many_nodes, begun,
     )?;
     let mut items = ItemTable::with_capacity(alloc, 0, 0)?;
-    push_items(alloc, &mut lists, &mut items, &index, many_items, behind)?;
+    let rest = push_items(alloc, &mut lists, &mut items, &index, many_items, behind)?;
+    if !is_end(rest) {
+        return Err(ForestFault::NotAForest);
+    }
     let Some(root) = first_root(&nodes, many_nodes) else {
         return Err(ForestFault::NotAForest);
     };
@@ -122,9 +126,6 @@ pub fn read_forest(alloc: Global, bytes: &[u8], core: &Core) -> Result<Draft, Fo
 {
     let tables = read_tables(alloc, bytes, core)?;
     if !is_forest(&tables) {
-        return Err(ForestFault::NotAForest);
-    }
-    if !is_text_of(alloc, bytes, &tables)? {
         return Err(ForestFault::NotAForest);
     }
     Ok(Draft::of(tables))

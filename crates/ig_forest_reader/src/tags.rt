@@ -121,7 +121,8 @@ fn tag_at(core: &Core, nonterminal: u32, name: &Word, bytes: &[u8], place: u32) 
     ensures there { MatchOption result (Unit {0}) (λ tag. HasTag core.now nonterminal tag ×
         (bytes.now ≡ tag_text name.now tag)) }
     ensures none { result ≡ None → (a : alternative_type) →
-        alternative_at core.now nonterminal place ≡ Some a → bytes.now ≡ tag_text name.now a.tag → ⊥ }
+        alternative_at core.now nonterminal place ≡ Some a →
+        bytes.now ≡ tag_text name.now a.tag → ⊥ }
 {
     let Some(tag) = core.tag(nonterminal, place) else {
         return None;
@@ -136,6 +137,8 @@ fn tag_at(core: &Core, nonterminal: u32, name: &Word, bytes: &[u8], place: u32) 
 fn tag_of(core: &Core, nonterminal: u32, bytes: &[u8]) -> Option<Tag>
     requires { TellsNames core.now }
     ensures there { MatchOption result (Unit {0}) (HasTag core.now nonterminal) }
+    ensures exact { (name : List ℕ) → IsNamed core.now nonterminal name →
+        MatchOption result (Unit {0}) (λ tag. bytes.now ≡ tag_text name tag) }
     ensures told { (name : List ℕ) (c : a_choice) → IsNamed core.now nonterminal name →
         IsTagOf core.now nonterminal c → bytes.now ≡ tag_text name c.tag → result ≡ Some c.tag }
 {
@@ -160,8 +163,11 @@ fn tag_of(core: &Core, nonterminal: u32, bytes: &[u8]) -> Option<Tag>
 fn read_choice<'a>(core: &Core, nonterminal: u32, bytes: &'a [u8]) -> Option<(Choice, &'a [u8])>
     requires { TellsNames core.now }
     ensures small { MatchOption result (Unit {0}) (λ r. IsTagOf core.now nonterminal r.0) }
-    ensures told { (name : List ℕ) (c : a_choice) (us : List ℕ) → IsNamed core.now nonterminal name →
-        IsTagOf core.now nonterminal c → bytes.now ≡ choice_text name c ++ us →
+    ensures exact { (name : List ℕ) → IsNamed core.now nonterminal name →
+        MatchOption result (Unit {0}) (λ r. bytes.now ≡ choice_text name r.0 ++ r.1.now) }
+    ensures told { (name : List ℕ) (c : a_choice) (us : List ℕ) →
+        IsNamed core.now nonterminal name → IsTagOf core.now nonterminal c →
+        bytes.now ≡ choice_text name c ++ us →
         MatchOption result ⊥ (λ r. (r.0 ≡ c) × (r.1.now ≡ us)) }
 {
     let Some(begun) = read_behind(bytes, b"alt ") else {
@@ -199,7 +205,9 @@ pub(crate) fn push_choices<'a>(
     bytes: &'a [u8],
 ) -> Result<&'a [u8], AllocError>
     requires { TellsNames core.now }
-    ensures added { OnOk result (Added (IsTagOf core.now nonterminal) out.old.items out.new.items) }
+    ensures added { (name : List ℕ) → IsNamed core.now nonterminal name →
+        IfOk result (λ rest. Added (IsTagOf core.now nonterminal) (flat_map (choice_text name))
+        bytes.now rest.now out.old.items out.new.items) }
     ensures told { (name : List ℕ) (xs : List a_choice) (us : List ℕ) →
         IsNamed core.now nonterminal name → AllByRecursion (IsTagOf core.now nonterminal) xs →
         Stops IsChoice us → bytes.now ≡ flat_map (choice_text name) xs ++ us →

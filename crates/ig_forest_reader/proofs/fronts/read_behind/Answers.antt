@@ -1,12 +1,26 @@
-use Rattle.std.proofs.lemmas.Slice.Eq.{strip_prefix_is}
-use Rattle.std.proofs.lemmas.Bool.Decides.{Decides-eqb}
-use Rattle.ig_forest_reader.proofs.Leading.{behind_told, behind_is}
+use Rattle.std.proofs.Common.{◌++◌, ◌+◌, drop, arith}
+use Rattle.ig_forest_reader.proofs.Behind.{no_bytes, one_byte, byte_told, all_told, all_there}
 use Rattle.ig_forest_reader.proofs.fronts.read_behind.Goals as goal
 
-pub returns : goal.returns
-returns c =
-    let cut = strip_prefix_is Decides-eqb c.args.bytes.now c.args.text.now c.strip_prefix.result c.strip_prefix.ensures.cases in
-    record {
-      told = λ us e. behind_told c.args.bytes.now c.args.text.now us c.strip_prefix.result cut e;
-      exact = behind_is c.args.bytes.now c.args.text.now c.strip_prefix.result cut;
-    }
+pub loop-byte-init : goal.loop-byte-init
+loop-byte-init c = no_bytes c.args.bytes.now c.args.text.now
+
+pub returns-in_err-rest-clause-told : goal.returns-in_err-rest-clause-told
+returns-in_err-rest-clause-told c us e =
+    absurd (c.in_err-rest.ensures.told (drop (c.loop-byte.byte-index + 1) c.args.text.now ++ us)
+    (byte_told c.args.bytes.now c.args.text.now c.loop-byte.rest.now us c.loop-byte.byte-index c.loop-byte-test.true c.loop-byte.invariant e))
+
+pub loop-byte-preserved : goal.loop-byte-preserved
+loop-byte-preserved c =
+    one_byte c.args.bytes.now c.args.text.now c.loop-byte.rest.now c.in_ok-rest.rest.now c.loop-byte.byte-index c.loop-byte-test.true
+    c.loop-byte.invariant c.in_ok-rest.ensures.told c.in_ok-rest.ensures.exact
+
+pub returns-clause-told : goal.returns-clause-told
+returns-clause-told c us e =
+    let past = c.loop-byte-test.false in
+    all_told c.args.bytes.now c.args.text.now c.loop-byte.rest.now us c.loop-byte.byte-index (omega (arith, past)) c.loop-byte.invariant e
+
+pub returns-clause-exact : goal.returns-clause-exact
+returns-clause-exact c =
+    let past = c.loop-byte-test.false in
+    all_there c.args.bytes.now c.args.text.now c.loop-byte.rest.now c.loop-byte.byte-index (omega (arith, past)) c.loop-byte.invariant

@@ -1,6 +1,8 @@
 use Rattle.std.proofs.Common.{◌≡◌, ◌∷◌, ◌++◌, ◌∙◌, MatchOption, sym, subst}
+use Rattle.std.specs.Prelude.{codes}
 use Rattle.std.specs.Fmt.{decimal}
-use Rattle.ig_forest_text.specs.ForestText.{child_text}
+use Rattle.ig_forest_text.specs.ForestText.{child_text, entry_text}
+use Rattle.ig_forest_reader.proofs.Spelled.{from_behind}
 use Rattle.ig_forest_tables.specs.declared.entry.Entry.TheVariants.{Begin}
 use Rattle.ig_forest_reader.proofs.TellingLines.{entry_told}
 use Rattle.ig_forest_reader.proofs.Leading.{none_read, some_read, some_is}
@@ -11,6 +13,7 @@ pub returns-in-Some : goal.returns-in-Some
 returns-in-Some c =
     record {
       small = tt;
+      exact = some_is _ _ _ c.read_behind.ensures.exact c.in-Some.is;
       told = λ x us small e.
           entry_told Begin x c.in-Some.rest.now us tt small (sym (some_is _ _ _ c.read_behind.ensures.exact c.in-Some.is) ∙ e);
     }
@@ -19,6 +22,9 @@ pub returns-in-Some-read_behind : goal.returns-in-Some-read_behind
 returns-in-Some-read_behind c =
     record {
       small = c.read_pass.ensures.small;
+      exact =
+          from_behind entry_text (codes "pass ") c.args.bytes.now c.in-Some-read_behind.behind.now c.read_pass.result
+          (some_is _ _ _ c.read_behind-2.ensures.exact c.in-Some-read_behind.is) c.read_pass.ensures.exact;
       told = λ x us small e.
           let it = pass_entry x us c.in-Some-read_behind.behind.now c.args.bytes.now small e (some_is _ _ _ c.read_behind-2.ensures.exact c.in-Some-read_behind.is) in
           subst (λ z. MatchOption c.read_pass.result ⊥ (λ r. (r.0 ≡ z) × (r.1.now ≡ us))) (sym it.is) (c.read_pass.ensures.told it.number us it.small it.behind);
@@ -28,6 +34,7 @@ pub returns-in_default-read_behind-2 : goal.returns-in_default-read_behind-2
 returns-in_default-read_behind-2 c =
     record {
       small = tt;
+      exact = tt;
       told = λ x us small e.
           let it = take_entry x us c.args.bytes.now small e (λ rest is. none_read _ _ (c.read_behind.ensures.told rest is) c.in_default.is)
           (λ rest is. none_read _ _ (c.read_behind-2.ensures.told rest is) c.in_default-read_behind.is) in
@@ -38,6 +45,9 @@ pub returns : goal.returns
 returns c =
     record {
       small = c.read_take.ensures.small;
+      exact =
+          from_behind entry_text (codes "take ") c.args.bytes.now c.in-Some-read_behind-2.behind.now c.read_take.result
+          (some_is _ _ _ c.read_behind-3.ensures.exact c.in-Some-read_behind-2.is) c.read_take.ensures.exact;
       told = λ x us small e.
           let it = take_entry x us c.args.bytes.now small e (λ rest is. none_read _ _ (c.read_behind.ensures.told rest is) c.in_default.is)
           (λ rest is. none_read _ _ (c.read_behind-2.ensures.told rest is) c.in_default-read_behind.is) in

@@ -2,13 +2,17 @@ use Rattle.std.proofs.Common.{◌∙◌, ◌≤◌, ap, sym, subst, length}
 use Rattle.std.specs.List.{prefix_len}
 use Rattle.ig_forest_reader.specs.Runs.{is_inner}
 use Rattle.std.proofs.lemmas.List.Sums.{prefix_len-le-length}
-use Rattle.ig_forest_reader.proofs.Leading.{inner_length, cut_there}
+use Rattle.ig_forest_reader.proofs.Leading.{inner_length, cut_there, cut_whole}
 use Rattle.ig_forest_reader.proofs.fronts.split_inner.Goals as goal
 
 pub split_at-requires : goal.split_at-requires
 split_at-requires c = subst (λ (n : _). n ≤ length c.args.bytes.now) (sym c.inner_end-end.ensures) (prefix_len-le-length is_inner c.args.bytes.now)
 
 pub returns : goal.returns
-returns c ds us a s e =
-    cut_there c.args.bytes.now ds us _ _ _ c.split_at.ensures.front c.split_at.ensures.back
-    (c.inner_end-end.ensures ∙ ap (prefix_len is_inner) e ∙ inner_length ds us a s) e
+returns c =
+    record {
+      whole = cut_whole c.args.bytes.now _ _ _ c.split_at.ensures.front c.split_at.ensures.back;
+      told = λ ds us a s e.
+          cut_there c.args.bytes.now ds us _ _ _ c.split_at.ensures.front c.split_at.ensures.back
+          (c.inner_end-end.ensures ∙ ap (prefix_len is_inner) e ∙ inner_length ds us a s) e;
+    }

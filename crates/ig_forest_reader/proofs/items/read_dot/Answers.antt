@@ -1,4 +1,4 @@
-use Rattle.std.proofs.Common.{◌∷◌, ◌++◌, List, ℕ, arith}
+use Rattle.std.proofs.Common.{◌∷◌, ◌++◌, ◌∙◌, List, ℕ, ap, arith}
 use Rattle.std.specs.Fmt.{decimal}
 use Rattle.ig_forest_reader.proofs.Leading.{none_read, some_read, some_is}
 use Rattle.ig_forest_reader.proofs.Telling.{stops_at}
@@ -14,6 +14,7 @@ pub returns-in_default : goal.returns-in_default
 returns-in_default c =
     record {
       small = tt;
+      exact = tt;
       told = λ a d us p q e.
           none_read _ _ (c.read_number.ensures.told a (behind_alternative d us) p (stops_at 32 _ (omega arith)) e) c.in_default.is;
     }
@@ -22,6 +23,7 @@ pub returns-in_default-read_behind : goal.returns-in_default-read_behind
 returns-in_default-read_behind c =
     record {
       small = tt;
+      exact = tt;
       told = λ a d us p q e.
           let first = some_read _ _ _ (c.read_number.ensures.told a (behind_alternative d us) p (stops_at 32 _ (omega arith)) e) c.in-Some.is in
           none_read _ _ (c.read_behind.ensures.told (decimal d ++ behind_dot us) first.1) c.in_default-read_behind.is;
@@ -31,6 +33,7 @@ pub returns-in_default-read_number : goal.returns-in_default-read_number
 returns-in_default-read_number c =
     record {
       small = tt;
+      exact = tt;
       told = λ a d us p q e.
           let first = some_read _ _ _ (c.read_number.ensures.told a (behind_alternative d us) p (stops_at 32 _ (omega arith)) e) c.in-Some.is in
           let second = some_read _ _ _ (c.read_behind.ensures.told (decimal d ++ behind_dot us) first.1) c.in-Some-read_behind.is in
@@ -41,6 +44,7 @@ pub returns-in_default-read_behind-2 : goal.returns-in_default-read_behind-2
 returns-in_default-read_behind-2 c =
     record {
       small = tt;
+      exact = tt;
       told = λ a d us p q e.
           let first = some_read _ _ _ (c.read_number.ensures.told a (behind_alternative d us) p (stops_at 32 _ (omega arith)) e) c.in-Some.is in
           let second = some_read _ _ _ (c.read_behind.ensures.told (decimal d ++ behind_dot us) first.1) c.in-Some-read_behind.is in
@@ -52,6 +56,12 @@ pub returns : goal.returns
 returns c =
     record {
       small = (some_is _ _ _ c.read_number.ensures.small c.in-Some.is, some_is _ _ _ c.read_number-2.ensures.small c.in-Some-read_number.is);
+      exact =
+          some_is _ _ _ c.read_number.ensures.exact c.in-Some.is ∙
+          ap (λ (z : List ℕ). decimal c.in-Some.alternative ++ z)
+          (some_is _ _ _ c.read_behind.ensures.exact c.in-Some-read_behind.is ∙
+          ap (λ (z : List ℕ). 32 ∷ z) (some_is _ _ _ c.read_number-2.ensures.exact c.in-Some-read_number.is ∙
+          ap (λ (z : List ℕ). decimal c.in-Some-read_number.dot ++ z) (some_is _ _ _ c.read_behind-2.ensures.exact c.in-Some-read_behind-2.is)));
       told = λ a d us p q e.
           let first = some_read _ _ _ (c.read_number.ensures.told a (behind_alternative d us) p (stops_at 32 _ (omega arith)) e) c.in-Some.is in
           let second = some_read _ _ _ (c.read_behind.ensures.told (decimal d ++ behind_dot us) first.1) c.in-Some-read_behind.is in

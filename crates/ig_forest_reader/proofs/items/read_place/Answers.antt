@@ -1,6 +1,8 @@
-use Rattle.std.proofs.Common.{◌∷◌, ◌++◌, ◌∙◌, Some, ap, refl}
+use Rattle.std.proofs.Common.{◌∷◌, ◌++◌, ◌∙◌, List, ℕ, Some, ap, refl}
+use Rattle.std.specs.Fmt.{decimal}
 use Rattle.ig_text.specs.declared.text.Span.{Span}
-use Rattle.ig_pieces.specs.ValueText.{places_text}
+use Rattle.ig_pieces.specs.Listed.{comma_separated}
+use Rattle.ig_pieces.specs.ValueText.{places_text, value_text}
 use Rattle.ig_forest_reader.specs.Written.{square}
 use Rattle.ig_forest_reader.proofs.Composing.{read_ok, failed_on, no_ok, not_ok}
 use Rattle.ig_forest_reader.proofs.Leading.{none_read, some_read, some_is}
@@ -74,6 +76,12 @@ returns c =
         alternative = dots.0;
         dot = dots.1;
         position = span.end;
+        spelled =
+            some_is _ _ _ c.read_dot.ensures.exact c.in-Some.is ∙
+            ap (λ (z : List ℕ). decimal c.in-Some.alternative ++ (32 ∷ (decimal c.in-Some.dot ++ (32 ∷ (91 ∷ z)))))
+            (values.spelled ∙ ap (λ (z : List ℕ). comma_separated value_text values.values ++ (93 ∷ z))
+            (some_is _ _ _ c.read_behind.ensures.exact c.in-Some-read_behind.is ∙
+            ap (λ (z : List ℕ). 32 ∷ z) (some_is _ _ _ c.read_last_span.ensures.exact c.in-Some-read_last_span.is)));
         told = λ a d i j xs us few small e.
             let dot = some_read _ _ _ (c.read_dot.ensures.told a d (place_behind xs i j us) few.0 few.1 e) c.in-Some.is in
             let listed = values.told xs (32 ∷ (places_text i j ++ (10 ∷ us))) small dot.2 in

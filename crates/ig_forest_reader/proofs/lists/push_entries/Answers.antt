@@ -10,7 +10,7 @@ use Rattle.ig_forest_reader.proofs.lists.push_entries.Goals as goal
 
 pub loop-init : goal.loop-init
 loop-init c = (
-  none_added IsSmallEntry c.args.out.now.items,
+  none_added IsSmallEntry entry_text c.args.bytes.now c.args.out.now.items,
   λ xs us small s e. start_left NoItem IsSmallEntry entry_text entry_begins xs us c.args.bytes.now c.args.out.now.items small e,
 )
 
@@ -35,8 +35,9 @@ returns-in_default c =
 
 pub loop-preserved : goal.loop-preserved
 loop-preserved c = (
-  one_added IsSmallEntry c.args.out.now.items c.loop.out.items _ c.in-Some.entry c.loop.invariant.0
-      (some_is _ _ _ c.read_entry.ensures.small c.in-Some.is) c.in_ok-push.ensures.items,
+  one_added IsSmallEntry entry_text c.args.bytes.now c.loop.rest.now c.in-Some.behind.now c.args.out.now.items c.loop.out.items _
+      c.in-Some.entry c.loop.invariant.0 (some_is _ _ _ c.read_entry.ensures.small c.in-Some.is)
+      (some_is _ _ _ c.read_entry.ensures.exact c.in-Some.is) c.in_ok-push.ensures.items,
   λ xs us small s e.
       subst (λ (out : List Entry). Left IsSmallEntry entry_text us c.in-Some.behind.now out (c.args.out.now.items ++ xs) (c.loop.counter + 1) (length c.args.bytes.now))
       (sym c.in_ok-push.ensures.items)

@@ -11,6 +11,6 @@ use Rattle.ig_forest_reader.proofs.lists.push_entries.Given as goal
 
 abbrev pub invariant-loop : goal.invariant-loop
 invariant-loop l =
-    Added IsSmallEntry l.fn.out.items l.out.items ×
+    Added IsSmallEntry (flat_map entry_text) l.fn.bytes l.rest l.fn.out.items l.out.items ×
     ((xs : List Entry) (us : List ℕ) → AllByRecursion IsSmallEntry xs → Stops NoItem us → l.fn.bytes ≡ flat_map entry_text xs ++ us →
     Left IsSmallEntry entry_text us l.rest l.out.items (l.fn.out.items ++ xs) l.counter (length l.fn.bytes))

@@ -1,9 +1,8 @@
 use Rattle.std.proofs.Common.{◌∷◌, ◌++◌, ◌∙◌, [], ap}
 use Rattle.std.proofs.lemmas.List.{append_assoc}
 use Rattle.ig_pieces.specs.ValueText.{value_text}
-use Rattle.ig_forest_reader.specs.Written.{IsSmall}
 use Rattle.ig_forest_reader.proofs.Leading.{none_read, some_read, some_is}
-use Rattle.ig_forest_reader.proofs.LinesLeft.{none_added, one_added, both_added}
+use Rattle.ig_forest_reader.proofs.ValuesTold.{first_added}
 use Rattle.ig_forest_reader.proofs.ValuesLeft.{stops_others, others}
 use Rattle.ig_forest_reader.proofs.lists.push_first.Goals as goal
 
@@ -19,10 +18,9 @@ pub returns : goal.returns
 returns c =
     record {
       added =
-          both_added IsSmall c.args.out.now.items _ _
-          (one_added IsSmall c.args.out.now.items c.args.out.now.items _ c.in-Some.value (none_added IsSmall c.args.out.now.items)
-          (some_is _ _ _ c.read_value.ensures.small c.in-Some.is) c.in_ok-push_value.ensures)
-          c.in_ok-push_others.ensures.added;
+          first_added c.args.bytes.now c.in-Some.behind.now _ c.args.out.now.items _ _ c.in-Some.value
+          (some_is _ _ _ c.read_value.ensures.small c.in-Some.is) (some_is _ _ _ c.read_value.ensures.exact c.in-Some.is)
+          c.in_ok-push_value.ensures c.in_ok-push_others.ensures.added;
       told = λ x xs us p q s t e.
           let read = some_read _ _ _ (c.read_value.ensures.told x (others xs ++ us) p (stops_others xs us s) (e ∙ append_assoc (value_text x) (others xs) us)) c.in-Some.is in
           let rest = c.in_ok-push_others.ensures.told xs us q s t read.1 in (

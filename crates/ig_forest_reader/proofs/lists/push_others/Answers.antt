@@ -1,4 +1,6 @@
-use Rattle.std.proofs.Common.{ℕ, List, ◌++◌, ◌+◌, length, sym, subst, arith}
+use Rattle.std.proofs.Common.{◌∙◌, ℕ, List, ◌++◌, ◌+◌, length, sym, ap, subst, arith}
+use Rattle.std.specs.Prelude.{codes}
+use Rattle.ig_pieces.specs.ValueText.{value_text}
 use Rattle.ig_expr.specs.declared.value.Value.{Value}
 use Rattle.ig_forest_reader.specs.Written.{IsSmall}
 use Rattle.ig_forest_reader.proofs.Leading.{none_read, some_read, some_is}
@@ -8,7 +10,7 @@ use Rattle.ig_forest_reader.proofs.lists.push_others.Goals as goal
 
 pub loop-init : goal.loop-init
 loop-init c = (
-  none_added IsSmall c.args.out.now.items,
+  none_added IsSmall (λ y. codes "," ++ value_text y) c.args.bytes.now c.args.out.now.items,
   λ xs us small s t e. start_left xs us c.args.bytes.now c.args.out.now.items small e,
 )
 
@@ -33,8 +35,12 @@ returns-in_default-read_value c =
 
 pub loop-preserved : goal.loop-preserved
 loop-preserved c = (
-  one_added IsSmall c.args.out.now.items c.loop.out.items _ c.in-Some-read_value.value c.loop.invariant.0
-      (some_is _ _ _ c.read_value.ensures.small c.in-Some-read_value.is) c.in_ok-push.ensures.items,
+  one_added IsSmall (λ y. codes "," ++ value_text y) c.args.bytes.now c.loop.rest.now c.in-Some-read_value.after.now c.args.out.now.items
+      c.loop.out.items _ c.in-Some-read_value.value c.loop.invariant.0
+      (some_is _ _ _ c.read_value.ensures.small c.in-Some-read_value.is)
+      (some_is _ _ _ c.read_behind.ensures.exact c.in-Some.is ∙
+      ap (λ (z : List ℕ). codes "," ++ z) (some_is _ _ _ c.read_value.ensures.exact c.in-Some-read_value.is))
+      c.in_ok-push.ensures.items,
   λ xs us small s t e.
       let x = next_left us c.loop.rest.now c.in-Some.behind.now c.loop.out.items (c.args.out.now.items ++ xs) c.loop.counter (length c.args.bytes.now)
       (c.loop.invariant.1 xs us small s t e) t (some_is _ _ _ c.read_behind.ensures.exact c.in-Some.is) in

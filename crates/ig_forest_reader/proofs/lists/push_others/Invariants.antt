@@ -9,6 +9,6 @@ use Rattle.ig_forest_reader.proofs.lists.push_others.Given as goal
 
 abbrev pub invariant-loop : goal.invariant-loop
 invariant-loop l =
-    Added IsSmall l.fn.out.items l.out.items ×
+    Added IsSmall others l.fn.bytes l.rest l.fn.out.items l.out.items ×
     ((xs : List Value) (us : List ℕ) → AllByRecursion IsSmall xs → Stops IsInner us → Stops IsComma us → l.fn.bytes ≡ others xs ++ us →
     Left us l.rest l.out.items (l.fn.out.items ++ xs) l.counter (length l.fn.bytes))

@@ -9,26 +9,26 @@ use Rattle.ig_forest_reader.proofs.TellingForests.{node_stops}
 use Rattle.ig_forest_reader.proofs.Whole.{still_shown_node}
 use Rattle.ig_forest_reader.proofs.nodes.push_nodes.Goals as goal
 
-pub loop-init : goal.loop-init
-loop-init c = none_so_far (ShowsNode c.args.lists.now) (IsNodeOf c.args.core.now) node_text IsChoice c.args.many c.args.bytes.now c.args.nodes.now c.requires.none
+pub loop-number-init : goal.loop-number-init
+loop-number-init c = none_so_far (ShowsNode c.args.lists.now) (IsNodeOf c.args.core.now) node_text IsChoice c.args.many c.args.bytes.now c.args.nodes.now c.requires.none
 
 pub returns-in_err-rest : goal.returns-in_err-rest
 returns-in_err-rest c =
     failed_on _ _ _ _ c.read_node.result c.in_err-rest.field-0.0 c.from_residual.result c.read_node.ensures.read c.in_err-rest.was
     c.from_residual.ensures.1
-    (no_more (ShowsNode c.loop.lists) (IsNodeOf c.args.core.now) node_text IsChoice node_stops c.loop.counter c.args.many c.args.bytes.now
-    c.loop.rest.now c.loop.nodes c.loop-test.true c.ranges.many.fits c.loop.invariant)
+    (no_more (ShowsNode c.loop-number.lists) (IsNodeOf c.args.core.now) node_text IsChoice node_stops c.loop-number.number c.args.many c.args.bytes.now
+    c.loop-number.rest.now c.loop-number.nodes c.loop-number-test.true c.ranges.many.fits c.loop-number.invariant)
 
-pub loop-preserved : goal.loop-preserved
-loop-preserved c =
-    one_more (ShowsNode c.read_node.new.lists) (IsNodeOf c.args.core.now) node_text IsChoice node_stops c.loop.counter c.args.many
-    c.args.bytes.now c.loop.rest.now c.in_ok-rest.rest.now c.loop.nodes _ c.loop-test.true c.ranges.many.fits
-    (so_far_kept (ShowsNode c.loop.lists) (ShowsNode c.read_node.new.lists) (IsNodeOf c.args.core.now) node_text IsChoice c.loop.counter
-    c.args.many c.args.bytes.now c.loop.rest.now c.loop.nodes (still_shown_node c.loop.lists c.read_node.new.lists c.in_ok-rest.ensures.keeps)
-    c.loop.invariant)
+pub loop-number-preserved : goal.loop-number-preserved
+loop-number-preserved c =
+    one_more (ShowsNode c.read_node.new.lists) (IsNodeOf c.args.core.now) node_text IsChoice node_stops c.loop-number.number c.args.many
+    c.args.bytes.now c.loop-number.rest.now c.in_ok-rest.rest.now c.loop-number.nodes _ c.loop-number-test.true c.ranges.many.fits
+    (so_far_kept (ShowsNode c.loop-number.lists) (ShowsNode c.read_node.new.lists) (IsNodeOf c.args.core.now) node_text IsChoice c.loop-number.number
+    c.args.many c.args.bytes.now c.loop-number.rest.now c.loop-number.nodes (still_shown_node c.loop-number.lists c.read_node.new.lists c.in_ok-rest.ensures.keeps)
+    c.loop-number.invariant)
     (read_ok _ _ _ _ c.read_node.ensures.read c.in_ok-rest.was)
 
 pub returns : goal.returns
 returns c =
-    all_read (ShowsNode c.loop.lists) (IsNodeOf c.args.core.now) node_text IsChoice c.args.many c.loop.counter c.args.bytes.now c.loop.rest.now
-    c.loop.nodes (grind (arith, c.loop-test.false, c.loop.auto.counter-end)) c.loop.invariant
+    all_read (ShowsNode c.loop-number.lists) (IsNodeOf c.args.core.now) node_text IsChoice c.args.many c.loop-number.number c.args.bytes.now c.loop-number.rest.now
+    c.loop-number.nodes (grind (arith, c.loop-number-test.false, c.loop-number.auto.number-end)) c.loop-number.invariant

@@ -5,5 +5,5 @@ use Rattle.ig_forest_reader.specs.Written.{IsNodeOf}
 use Rattle.ig_forest_reader.proofs.PartsRead.{SoFar}
 use Rattle.ig_forest_reader.proofs.nodes.push_nodes.Given as goal
 
-abbrev pub invariant-loop : goal.invariant-loop
-invariant-loop l = SoFar (ShowsNode l.lists) (IsNodeOf l.core) node_text IsChoice l.counter l.many l.fn.bytes l.rest l.nodes
+abbrev pub invariant-loop-number : goal.invariant-loop-number
+invariant-loop-number l = SoFar (ShowsNode l.lists) (IsNodeOf l.core) node_text IsChoice l.number l.many l.fn.bytes l.rest l.nodes

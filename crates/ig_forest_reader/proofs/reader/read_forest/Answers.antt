@@ -4,7 +4,7 @@ use Rattle.ig_forest_tables.specs.Forest.{Forest}
 use Rattle.ig_forest_text.specs.ForestText.{forest_text}
 use Rattle.ig_forest_reader.specs.Written.{IsDraftOf}
 use Rattle.ig_forest_reader.proofs.Composing.{read_ok, not_ok, refused_on}
-use Rattle.ig_forest_reader.proofs.Whole.{draft_read, draft_of_read, no_forest_read, no_text_read}
+use Rattle.ig_forest_reader.proofs.Whole.{draft_read, draft_of_read, no_forest_read}
 use Rattle.ig_forest_reader.proofs.reader.read_forest.Goals as goal
 
 pub returns-in_err-tables : goal.returns-in_err-tables
@@ -24,15 +24,6 @@ returns-then-not-is_forest c =
           (refuted c.is_forest.result c.is_forest.ensures c.if-not-is_forest.true) f of e;
     }
 
-pub returns-then-not-branch : goal.returns-then-not-branch
-returns-then-not-branch c =
-    record {
-      read = tt;
-      refused = λ same f of e.
-          no_text_read c.args.core.now c.args.bytes.now c.in_ok-tables.tables (read_ok _ _ _ _ c.read_tables.ensures c.in_ok-tables.was)
-          (refuted c.in_ok-is_text_of.field-0 c.in_ok-is_text_of.ensures c.if-not-branch.true) f of e;
-    }
-
 pub of-requires : goal.of-requires
 of-requires c =
     draft_read c.args.core.now c.args.bytes.now c.in_ok-tables.tables (read_ok _ _ _ _ c.read_tables.ensures c.in_ok-tables.was)
@@ -45,7 +36,7 @@ returns c =
           subst (λ (f : Forest). IsDraftOf c.args.core.now f × (c.args.bytes.now ≡ forest_text f)) (sym c.of.ensures) (
             draft_of_read c.args.core.now c.args.bytes.now c.in_ok-tables.tables (read_ok _ _ _ _ c.read_tables.ensures c.in_ok-tables.was)
                 (c.is_forest.ensures.0 c.if-not-is_forest.false),
-            c.in_ok-is_text_of.ensures.0 c.if-not-branch.false,
+            (read_ok _ _ _ _ c.read_tables.ensures c.in_ok-tables.was).spelled,
           );
       refused = tt;
     }

@@ -1,4 +1,5 @@
-use Rattle.std.proofs.Common.{◌∷◌, ◌++◌, List, ℕ, arith}
+use Rattle.std.proofs.Common.{◌∷◌, ◌++◌, ◌∙◌, List, ℕ, ap, arith}
+use Rattle.std.specs.Prelude.{codes}
 use Rattle.std.specs.Fmt.{decimal}
 use Rattle.ig_forest_reader.proofs.Leading.{none_read, some_read, some_is}
 use Rattle.ig_forest_reader.proofs.Telling.{stops_at}
@@ -11,6 +12,7 @@ pub returns-in_default : goal.returns-in_default
 returns-in_default c =
     record {
       small = tt;
+      exact = tt;
       told = λ m n us p q e. none_read _ _ (c.read_behind.ensures.told (decimal m ++ behind_nodes n us) e) c.in_default.is;
     }
 
@@ -18,6 +20,7 @@ pub returns-in_default-read_number : goal.returns-in_default-read_number
 returns-in_default-read_number c =
     record {
       small = tt;
+      exact = tt;
       told = λ m n us p q e.
           let begun = some_read _ _ _ (c.read_behind.ensures.told (decimal m ++ behind_nodes n us) e) c.in-Some.is in
           none_read _ _ (c.read_number.ensures.told m (behind_nodes n us) p (stops_at 32 _ (omega arith)) begun) c.in_default-read_number.is;
@@ -27,6 +30,7 @@ pub returns-in_default-read_behind : goal.returns-in_default-read_behind
 returns-in_default-read_behind c =
     record {
       small = tt;
+      exact = tt;
       told = λ m n us p q e.
           let begun = some_read _ _ _ (c.read_behind.ensures.told (decimal m ++ behind_nodes n us) e) c.in-Some.is in
           let first = some_read _ _ _ (c.read_number.ensures.told m (behind_nodes n us) p (stops_at 32 _ (omega arith)) begun) c.in-Some-read_number.is in
@@ -37,6 +41,7 @@ pub returns-in_default-read_last_number : goal.returns-in_default-read_last_numb
 returns-in_default-read_last_number c =
     record {
       small = tt;
+      exact = tt;
       told = λ m n us p q e.
           let begun = some_read _ _ _ (c.read_behind.ensures.told (decimal m ++ behind_nodes n us) e) c.in-Some.is in
           let first = some_read _ _ _ (c.read_number.ensures.told m (behind_nodes n us) p (stops_at 32 _ (omega arith)) begun) c.in-Some-read_number.is in
@@ -48,6 +53,12 @@ pub returns : goal.returns
 returns c =
     record {
       small = (some_is _ _ _ c.read_number.ensures.small c.in-Some-read_number.is, some_is _ _ _ c.read_last_number.ensures.small c.in-Some-read_last_number.is);
+      exact =
+          some_is _ _ _ c.read_behind.ensures.exact c.in-Some.is ∙
+          ap (λ (z : List ℕ). codes "forest " ++ z) (some_is _ _ _ c.read_number.ensures.exact c.in-Some-read_number.is ∙
+          ap (λ (z : List ℕ). decimal c.in-Some-read_number.nodes ++ z)
+          (some_is _ _ _ c.read_behind-2.ensures.exact c.in-Some-read_behind.is ∙
+          ap (λ (z : List ℕ). 32 ∷ z) (some_is _ _ _ c.read_last_number.ensures.exact c.in-Some-read_last_number.is)));
       told = λ m n us p q e.
           let begun = some_read _ _ _ (c.read_behind.ensures.told (decimal m ++ behind_nodes n us) e) c.in-Some.is in
           let first = some_read _ _ _ (c.read_number.ensures.told m (behind_nodes n us) p (stops_at 32 _ (omega arith)) begun) c.in-Some-read_number.is in

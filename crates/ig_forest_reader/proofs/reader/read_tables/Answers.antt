@@ -1,6 +1,7 @@
 use Rattle.std.proofs.Common.{◌∙◌, ◌<◌, ℕ, List, length, ap, subst, sym}
 use Rattle.ig_text.specs.Limits.{numbers_end}
 use Rattle.std.specs.Prelude.{Option, MatchOption}
+use Rattle.ig_text.proofs.Booleans.{refuted}
 use Rattle.ig_forest_tables.specs.StoredNodes.{rows_in}
 use Rattle.ig_forest_tables.specs.Tables.{FitsTables, forest_by}
 use Rattle.ig_item.specs.declared.core_grammar.Nonterminal.{Nonterminal}
@@ -8,7 +9,7 @@ use Rattle.ig_forest_reader.specs.Shown.{IsFirstRoot, IsIndex, NoRoot}
 use Rattle.ig_forest_reader.specs.Written.{TellsNames}
 use Rattle.ig_forest_reader.proofs.Composing.{read_ok, failed_on}
 use Rattle.ig_forest_reader.proofs.Leading.{none_read, some_read, some_is}
-use Rattle.ig_forest_reader.proofs.Whole.{names_of, no_heading, no_nodes, no_items, no_root, nodes_long, all_fit, tables_read}
+use Rattle.ig_forest_reader.proofs.Whole.{names_of, no_heading, no_nodes, no_items, no_rest, no_root, nodes_long, all_fit, tables_read}
 use Rattle.ig_forest_reader.proofs.reader.read_tables.Goals as goal
 
 pub returns-in_default : goal.returns-in_default
@@ -41,14 +42,23 @@ returns-in_err-behind c =
     (no_nodes c.args.core.now c.requires c.args.bytes.now c.in-Some.begun.now c.in-Some.many_nodes c.in-Some.many_items
     (λ m n us p q e. some_read _ _ _ (c.read_heading.ensures.told m n us p q e) c.in-Some.is) c.push_nodes.new.lists)
 
-pub returns-in_err-push_items : goal.returns-in_err-push_items
-returns-in_err-push_items c =
-    failed_on _ _ _ _ c.push_items.result c.in_err-push_items.field-0.0 c.from_residual-in_err-push_items.result
+pub returns-in_err-rest : goal.returns-in_err-rest
+returns-in_err-rest c =
+    failed_on _ _ _ _ c.push_items.result c.in_err-rest.field-0.0 c.from_residual-in_err-rest.result
     (c.push_items.ensures.read c.args.core.now c.requires (subst (λ (z : List Nonterminal). IsIndex z c.in_ok-index.index) c.as_slice.ensures c.in_ok-index.ensures))
-    c.in_err-push_items.was c.from_residual-in_err-push_items.ensures.1
+    c.in_err-rest.was c.from_residual-in_err-rest.ensures.1
     (no_items c.args.core.now c.requires c.args.bytes.now c.in-Some.begun.now c.in-Some.many_nodes c.in-Some.many_items
     (λ m n us p q e. some_read _ _ _ (c.read_heading.ensures.told m n us p q e) c.in-Some.is) c.push_nodes.new.lists c.in_ok-behind.behind.now
     c.push_nodes.new.nodes (read_ok _ _ _ _ c.push_nodes.ensures c.in_ok-behind.was) c.push_items.new.lists)
+
+pub returns-then-not-is_end : goal.returns-then-not-is_end
+returns-then-not-is_end c =
+    let few = some_is _ _ _ c.read_heading.ensures.small c.in-Some.is in
+    no_rest c.args.core.now c.requires c.args.bytes.now c.in-Some.begun.now c.in-Some.many_nodes c.in-Some.many_items
+    (λ m n us p q e. some_read _ _ _ (c.read_heading.ensures.told m n us p q e) c.in-Some.is) c.push_nodes.new.lists c.in_ok-behind.behind.now
+    c.push_nodes.new.nodes (read_ok _ _ _ _ c.push_nodes.ensures c.in_ok-behind.was) c.push_items.new.lists _ c.push_items.new.items c.in_ok-rest.ensures.keeps
+    (read_ok _ _ _ _ (c.push_items.ensures.read c.args.core.now c.requires (subst (λ (z : List Nonterminal). IsIndex z c.in_ok-index.index) c.as_slice.ensures c.in_ok-index.ensures)) c.in_ok-rest.was)
+    few.0 few.1 (refuted c.is_end.result c.is_end.ensures c.if-not-is_end.true)
 
 pub first_root-requires : goal.first_root-requires
 first_root-requires c =
@@ -68,8 +78,8 @@ of-requires c =
     subst (λ (z : List (List ℕ)). FitsTables z c.push_items.new.lists c.push_nodes.new.nodes c.push_items.new.items) (sym (c.in_ok-names.ensures ∙ ap names_of c.as_slice-2.ensures))
     (all_fit c.args.core.now c.requires c.args.bytes.now c.in-Some.begun.now c.in-Some.many_nodes c.in-Some.many_items
     (λ m n us p q e. some_read _ _ _ (c.read_heading.ensures.told m n us p q e) c.in-Some.is) c.push_nodes.new.lists c.in_ok-behind.behind.now
-    c.push_nodes.new.nodes (read_ok _ _ _ _ c.push_nodes.ensures c.in_ok-behind.was) c.push_items.new.lists _ c.push_items.new.items c.in_ok-push_items.ensures.keeps
-    (read_ok _ _ _ _ (c.push_items.ensures.read c.args.core.now c.requires (subst (λ (z : List Nonterminal). IsIndex z c.in_ok-index.index) c.as_slice.ensures c.in_ok-index.ensures)) c.in_ok-push_items.was)
+    c.push_nodes.new.nodes (read_ok _ _ _ _ c.push_nodes.ensures c.in_ok-behind.was) c.push_items.new.lists _ c.push_items.new.items c.in_ok-rest.ensures.keeps
+    (read_ok _ _ _ _ (c.push_items.ensures.read c.args.core.now c.requires (subst (λ (z : List Nonterminal). IsIndex z c.in_ok-index.index) c.as_slice.ensures c.in_ok-index.ensures)) c.in_ok-rest.was)
     few.0 few.1)
 
 pub returns : goal.returns
@@ -78,9 +88,9 @@ returns c =
     let names = c.in_ok-names.ensures ∙ ap names_of c.as_slice-2.ensures in
     tables_read c.args.core.now c.requires c.args.bytes.now c.in-Some.begun.now c.in-Some.many_nodes c.in-Some.many_items
     (λ m n us p q e. some_read _ _ _ (c.read_heading.ensures.told m n us p q e) c.in-Some.is) c.push_nodes.new.lists c.in_ok-behind.behind.now
-    c.push_nodes.new.nodes (read_ok _ _ _ _ c.push_nodes.ensures c.in_ok-behind.was) c.push_items.new.lists _ c.push_items.new.items c.in_ok-push_items.ensures.keeps
-    (read_ok _ _ _ _ (c.push_items.ensures.read c.args.core.now c.requires (subst (λ (z : List Nonterminal). IsIndex z c.in_ok-index.index) c.as_slice.ensures c.in_ok-index.ensures)) c.in_ok-push_items.was)
+    c.push_nodes.new.nodes (read_ok _ _ _ _ c.push_nodes.ensures c.in_ok-behind.was) c.push_items.new.lists _ c.push_items.new.items c.in_ok-rest.ensures.keeps
+    (read_ok _ _ _ _ (c.push_items.ensures.read c.args.core.now c.requires (subst (λ (z : List Nonterminal). IsIndex z c.in_ok-index.index) c.as_slice.ensures c.in_ok-index.ensures)) c.in_ok-rest.was)
     few.0 few.1
-    c.in-Some-first_root.root c.of.result
+    c.in-Some-first_root.root c.of.result (some_is _ _ _ c.read_heading.ensures.exact c.in-Some.is) (c.is_end.ensures.0 c.if-not-is_end.false)
     (subst (λ (o : Option ℕ). MatchOption o (NoRoot (rows_in c.push_nodes.new.nodes)) (IsFirstRoot (rows_in c.push_nodes.new.nodes))) c.in-Some-first_root.is c.first_root.ensures)
     (c.of.ensures ∙ ap (λ (z : List (List ℕ)). forest_by c.in-Some-first_root.root z c.push_items.new.lists c.push_nodes.new.nodes c.push_items.new.items) names)

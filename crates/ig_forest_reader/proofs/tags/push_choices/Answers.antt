@@ -10,7 +10,7 @@ use Rattle.ig_forest_reader.proofs.tags.push_choices.Goals as goal
 
 pub loop-init : goal.loop-init
 loop-init c = (
-  none_added (IsTagOf c.args.core.now c.args.nonterminal) c.args.out.now.items,
+  λ name named. none_added (IsTagOf c.args.core.now c.args.nonterminal) (choice_text name) c.args.bytes.now c.args.out.now.items,
   λ name xs us named small s e. start_left IsChoice (IsTagOf c.args.core.now c.args.nonterminal) (choice_text name) (choice_begins name) xs us c.args.bytes.now c.args.out.now.items small e,
 )
 
@@ -35,8 +35,11 @@ returns-in_default c =
 
 pub loop-preserved : goal.loop-preserved
 loop-preserved c = (
-  one_added (IsTagOf c.args.core.now c.args.nonterminal) c.args.out.now.items c.loop.out.items _ c.in-Some.choice c.loop.invariant.0
-      (some_is _ _ _ c.read_choice.ensures.small c.in-Some.is) c.in_ok-push.ensures.items,
+  λ name named.
+      one_added (IsTagOf c.args.core.now c.args.nonterminal) (choice_text name) c.args.bytes.now c.loop.rest.now c.in-Some.behind.now
+      c.args.out.now.items c.loop.out.items _ c.in-Some.choice (c.loop.invariant.0 name named)
+      (some_is _ _ _ c.read_choice.ensures.small c.in-Some.is) (some_is _ _ _ (c.read_choice.ensures.exact name named) c.in-Some.is)
+      c.in_ok-push.ensures.items,
   λ name xs us named small s e.
       subst (λ (out : List Choice). Left (IsTagOf c.args.core.now c.args.nonterminal) (choice_text name) us c.in-Some.behind.now out (c.args.out.now.items ++ xs) (c.loop.counter + 1) (length c.args.bytes.now))
       (sym c.in_ok-push.ensures.items)

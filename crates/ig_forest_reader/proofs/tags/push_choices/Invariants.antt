@@ -11,7 +11,8 @@ use Rattle.ig_forest_reader.proofs.tags.push_choices.Given as goal
 
 abbrev pub invariant-loop : goal.invariant-loop
 invariant-loop l =
-    Added (IsTagOf l.core l.nonterminal) l.fn.out.items l.out.items ×
+    ((name : List ℕ) → IsNamed l.core l.nonterminal name →
+    Added (IsTagOf l.core l.nonterminal) (flat_map (choice_text name)) l.fn.bytes l.rest l.fn.out.items l.out.items) ×
     ((name : List ℕ) (xs : List Choice) (us : List ℕ) → IsNamed l.core l.nonterminal name →
     AllByRecursion (IsTagOf l.core l.nonterminal) xs → Stops IsChoice us → l.fn.bytes ≡ flat_map (choice_text name) xs ++ us →
     Left (IsTagOf l.core l.nonterminal) (choice_text name) us l.rest l.out.items (l.fn.out.items ++ xs) l.counter (length l.fn.bytes))

@@ -11,6 +11,7 @@ pub returns-in_default : goal.returns-in_default
 returns-in_default c =
     record {
       there = tt;
+      exact = λ name named. tt;
       told = λ name choice named q e. absurd (none-some _ (c.in_default.ensures ∙ named));
     }
 
@@ -18,6 +19,7 @@ pub returns-in_default-alternatives : goal.returns-in_default-alternatives
 returns-in_default-alternatives c =
     record {
       there = tt;
+      exact = λ name named. tt;
       told = λ name choice named q e.
           absurd (none-some _ (sym c.in_default-alternatives.is ∙ c.alternatives.ensures ∙ ap (option_map (λ (x : Nonterminal). _)) q.has.there));
     }
@@ -27,6 +29,8 @@ returns-in-Some-tag_at c =
     let found = some_is _ _ _ c.tag_at.ensures.there c.in-Some-tag_at.is in
     record {
       there = found.0;
+      exact = λ name named.
+          found.1 ∙ ap (λ z. tag_text z c.in-Some-tag_at.tag) (name_is c.args.core.now c.args.nonterminal c.in-Some.name name c.in-Some.ensures named);
       told = λ name choice named q e.
           let same = name_is c.args.core.now c.args.nonterminal c.in-Some.name name c.in-Some.ensures named in
           tag_is c.args.core.now c.requires c.args.nonterminal name c.in-Some-tag_at.tag choice c.args.bytes.now named found.0 q
@@ -41,6 +45,8 @@ returns-in-Some-tag_at-2 c =
     let found = some_is _ _ _ c.tag_at-in-loop-place.ensures.there c.in-Some-tag_at-2.is in
     record {
       there = found.0;
+      exact = λ name named.
+          found.1 ∙ ap (λ z. tag_text z c.in-Some-tag_at-2.tag) (name_is c.args.core.now c.args.nonterminal c.in-Some.name name c.in-Some.ensures named);
       told = λ name choice named q e.
           let same = name_is c.args.core.now c.args.nonterminal c.in-Some.name name c.in-Some.ensures named in
           tag_is c.args.core.now c.requires c.args.nonterminal name c.in-Some-tag_at-2.tag choice c.args.bytes.now named found.0 q
@@ -56,6 +62,7 @@ pub returns : goal.returns
 returns c =
     record {
       there = tt;
+      exact = λ name named. tt;
       told = λ name choice named q e.
           let same = name_is c.args.core.now c.args.nonterminal c.in-Some.name name c.in-Some.ensures named in
           absurd (none_has c.args.core.now c.args.nonterminal c.in-Some.name.now c.args.bytes.now c.in-Some-alternatives.many choice
