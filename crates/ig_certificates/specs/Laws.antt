@@ -2,6 +2,7 @@
 use Rattle.std.specs.Prelude.{◌≡◌, ℕ, ◌<◌, ◌≤◌, List, length, Option, Some, None, MatchOption}
 use Rattle.ig_text.specs.Limits.{numbers_end, most_characters}
 use Rattle.ig_text.specs.Tree.{Tree}
+use Rattle.ig_command.specs.declared.command.Notation.{Notation}
 use Rattle.ig_grammar.specs.Numbering.{as_written}
 use Rattle.ig_grammar.specs.declared.grammar.Grammar.{Grammar}
 use Rattle.ig_meaning.specs.Permitted.{Permitted}
@@ -38,17 +39,17 @@ pub record IsCertified (core : List Nonterminal) (text : List ℕ) (f : Forest) 
 
 -- what is printed of the core grammar of an accepted grammar tells its parts
 abbrev pub ReadCoresTellNames : Type 0
-ReadCoresTellNames = (bytes : List ℕ) (g : Grammar) → IsAccepted bytes g → TellsNames (CoreOf (unchanged g))
+ReadCoresTellNames = (n : Notation) (bytes : List ℕ) (g : Grammar) → IsAccepted n bytes g → TellsNames (CoreOf (unchanged g))
 
 -- so it is with the reduced forest of an accepted grammar and an input, where it has few items
 abbrev pub ReducedIsCertified : Type 0
 ReducedIsCertified =
-    (bytes : List ℕ) (g : Grammar) (text : List ℕ) (f : Forest) → IsAccepted bytes g →
+    (n : Notation) (bytes : List ℕ) (g : Grammar) (text : List ℕ) (f : Forest) → IsAccepted n bytes g →
     IsWellKinded (CoreOf (unchanged g)) → length text ≤ most_characters →
     IsReduced (CoreOf (unchanged g)) text f → length f.items < numbers_end → IsCertified (CoreOf (unchanged g)) text f
 
 -- each tree of a sound forest, at each depth, is one that the grammar permits
 abbrev pub VerifiedIsPermitted : Type 0
 VerifiedIsPermitted =
-    (bytes : List ℕ) (g : Grammar) (text : List ℕ) (f : Forest) (d : ℕ) (t : Tree) → IsTextOf bytes g → IsForest f →
-    IsSound (CoreOf (unchanged g)) text f → Unfolds f d t → Permitted g (as_written g) text t
+    (n : Notation) (bytes : List ℕ) (g : Grammar) (text : List ℕ) (f : Forest) (d : ℕ) (t : Tree) → IsTextOf n bytes g →
+    IsForest f → IsSound (CoreOf (unchanged g)) text f → Unfolds f d t → Permitted g (as_written g) text t

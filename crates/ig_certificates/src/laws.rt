@@ -2,12 +2,11 @@
 ghost use Rattle.ig_certificates.specs.Laws.{ReadCoresTellNames, ReducedIsCertified};
 ghost use Rattle.ig_certificates.specs.Laws.{VerifiedIsPermitted};
 
-use ig_core_integers::cores_have_small_integers;
+use ig_core_integers::{cores_have_small_integers, w3c_cores_have_small_integers};
 use ig_core_laws::core_trees_are_permitted_trees;
 use ig_core_names::{cores_call_no_root, cores_have_small_tags, cores_tell_names};
 use ig_forest_reader::texts_tell_drafts;
-use ig_notation::read_names_are_names;
-use ig_sources::{read_grammars_are_buildable, read_grammars_stay_regular};
+use ig_sources::{read_grammars_are_buildable, read_grammars_stay_regular, read_names_are_names};
 use ig_verify::sound_forests_unfold_to_core_trees;
 use ig_verify_laws::{
     reduced_forests_are_drafts, reduced_forests_are_sound, sound_forests_have_no_flaw,
@@ -31,6 +30,7 @@ pub fn reduced_forests_are_certified()
 {
     cores_call_no_root();
     cores_have_small_integers();
+    w3c_cores_have_small_integers();
     cores_have_small_tags();
     read_cores_tell_names();
     reduced_forests_are_drafts();

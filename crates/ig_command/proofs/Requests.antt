@@ -7,13 +7,14 @@ use Rattle.ig_text.specs.Words.{is_word}
 use Rattle.ig_text.proofs.Booleans.{first_true, rest_true}
 use Rattle.ig_text.proofs.Options.{mapped}
 use Rattle.ig_command.specs.Words.{Parts, Setting, is_apart, is_equals, is_joined, is_long, is_value, no_parts, parts_of, with_positional, with_setting, word_before}
-use Rattle.ig_command.specs.Commands.{Listing, Request, are_among, listing_with, number_if, number_of, number_or, option_in, question_with, request_of, request_with, row, most_budget, most_count, most_depth, most_number, most_size, usual_budget, usual_count}
+use Rattle.ig_command.specs.Commands.{Listing, Request, are_among, listing_with, number_if, number_of, number_or, option_in, question_with, request_of, request_with, row, most_budget, most_count, most_depth, most_number, most_size, usual_budget, usual_count, Source, source, source_in, notation_with, notation_in}
 use Rattle.ig_command.specs.Commands.{check, show, core, forest, trees, query, load, verify, analyse, for_forest, for_grammar, for_load, for_query, for_trees, for_verify}
 use Rattle.ig_command.specs.Commands.{Reads, budget_in, count_in, listing_in, question_in, stored_request}
-use Rattle.ig_command.specs.Rows.{Answers, Finds, HasParts, IsRefused, asked, budget_found, listing_found, question_found, with_both, with_three, found_request, is_empty, may_stand, names_of, places_of, row_of}
+use Rattle.ig_command.specs.Rows.{Answers, Finds, HasParts, IsRefused, asked, budget_found, listing_found, question_found, with_both, with_three, notation_found, source_of, for_one, found_request, is_empty, may_stand, names_of, places_of, row_of}
 use Rattle.clap.specs.Words.{first_value, found_of}
 use Rattle.clap.specs.declared.parser.matches.ArgMatches.{ArgMatches}
 use Rattle.ig_command.specs.declared.command.Command.{Command}
+use Rattle.ig_command.specs.declared.command.Notation.{Notation}
 use Rattle.ig_command.specs.declared.rows.Row.{Row}
 use Rattle.ig_command.specs.declared.rows.Row.TheVariants as rows
 
@@ -57,26 +58,38 @@ three_words v w x (a ∷ b ∷ []) e = absurd (cc)
 three_words v w x (a ∷ b ∷ c ∷ []) e = (a, b, c, (cc), (cc), (cc), refl)
 three_words v w x (a ∷ b ∷ c ∷ d ∷ ds) e = absurd (cc)
 
-one_file : (ask : List ℕ → Request) (find : Finds) (words : List (List ℕ)) (options : List Setting) → find (codes "G") ∷ [] ≡ map Some words →
-    option_map ask (find (codes "G")) ≡ for_grammar ask words options
-one_file ask find words options e =
+notation_same : (find : Finds) (options : List Setting) → option_in (codes "notation") options ≡ Some (find (codes "notation")) →
+    notation_found find ≡ notation_in options
+notation_same find options e = sym (ap (option_and_then notation_with) e)
+
+one_file : (ask : Source → Request) (find : Finds) (words : List (List ℕ)) (options : List Setting) → find (codes "G") ∷ [] ≡ map Some words →
+    notation_found find ≡ notation_in options → for_one ask find ≡ for_grammar ask words options
+one_file ask find words options e n =
     let w = one_word (find (codes "G")) words e in
-    ap (option_map ask) w.1 ∙ sym (ap (λ xs. for_grammar ask xs options) w.2)
+    ap₂ (λ k o. option_map ask (source_of k o)) n w.1 ∙ sym (ap (λ xs. for_grammar ask xs options) w.2)
 
 -- with two positional words
-two_files : (x y : Option (List ℕ)) (words : List (List ℕ)) → x ∷ y ∷ [] ≡ map Some words → (ask : List ℕ → List ℕ → Option Request)
-    (by_words : List (List ℕ) → Option Request) → ((g i : List ℕ) → ask g i ≡ by_words (g ∷ i ∷ [])) → with_both ask x y ≡ by_words words
-two_files x y words e ask by_words same =
+two_files : {A : Type 0} (x y : Option (List ℕ)) (words : List (List ℕ)) → x ∷ y ∷ [] ≡ map Some words →
+    (first : Option (List ℕ) → Option A) (ask : A → List ℕ → Option Request) (by_words : List (List ℕ) → Option Request) →
+    ((g i : List ℕ) → with_both ask (first (Some g)) (Some i) ≡ by_words (g ∷ i ∷ [])) → with_both ask (first x) y ≡ by_words words
+two_files x y words e first ask by_words same =
     let w = two_words x y words e in
-    ap₂ (with_both ask) w.2 w.3 ∙ same w.0 w.1 ∙ sym (ap by_words w.4)
+    ap₂ (λ u v. with_both ask (first u) v) w.2 w.3 ∙ same w.0 w.1 ∙ sym (ap by_words w.4)
 
 -- with three
-three_files : (x y z : Option (List ℕ)) (words : List (List ℕ)) (options : List Setting) → x ∷ y ∷ z ∷ [] ≡ map Some words →
-    with_three (λ g i f. Some (verify g i f)) x y z ≡ for_verify words options
-three_files x y z words options e =
+three_files : (x y z : Option (List ℕ)) (n : Option Notation) (words : List (List ℕ)) (options : List Setting) → x ∷ y ∷ z ∷ [] ≡ map Some words →
+    n ≡ notation_in options → with_three (λ g i f. Some (verify g i f)) (source_of n x) y z ≡ for_verify words options
+three_files x y z n words options e same =
     let w = three_words x y z words e in
-    ap (λ o. with_three (λ g i f. Some (verify g i f)) o y z) w.3 ∙ ap (λ o. with_three (λ g i f. Some (verify g i f)) (Some w.0) o z) w.4 ∙
-    ap (with_three (λ g i f. Some (verify g i f)) (Some w.0) (Some w.1)) w.5 ∙ sym (ap (λ xs. for_verify xs options) w.6)
+    ap (λ k. with_three (λ g i f. Some (verify g i f)) (source_of k x) y z) same ∙
+    ap (λ o. with_three (λ g i f. Some (verify g i f)) (source_of (notation_in options) o) y z) w.3 ∙
+    ap (λ o. with_three (λ g i f. Some (verify g i f)) (source_of (notation_in options) (Some w.0)) o z) w.4 ∙
+    ap (λ o. with_three (λ g i f. Some (verify g i f)) (source_of (notation_in options) (Some w.0)) (Some w.1) o) w.5 ∙
+    mapped_so (λ g. verify g w.1 w.2) (source_in w.0 options) ∙ sym (ap (λ xs. for_verify xs options) w.6)
+  where
+    mapped_so : (f : Source → Request) (o : Option Source) → option_and_then (λ g. Some (f g)) o ≡ option_map f o
+    mapped_so f None = refl
+    mapped_so f (Some g) = refl
 
 budget_same : (find : Finds) (options : List Setting) → option_in (codes "budget") options ≡ Some (find (codes "budget")) →
     budget_found find ≡ budget_in options
@@ -99,37 +112,49 @@ question_same find options w n =
 
 found_asked : (r : Row) (find : Finds) (p : Parts) → HasParts (places_of r) (names_of r) find p →
     found_request r find ≡ asked r p.positional p.options
-found_asked rows.Check find p has = one_file check find p.positional p.options has.files
-found_asked rows.Show find p has = one_file show find p.positional p.options has.files
-found_asked rows.Core find p has = one_file core find p.positional p.options has.files
+found_asked rows.Check find p has =
+    one_file check find p.positional p.options has.files (notation_same find p.options (has.options (codes "notation") refl))
+found_asked rows.Show find p has =
+    one_file show find p.positional p.options has.files (notation_same find p.options (has.options (codes "notation") refl))
+found_asked rows.Core find p has =
+    one_file core find p.positional p.options has.files (notation_same find p.options (has.options (codes "notation") refl))
 found_asked rows.Forest find p has =
-    two_files (find (codes "G")) (find (codes "I")) p.positional has.files (λ g i. option_map (forest g i) (budget_found find))
+    two_files (find (codes "G")) (find (codes "I")) p.positional has.files (source_of (notation_found find))
+    (λ g i. option_map (forest g i) (budget_found find))
     (λ words. for_forest words p.options)
-    (λ g i. ap (option_map (forest g i)) (budget_same find p.options (has.options (codes "budget") refl)))
+    (λ g i. ap₂ (λ n b. option_and_then (λ s. option_map (forest s i) b) (option_map (source g) n))
+    (notation_same find p.options (has.options (codes "notation") refl))
+    (budget_same find p.options (has.options (codes "budget") refl)))
 found_asked rows.Trees find p has =
-    two_files (find (codes "G")) (find (codes "I")) p.positional has.files
+    two_files (find (codes "G")) (find (codes "I")) p.positional has.files (source_of (notation_found find))
     (λ g i. option_and_then (λ budget. option_map (trees g i budget) (listing_found find)) (budget_found find))
     (λ words. for_trees words p.options)
-    (λ g i. ap₂ (λ l b. option_and_then (λ budget. option_map (trees g i budget) l) b)
+    (λ g i. ap (λ n. option_and_then (λ s. option_and_then (λ budget. option_map (trees s i budget) (listing_found find)) (budget_found find))
+    (option_map (source g) n)) (notation_same find p.options (has.options (codes "notation") refl)) ∙
+    ap₂ (λ l b. option_and_then (λ s. option_and_then (λ budget. option_map (trees s i budget) l) b) (source_in g p.options))
     (listing_same find p.options (has.options (codes "depth") refl) (has.options (codes "count") refl) (has.options (codes "after") refl))
     (budget_same find p.options (has.options (codes "budget") refl)))
 found_asked rows.Query find p has =
-    two_files (find (codes "G")) (find (codes "I")) p.positional has.files
+    two_files (find (codes "G")) (find (codes "I")) p.positional has.files (source_of (notation_found find))
     (λ g i. option_and_then (λ budget. option_map (query g i budget) (question_found find)) (budget_found find))
     (λ words. for_query words p.options)
-    (λ g i. ap₂ (λ q b. option_and_then (λ budget. option_map (query g i budget) q) b)
+    (λ g i. ap (λ n. option_and_then (λ s. option_and_then (λ budget. option_map (query s i budget) (question_found find)) (budget_found find))
+    (option_map (source g) n)) (notation_same find p.options (has.options (codes "notation") refl)) ∙
+    ap₂ (λ q b. option_and_then (λ s. option_and_then (λ budget. option_map (query s i budget) q) b) (source_in g p.options))
     (question_same find p.options (has.options (codes "what") refl) (has.options (codes "name") refl))
     (budget_same find p.options (has.options (codes "budget") refl)))
 found_asked rows.Load find p has =
-    two_files (find (codes "SIZE")) (find (codes "NUMBER")) p.positional has.files
+    two_files (find (codes "SIZE")) (find (codes "NUMBER")) p.positional has.files (λ o. o)
     (λ size number. option_and_then (λ s. option_and_then (λ n. option_map (load s n) (budget_found find))
     (number_of 0 most_number number)) (number_of 1 most_size size))
     (λ words. for_load words p.options)
     (λ size number. ap (λ b. option_and_then (λ s. option_and_then (λ n. option_map (load s n) b)
     (number_of 0 most_number number)) (number_of 1 most_size size)) (budget_same find p.options (has.options (codes "budget") refl)))
 found_asked rows.Verify find p has =
-    three_files (find (codes "G")) (find (codes "I")) (find (codes "F")) p.positional p.options has.files
-found_asked rows.Analyse find p has = one_file analyse find p.positional p.options has.files
+    three_files (find (codes "G")) (find (codes "I")) (find (codes "F")) (notation_found find) p.positional p.options has.files
+    (notation_same find p.options (has.options (codes "notation") refl))
+found_asked rows.Analyse find p has =
+    one_file analyse find p.positional p.options has.files (notation_same find p.options (has.options (codes "notation") refl))
 
 row_asked : (r : Row) (find : Finds) (p : Parts) → HasParts (places_of r) (names_of r) find p →
     found_request r find ≡ row (names_of r) (asked r) p
@@ -147,12 +172,28 @@ never (Some x) = refl
 abbrev Value : Type 0
 Value = Option (Option (List ℕ))
 
-forest_twice : (g i : List ℕ) (b : Value) → (is_some b && true) ≡ false →
+none_each : {A : Type 0} (f : A → Option Request) (o : Option A) → ((x : A) → f x ≡ None) → option_and_then f o ≡ None
+none_each f None h = refl
+none_each f (Some x) h = h x
+
+-- the notation stands twice, or what is asked of the grammar's file in it comes to nothing
+in_it : (g : List ℕ) (ask : Source → Option Request) (n : Value) (rest : Bool) → (is_some n && rest) ≡ false →
+    (rest ≡ false → (s : Source) → ask s ≡ None) →
+    option_and_then ask (option_map (source g) (option_and_then notation_with n)) ≡ None
+in_it g ask None rest e h = refl
+in_it g ask (Some n) rest e h = none_each ask (option_map (source g) (notation_with n)) (h e)
+
+grammar_twice : (g : List ℕ) (ask : Source → Request) (n : Value) → (is_some n && true) ≡ false →
+    option_map ask (option_map (source g) (option_and_then notation_with n)) ≡ None
+grammar_twice g ask None e = refl
+grammar_twice g ask (Some n) e = absurd (cc)
+
+forest_twice : (g : Source) (i : List ℕ) (b : Value) → (is_some b && true) ≡ false →
     option_map (forest g i) (option_and_then (number_or usual_budget 1 most_budget) b) ≡ None
 forest_twice g i None e = refl
 forest_twice g i (Some b) e = absurd (cc)
 
-no_listing : (g i : List ℕ) (b : Option ℕ) (l : Option Listing) → l ≡ None →
+no_listing : (g : Source) (i : List ℕ) (b : Option ℕ) (l : Option Listing) → l ≡ None →
     option_and_then (λ budget. option_map (trees g i budget) l) b ≡ None
 no_listing g i b l e = ap (λ z. option_and_then (λ budget. option_map (trees g i budget) z) b) e ∙ never b
 
@@ -165,7 +206,7 @@ no_after None n = refl
 no_after (Some d) None = refl
 no_after (Some d) (Some n) = refl
 
-trees_twice : (g i : List ℕ) (b d n a : Value) → (is_some b && (is_some d && (is_some n && (is_some a && true)))) ≡ false →
+trees_twice : (g : Source) (i : List ℕ) (b d n a : Value) → (is_some b && (is_some d && (is_some n && (is_some a && true)))) ≡ false →
     option_and_then (λ budget. option_map (trees g i budget) (listing_with (option_and_then (number_if 0 most_depth) d)
     (option_and_then (number_or usual_count 1 most_count) n) a)) (option_and_then (number_or usual_budget 1 most_budget) b) ≡ None
 trees_twice g i None d n a e = refl
@@ -176,7 +217,7 @@ trees_twice g i (Some b) (Some d) (Some n) None e =
     no_listing g i (number_or usual_budget 1 most_budget b) _ (no_after (number_if 0 most_depth d) (number_or usual_count 1 most_count n))
 trees_twice g i (Some b) (Some d) (Some n) (Some a) e = absurd (cc)
 
-query_twice : (g i : List ℕ) (b w n : Value) → (is_some b && (is_some w && (is_some n && true))) ≡ false →
+query_twice : (g : Source) (i : List ℕ) (b w n : Value) → (is_some b && (is_some w && (is_some n && true))) ≡ false →
     option_and_then (λ budget. option_map (query g i budget) (option_and_then (λ name. option_and_then (question_with name) w) n))
     (option_and_then (number_or usual_budget 1 most_budget) b) ≡ None
 query_twice g i None w n e = refl
@@ -198,28 +239,39 @@ Twice r options = list_all (λ name. is_some (option_in name options)) (names_of
 refused_asks : (r : Row) (words : List (List ℕ)) (options : List Setting) → (length words ≡ length (places_of r) → Twice r options) →
     asked r words options ≡ None
 refused_asks rows.Check [] options h = refl
-refused_asks rows.Check (g ∷ []) options h = let e : true ≡ false = h refl in absurd (cc)
+refused_asks rows.Check (g ∷ []) options h = grammar_twice g check (option_in (codes "notation") options) (h refl)
 refused_asks rows.Check (g ∷ i ∷ ws) options h = refl
 refused_asks rows.Show [] options h = refl
-refused_asks rows.Show (g ∷ []) options h = let e : true ≡ false = h refl in absurd (cc)
+refused_asks rows.Show (g ∷ []) options h = grammar_twice g show (option_in (codes "notation") options) (h refl)
 refused_asks rows.Show (g ∷ i ∷ ws) options h = refl
 refused_asks rows.Core [] options h = refl
-refused_asks rows.Core (g ∷ []) options h = let e : true ≡ false = h refl in absurd (cc)
+refused_asks rows.Core (g ∷ []) options h = grammar_twice g core (option_in (codes "notation") options) (h refl)
 refused_asks rows.Core (g ∷ i ∷ ws) options h = refl
 refused_asks rows.Forest [] options h = refl
 refused_asks rows.Forest (g ∷ []) options h = refl
-refused_asks rows.Forest (g ∷ i ∷ []) options h = forest_twice g i (option_in (codes "budget") options) (h refl)
+refused_asks rows.Forest (g ∷ i ∷ []) options h =
+    in_it g (λ s. option_map (forest s i) (budget_in options)) (option_in (codes "notation") options)
+    (is_some (option_in (codes "budget") options) && true) (h refl)
+    (λ e s. forest_twice s i (option_in (codes "budget") options) e)
 refused_asks rows.Forest (g ∷ i ∷ w ∷ ws) options h = refl
 refused_asks rows.Trees [] options h = refl
 refused_asks rows.Trees (g ∷ []) options h = refl
 refused_asks rows.Trees (g ∷ i ∷ []) options h =
-    trees_twice g i (option_in (codes "budget") options) (option_in (codes "depth") options) (option_in (codes "count") options)
-    (option_in (codes "after") options) (h refl)
+    in_it g (λ s. option_and_then (λ budget. option_map (trees s i budget) (listing_in options)) (budget_in options))
+    (option_in (codes "notation") options)
+    (is_some (option_in (codes "budget") options) && (is_some (option_in (codes "depth") options) &&
+    (is_some (option_in (codes "count") options) && (is_some (option_in (codes "after") options) && true)))) (h refl)
+    (λ e s. trees_twice s i (option_in (codes "budget") options) (option_in (codes "depth") options) (option_in (codes "count") options)
+    (option_in (codes "after") options) e)
 refused_asks rows.Trees (g ∷ i ∷ w ∷ ws) options h = refl
 refused_asks rows.Query [] options h = refl
 refused_asks rows.Query (g ∷ []) options h = refl
 refused_asks rows.Query (g ∷ i ∷ []) options h =
-    query_twice g i (option_in (codes "budget") options) (option_in (codes "what") options) (option_in (codes "name") options) (h refl)
+    in_it g (λ s. option_and_then (λ budget. option_map (query s i budget) (question_in options)) (budget_in options))
+    (option_in (codes "notation") options)
+    (is_some (option_in (codes "budget") options) && (is_some (option_in (codes "what") options) &&
+    (is_some (option_in (codes "name") options) && true))) (h refl)
+    (λ e s. query_twice s i (option_in (codes "budget") options) (option_in (codes "what") options) (option_in (codes "name") options) e)
 refused_asks rows.Query (g ∷ i ∷ w ∷ ws) options h = refl
 refused_asks rows.Load [] options h = refl
 refused_asks rows.Load (size ∷ []) options h = refl
@@ -229,10 +281,11 @@ refused_asks rows.Load (size ∷ number ∷ w ∷ ws) options h = refl
 refused_asks rows.Verify [] options h = refl
 refused_asks rows.Verify (g ∷ []) options h = refl
 refused_asks rows.Verify (g ∷ i ∷ []) options h = refl
-refused_asks rows.Verify (g ∷ i ∷ f ∷ []) options h = let e : true ≡ false = h refl in absurd (cc)
+refused_asks rows.Verify (g ∷ i ∷ f ∷ []) options h =
+    grammar_twice g (λ s. verify s i f) (option_in (codes "notation") options) (h refl)
 refused_asks rows.Verify (g ∷ i ∷ f ∷ w ∷ ws) options h = refl
 refused_asks rows.Analyse [] options h = refl
-refused_asks rows.Analyse (g ∷ []) options h = let e : true ≡ false = h refl in absurd (cc)
+refused_asks rows.Analyse (g ∷ []) options h = grammar_twice g analyse (option_in (codes "notation") options) (h refl)
 refused_asks rows.Analyse (g ∷ i ∷ ws) options h = refl
 
 row_refused : (r : Row) (p : Parts) → IsRefused (places_of r) (names_of r) p → row (names_of r) (asked r) p ≡ None

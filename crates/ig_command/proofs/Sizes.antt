@@ -7,7 +7,7 @@ use Rattle.std.proofs.lemmas.Option.{same_Some}
 use Rattle.ig_text.specs.Words.{is_digit}
 use Rattle.ig_expr.specs.Reading.{spelled}
 use Rattle.ig_command.specs.Words.{Parts, Setting, parts_of}
-use Rattle.ig_command.specs.Commands.{Request, check, show, core, forest, trees, query, load, verify, analyse, IsCommand, request_of, request_with, row, are_among, number_of, most_size, most_number}
+use Rattle.ig_command.specs.Commands.{Request, check, show, core, forest, trees, query, load, verify, analyse, IsCommand, request_of, request_with, row, are_among, number_of, most_size, most_number, Source, source_in}
 use Rattle.ig_command.specs.Commands.{budget_in, listing_in, question_in, for_grammar, for_forest, for_trees, for_query, for_load, for_verify}
 use Rattle.ig_command.specs.Rows.{asked, names_of, row_of}
 use Rattle.ig_command.specs.declared.rows.Row.{Row}
@@ -60,32 +60,38 @@ number_fits least most n digits e =
     picked (list_all is_digit digits && (nat_le least (spelled 0 digits) && nat_le (spelled 0 digits) most)) (spelled 0 digits) n most
     (λ h. within (spelled 0 digits) most (last_true (list_all is_digit digits) (nat_le least (spelled 0 digits)) _ h)) e
 
-grammar_fits : (ask : List ℕ → Request) (words : List (List ℕ)) (options : List Setting) → ((g : List ℕ) → Fits (ask g)) →
+grammar_fits : (ask : Source → Request) (words : List (List ℕ)) (options : List Setting) → ((g : Source) → Fits (ask g)) →
     AllFit (for_grammar ask words options)
 grammar_fits ask [] options fits = none_fits
-grammar_fits ask (g ∷ []) options fits = some_fits (ask g) (fits g)
+grammar_fits ask (g ∷ []) options fits = mapped_fits ask (source_in g options) fits
 grammar_fits ask (g ∷ h ∷ others) options fits = none_fits
 
 forest_fits : (words : List (List ℕ)) (options : List Setting) → AllFit (for_forest words options)
 forest_fits [] options = none_fits
 forest_fits (g ∷ []) options = none_fits
-forest_fits (g ∷ i ∷ []) options = mapped_fits (forest g i) (budget_in options) (λ b. tt)
+forest_fits (g ∷ i ∷ []) options =
+    then_fits (λ (s : Source). option_map (forest s i) (budget_in options)) (source_in g options)
+    (λ s found. mapped_fits (forest s i) (budget_in options) (λ b. tt))
 forest_fits (g ∷ i ∷ h ∷ others) options = none_fits
 
 trees_fit : (words : List (List ℕ)) (options : List Setting) → AllFit (for_trees words options)
 trees_fit [] options = none_fits
 trees_fit (g ∷ []) options = none_fits
 trees_fit (g ∷ i ∷ []) options =
-    then_fits (λ (b : ℕ). option_map (trees g i b) (listing_in options)) (budget_in options)
-    (λ b found. mapped_fits (trees g i b) (listing_in options) (λ l. tt))
+    then_fits (λ (s : Source). option_and_then (λ (b : ℕ). option_map (trees s i b) (listing_in options)) (budget_in options))
+    (source_in g options)
+    (λ s is. then_fits (λ (b : ℕ). option_map (trees s i b) (listing_in options)) (budget_in options)
+    (λ b found. mapped_fits (trees s i b) (listing_in options) (λ l. tt)))
 trees_fit (g ∷ i ∷ h ∷ others) options = none_fits
 
 query_fits : (words : List (List ℕ)) (options : List Setting) → AllFit (for_query words options)
 query_fits [] options = none_fits
 query_fits (g ∷ []) options = none_fits
 query_fits (g ∷ i ∷ []) options =
-    then_fits (λ (b : ℕ). option_map (query g i b) (question_in options)) (budget_in options)
-    (λ b found. mapped_fits (query g i b) (question_in options) (λ q. tt))
+    then_fits (λ (s : Source). option_and_then (λ (b : ℕ). option_map (query s i b) (question_in options)) (budget_in options))
+    (source_in g options)
+    (λ s is. then_fits (λ (b : ℕ). option_map (query s i b) (question_in options)) (budget_in options)
+    (λ b found. mapped_fits (query s i b) (question_in options) (λ q. tt)))
 query_fits (g ∷ i ∷ h ∷ others) options = none_fits
 
 load_fits : (words : List (List ℕ)) (options : List Setting) → AllFit (for_load words options)
@@ -103,7 +109,7 @@ verify_fits : (words : List (List ℕ)) (options : List Setting) → AllFit (for
 verify_fits [] options = none_fits
 verify_fits (g ∷ []) options = none_fits
 verify_fits (g ∷ i ∷ []) options = none_fits
-verify_fits (g ∷ i ∷ f ∷ []) options = some_fits (verify g i f) tt
+verify_fits (g ∷ i ∷ f ∷ []) options = mapped_fits (λ s. verify s i f) (source_in g options) (λ s. tt)
 verify_fits (g ∷ i ∷ f ∷ h ∷ others) options = none_fits
 
 asked_fits : (r : Row) (words : List (List ℕ)) (options : List Setting) → AllFit (asked r words options)

@@ -10,6 +10,17 @@ use Rattle.ig_command.specs.declared.command.Command.TheVariants as stored
 use Rattle.ig_command.specs.declared.command.Listing.{Listing as StoredListing}
 use Rattle.ig_command.specs.declared.command.Question.{Question as StoredQuestion}
 use Rattle.ig_command.specs.declared.command.Question.TheVariants as asks
+use Rattle.ig_command.specs.declared.command.Notation.{Notation}
+use Rattle.ig_command.specs.declared.command.Notation.TheVariants as notation
+use Rattle.ig_command.specs.declared.command.Source.{Source as StoredSource}
+
+-- the file of a grammar, by its name, and the notation of its text
+pub record Source : Type 0 where
+  pub name : List ℕ
+  pub written : Notation
+
+abbrev pub source : List ℕ → Notation → Source
+source file n = record { name = file; written = n }
 
 -- which trees are listed: those up to a height, or all; so many at most; those behind a cursor, or from the first on
 pub record Listing : Type 0 where
@@ -31,38 +42,38 @@ pub data Question : Type 0 where
 -- what a command asks for, with the names of its files
 pub data Request : Type 0 where
   -- that the grammar is checked
-  check : (grammar : List ℕ) → Request
+  check : (grammar : Source) → Request
   -- the canonical text of the grammar
-  show : (grammar : List ℕ) → Request
+  show : (grammar : Source) → Request
   -- the text of its core grammar
-  core : (grammar : List ℕ) → Request
+  core : (grammar : Source) → Request
   -- the forest of the grammar and the input, where no more items than the budget are reachable
-  forest : (grammar input : List ℕ) (budget : ℕ) → Request
+  forest : (grammar : Source) (input : List ℕ) (budget : ℕ) → Request
   -- its trees
-  trees : (grammar input : List ℕ) (budget : ℕ) (listing : Listing) → Request
+  trees : (grammar : Source) (input : List ℕ) (budget : ℕ) (listing : Listing) → Request
   -- an answer from it
-  query : (grammar input : List ℕ) (budget : ℕ) (question : Question) → Request
+  query : (grammar : Source) (input : List ℕ) (budget : ℕ) (question : Question) → Request
   -- the numbers of the forest of a grammar and an input that are made
   load : (size number budget : ℕ) → Request
   -- that a forest of the grammar and the input is checked, which its text tells
-  verify : (grammar input text : List ℕ) → Request
+  verify : (grammar : Source) (input text : List ℕ) → Request
   -- the facts of the grammar's nonterminals
-  analyse : (grammar : List ℕ) → Request
+  analyse : (grammar : Source) → Request
 
 -- the names of the files that a command reads, the grammar's first
 abbrev pub files_of : Request → List (List ℕ)
-files_of (check grammar) = grammar ∷ []
-files_of (show grammar) = grammar ∷ []
-files_of (core grammar) = grammar ∷ []
-files_of (forest grammar input budget) = grammar ∷ input ∷ []
-files_of (trees grammar input budget listing) = grammar ∷ input ∷ []
-files_of (query grammar input budget question) = grammar ∷ input ∷ []
+files_of (check grammar) = grammar.name ∷ []
+files_of (show grammar) = grammar.name ∷ []
+files_of (core grammar) = grammar.name ∷ []
+files_of (forest grammar input budget) = grammar.name ∷ input ∷ []
+files_of (trees grammar input budget listing) = grammar.name ∷ input ∷ []
+files_of (query grammar input budget question) = grammar.name ∷ input ∷ []
 files_of (load size number budget) = []
-files_of (verify grammar input text) = grammar ∷ input ∷ text ∷ []
-files_of (analyse grammar) = grammar ∷ []
+files_of (verify grammar input text) = grammar.name ∷ input ∷ text ∷ []
+files_of (analyse grammar) = grammar.name ∷ []
 
--- the name of the grammar, where one is read
-abbrev pub grammar_file : Request → Option (List ℕ)
+-- the file of the grammar, where one is read
+abbrev pub grammar_file : Request → Option Source
 grammar_file (check grammar) = Some grammar
 grammar_file (show grammar) = Some grammar
 grammar_file (core grammar) = Some grammar
@@ -167,23 +178,40 @@ abbrev pub question_in : List Setting → Option Question
 question_in options =
     option_and_then (λ name. option_and_then (question_with name) (option_in (codes "what") options)) (option_in (codes "name") options)
 
+-- the notation that `--notation` names; the own one where it doesn't stand
+abbrev pub notation_with : Option (List ℕ) → Option Notation
+notation_with None = Some notation.Own
+notation_with (Some word) =
+    if is_word word (codes "own") then Some notation.Own
+    else (if is_word word (codes "w3c") then Some notation.W3c else None)
+
+abbrev pub notation_in : List Setting → Option Notation
+notation_in options = option_and_then notation_with (option_in (codes "notation") options)
+
+-- the grammar in the file of this name
+abbrev pub source_in : List ℕ → List Setting → Option Source
+source_in file options = option_map (source file) (notation_in options)
+
 -- the requests of a command's positional words and options
-abbrev pub for_grammar : (List ℕ → Request) → List (List ℕ) → List Setting → Option Request
-for_grammar ask (grammar ∷ []) options = Some (ask grammar)
+abbrev pub for_grammar : (Source → Request) → List (List ℕ) → List Setting → Option Request
+for_grammar ask (grammar ∷ []) options = option_map ask (source_in grammar options)
 for_grammar ask words options = None
 
 abbrev pub for_forest : List (List ℕ) → List Setting → Option Request
-for_forest (grammar ∷ input ∷ []) options = option_map (forest grammar input) (budget_in options)
+for_forest (grammar ∷ input ∷ []) options =
+    option_and_then (λ g. option_map (forest g input) (budget_in options)) (source_in grammar options)
 for_forest words options = None
 
 abbrev pub for_trees : List (List ℕ) → List Setting → Option Request
 for_trees (grammar ∷ input ∷ []) options =
-    option_and_then (λ budget. option_map (trees grammar input budget) (listing_in options)) (budget_in options)
+    option_and_then (λ g. option_and_then (λ budget. option_map (trees g input budget) (listing_in options)) (budget_in options))
+    (source_in grammar options)
 for_trees words options = None
 
 abbrev pub for_query : List (List ℕ) → List Setting → Option Request
 for_query (grammar ∷ input ∷ []) options =
-    option_and_then (λ budget. option_map (query grammar input budget) (question_in options)) (budget_in options)
+    option_and_then (λ g. option_and_then (λ budget. option_map (query g input budget) (question_in options)) (budget_in options))
+    (source_in grammar options)
 for_query words options = None
 
 abbrev pub for_load : List (List ℕ) → List Setting → Option Request
@@ -193,7 +221,8 @@ for_load (size ∷ number ∷ []) options =
 for_load words options = None
 
 abbrev pub for_verify : List (List ℕ) → List Setting → Option Request
-for_verify (grammar ∷ input ∷ text ∷ []) options = Some (verify grammar input text)
+for_verify (grammar ∷ input ∷ text ∷ []) options =
+    option_map (λ g. verify g input text) (source_in grammar options)
 for_verify words options = None
 
 -- each option has one of the names
@@ -207,16 +236,17 @@ row names ask parts = if are_among names parts.options then ask parts.positional
 -- the table of commands
 abbrev pub request_with : List ℕ → Parts → Option Request
 request_with name =
-    if is_word name (codes "check") then row [] (for_grammar check)
-    else (if is_word name (codes "show") then row [] (for_grammar show)
-    else (if is_word name (codes "core") then row [] (for_grammar core)
-    else (if is_word name (codes "forest") then row (codes "budget" ∷ []) for_forest
+    if is_word name (codes "check") then row (codes "notation" ∷ []) (for_grammar check)
+    else (if is_word name (codes "show") then row (codes "notation" ∷ []) (for_grammar show)
+    else (if is_word name (codes "core") then row (codes "notation" ∷ []) (for_grammar core)
+    else (if is_word name (codes "forest") then row (codes "notation" ∷ codes "budget" ∷ []) for_forest
     else (if is_word name (codes "trees")
-    then row (codes "budget" ∷ codes "depth" ∷ codes "count" ∷ codes "after" ∷ []) for_trees
-    else (if is_word name (codes "query") then row (codes "budget" ∷ codes "what" ∷ codes "name" ∷ []) for_query
+    then row (codes "notation" ∷ codes "budget" ∷ codes "depth" ∷ codes "count" ∷ codes "after" ∷ []) for_trees
+    else (if is_word name (codes "query")
+    then row (codes "notation" ∷ codes "budget" ∷ codes "what" ∷ codes "name" ∷ []) for_query
     else (if is_word name (codes "load") then row (codes "budget" ∷ []) for_load
-    else (if is_word name (codes "verify") then row [] for_verify
-    else (if is_word name (codes "analyse") then row [] (for_grammar analyse)
+    else (if is_word name (codes "verify") then row (codes "notation" ∷ []) for_verify
+    else (if is_word name (codes "analyse") then row (codes "notation" ∷ []) (for_grammar analyse)
     else (λ parts. None)))))))))
 
 -- the request of the words: first the name of a command, then positional words and options in any order; none exactly where
@@ -238,17 +268,20 @@ stored_question asks.Cyclic = cyclic
 stored_question (asks.Spans name) = spans (option_copied name)
 stored_question asks.Report = report
 
+abbrev pub stored_source : StoredSource → Source
+stored_source s = source s.name.now s.notation
+
 -- what a stored command asks for
 abbrev pub stored_request : Command → Request
-stored_request (stored.Check grammar) = check grammar.now
-stored_request (stored.Show grammar) = show grammar.now
-stored_request (stored.Core grammar) = core grammar.now
-stored_request (stored.Forest grammar input budget) = forest grammar.now input.now budget
-stored_request (stored.Trees grammar input budget listing) = trees grammar.now input.now budget (stored_listing listing)
-stored_request (stored.Query grammar input budget question) = query grammar.now input.now budget (stored_question question)
+stored_request (stored.Check grammar) = check (stored_source grammar)
+stored_request (stored.Show grammar) = show (stored_source grammar)
+stored_request (stored.Core grammar) = core (stored_source grammar)
+stored_request (stored.Forest grammar input budget) = forest (stored_source grammar) input.now budget
+stored_request (stored.Trees grammar input budget listing) = trees (stored_source grammar) input.now budget (stored_listing listing)
+stored_request (stored.Query grammar input budget question) = query (stored_source grammar) input.now budget (stored_question question)
 stored_request (stored.Load size number budget) = load size number budget
-stored_request (stored.Verify grammar input text) = verify grammar.now input.now text.now
-stored_request (stored.Analyse grammar) = analyse grammar.now
+stored_request (stored.Verify grammar input text) = verify (stored_source grammar) input.now text.now
+stored_request (stored.Analyse grammar) = analyse (stored_source grammar)
 
 -- the words are this command, or none
 abbrev pub Reads : List (List ℕ) → Option Command → Type 0

@@ -5,8 +5,9 @@ use Rattle.clap.specs.Words.{App, Rule, new_app, new_rule, first_value, found_of
 use Rattle.clap.specs.declared.parser.matches.ArgMatches.{ArgMatches}
 use Rattle.ig_text.specs.Words.{is_word}
 use Rattle.ig_command.specs.Words.{Parts, Setting, is_equals, is_long, is_value}
-use Rattle.ig_command.specs.Commands.{Listing, Question, Request, are_among, for_forest, for_grammar, for_load, for_query, for_trees, for_verify, listing_with, most_budget, most_count, most_depth, most_number, most_size, number_if, number_of, number_or, option_in, question_with, usual_budget, usual_count}
+use Rattle.ig_command.specs.Commands.{Listing, Question, Request, are_among, for_forest, for_grammar, for_load, for_query, for_trees, for_verify, listing_with, most_budget, most_count, most_depth, most_number, most_size, number_if, number_of, number_or, notation_with, option_in, question_with, source, Source, usual_budget, usual_count}
 use Rattle.ig_command.specs.Commands.{check, show, core, forest, trees, query, load, verify, analyse}
+use Rattle.ig_command.specs.declared.command.Notation.{Notation}
 use Rattle.ig_command.specs.declared.rows.Row.{Row}
 use Rattle.ig_command.specs.declared.rows.Row.TheVariants as rows
 
@@ -37,15 +38,15 @@ places_of rows.Analyse = codes "G" ∷ []
 
 -- the names of its options
 abbrev pub names_of : Row → List (List ℕ)
-names_of rows.Check = []
-names_of rows.Show = []
-names_of rows.Core = []
-names_of rows.Forest = codes "budget" ∷ []
-names_of rows.Trees = codes "budget" ∷ codes "depth" ∷ codes "count" ∷ codes "after" ∷ []
-names_of rows.Query = codes "budget" ∷ codes "what" ∷ codes "name" ∷ []
+names_of rows.Check = codes "notation" ∷ []
+names_of rows.Show = codes "notation" ∷ []
+names_of rows.Core = codes "notation" ∷ []
+names_of rows.Forest = codes "notation" ∷ codes "budget" ∷ []
+names_of rows.Trees = codes "notation" ∷ codes "budget" ∷ codes "depth" ∷ codes "count" ∷ codes "after" ∷ []
+names_of rows.Query = codes "notation" ∷ codes "budget" ∷ codes "what" ∷ codes "name" ∷ []
 names_of rows.Load = codes "budget" ∷ []
-names_of rows.Verify = []
-names_of rows.Analyse = []
+names_of rows.Verify = codes "notation" ∷ []
+names_of rows.Analyse = codes "notation" ∷ []
 
 -- what its parts ask for
 abbrev pub asked : Row → List (List ℕ) → List Setting → Option Request
@@ -79,14 +80,24 @@ app_for r = app_with (map place (places_of r) ++ map option (names_of r))
 abbrev pub Finds : Type 0
 Finds = List ℕ → Option (List ℕ)
 
--- what the parts ask for, by the values that were found
-abbrev pub for_one : (List ℕ → Request) → Finds → Option Request
-for_one ask find = option_map ask (find (codes "G"))
+abbrev pub notation_found : Finds → Option Notation
+notation_found find = notation_with (find (codes "notation"))
 
-abbrev pub with_both : (List ℕ → List ℕ → Option Request) → Option (List ℕ) → Option (List ℕ) → Option Request
+-- the grammar's file, in this notation
+abbrev pub source_of : Option Notation → Option (List ℕ) → Option Source
+source_of written file = option_and_then (λ g. option_map (source g) written) file
+
+abbrev pub source_found : Finds → Option Source
+source_found find = source_of (notation_found find) (find (codes "G"))
+
+-- what the parts ask for, by the values that were found
+abbrev pub for_one : (Source → Request) → Finds → Option Request
+for_one ask find = option_map ask (source_found find)
+
+abbrev pub with_both : {A : Type 0} → (A → List ℕ → Option Request) → Option A → Option (List ℕ) → Option Request
 with_both ask first second = option_and_then (λ a. option_and_then (ask a) second) first
 
-abbrev pub with_three : (List ℕ → List ℕ → List ℕ → Option Request) → Option (List ℕ) → Option (List ℕ) → Option (List ℕ) → Option Request
+abbrev pub with_three : (Source → List ℕ → List ℕ → Option Request) → Option Source → Option (List ℕ) → Option (List ℕ) → Option Request
 with_three ask first second third = option_and_then (λ a. option_and_then (λ b. option_and_then (ask a b) third) second) first
 
 abbrev pub budget_found : Finds → Option ℕ
@@ -107,18 +118,18 @@ found_request rows.Check find = for_one check find
 found_request rows.Show find = for_one show find
 found_request rows.Core find = for_one core find
 found_request rows.Forest find =
-    with_both (λ g i. option_map (forest g i) (budget_found find)) (find (codes "G")) (find (codes "I"))
+    with_both (λ g i. option_map (forest g i) (budget_found find)) (source_found find) (find (codes "I"))
 found_request rows.Trees find =
     with_both (λ g i. option_and_then (λ budget. option_map (trees g i budget) (listing_found find)) (budget_found find))
-    (find (codes "G")) (find (codes "I"))
+    (source_found find) (find (codes "I"))
 found_request rows.Query find =
     with_both (λ g i. option_and_then (λ budget. option_map (query g i budget) (question_found find)) (budget_found find))
-    (find (codes "G")) (find (codes "I"))
+    (source_found find) (find (codes "I"))
 found_request rows.Load find =
     with_both (λ size number. option_and_then (λ s. option_and_then (λ n. option_map (load s n) (budget_found find))
     (number_of 0 most_number number)) (number_of 1 most_size size)) (find (codes "SIZE")) (find (codes "NUMBER"))
 found_request rows.Verify find =
-    with_three (λ g i f. Some (verify g i f)) (find (codes "G")) (find (codes "I")) (find (codes "F"))
+    with_three (λ g i f. Some (verify g i f)) (source_found find) (find (codes "I")) (find (codes "F"))
 found_request rows.Analyse find = for_one analyse find
 
 abbrev pub is_empty : List ℕ → Bool

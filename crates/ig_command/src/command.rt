@@ -4,8 +4,9 @@ ghost use Rattle.std.specs.Option.{option_copied};
 ghost use Rattle.clap.specs.Words.{first_value, found_of};
 ghost use Rattle.ig_command.specs.Commands.{Reads, number_if, number_of, number_or};
 ghost use Rattle.ig_command.specs.Commands.{question_with, stored_listing, stored_question};
-ghost use Rattle.ig_command.specs.Commands.{stored_request};
+ghost use Rattle.ig_command.specs.Commands.{notation_with, stored_request, stored_source};
 ghost use Rattle.ig_command.specs.Rows.{budget_found, count_found, found_request, listing_found};
+ghost use Rattle.ig_command.specs.Rows.{notation_found, source_found};
 
 use crate::rows::{Row, matches_of, row_named};
 use crate::words::{all_may_stand, read_number};
@@ -54,37 +55,55 @@ pub enum Question<'a> {
     Report,
 }
 
+/// The notation of a grammar text.
+#[derive(Clone, Copy, PartialEq, Eq, Debug)]
+pub enum Notation {
+    /// The program's own.
+    Own,
+    /// That of section 6 of the XML recommendation.
+    W3c,
+}
+
+/// The file of a grammar.
+#[derive(Clone, Copy, PartialEq, Eq, Debug)]
+pub struct Source<'a> {
+    /// Its name.
+    pub name: &'a str,
+    /// The notation of its text.
+    pub notation: Notation,
+}
+
 /// What the words of a command ask for, with the names of its files.
 #[derive(Clone, Copy, PartialEq, Eq, Debug)]
 pub enum Command<'a> {
     /// That the grammar is checked.
     Check {
-        grammar: &'a str,
+        grammar: Source<'a>,
     },
     /// The canonical text of the grammar.
     Show {
-        grammar: &'a str,
+        grammar: Source<'a>,
     },
     /// The text of its core grammar.
     Core {
-        grammar: &'a str,
+        grammar: Source<'a>,
     },
     /// The forest of the grammar and the input, where no more items than the budget are reachable.
     Forest {
-        grammar: &'a str,
+        grammar: Source<'a>,
         input: &'a str,
         budget: u32,
     },
     /// Its trees.
     Trees {
-        grammar: &'a str,
+        grammar: Source<'a>,
         input: &'a str,
         budget: u32,
         listing: Listing<'a>,
     },
     /// An answer from it.
     Query {
-        grammar: &'a str,
+        grammar: Source<'a>,
         input: &'a str,
         budget: u32,
         question: Question<'a>,
@@ -97,13 +116,13 @@ pub enum Command<'a> {
     },
     /// That a forest of the grammar and the input, which its text tells, is checked.
     Verify {
-        grammar: &'a str,
+        grammar: Source<'a>,
         input: &'a str,
         forest: &'a str,
     },
     /// The facts of the grammar's nonterminals.
     Analyse {
-        grammar: &'a str,
+        grammar: Source<'a>,
     },
 }
 
@@ -150,7 +169,7 @@ fn check_command<'a>(matches: &ArgMatches<'a>) -> Option<Command<'a>>
     ensures { option_map stored_request result
         ≡ found_request Row.Check (first_value (found_of matches.now)) }
 {
-    let grammar = matches.get_str("G")?;
+    let grammar = source_of(matches)?;
     Some(Command::Check { grammar })
 }
 
@@ -159,7 +178,7 @@ fn show_command<'a>(matches: &ArgMatches<'a>) -> Option<Command<'a>>
     ensures { option_map stored_request result
         ≡ found_request Row.Show (first_value (found_of matches.now)) }
 {
-    let grammar = matches.get_str("G")?;
+    let grammar = source_of(matches)?;
     Some(Command::Show { grammar })
 }
 
@@ -168,7 +187,7 @@ fn core_command<'a>(matches: &ArgMatches<'a>) -> Option<Command<'a>>
     ensures { option_map stored_request result
         ≡ found_request Row.Core (first_value (found_of matches.now)) }
 {
-    let grammar = matches.get_str("G")?;
+    let grammar = source_of(matches)?;
     Some(Command::Core { grammar })
 }
 
@@ -177,7 +196,7 @@ fn forest_command<'a>(matches: &ArgMatches<'a>) -> Option<Command<'a>>
     ensures { option_map stored_request result
         ≡ found_request Row.Forest (first_value (found_of matches.now)) }
 {
-    let grammar = matches.get_str("G")?;
+    let grammar = source_of(matches)?;
     let input = matches.get_str("I")?;
     let budget = budget_of(matches)?;
     Some(Command::Forest {
@@ -192,7 +211,7 @@ fn trees_command<'a>(matches: &ArgMatches<'a>) -> Option<Command<'a>>
     ensures { option_map stored_request result
         ≡ found_request Row.Trees (first_value (found_of matches.now)) }
 {
-    let grammar = matches.get_str("G")?;
+    let grammar = source_of(matches)?;
     let input = matches.get_str("I")?;
     let budget = budget_of(matches)?;
     let listing = listing_of(matches)?;
@@ -209,7 +228,7 @@ fn query_command<'a>(matches: &ArgMatches<'a>) -> Option<Command<'a>>
     ensures { option_map stored_request result
         ≡ found_request Row.Query (first_value (found_of matches.now)) }
 {
-    let grammar = matches.get_str("G")?;
+    let grammar = source_of(matches)?;
     let input = matches.get_str("I")?;
     let budget = budget_of(matches)?;
     let question = question_named(matches.get_str("what"), matches.get_str("name"))?;
@@ -243,7 +262,7 @@ fn verify_command<'a>(matches: &ArgMatches<'a>) -> Option<Command<'a>>
     ensures { option_map stored_request result
         ≡ found_request Row.Verify (first_value (found_of matches.now)) }
 {
-    let grammar = matches.get_str("G")?;
+    let grammar = source_of(matches)?;
     let input = matches.get_str("I")?;
     let forest = matches.get_str("F")?;
     Some(Command::Verify {
@@ -258,8 +277,48 @@ fn analyse_command<'a>(matches: &ArgMatches<'a>) -> Option<Command<'a>>
     ensures { option_map stored_request result
         ≡ found_request Row.Analyse (first_value (found_of matches.now)) }
 {
-    let grammar = matches.get_str("G")?;
+    let grammar = source_of(matches)?;
     Some(Command::Analyse { grammar })
+}
+
+/// The file of the grammar.
+fn source_of<'a>(matches: &ArgMatches<'a>) -> Option<Source<'a>>
+    ensures { option_map stored_source result
+        ≡ source_found (first_value (found_of matches.now)) }
+{
+    let name = matches.get_str("G")?;
+    let notation = notation_of(matches)?;
+    Some(Source { name, notation })
+}
+
+/// The notation of the grammar's text.
+fn notation_of(matches: &ArgMatches<'_>) -> Option<Notation>
+    ensures { result ≡ notation_found (first_value (found_of matches.now)) }
+{
+    notation_or_own(matches.get_str("notation"))
+}
+
+/// The notation that `--notation` names, or the own one.
+fn notation_or_own(value: Option<&str>) -> Option<Notation>
+    ensures { result ≡ notation_with (option_copied value.entry) }
+{
+    match value {
+        Some(word) => notation_named(word),
+        None => Some(Notation::Own),
+    }
+}
+
+/// The notation of that name.
+fn notation_named(word: &str) -> Option<Notation>
+    ensures { result ≡ notation_with (Some word.now) }
+{
+    if word == "own" {
+        return Some(Notation::Own);
+    }
+    if word == "w3c" {
+        return Some(Notation::W3c);
+    }
+    None
 }
 
 /// The budget.

@@ -12,5 +12,5 @@ mod laws;
 mod rows;
 mod words;
 
-pub use command::{Command, Listing, MOST_SIZE, Question, command_of};
+pub use command::{Command, Listing, MOST_SIZE, Notation, Question, Source, command_of};
 pub use laws::load_sizes_are_few;

@@ -104,21 +104,32 @@ fn command_for<'a>(alloc: Global, row: Row) -> Result<Command<'a>, AllocError>
     }
 }
 
-/// A command for one file.
+/// A command for the file of a grammar.
 fn one_file<'a>(alloc: Global) -> Result<Command<'a>, AllocError>
-    ensures { IfOk result (λ c. app_of c ≡ app_with (place (codes "G") ∷ [])) }
+    ensures { IfOk result (λ c. app_of c
+        ≡ app_with (place (codes "G") ∷ option (codes "notation") ∷ [])) }
 {
-    with_place(alloc, bare(alloc), "G")
+    let grammar = with_place(alloc, bare(alloc), "G")?;
+    with_option(alloc, grammar, "notation")
+}
+
+/// A command with the files of a grammar and of an input.
+fn both_files<'a>(alloc: Global) -> Result<Command<'a>, AllocError>
+    ensures { IfOk result (λ c. app_of c ≡ app_with (place (codes "G") ∷ place (codes "I") ∷ [])) }
+{
+    let grammar = with_place(alloc, bare(alloc), "G")?;
+    with_place(alloc, grammar, "I")
 }
 
 /// The command for the forest of two files.
 fn forest<'a>(alloc: Global) -> Result<Command<'a>, AllocError>
     ensures { IfOk result (λ c. app_of c
-        ≡ app_with (place (codes "G") ∷ place (codes "I") ∷ option (codes "budget") ∷ [])) }
+        ≡ app_with (place (codes "G") ∷ place (codes "I") ∷ option (codes "notation")
+        ∷ option (codes "budget") ∷ [])) }
 {
-    let grammar = one_file(alloc)?;
-    let both = with_place(alloc, grammar, "I")?;
-    with_option(alloc, both, "budget")
+    let both = both_files(alloc)?;
+    let with_notation = with_option(alloc, both, "notation")?;
+    with_option(alloc, with_notation, "budget")
 }
 
 /// The command for the forest, with two more options.
@@ -128,8 +139,8 @@ fn forest_with<'a>(
     second: &'a str,
 ) -> Result<Command<'a>, AllocError>
     ensures { IfOk result (λ c. app_of c
-        ≡ app_with (place (codes "G") ∷ place (codes "I") ∷ option (codes "budget")
-        ∷ option first.entry.now ∷ option second.entry.now ∷ [])) }
+        ≡ app_with (place (codes "G") ∷ place (codes "I") ∷ option (codes "notation")
+        ∷ option (codes "budget") ∷ option first.entry.now ∷ option second.entry.now ∷ [])) }
 {
     let with_budget = forest(alloc)?;
     let with_first = with_option(alloc, with_budget, first)?;
@@ -139,8 +150,9 @@ fn forest_with<'a>(
 /// The command for its trees.
 fn trees<'a>(alloc: Global) -> Result<Command<'a>, AllocError>
     ensures { IfOk result (λ c. app_of c
-        ≡ app_with (place (codes "G") ∷ place (codes "I") ∷ option (codes "budget")
-        ∷ option (codes "depth") ∷ option (codes "count") ∷ option (codes "after") ∷ [])) }
+        ≡ app_with (place (codes "G") ∷ place (codes "I") ∷ option (codes "notation")
+        ∷ option (codes "budget") ∷ option (codes "depth") ∷ option (codes "count")
+        ∷ option (codes "after") ∷ [])) }
 {
     let with_numbers = forest_with(alloc, "depth", "count")?;
     with_option(alloc, with_numbers, "after")
@@ -149,8 +161,8 @@ fn trees<'a>(alloc: Global) -> Result<Command<'a>, AllocError>
 /// The command for an answer from it.
 fn query<'a>(alloc: Global) -> Result<Command<'a>, AllocError>
     ensures { IfOk result (λ c. app_of c
-        ≡ app_with (place (codes "G") ∷ place (codes "I") ∷ option (codes "budget")
-        ∷ option (codes "what") ∷ option (codes "name") ∷ [])) }
+        ≡ app_with (place (codes "G") ∷ place (codes "I") ∷ option (codes "notation")
+        ∷ option (codes "budget") ∷ option (codes "what") ∷ option (codes "name") ∷ [])) }
 {
     forest_with(alloc, "what", "name")
 }
@@ -168,11 +180,11 @@ fn load<'a>(alloc: Global) -> Result<Command<'a>, AllocError>
 /// The command that checks a forest.
 fn verify<'a>(alloc: Global) -> Result<Command<'a>, AllocError>
     ensures { IfOk result (λ c. app_of c ≡ app_with (place (codes "G") ∷ place (codes "I")
-        ∷ place (codes "F") ∷ [])) }
+        ∷ place (codes "F") ∷ option (codes "notation") ∷ [])) }
 {
-    let grammar = one_file(alloc)?;
-    let both = with_place(alloc, grammar, "I")?;
-    with_place(alloc, both, "F")
+    let both = both_files(alloc)?;
+    let three = with_place(alloc, both, "F")?;
+    with_option(alloc, three, "notation")
 }
 
 /// A command with no arguments. It has no help flag: `--help` is an option as any other.

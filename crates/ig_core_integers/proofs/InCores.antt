@@ -20,7 +20,10 @@ use Rattle.ig_meaning.specs.Permitted.{behind_layout}
 use Rattle.ig_item.specs.Core.{numbered as by_number}
 use Rattle.ig_item.specs.declared.core_grammar.CoreAlt.{CoreAlt}
 use Rattle.ig_item.specs.declared.core_grammar.Nonterminal.{Nonterminal}
+use Rattle.ig_grammar.specs.Regular.{IsRegular}
 use Rattle.ig_notation.specs.Outcome.{ReadGrammarsAreRegular}
+use Rattle.ig_w3c.specs.Laws as w3c
+use Rattle.ig_w3c.specs.Outcome.{unplaced}
 use Rattle.ig_traversal.specs.Rewriting.{rewritten_declaration}
 use Rattle.ig_rewrite.specs.Remaining.{label_of, main_of, patterns_of, unfiltered, unlabelled}
 use Rattle.ig_rewrite.specs.Rooted.{calls_of_start, has_root, is_root, root_declaration, rooted, with_root}
@@ -34,9 +37,10 @@ use Rattle.ig_core_laws.specs.Lowered.{BeforeLists, CoreOf, Lowered}
 use Rattle.ig_core_laws.specs.Notation.{unchanged}
 use Rattle.ig_core_laws.specs.Steps.{step_with, step_of, steps_of}
 use Rattle.ig_verify_laws.specs.Ranges.{AlternativeFits, HasSmallIntegers, IntegersFit, StepHasSmallIntegers}
-use Rattle.ig_core_integers.specs.Laws.{ReadCoresHaveSmallIntegers}
+use Rattle.ig_core_integers.specs.Laws.{ReadCoresHaveSmallIntegers, W3cCoresHaveSmallIntegers}
 use Rattle.ig_core_integers.proofs.Fitting.{AltsFit, DeclsFit, EachFits, Fits, LevelsFit, ListFits, decls_joined, decls_mapped}
-use Rattle.ig_core_integers.proofs.Reading.{read_fits}
+use Rattle.ig_core_integers.proofs.Reading.{grammar_fits, read_fits}
+use Rattle.ig_core_integers.proofs.WithoutNumbers.{no_numbers}
 use Rattle.ig_core_integers.proofs.WithoutLevels.{declaration_fits}
 use Rattle.ig_core_integers.proofs.WithoutBlocks.{decls_by_fit}
 use Rattle.ig_core_integers.proofs.Rewritten.{levels_rewritten, laid_in_fits, attached_fits}
@@ -218,9 +222,15 @@ core_fits g shapes f n a nonterminal alternative is =
     nonterminal_at (number_of g shapes) 0 (numbered g shapes)
     (root_fits g g.decls shapes f, unrooted_fits (number_of g shapes) g.decls shapes f) n nonterminal is.there a alternative is.has
 
-pub cores_fit : ReadGrammarsAreRegular → ReadCoresHaveSmallIntegers
+read_core_fits : (g : Grammar) → IsRegular g → DeclsFit g.decls → IntegersFit (CoreOf (unchanged g))
 unfolding CoreOf
-cores_fit regular bytes g utf8 read =
-    let counted = (regular bytes g utf8 read).0.counted in
+read_core_fits g regular fit =
     core_fits (Lowered (unchanged g)).grammar (Lowered (unchanged g)).shapes
-    (lowered_fits g (few_levels g.decls numbers_end (omega arith) counted.levels) (read_fits read.follows read.numbers))
+    (lowered_fits g (few_levels g.decls numbers_end (omega arith) regular.counted.levels) fit)
+
+pub cores_fit : ReadGrammarsAreRegular → ReadCoresHaveSmallIntegers
+cores_fit regular bytes g utf8 read = read_core_fits g (regular bytes g utf8 read).0 (read_fits read.follows read.numbers)
+
+pub w3c_cores_fit : w3c.ReadGrammarsAreRegular → W3cCoresHaveSmallIntegers
+w3c_cores_fit regular bytes g utf8 read =
+    read_core_fits g (regular bytes g utf8 read).0 (grammar_fits read.reads.reading (no_numbers (unplaced read.tokens)))

@@ -1,5 +1,6 @@
 pub mod Fitting
 pub mod Reading
+pub mod WithoutNumbers
 pub mod WithoutLevels
 pub mod WithoutBlocks
 pub mod Rewritten

@@ -16,7 +16,7 @@ use Rattle.ig_syntax.specs.Token.{Token}
 use Rattle.ig_verify_laws.specs.Ranges.{HasSmallIntegers}
 use Rattle.ig_core_integers.proofs.Fitting.{AltsFit, ChoicesFit, DeclsFit, EachFits, Fits, LevelsFit, SymbolsFit, alts_fit}
 
-abbrev Few : List Token → Type 0
+abbrev pub Few : List Token → Type 0
 Few [] = Unit {0}
 Few (t ∷ s) = NumberFits t × Few s
 
@@ -135,7 +135,7 @@ declarations_fit rule.no_declaration h = tt
 declarations_fit (rule.further_declaration s m d ds e f) h =
     let p = declaration_fits e h in (p.0, declarations_fit f p.1)
 
-grammar_fits : {s : List Token} {g : Grammar} → FollowsRules s g → Few s → DeclsFit g.decls
+pub grammar_fits : {s : List Token} {g : Grammar} → FollowsRules s g → Few s → DeclsFit g.decls
 grammar_fits (rule.with_start x s ds d) h = declarations_fit d h.1.1.1
 grammar_fits (rule.without_start s ds d) h = declarations_fit d h
 

@@ -1,12 +1,19 @@
-//! That integers fit. The function does nothing: its contract is the law.
+//! That integers fit. The functions do nothing: their contracts are the laws.
 ghost use Rattle.ig_core_integers.specs.Laws.{ReadCoresHaveSmallIntegers};
-
-use ig_notation::read_grammars_are_regular;
+ghost use Rattle.ig_core_integers.specs.Laws.{W3cCoresHaveSmallIntegers};
 
 /// Each integer in the core grammar of a grammar that is read fits 64 bits. This law computes
 /// nothing.
 pub fn cores_have_small_integers()
     ensures { ReadCoresHaveSmallIntegers }
 {
-    read_grammars_are_regular();
+    ig_notation::read_grammars_are_regular();
+}
+
+/// Each integer in the core grammar of a grammar that is read in the notation of the XML
+/// recommendation fits 64 bits. This law computes nothing.
+pub fn w3c_cores_have_small_integers()
+    ensures { W3cCoresHaveSmallIntegers }
+{
+    ig_w3c::read_grammars_are_regular();
 }

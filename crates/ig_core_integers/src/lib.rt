@@ -6,4 +6,4 @@
 
 mod laws;
 
-pub use laws::cores_have_small_integers;
+pub use laws::{cores_have_small_integers, w3c_cores_have_small_integers};

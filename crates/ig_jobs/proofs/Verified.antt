@@ -1,12 +1,11 @@
 -- What a check of a forest comes to.
-use Rattle.std.proofs.Common.{◌≡◌, ◌≢◌, ◌≤◌, ◌∙◌, ℕ, List, [], length, Result, Ok, Err, Vec, Global, Option, Some, None, sym, subst}
+use Rattle.std.proofs.Common.{◌≡◌, ◌≤◌, ◌∙◌, ℕ, List, [], length, Result, Ok, Err, Vec, Global, Option, Some, sym, subst}
 use Rattle.std.proofs.lemmas.Option.{same_Some}
 use Rattle.ig_text.specs.Limits.{most_characters}
 use Rattle.ig_grammar.specs.Checked.{CheckedGrammar}
 use Rattle.ig_item.specs.WellKinded.{IsWellKinded}
 use Rattle.ig_item.specs.declared.core_grammar.Nonterminal.{Nonterminal}
 use Rattle.ig_core_laws.specs.Lowered.{CoreOf}
-use Rattle.ig_core_laws.specs.Notation.{unchanged}
 use Rattle.ig_forest_tables.specs.Forest.{Forest}
 use Rattle.ig_forest.specs.Reduced.{IsReduced}
 use Rattle.ig_forest_text.specs.ForestText.{forest_text}
@@ -22,7 +21,7 @@ use Rattle.ig_endings.specs.declared.status.Status.TheVariants as status
 use Rattle.ig_endings.specs.declared.stop.Stop.{Stop}
 use Rattle.ig_endings.specs.declared.stop.Stop.TheVariants as halt
 use Rattle.ig_sources.specs.Sources.{most_forest_bytes}
-use Rattle.ig_jobs.specs.Verifying.{HasPermittedTrees, IsReducedText, IsTaken, IsForestText, SaysVerified, Verifies, VerifiesDraft, VerifiesText, no_forest, not_sound, verified, verified_text}
+use Rattle.ig_jobs.specs.Verifying.{HasPermittedTrees, IsReducedText, IsTaken, IsForestText, SaysVerified, Verifies, VerifiesDraft, VerifiesText, no_forest, not_sound, verified}
 
 -- what comes of the rules of a forest that was read
 module _ (core : List Nonterminal) (input : List ℕ) (f : Forest) where
@@ -40,7 +39,7 @@ module _ (core : List Nonterminal) (input : List ℕ) (f : Forest) where
 pub tells_names : (c : CheckedGrammar) → IsTaken c → ReadCoresTellNames → TellsNames (CoreOf c)
 tells_names c taken law =
     let P : CheckedGrammar → Type 0 = λ z. TellsNames (CoreOf z) in
-    subst P (sym taken.as_it_is) (law taken.bytes c.grammar taken.accepted)
+    subst P (sym taken.as_it_is) (law taken.written taken.bytes c.grammar taken.accepted)
 
 pub record Given (c : CheckedGrammar) (input xs : List ℕ) : Type 0 where
   pub taken : IsTaken c
@@ -59,7 +58,7 @@ module _ (c : CheckedGrammar) (input xs : List ℕ) (given : Given c input xs) w
       let C : CheckedGrammar → Type 0 = λ z. IsCertified (CoreOf z) input r.forest in
       let same = given.taken.as_it_is in
       subst C (sym same)
-      (given.certified given.taken.bytes c.grammar input r.forest given.taken.accepted (subst W same given.well) given.characters (subst R same r.reduced) r.few_items)
+      (given.certified given.taken.written given.taken.bytes c.grammar input r.forest given.taken.accepted (subst W same given.well) given.characters (subst R same r.reduced) r.few_items)
 
   -- each tree of a sound forest is permitted
   permitted : (f : Forest) → IsDraftOf (CoreOf c) f → IsSound (CoreOf c) input f → HasPermittedTrees c input f
@@ -68,7 +67,7 @@ module _ (c : CheckedGrammar) (input xs : List ℕ) (given : Given c input xs) w
       let P : CheckedGrammar → Type 0 = λ z. HasPermittedTrees z input f in
       let same = given.taken.as_it_is in
       subst P (sym same)
-      (λ d t u. given.permitted given.taken.bytes c.grammar input f d t given.taken.accepted.text draft.draft.forest (subst S same sound) u)
+      (λ d t u. given.permitted given.taken.written given.taken.bytes c.grammar input f d t given.taken.accepted.text draft.draft.forest (subst S same sound) u)
 
   -- a forest with a flaw isn't the reduced one
   not_reduced : (f : Forest) (flaw : Flaw) → IsForestText c xs f → IsFirstFlaw (CoreOf c) input f flaw → IsReducedText c input xs → ⊥

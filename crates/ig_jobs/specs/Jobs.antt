@@ -1,6 +1,6 @@
 -- What is done with a grammar, or with a grammar and an input.
 use Rattle.std.specs.Prelude.{ℕ, List}
-use Rattle.ig_command.specs.Commands.{Request, check, show, core, forest, trees, query, load, verify, analyse, Listing, Question, stored_listing, stored_question}
+use Rattle.ig_command.specs.Commands.{Request, check, show, core, forest, trees, query, load, verify, analyse, Listing, Question, Source, stored_source, stored_listing, stored_question}
 use Rattle.ig_jobs.specs.declared.job.Job.{Job as StoredJob}
 use Rattle.ig_jobs.specs.declared.job.Job.TheVariants as stored
 use Rattle.ig_jobs.specs.declared.job.Task.{Task}
@@ -8,8 +8,8 @@ use Rattle.ig_jobs.specs.declared.job.Task.TheVariants as task
 use Rattle.ig_jobs.specs.declared.job.Work.{Work}
 use Rattle.ig_jobs.specs.declared.job.Work.TheVariants as work
 
--- the request for a task, with the name of the grammar
-abbrev pub task_request : Task → List ℕ → Request
+-- the request for a task, with the file of the grammar
+abbrev pub task_request : Task → Source → Request
 task_request task.Check grammar = check grammar
 task_request task.Show grammar = show grammar
 task_request task.Core grammar = core grammar
@@ -23,8 +23,8 @@ pub data Job : Type 0 where
   -- a question is answered
   ask : (question : Question) → Job
 
--- the request for it, with the names of the grammar and the input, and the budget
-abbrev pub request_for : Job → List ℕ → List ℕ → ℕ → Request
+-- the request for it, with the file of the grammar, the name of the input and the budget
+abbrev pub request_for : Job → Source → List ℕ → ℕ → Request
 request_for print grammar input budget = forest grammar input budget
 request_for (list listing) grammar input budget = trees grammar input budget listing
 request_for (ask question) grammar input budget = query grammar input budget question
@@ -37,7 +37,7 @@ stored_job (stored.Ask question) = ask (stored_question question)
 
 -- the request that asks for the work
 abbrev pub work_request : Work → Request
-work_request (work.OnGrammar grammar task) = task_request task grammar.now
-work_request (work.OnInput files budget job) = request_for (stored_job job) files.grammar.now files.input.now budget
-work_request (work.OnForest files text) = verify files.grammar.now files.input.now text.now
+work_request (work.OnGrammar grammar task) = task_request task (stored_source grammar)
+work_request (work.OnInput files budget job) = request_for (stored_job job) (stored_source files.grammar) files.input.now budget
+work_request (work.OnForest files text) = verify (stored_source files.grammar) files.input.now text.now
 work_request (work.OfLoad size number budget) = load size number budget

@@ -11,6 +11,10 @@ use Rattle.ig_core_laws.specs.Lowered.{CoreOf}
 use Rattle.ig_core_laws.specs.Notation.{unchanged}
 use Rattle.ig_core_text.specs.CoreText.{core_text}
 use Rattle.ig_show.specs.CanonicalText.{text_of}
+use Rattle.ig_w3c_rules.specs.Notation.{HasReading}
+use Rattle.ig_w3c_show.specs.Text.{grammar_text}
+use Rattle.ig_command.specs.declared.command.Notation.{Notation}
+use Rattle.ig_command.specs.declared.command.Notation.TheVariants as notation
 use Rattle.ig_jobs.specs.declared.job.Task.{Task}
 use Rattle.ig_jobs.specs.declared.job.Task.TheVariants as task
 use Rattle.ig_endings.specs.declared.stop.Stop.{Stop}
@@ -19,8 +23,15 @@ use Rattle.ig_endings.specs.declared.stop.Stop.TheVariants as halt
 abbrev pub ok_text : List ℕ
 ok_text = codes "ok" ++ line_end
 
-abbrev pub shown_text : Grammar → List ℕ
-shown_text g = encode_utf8_all (text_of g)
+-- the text of the grammar in a notation
+abbrev pub shown_text : Notation → Grammar → List ℕ
+shown_text notation.Own g = encode_utf8_all (text_of g)
+shown_text notation.W3c g = encode_utf8_all (grammar_text g)
+
+-- the notation can say the grammar
+abbrev pub IsSayable : Notation → Grammar → Type 0
+IsSayable notation.Own g = Unit {0}
+IsSayable notation.W3c g = HasReading g
 
 abbrev pub shown_core : Grammar → List ℕ
 shown_core g = core_text (CoreOf (unchanged g))
@@ -31,24 +42,24 @@ pub record AreFactsText (c : CheckedGrammar) (text : List ℕ) : Type 0 where
   pub are : AreFactsOf (CoreOf c) facts
   pub text_is : text ≡ facts_text c.grammar.decls facts
 
--- what out gets of a grammar, by the task
-pub data GrammarText (g : Grammar) : Task → List ℕ → Type 0 where
-  accepted : GrammarText g task.Check ok_text
-  shown : GrammarText g task.Show (shown_text g)
-  core_shown : GrammarText g task.Core (shown_core g)
-  analysed : (text : List ℕ) → AreFactsText (unchanged g) text → GrammarText g task.Analyse text
+-- what out gets of a grammar that was read in a notation, by the task
+pub data GrammarText (g : Grammar) (n : Notation) : Task → List ℕ → Type 0 where
+  accepted : GrammarText g n task.Check ok_text
+  shown : GrammarText g n task.Show (shown_text n g)
+  core_shown : GrammarText g n task.Core (shown_core g)
+  analysed : (text : List ℕ) → AreFactsText (unchanged g) text → GrammarText g n task.Analyse text
 
 -- what comes of a task with a grammar
-abbrev pub DoesTask : Grammar → Task → Result (Vec ℕ Global) Stop → Type 0
-DoesTask g t (Ok text) = GrammarText g t text.items
-DoesTask g t (Err (halt.Note s line)) = ⊥
-DoesTask g t (Err halt.Memory) = Unit {0}
+abbrev pub DoesTask : Grammar → Notation → Task → Result (Vec ℕ Global) Stop → Type 0
+DoesTask g n t (Ok text) = GrammarText g n t text.items
+DoesTask g n t (Err (halt.Note s line)) = ⊥
+DoesTask g n t (Err halt.Memory) = Unit {0}
 
--- the canonical text of the grammar
-abbrev pub ShowsGrammar : Grammar → Result (Vec ℕ Global) Stop → Type 0
-ShowsGrammar g (Ok text) = text.items ≡ shown_text g
-ShowsGrammar g (Err (halt.Note s line)) = ⊥
-ShowsGrammar g (Err halt.Memory) = Unit {0}
+-- the text of the grammar in a notation
+abbrev pub ShowsGrammar : Notation → Grammar → Result (Vec ℕ Global) Stop → Type 0
+ShowsGrammar n g (Ok text) = text.items ≡ shown_text n g
+ShowsGrammar n g (Err (halt.Note s line)) = ⊥
+ShowsGrammar n g (Err halt.Memory) = Unit {0}
 
 -- the text that says that a grammar is accepted
 abbrev pub SaysOk : Result (Vec ℕ Global) Stop → Type 0

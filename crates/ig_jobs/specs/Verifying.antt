@@ -22,14 +22,16 @@ use Rattle.ig_endings.specs.declared.status.Status.{Status}
 use Rattle.ig_endings.specs.declared.status.Status.TheVariants as status
 use Rattle.ig_endings.specs.declared.stop.Stop.{Stop}
 use Rattle.ig_endings.specs.declared.stop.Stop.TheVariants as halt
+use Rattle.ig_command.specs.declared.command.Notation.{Notation}
 use Rattle.ig_sources.specs.Accepted.{IsAccepted}
 use Rattle.ig_sources.specs.Sources.{most_forest_bytes}
 
 -- the grammar is read from some bytes, accepted, and as it is written
 pub record IsTaken (c : CheckedGrammar) : Type 0 where
   pub as_it_is : c ≡ unchanged c.grammar
+  pub written : Notation
   pub bytes : List ℕ
-  pub accepted : IsAccepted bytes c.grammar
+  pub accepted : IsAccepted written bytes c.grammar
 
 abbrev pub verified_text : List ℕ
 verified_text = codes "verified" ++ line_end

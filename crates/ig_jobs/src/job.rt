@@ -1,9 +1,10 @@
-//! What a command asks for: a task with a grammar, a job by a forest, a check of a forest, or a load.
+//! What a command asks for: a task with a grammar, a job by a forest, a check of a forest, or a
+//! load.
 ghost use Rattle.std.specs.Prelude.{◌≡◌};
 ghost use Rattle.ig_command.specs.Commands.{stored_request};
 ghost use Rattle.ig_jobs.specs.Jobs.{work_request};
 
-use ig_command::{Command, Listing, Question};
+use ig_command::{Command, Listing, Question, Source};
 
 /// What is done with a grammar alone.
 #[derive(Clone, Copy)]
@@ -29,20 +30,20 @@ pub enum Job<'a> {
     Ask(Question<'a>),
 }
 
-/// The names of the files of a job, or of a check of a forest.
+/// The files of a job, or of a check of a forest.
 #[derive(Clone, Copy)]
 pub struct Files<'a> {
     /// That of the grammar.
-    pub grammar: &'a str,
-    /// That of the input.
+    pub grammar: Source<'a>,
+    /// The name of that of the input.
     pub input: &'a str,
 }
 
 /// What a command asks for.
 #[derive(Clone, Copy)]
 pub enum Work<'a> {
-    /// A task with the grammar in the file of that name.
-    OnGrammar(&'a str, Task),
+    /// A task with the grammar in that file.
+    OnGrammar(Source<'a>, Task),
     /// A job with a grammar and an input, where no more items are reachable than that many.
     OnInput(Files<'a>, u32, Job<'a>),
     /// The forest is checked that the text in the file of that name tells.

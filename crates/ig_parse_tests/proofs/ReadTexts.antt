@@ -4,6 +4,7 @@ use Rattle.ig_grammar.specs.Checked.{CheckedGrammar, rules}
 use Rattle.ig_grammar.specs.declared.grammar.Grammar.{Grammar}
 use Rattle.ig_core_laws.specs.Lowered.{IsBuildable}
 use Rattle.ig_core_laws.specs.Notation.{unchanged}
+use Rattle.ig_command.specs.declared.command.Notation.TheVariants.{Own}
 use Rattle.ig_sources.specs.Accepted.{IsTextOf}
 use Rattle.ig_sources.specs.Laws.{ReadGrammarsAreBuildable}
 use Rattle.ig_grammar.specs.declared.declaration.Decl.{Decl}
@@ -21,8 +22,8 @@ checked_written c e =
     ap (λ (z : List Shape). record { grammar = c.grammar; shapes = z }) (e ∙ all_rules c.grammar.decls)
 
 -- so it can be built, by the law
-pub checked_is_buildable : ReadGrammarsAreBuildable → (xs : List ℕ) (g : Grammar) (c : CheckedGrammar) → IsTextOf xs g →
+pub checked_is_buildable : ReadGrammarsAreBuildable → (xs : List ℕ) (g : Grammar) (c : CheckedGrammar) → IsTextOf Own xs g →
     c.grammar ≡ g → c.shapes ≡ rules g → IsBuildable c
 checked_is_buildable law xs g c text grammar shapes =
     let is : c ≡ unchanged c.grammar = checked_written c (shapes ∙ ap rules (sym grammar)) in
-    subst IsBuildable (sym (is ∙ ap unchanged grammar)) (law xs g text)
+    subst IsBuildable (sym (is ∙ ap unchanged grammar)) (law Own xs g text)

@@ -3,14 +3,16 @@
 //! `parsing` parses, and tries parsers; its forests are walked and asked in `listings` and
 //! `queries`. The passes, the crates of their parts included, run there inside a parser, once over
 //! each form of symbol. `top_call` tries the commands over a shelf and sinks in memory, which may
-//! fail, and `checks` those that tell facts of a grammar and check a forest. Tests of libraries by
-//! themselves stand in `ig_tests`.
+//! fail, `checks` those that tell facts of a grammar and check a forest, and `notations` those on
+//! texts of either notation. Tests of libraries by themselves stand in `ig_tests`.
 #![tactic(auto)]
 
 #[cfg(test)]
 mod checks;
 #[cfg(test)]
 mod listings;
+#[cfg(test)]
+mod notations;
 #[cfg(test)]
 mod parsing;
 #[cfg(test)]

@@ -2,3 +2,4 @@ pub mod Written
 pub mod GrammarTexts
 pub mod Loading
 pub mod OfNotation
+pub mod Either

@@ -2,6 +2,7 @@
 use Rattle.std.proofs.Common.{◌≡◌, ℕ, ◌+◌, ◌<◌, ◌≤◌, List, length, replicate, inl, inr, sym, subst, refl, arith, Result, Ok, Err, Vec, Global}
 use Rattle.std.proofs.Math.ListN.{length-replicate}
 use Rattle.ig_text.specs.Limits as text
+use Rattle.ig_command.specs.declared.command.Notation.{Notation}
 use Rattle.ig_syntax.specs.Notation.{most_bytes}
 use Rattle.ig_text.specs.declared.text.Text.{Text}
 use Rattle.ig_text.specs.declared.text.TextFault.TheVariants as text_fault
@@ -18,7 +19,7 @@ use Rattle.ig_endings.specs.Notes.{long_forest_note}
 use Rattle.ig_endings.specs.Stops.{IsCannotRead, RefusesWith, IsTooLong, StopsWith}
 use Rattle.ig_endings.specs.declared.status.Status.{Status}
 use Rattle.ig_endings.specs.declared.status.Status.TheVariants as status
-use Rattle.ig_sources.specs.Sources.{MayGive, missing, unread, refused, ReadsGrammar, ReadsInput, GivesGrammar, GivesInput, GivesForest, StopsFile, IsLongForest, most_forest_bytes}
+use Rattle.ig_sources.specs.Sources.{MayGive, missing, unread, refused, ReadsGrammar, ReadsInput, GivesGrammar, GivesInput, GivesForest, StopsFile, most_forest_bytes}
 
 -- the shelf may give what it gave
 pub given : (told : Told) (most : ℕ) (v : Vec ℕ Global) → AnswersFetch told most (Ok v) → MayGive told v.items
@@ -44,22 +45,22 @@ missing_is_told silent most h = absurd h
 missing_is_told nothing most h = refl
 missing_is_told (bytes xs) most h = absurd h
 
-pub grammar_given : (told : Told) (name xs : List ℕ) (most old new : ℕ) (v : Vec ℕ Global) (r : Result CheckedGrammar Stop) →
-    AnswersFetch told most (Ok v) → new ≡ old → xs ≡ v.items → ReadsGrammar xs r → GivesGrammar told name old new r
-grammar_given told name xs most old new v (Ok checked) a e i h =
+pub grammar_given : (n : Notation) (told : Told) (name xs : List ℕ) (most old new : ℕ) (v : Vec ℕ Global) (r : Result CheckedGrammar Stop) →
+    AnswersFetch told most (Ok v) → new ≡ old → xs ≡ v.items → ReadsGrammar n xs r → GivesGrammar n told name old new r
+grammar_given n told name xs most old new v (Ok checked) a e i h =
     (e, (xs, subst (MayGive told) (sym i) (given told most v a), h))
-grammar_given told name xs most old new v (Err (halt.Note s line)) a e i h =
+grammar_given n told name xs most old new v (Err (halt.Note s line)) a e i h =
     refused s line.items xs e (subst (MayGive told) (sym i) (given told most v a)) h
-grammar_given told name xs most old new v (Err halt.Memory) a e i h = inl e
+grammar_given n told name xs most old new v (Err halt.Memory) a e i h = inl e
 
-pub grammar_long : (told : Told) (name : List ℕ) (old new : ℕ) (stop : Stop) →
+pub grammar_long : (n : Notation) (told : Told) (name : List ℕ) (old new : ℕ) (stop : Stop) →
     AnswersFetch told most_bytes (Err fetch.Long) → new ≡ old → RefusesWith (large_text large.Bytes) stop →
-    GivesGrammar told name old new (Err stop)
-grammar_long told name old new (halt.Note s line) a e h =
+    GivesGrammar n told name old new (Err stop)
+grammar_long n told name old new (halt.Note s line) a e h =
     let long = given_long told most_bytes a in
     refused s line.items long.0 e long.1.0
     (record { text = large_text large.Bytes; refused = too_many long.1.1; status_is = h.0; note_is = h.1 })
-grammar_long told name old new halt.Memory a e h = inl e
+grammar_long n told name old new halt.Memory a e h = inl e
 
 -- the file can't be read
 module _ (told : Told) (name : List ℕ) (old new : ℕ) (Refused : List ℕ → Status → List ℕ → Type 0) where

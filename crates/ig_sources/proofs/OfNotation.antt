@@ -8,14 +8,15 @@ use Rattle.ig_grammar.specs.Symbol.{Symbol, Call, Seq, Entry}
 use Rattle.ig_grammar.specs.declared.grammar.Grammar.{Grammar}
 use Rattle.ig_grammar.specs.Name.{IsName}
 use Rattle.ig_rules.specs.Names.{own_names}
-use Rattle.ig_notation.specs.Outcome.{IsOfText, ReadGrammarsAreRegular, ReadGrammarsAreWritten, ReadNamesAreNames}
+use Rattle.ig_notation.specs.Outcome.{IsOfText}
+use Rattle.ig_command.specs.declared.command.Notation.{Notation}
 use Rattle.ig_rewrite.specs.Unbound.{own_variables}
 use Rattle.ig_syntax.specs.Notation.{most_bytes}
 use Rattle.ig_core_laws.specs.Laws.{NotationIsBuildable, PassesAreRegular}
 use Rattle.ig_core_laws.specs.Limits.{counts_before_passes}
 use Rattle.ig_core_laws.specs.Notation.{IsSaid, IsOfNotation, unchanged}
 use Rattle.ig_sources.specs.Accepted.{IsTextOf}
-use Rattle.ig_sources.specs.Laws.{ReadGrammarsAreBuildable, ReadGrammarsStayRegular}
+use Rattle.ig_sources.specs.Laws.{ReadGrammarsAreBuildable, ReadGrammarsAreRegular, ReadGrammarsAreWritten, ReadGrammarsStayRegular, ReadNamesAreNames}
 
 -- what the reader's laws say of names and forms
 pub record ReadingLaws : Type 0 where
@@ -40,11 +41,11 @@ all_said (x ∷ xs) named formed =
     (said x (All-head AreNames x xs named) (All-head IsOfText x xs formed))
     (all_said xs (All-tail AreNames x xs named) (All-tail IsOfText x xs formed))
 
-of_notation : ReadingLaws → (xs : List ℕ) (g : Grammar) → IsTextOf xs g → IsOfNotation g
-of_notation laws xs g text =
-    let named = laws.named xs g text.reading in
-    let formed = laws.written xs g text.reading in
-    let regular = (laws.regular xs g text.utf8 text.reading).0 in
+of_notation : ReadingLaws → (n : Notation) (xs : List ℕ) (g : Grammar) → IsTextOf n xs g → IsOfNotation g
+of_notation laws n xs g text =
+    let named = laws.named n xs g text.reading in
+    let formed = laws.written n xs g text.reading in
+    let regular = (laws.regular n xs g text.utf8 text.reading).0 in
     record {
       scoped = text.scoped;
       declared = named.declared;
@@ -58,7 +59,7 @@ of_notation laws xs g text =
 
 -- so it can be built
 pub read_grammars_are_buildable : ReadingLaws → NotationIsBuildable → ReadGrammarsAreBuildable
-read_grammars_are_buildable laws law xs g text = law g (of_notation laws xs g text)
+read_grammars_are_buildable laws law n xs g text = law g (of_notation laws n xs g text)
 
 -- a text of so few bytes reads as a grammar whose counts are small
 small : (g : Grammar) → HasFewerThan (suc most_bytes) g → HasFewerThan counts_before_passes g
@@ -76,5 +77,5 @@ small g few =
 
 -- so each pass leaves a regular grammar of it
 pub read_grammars_stay_regular : ReadGrammarsAreBuildable → ReadGrammarsAreRegular → PassesAreRegular → ReadGrammarsStayRegular
-read_grammars_stay_regular buildable counted law xs g text =
-    law (unchanged g) (buildable xs g text) (small g (counted xs g text.utf8 text.reading).1)
+read_grammars_stay_regular buildable counted law n xs g text =
+    law (unchanged g) (buildable n xs g text) (small g (counted n xs g text.utf8 text.reading).1)

@@ -2,14 +2,14 @@
 use Rattle.std.specs.Prelude.{ℕ, ◌<◌, ◌≤◌, List, ◌++◌, length, IsUtf8, codes}
 use Rattle.std.specs.Fmt.{decimal}
 use Rattle.std.specs.Str.{IsValidUpTo}
+use Rattle.ig_command.specs.declared.command.Notation.{Notation}
 use Rattle.ig_syntax.specs.Notation.{most_bytes}
 use Rattle.ig_grammar.specs.Condition.{Condition}
 use Rattle.ig_grammar.specs.WellScoped.{IsFirst}
 use Rattle.ig_grammar.specs.declared.grammar.Grammar.{Grammar}
 use Rattle.ig_grammar.specs.declared.place.Place.{Place}
-use Rattle.ig_notation.specs.Outcome.{IsRead, IsReadFault}
 use Rattle.ig_refusals.specs.Texts.{condition_text, place_text}
-use Rattle.ig_sources.specs.Accepted.{IsTextOf}
+use Rattle.ig_sources.specs.Accepted.{IsReadIn, IsReadFaultIn, IsTextOf}
 use Rattle.ig_item.specs.Core.{dots}
 use Rattle.ig_item.specs.Limits.{most_dots}
 use Rattle.ig_core_laws.specs.Lowered.{CoreOf}
@@ -27,20 +27,20 @@ large_text large.Nesting = codes "too large: nesting"
 abbrev pub dots_text : List ℕ
 dots_text = codes "too many dots"
 
--- the first of these tests that the bytes fail, with the text that says so
-pub data IsRefused (bytes : List ℕ) : List ℕ → Type 0 where
+-- the first of these tests that the bytes fail as a grammar text in this notation, with the text that says so
+pub data IsRefused (n : Notation) (bytes : List ℕ) : List ℕ → Type 0 where
   -- there are too many
-  too_many : most_bytes < length bytes → IsRefused bytes (large_text large.Bytes)
+  too_many : most_bytes < length bytes → IsRefused n bytes (large_text large.Bytes)
   -- they aren't UTF-8, and `at` is the length of their longest valid prefix
   not_utf8 : (at : ℕ) → length bytes ≤ most_bytes → (IsUtf8 bytes → ⊥) → IsValidUpTo bytes at →
-      IsRefused bytes (codes "not UTF-8 at byte " ++ decimal at)
+      IsRefused n bytes (codes "not UTF-8 at byte " ++ decimal at)
   -- they are no sequence of tokens, or the tokens don't follow the rules
-  not_grammar : (at : ℕ) → IsUtf8 bytes → IsReadFault bytes (read.Syntax at) →
-      IsRefused bytes (codes "syntax at byte " ++ decimal at)
+  not_grammar : (at : ℕ) → IsUtf8 bytes → IsReadFaultIn n bytes (read.Syntax at) →
+      IsRefused n bytes (codes "syntax at byte " ++ decimal at)
   -- a number is too large, or too many brackets are open at one place
-  too_large : (which : Large) → IsUtf8 bytes → IsReadFault bytes (read.TooLarge which) → IsRefused bytes (large_text which)
+  too_large : (which : Large) → IsUtf8 bytes → IsReadFaultIn n bytes (read.TooLarge which) → IsRefused n bytes (large_text which)
   -- the grammar that they read as isn't well scoped, by this condition at this place
-  not_scoped : (g : Grammar) (place : Place) (c : Condition) → IsUtf8 bytes → IsRead bytes g → IsFirst g place c →
-      IsRefused bytes (condition_text c ++ place_text place)
+  not_scoped : (g : Grammar) (place : Place) (c : Condition) → IsUtf8 bytes → IsReadIn n bytes g → IsFirst g place c →
+      IsRefused n bytes (condition_text c ++ place_text place)
   -- the core grammar of the grammar has too many dots
-  too_many_dots : (g : Grammar) → IsTextOf bytes g → most_dots < dots (CoreOf (unchanged g)) → IsRefused bytes dots_text
+  too_many_dots : (g : Grammar) → IsTextOf n bytes g → most_dots < dots (CoreOf (unchanged g)) → IsRefused n bytes dots_text

@@ -5,6 +5,7 @@ use Rattle.ig_text.specs.Decoding.{IsDecoded, IsFaulty}
 use Rattle.ig_text.specs.declared.text.Text.{Text}
 use Rattle.ig_text.specs.declared.text.TextFault.{TextFault}
 use Rattle.ig_text.specs.declared.text.TextFault.TheVariants as text_fault
+use Rattle.ig_command.specs.declared.command.Notation.{Notation}
 use Rattle.ig_outside.specs.Counts.{Rose}
 use Rattle.ig_outside.specs.States.{ShelfState}
 use Rattle.ig_outside.specs.Told.{Told, silent, nothing, bytes}
@@ -26,23 +27,23 @@ MayGive silent xs = Unit {0}
 MayGive nothing xs = ⊥
 MayGive (bytes held) xs = xs ≡ held
 
--- the bytes are refused as a grammar, and the note says why
-pub record IsNoGrammar (xs : List ℕ) (s : Status) (note : List ℕ) : Type 0 where
+-- the bytes are refused as a grammar text in this notation, and the note says why
+pub record IsNoGrammar (n : Notation) (xs : List ℕ) (s : Status) (note : List ℕ) : Type 0 where
   pub text : List ℕ
-  pub refused : IsRefused xs text
+  pub refused : IsRefused n xs text
   pub status_is : s ≡ status.Grammar
   pub note_is : note ≡ grammar_note text
 
--- the bytes are a text of the grammar, as it is written
-pub record IsWrittenIn (xs : List ℕ) (c : CheckedGrammar) : Type 0 where
-  pub text : IsTextOf xs c.grammar
+-- the bytes are a text of the grammar in this notation, as it is written
+pub record IsWrittenIn (n : Notation) (xs : List ℕ) (c : CheckedGrammar) : Type 0 where
+  pub text : IsTextOf n xs c.grammar
   pub as_it_is : c ≡ unchanged c.grammar
 
 -- the bytes are a text of the grammar, or refused
-abbrev pub ReadsGrammar : List ℕ → Result CheckedGrammar Stop → Type 0
-ReadsGrammar xs (Ok checked) = IsWrittenIn xs checked
-ReadsGrammar xs (Err (halt.Note s line)) = IsNoGrammar xs s line.items
-ReadsGrammar xs (Err halt.Memory) = Unit {0}
+abbrev pub ReadsGrammar : Notation → List ℕ → Result CheckedGrammar Stop → Type 0
+ReadsGrammar n xs (Ok checked) = IsWrittenIn n xs checked
+ReadsGrammar n xs (Err (halt.Note s line)) = IsNoGrammar n xs s line.items
+ReadsGrammar n xs (Err halt.Memory) = Unit {0}
 
 -- why an input is refused
 pub record IsNoInput (xs : List ℕ) (s : Status) (note : List ℕ) : Type 0 where
@@ -83,11 +84,11 @@ abbrev pub StopsFile : Told → List ℕ → ℕ → ℕ → (List ℕ → Statu
 StopsFile told name old new Refused (halt.Note s line) = StopsAt told name old new Refused s line.items
 StopsFile told name old new Refused halt.Memory = Stood old new
 
--- a file that is to be a grammar
-abbrev pub GivesGrammar : Told → List ℕ → ℕ → ℕ → Result CheckedGrammar Stop → Type 0
-GivesGrammar told name old new (Ok checked) =
-    (new ≡ old) × ((xs : List ℕ) × MayGive told xs × IsWrittenIn xs checked)
-GivesGrammar told name old new (Err stop) = StopsFile told name old new IsNoGrammar stop
+-- a file that is to be a grammar text in this notation
+abbrev pub GivesGrammar : Notation → Told → List ℕ → ℕ → ℕ → Result CheckedGrammar Stop → Type 0
+GivesGrammar n told name old new (Ok checked) =
+    (new ≡ old) × ((xs : List ℕ) × MayGive told xs × IsWrittenIn n xs checked)
+GivesGrammar n told name old new (Err stop) = StopsFile told name old new (IsNoGrammar n) stop
 
 -- a file that is to be an input
 abbrev pub GivesInput : Told → List ℕ → ℕ → ℕ → Result Text Stop → Type 0
@@ -101,8 +102,8 @@ GivesForest told name old new (Ok text) =
 GivesForest told name old new (Err stop) = StopsFile told name old new IsLongForest stop
 
 -- what is loaded from the shelf under the name
-abbrev pub LoadsGrammar : Change ShelfState → List ℕ → Result CheckedGrammar Stop → Type 0
-LoadsGrammar shelf name = GivesGrammar (shelf.before.holds name) name shelf.before.faults shelf.after.faults
+abbrev pub LoadsGrammar : Notation → Change ShelfState → List ℕ → Result CheckedGrammar Stop → Type 0
+LoadsGrammar n shelf name = GivesGrammar n (shelf.before.holds name) name shelf.before.faults shelf.after.faults
 
 abbrev pub LoadsInput : Change ShelfState → List ℕ → Result Text Stop → Type 0
 LoadsInput shelf name = GivesInput (shelf.before.holds name) name shelf.before.faults shelf.after.faults

@@ -1,29 +1,34 @@
 //! From bytes to a grammar, or to the note that says why they are none.
 
-ghost use Rattle.std.specs.Prelude.{◌≤◌, ◌++◌, length};
+ghost use Rattle.std.specs.Prelude.{◌≤◌, ◌++◌, IfErr, IfOk, length};
 ghost use Rattle.std.specs.Fmt.{decimal};
 ghost use Rattle.ig_syntax.specs.Notation.{most_bytes};
 ghost use Rattle.ig_conditions.specs.Causes.{condition_of};
 ghost use Rattle.ig_refusals.specs.Texts.{condition_text, place_text};
 ghost use Rattle.ig_endings.specs.Stops.{RefusesWith};
+ghost use Rattle.ig_sources.specs.Accepted.{IsReadFaultIn, IsReadIn};
 ghost use Rattle.ig_sources.specs.Refusals.{large_text};
 ghost use Rattle.ig_sources.specs.Sources.{ReadsGrammar};
 
+use crate::laws::read_grammars_are_regular;
+use ig_command::Notation;
 use ig_conditions::ScopeCause;
 use ig_endings::{Stop, refuse};
-use ig_grammar::{Checked, Place};
-use ig_notation::{Large, ReadFault, read_grammars_are_regular, read_short};
+use ig_grammar::{Checked, Grammar, Place};
+use ig_notation::{Large, ReadFault, read_short};
 use ig_refusals::{push_cause, push_numbered};
 use ig_scope::{ScopeFault, check};
+use ig_w3c::read_short_w3c;
 use std::alloc::Global;
 use std::str;
 
-/// The well-scoped grammar that the bytes read as; or the note on the first of these tests that
-/// they fail: UTF-8; tokens; numbers and nesting; the rules of the notation; scopes. The bytes are
-/// at most [`MOST_BYTES`](ig_notation::MOST_BYTES), since no more were fetched.
-pub(crate) fn read_grammar(alloc: Global, bytes: &[u8]) -> Result<Checked, Stop>
+/// The well-scoped grammar that the bytes read as in this notation; or the note on the first of
+/// these tests that they fail: UTF-8; tokens; numbers and nesting; the rules of the notation;
+/// scopes. The bytes are at most [`MOST_BYTES`](ig_notation::MOST_BYTES), since no more were
+/// fetched.
+pub(crate) fn read_grammar(alloc: Global, bytes: &[u8], notation: Notation) -> Result<Checked, Stop>
     requires { length bytes.now ≤ most_bytes }
-    ensures { ReadsGrammar bytes.now result }
+    ensures { ReadsGrammar notation bytes.now result }
 {
     read_grammars_are_regular();
     let source = match str::from_utf8(bytes) {
@@ -32,7 +37,7 @@ pub(crate) fn read_grammar(alloc: Global, bytes: &[u8]) -> Result<Checked, Stop>
             return Err(refuse_at(alloc, b"not UTF-8 at byte ", error.valid_up_to() as u32));
         }
     };
-    let grammar = match read_short(alloc, source) {
+    let grammar = match read_in(alloc, source, notation) {
         Ok(grammar) => grammar,
         Err(ReadFault::Syntax { at }) => return Err(refuse_at(alloc, b"syntax at byte ", at)),
         Err(ReadFault::TooLarge { which }) => return Err(too_large(alloc, which)),
@@ -42,6 +47,18 @@ pub(crate) fn read_grammar(alloc: Global, bytes: &[u8]) -> Result<Checked, Stop>
         Ok(checked) => Ok(checked),
         Err(ScopeFault::Broken { cause, place }) => Err(not_scoped(alloc, cause, place)),
         Err(ScopeFault::Memory) => Err(Stop::Memory),
+    }
+}
+
+/// The grammar that a text of few bytes reads as in this notation.
+fn read_in(alloc: Global, source: &str, notation: Notation) -> Result<Grammar, ReadFault>
+    requires { length source.now ≤ most_bytes }
+    ensures ok { IfOk result (IsReadIn notation source.now) }
+    ensures fault { IfErr result (IsReadFaultIn notation source.now) }
+{
+    match notation {
+        Notation::Own => read_short(alloc, source),
+        Notation::W3c => read_short_w3c(alloc, source),
     }
 }
 

@@ -13,18 +13,23 @@ use Rattle.ig_outside.specs.Told.{Told, silent, nothing, bytes}
 use Rattle.ig_text.proofs.Options.{one_value}
 use Rattle.ig_grammar.specs.declared.grammar.Grammar.{Grammar}
 use Rattle.ig_grammar.specs.WellScoped.{IsFirst}
-use Rattle.ig_notation.specs.Outcome.{too_many_bytes, OneReading, ReadOrRefused}
+use Rattle.ig_notation.specs.Outcome as own
+use Rattle.ig_w3c.specs.Outcome as w3c
+use Rattle.ig_syntax.specs.Notation.{most_bytes as most_grammar_bytes}
+use Rattle.ig_command.specs.declared.command.Notation.{Notation}
+use Rattle.ig_command.specs.declared.command.Notation.TheVariants as notation
+use Rattle.ig_sources.specs.Laws.{OneReading, ReadOrRefused}
 use Rattle.ig_notation.specs.declared.fault.Large.TheVariants as large
 use Rattle.ig_notation.specs.declared.fault.ReadFault.TheVariants as read
 use Rattle.ig_item.specs.Core.{dots}
 use Rattle.ig_item.specs.Limits.{most_dots}
 use Rattle.ig_core_laws.specs.Lowered.{CoreOf}
 use Rattle.ig_core_laws.specs.Notation.{unchanged}
-use Rattle.ig_command.specs.Commands.{Request, request_of, check, show, core, forest, trees, query, load, verify, analyse, grammar_file, input_file, IsCommand}
+use Rattle.ig_command.specs.Commands.{Request, Source, request_of, check, show, core, forest, trees, query, load, verify, analyse, grammar_file, input_file, IsCommand}
 use Rattle.ig_jobs.specs.Jobs.{Job, print, list, ask, request_for, task_request}
 use Rattle.ig_jobs.specs.declared.job.Task.{Task}
 use Rattle.ig_jobs.specs.declared.job.Task.TheVariants as task
-use Rattle.ig_sources.specs.Accepted.{IsAccepted}
+use Rattle.ig_sources.specs.Accepted.{IsAccepted, IsReadFaultIn}
 use Rattle.ig_sources.specs.Refusals.{IsRefused, too_many, not_utf8, not_grammar, too_large, not_scoped, too_many_dots}
 use Rattle.ig_sources.specs.Sources.{MayGive}
 use Rattle.ig_endings.specs.Change.{Change, Got, Untouched}
@@ -43,19 +48,23 @@ pub record Laws : Type 0 where
 pub given : OneReading → ReadOrRefused → Laws
 given one apart = record { only_reading = one; not_both = apart }
 
+too_many_read : (n : Notation) (xs : List ℕ) → most_grammar_bytes < length xs → IsReadFaultIn n xs (read.TooLarge large.Bytes)
+too_many_read notation.Own xs more = own.too_many_bytes more
+too_many_read notation.W3c xs more = w3c.too_many_bytes more
+
 -- bytes that are accepted aren't refused
-accepted_or_refused : (laws : Laws) (xs text : List ℕ) (g : Grammar) → IsAccepted xs g → IsRefused xs text → ⊥
-accepted_or_refused laws xs text g a (too_many more) =
-    let none = laws.not_both xs g (read.TooLarge large.Bytes) a.text.reading (too_many_bytes more) in cc
-accepted_or_refused laws xs text g a (not_utf8 at few bad valid) = bad a.text.utf8
-accepted_or_refused laws xs text g a (not_grammar at utf8 fault) = let none = laws.not_both xs g (read.Syntax at) a.text.reading fault in cc
-accepted_or_refused laws xs text g a (too_large which utf8 fault) =
-    let none = laws.not_both xs g (read.TooLarge which) a.text.reading fault in cc
-accepted_or_refused laws xs text g a (not_scoped h place c utf8 reading first) =
+accepted_or_refused : (laws : Laws) (n : Notation) (xs text : List ℕ) (g : Grammar) → IsAccepted n xs g → IsRefused n xs text → ⊥
+accepted_or_refused laws n xs text g a (too_many more) =
+    let none = laws.not_both n xs g (read.TooLarge large.Bytes) a.text.reading (too_many_read n xs more) in cc
+accepted_or_refused laws n xs text g a (not_utf8 at few bad valid) = bad a.text.utf8
+accepted_or_refused laws n xs text g a (not_grammar at utf8 fault) = let none = laws.not_both n xs g (read.Syntax at) a.text.reading fault in cc
+accepted_or_refused laws n xs text g a (too_large which utf8 fault) =
+    let none = laws.not_both n xs g (read.TooLarge which) a.text.reading fault in cc
+accepted_or_refused laws n xs text g a (not_scoped h place c utf8 reading first) =
     a.text.scoped place c
-    (subst (λ (z : Grammar). IsFirst z place c) (laws.only_reading xs h g reading a.text.reading) first).there.holds
-accepted_or_refused laws xs text g a (too_many_dots h is more) =
-    let same = laws.only_reading xs h g is.reading a.text.reading in
+    (subst (λ (z : Grammar). IsFirst z place c) (laws.only_reading n xs h g reading a.text.reading) first).there.holds
+accepted_or_refused laws n xs text g a (too_many_dots h is more) =
+    let same = laws.only_reading n xs h g is.reading a.text.reading in
     let P : Grammar → Type 0 = λ z. most_dots < dots (CoreOf (unchanged z)) in
     let few = a.few_dots in
     let many = subst P same more in
@@ -104,13 +113,13 @@ sort_of (load size number budget) = of_load
 sort_of (verify file input text) = of_check
 sort_of (analyse file) = of_grammar
 
-pub sort_of_task : (t : Task) (file : List ℕ) → sort_of (task_request t file) ≡ of_grammar
+pub sort_of_task : (t : Task) (file : Source) → sort_of (task_request t file) ≡ of_grammar
 sort_of_task task.Check file = refl
 sort_of_task task.Show file = refl
 sort_of_task task.Core file = refl
 sort_of_task task.Analyse file = refl
 
-pub sort_of_job : (job : Job) (file input : List ℕ) (budget : ℕ) → sort_of (request_for job file input budget) ≡ of_job
+pub sort_of_job : (job : Job) (file : Source) (input : List ℕ) (budget : ℕ) → sort_of (request_for job file input budget) ≡ of_job
 sort_of_job print file input budget = refl
 sort_of_job (list listing) file input budget = refl
 sort_of_job (ask question) file input budget = refl
@@ -122,29 +131,36 @@ one_sort words r q m n a b e f = sym e ∙ ap sort_of (same_request words r q a 
 
 -- where the shelf tells that it holds the grammar, and it is accepted, it is what was read
 module _ (laws : Laws) (words : List (List ℕ)) (shelf : ShelfState) (request : Request) (asked : IsCommand words request)
-    (file : List ℕ) (named : grammar_file request ≡ Some file) (xs : List ℕ) (held : shelf.holds file ≡ bytes xs)
-    (g : Grammar) (accepted : IsAccepted xs g) where
-  told_here : (r : Request) (f : List ℕ) → IsCommand words r → grammar_file r ≡ Some f → shelf.holds f ≡ bytes xs
-  told_here r f command e =
+    (file : Source) (named : grammar_file request ≡ Some file) (xs : List ℕ) (held : shelf.holds file.name ≡ bytes xs)
+    (g : Grammar) (accepted : IsAccepted file.written xs g) where
+  same_file : (r : Request) (f : Source) → IsCommand words r → grammar_file r ≡ Some f → f ≡ file
+  same_file r f command e =
       let same : Some f ≡ Some file = sym e ∙ ap grammar_file (same_request words r request command asked) ∙ named in
-      ap shelf.holds (same_Some f file same) ∙ held
+      same_Some f file same
 
-  given_here : (r : Request) (f ys : List ℕ) → IsCommand words r → grammar_file r ≡ Some f → MayGive (shelf.holds f) ys → ys ≡ xs
-  given_here r f ys command e gives = gives_held (shelf.holds f) xs ys (told_here r f command e) gives
+  told_here : (r : Request) (f : Source) → IsCommand words r → grammar_file r ≡ Some f → shelf.holds f.name ≡ bytes xs
+  told_here r f command e = ap (λ (z : Source). shelf.holds z.name) (same_file r f command e) ∙ held
 
-  pub not_missing : (r : Request) (f : List ℕ) → IsCommand words r → grammar_file r ≡ Some f → shelf.holds f ≡ nothing → ⊥
+  given_here : (r : Request) (f : Source) (ys : List ℕ) → IsCommand words r → grammar_file r ≡ Some f →
+      MayGive (shelf.holds f.name) ys → ys ≡ xs
+  given_here r f ys command e gives = gives_held (shelf.holds f.name) xs ys (told_here r f command e) gives
+
+  pub not_missing : (r : Request) (f : Source) → IsCommand words r → grammar_file r ≡ Some f → shelf.holds f.name ≡ nothing → ⊥
   not_missing r f command e n = let told = told_here r f command e in cc
 
-  pub not_refused : (r : Request) (f ys text : List ℕ) → IsCommand words r → grammar_file r ≡ Some f →
-      MayGive (shelf.holds f) ys → IsRefused ys text → ⊥
+  pub not_refused : (r : Request) (f : Source) (ys text : List ℕ) → IsCommand words r → grammar_file r ≡ Some f →
+      MayGive (shelf.holds f.name) ys → IsRefused f.written ys text → ⊥
   not_refused r f ys text command e gives refused =
-      accepted_or_refused laws ys text g
-      (subst (λ (z : List ℕ). IsAccepted z g) (sym (given_here r f ys command e gives)) accepted) refused
+      accepted_or_refused laws file.written xs text g accepted
+      (subst (λ (z : Source). IsRefused z.written xs text) (same_file r f command e)
+      (subst (λ (z : List ℕ). IsRefused f.written z text) (given_here r f ys command e gives) refused))
 
   pub grammar_is : (r : Request) (h : Grammar) → IsCommand words r → HasGrammar shelf r h → h ≡ g
   grammar_is r h command has =
-      laws.only_reading xs h g
-      (subst (λ (z : List ℕ). IsAccepted z h) (given_here r has.name has.bytes command has.named has.gives) has.accepted).text.reading
+      laws.only_reading file.written xs h g
+      (subst (λ (z : Source). IsAccepted z.written xs h) (same_file r has.file command has.named)
+      (subst (λ (z : List ℕ). IsAccepted has.file.written z h) (given_here r has.file has.bytes command has.named has.gives)
+      has.accepted)).text.reading
       accepted.text.reading
 
 -- where the shelf tells that it holds the grammar and the input, these are what was read
@@ -160,15 +176,16 @@ module _ (laws : Laws) (words : List (List ℕ)) (shelf : ShelfState) (request :
       ys ≡ asked.input_bytes
   given_input r f ys command e gives = gives_held (shelf.holds f) asked.input_bytes ys (told_input r f command e) gives
 
-  pub no_missing_grammar : (r : Request) (f : List ℕ) → IsCommand words r → grammar_file r ≡ Some f → shelf.holds f ≡ nothing → ⊥
+  pub no_missing_grammar : (r : Request) (f : Source) → IsCommand words r → grammar_file r ≡ Some f →
+      shelf.holds f.name ≡ nothing → ⊥
   no_missing_grammar =
-      not_missing laws words shelf request asked.command asked.grammar_name asked.names_grammar asked.grammar_bytes asked.holds_grammar g
+      not_missing laws words shelf request asked.command asked.grammar asked.names_grammar asked.grammar_bytes asked.holds_grammar g
       asked.accepted
 
-  pub no_refused_grammar : (r : Request) (f ys text : List ℕ) → IsCommand words r → grammar_file r ≡ Some f →
-      MayGive (shelf.holds f) ys → IsRefused ys text → ⊥
+  pub no_refused_grammar : (r : Request) (f : Source) (ys text : List ℕ) → IsCommand words r → grammar_file r ≡ Some f →
+      MayGive (shelf.holds f.name) ys → IsRefused f.written ys text → ⊥
   no_refused_grammar =
-      not_refused laws words shelf request asked.command asked.grammar_name asked.names_grammar asked.grammar_bytes asked.holds_grammar g
+      not_refused laws words shelf request asked.command asked.grammar asked.names_grammar asked.grammar_bytes asked.holds_grammar g
       asked.accepted
 
   pub no_missing_input : (r : Request) (f : List ℕ) → IsCommand words r → input_file r ≡ Some f → shelf.holds f ≡ nothing → ⊥
@@ -182,7 +199,7 @@ module _ (laws : Laws) (words : List (List ℕ)) (shelf : ShelfState) (request :
 
   pub same_grammar : (r : Request) (h : Grammar) (text : List ℕ) → HasFiles words shelf r h text → h ≡ g
   same_grammar r h text files =
-      grammar_is laws words shelf request asked.command asked.grammar_name asked.names_grammar asked.grammar_bytes asked.holds_grammar g
+      grammar_is laws words shelf request asked.command asked.grammar asked.names_grammar asked.grammar_bytes asked.holds_grammar g
       asked.accepted r h files.command files.of_grammar
 
   pub same_input : (r : Request) (h : Grammar) (text : List ℕ) → HasFiles words shelf r h text → text ≡ input

@@ -69,6 +69,6 @@ module _ (g : Grammar) (input : List ℕ) (budget : ℕ) (job : Job) (few : IsOv
 
 pub completeness : (laws : Laws) (words : List (List ℕ)) (shelf : Change ShelfState) (out notes : Change SinkState) (s : Status) →
     Answers words shelf out notes s → Completeness words shelf out notes s
-completeness laws words shelf out notes s answers grammar_name input_name g input budget job asked calm a b few some lawful =
+completeness laws words shelf out notes s answers grammar input_name g input budget job asked calm a b few some lawful =
     said g input budget job few some lawful out notes s
-    (headline laws words shelf out notes s answers grammar_name input_name g input budget job asked calm a b)
+    (headline laws words shelf out notes s answers grammar input_name g input budget job asked calm a b)

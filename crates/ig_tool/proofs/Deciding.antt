@@ -8,33 +8,35 @@ use Rattle.ig_outside.specs.States.{ShelfState, SinkState}
 use Rattle.ig_outside.specs.Told.{Told}
 use Rattle.ig_grammar.specs.Checked.{CheckedGrammar}
 use Rattle.ig_grammar.specs.declared.grammar.Grammar.{Grammar}
-use Rattle.ig_core_laws.specs.Lowered.{CoreOf, IsBuildable}
+use Rattle.ig_core_laws.specs.Lowered.{IsBuildable}
 use Rattle.ig_core_laws.specs.Notation.{unchanged}
 use Rattle.ig_endings.specs.Change.{Change, change, raised, Fetched, Stood, Untouched}
 use Rattle.ig_endings.specs.declared.stop.Stop.{Stop}
 use Rattle.ig_endings.specs.declared.stop.Stop.TheVariants as halt
 use Rattle.ig_endings.specs.declared.status.Status.{Status}
 use Rattle.ig_endings.specs.declared.status.Status.TheVariants as status
-use Rattle.ig_command.specs.Commands.{Request, check, show, core, forest, trees, query, load, verify, analyse, grammar_file, input_file, files_of, IsCommand}
+use Rattle.ig_command.specs.Commands.{Request, Source, check, show, core, forest, trees, query, load, verify, analyse, grammar_file, input_file, files_of, IsCommand}
 use Rattle.ig_jobs.specs.Jobs.{Job, print, list, ask, request_for, task_request}
 use Rattle.ig_jobs.specs.declared.job.Task.{Task}
 use Rattle.ig_jobs.specs.declared.job.Task.TheVariants as task
-use Rattle.ig_sources.specs.Accepted.{IsAccepted}
-use Rattle.ig_sources.specs.Laws.{ReadGrammarsAreBuildable}
+use Rattle.ig_sources.specs.Accepted.{IsAccepted, IsTextOf}
+use Rattle.ig_sources.specs.Laws.{ReadGrammarsAreBuildable, ReadGrammarsHaveReadings}
+use Rattle.ig_command.specs.declared.command.Notation.{Notation}
+use Rattle.ig_command.specs.declared.command.Notation.TheVariants as notation
 use Rattle.ig_sources.specs.Refusals.{too_many_dots, dots_text}
 use Rattle.ig_tool.specs.Outcome as decided
 use Rattle.ig_endings.specs.Notes.{usage_note}
 use Rattle.ig_endings.specs.Stops.{Ends, StopsWith, WritesText, WritesNote}
 use Rattle.ig_sources.specs.Sources as sources
-use Rattle.ig_sources.specs.Sources.{MayGive, StopsAt, IsNoGrammar, IsNoInput, IsLongForest, IsWrittenIn, LoadsGrammar, LoadsInput, LoadsForest, most_forest_bytes}
-use Rattle.ig_jobs.specs.Tasks.{DoesTask, GrammarText}
+use Rattle.ig_sources.specs.Sources.{MayGive, StopsAt, IsNoGrammar, IsNoInput, IsWrittenIn, LoadsGrammar, LoadsInput, LoadsForest, most_forest_bytes}
+use Rattle.ig_jobs.specs.Tasks.{DoesTask, GrammarText, IsSayable}
 use Rattle.ig_jobs.specs.Verifying as verifying
 use Rattle.ig_jobs.specs.Verifying.{IsReducedText, IsTaken, Verifies, VerifiesText}
 use Rattle.ig_jobs.specs.Texts as texts
 use Rattle.ig_jobs.specs.Texts.{IsPrepared, Prepares, IsParse, StopsParse, LoadsText, ParsesText}
-use Rattle.ig_tool.specs.Outcome.{never, for_names, HasFiles, HasGrammar, HasInput, Decided, usage, load_over_budget, load_summed, grammar_missing, grammar_unread, grammar_refused, told_grammar, input_missing, input_unread, input_refused, over_budget, no_parse, parsed, forest_missing, forest_unread, checked, Answers, noted, unwritten, unnoted, no_memory}
+use Rattle.ig_tool.specs.Outcome.{never, for_names, HasFiles, HasGrammar, Decided, usage, load_over_budget, load_summed, grammar_missing, grammar_unread, grammar_refused, told_grammar, input_missing, input_unread, input_refused, over_budget, no_parse, parsed, forest_missing, forest_unread, checked, Answers, noted, unwritten, unnoted, no_memory}
 use Rattle.ig_tool.specs.Decisions as decisions
-use Rattle.ig_tool.specs.Decisions.{StopsRun, GivesText, RunsJob, StopsCheck, GivesLine, RunsCheck, Decides}
+use Rattle.ig_tool.specs.Decisions.{StopsRun, GivesText, RunsJob, StopsCheck, RunsCheck, Decides}
 
 -- the words are no command
 pub decides_usage : (words : List (List ℕ)) (shelf : ShelfState) (stop : Stop) →
@@ -57,7 +59,7 @@ decides_load words shelf size number budget (Err (halt.Note s line)) command h =
 decides_load words shelf size number budget (Err halt.Memory) command h = (0, never, refl, inl refl)
 
 -- each command that names a grammar names a file
-one_file : (request : Request) (file : List ℕ) → grammar_file request ≡ Some file → 1 ≤ length (files_of request)
+one_file : (request : Request) (file : Source) → grammar_file request ≡ Some file → 1 ≤ length (files_of request)
 one_file (check grammar) file e = omega arith
 one_file (show grammar) file e = omega arith
 one_file (core grammar) file e = omega arith
@@ -80,19 +82,19 @@ two_files (load size number budget) file e = absurd (cc)
 two_files (verify grammar input text) file e = omega arith
 two_files (analyse grammar) file e = absurd (cc)
 
-pub named_of_task : (t : Task) (file : List ℕ) → grammar_file (task_request t file) ≡ Some file
+pub named_of_task : (t : Task) (file : Source) → grammar_file (task_request t file) ≡ Some file
 named_of_task task.Check file = refl
 named_of_task task.Show file = refl
 named_of_task task.Core file = refl
 named_of_task task.Analyse file = refl
 
 -- a job names a grammar and an input
-pub grammar_of_job : (job : Job) (grammar input : List ℕ) (budget : ℕ) → grammar_file (request_for job grammar input budget) ≡ Some grammar
+pub grammar_of_job : (job : Job) (grammar : Source) (input : List ℕ) (budget : ℕ) → grammar_file (request_for job grammar input budget) ≡ Some grammar
 grammar_of_job print grammar input budget = refl
 grammar_of_job (list listing) grammar input budget = refl
 grammar_of_job (ask question) grammar input budget = refl
 
-input_of_job : (job : Job) (grammar input : List ℕ) (budget : ℕ) → input_file (request_for job grammar input budget) ≡ Some input
+input_of_job : (job : Job) (grammar : Source) (input : List ℕ) (budget : ℕ) → input_file (request_for job grammar input budget) ≡ Some input
 input_of_job print grammar input budget = refl
 input_of_job (list listing) grammar input budget = refl
 input_of_job (ask question) grammar input budget = refl
@@ -104,9 +106,9 @@ decides_memory words shelf (Ok text) h = absurd h
 decides_memory words shelf (Err stop) h = rw h (0, never, refl, inl refl)
 
 -- the grammar stops the command
-stopped_at_grammar : (words : List (List ℕ)) (shelf : Change ShelfState) (request : Request) (file : List ℕ) (s : Status)
+stopped_at_grammar : (words : List (List ℕ)) (shelf : Change ShelfState) (request : Request) (file : Source) (s : Status)
     (note : List ℕ) → IsCommand words request → grammar_file request ≡ Some file →
-    StopsAt (shelf.before.holds file) file shelf.before.faults shelf.after.faults IsNoGrammar s note →
+    StopsAt (shelf.before.holds file.name) file.name shelf.before.faults shelf.after.faults (IsNoGrammar file.written) s note →
     Decided words shelf s [] note 1 × (s ≢ status.Done)
 stopped_at_grammar words shelf request file s note command named (sources.missing z line e n p q) =
     (rw (p, q) (grammar_missing request file e command named n), λ d. cc)
@@ -118,8 +120,8 @@ stopped_at_grammar words shelf request file s note command named (sources.refuse
 )
 
 pub decides_at_grammar : (words : List (List ℕ)) (shelf : Change ShelfState) (request : Request)
-    (file : List ℕ) (stop : Stop) → IsCommand words request → grammar_file request ≡ Some file → Fetched shelf 1 →
-    LoadsGrammar shelf file (Err stop) → Decides words shelf (Err stop)
+    (file : Source) (stop : Stop) → IsCommand words request → grammar_file request ≡ Some file → Fetched shelf 1 →
+    LoadsGrammar file.written shelf file.name (Err stop) → Decides words shelf (Err stop)
 decides_at_grammar words shelf request file (halt.Note s line) command named count h =
     let d = stopped_at_grammar words shelf request file s line.items command named h in
     (1, d.0, count, d.1)
@@ -127,58 +129,70 @@ decides_at_grammar words shelf request file halt.Memory command named count h =
     (1, for_names request 1 command (one_file request file named), count, h)
 
 -- the grammar that was loaded is buildable
-pub loaded_is_buildable : ReadGrammarsAreBuildable → (shelf : Change ShelfState) (name : List ℕ) (c : CheckedGrammar) →
-    LoadsGrammar shelf name (Ok c) → IsBuildable c
-loaded_is_buildable law shelf name c lg =
+pub loaded_is_buildable : ReadGrammarsAreBuildable → (shelf : Change ShelfState) (file : Source) (c : CheckedGrammar) →
+    LoadsGrammar file.written shelf file.name (Ok c) → IsBuildable c
+loaded_is_buildable law shelf file c lg =
     let w = lg.1.2 in
-    subst IsBuildable (sym w.as_it_is) (law lg.1.0 c.grammar w.text)
+    subst IsBuildable (sym w.as_it_is) (law file.written lg.1.0 c.grammar w.text)
+
+-- and the notation that it was read in can say it
+is_sayable : ReadGrammarsHaveReadings → (n : Notation) (xs : List ℕ) (g : Grammar) → IsTextOf n xs g → IsSayable n g
+is_sayable law notation.Own xs g text = tt
+is_sayable law notation.W3c xs g text = law xs g text
+
+pub parsed_is_sayable : ReadGrammarsHaveReadings → (shelf : Change ShelfState) (file : Source) (c parser : CheckedGrammar) →
+    LoadsGrammar file.written shelf file.name (Ok c) → IsPrepared c.grammar parser → IsSayable file.written parser.grammar
+parsed_is_sayable law shelf file c parser lg prepared =
+    let P : CheckedGrammar → Type 0 = λ z. IsSayable file.written z.grammar in
+    subst P (sym prepared.0) (is_sayable law file.written lg.1.0 c.grammar lg.1.2.text)
 
 -- the parser of a grammar as it is written is that of its own grammar as it is written
 pub still_unchanged : (g : Grammar) (parser : CheckedGrammar) → parser ≡ unchanged g → parser ≡ unchanged parser.grammar
 still_unchanged g parser e = e ∙ ap (λ (z : CheckedGrammar). unchanged z.grammar) (sym e)
 
 -- where the parser of the grammar was made, the grammar is accepted
-accepted_text : (xs : List ℕ) (c parser : CheckedGrammar) → IsWrittenIn xs c → IsPrepared c.grammar parser → IsAccepted xs c.grammar
-accepted_text xs c parser w is = record { text = w.text; few_dots = is.1 }
+accepted_text : (n : Notation) (xs : List ℕ) (c parser : CheckedGrammar) → IsWrittenIn n xs c → IsPrepared c.grammar parser →
+    IsAccepted n xs c.grammar
+accepted_text n xs c parser w is = record { text = w.text; few_dots = is.1 }
 
 -- the grammar was loaded
-module _ (words : List (List ℕ)) (shelf : Change ShelfState) (name : List ℕ) (c : CheckedGrammar)
-    (count : Fetched shelf 1) (lg : LoadsGrammar shelf name (Ok c)) where
+module _ (words : List (List ℕ)) (shelf : Change ShelfState) (file : Source) (c : CheckedGrammar)
+    (count : Fetched shelf 1) (lg : LoadsGrammar file.written shelf file.name (Ok c)) where
   -- its parser stops the command
-  pub decides_at_dots : (request : Request) (stop : Stop) → IsCommand words request → grammar_file request ≡ Some name →
+  pub decides_at_dots : (request : Request) (stop : Stop) → IsCommand words request → grammar_file request ≡ Some file →
       Prepares c.grammar (Err stop) → Decides words shelf (Err stop)
   decides_at_dots request (halt.Note s line) command named h =
       let many = too_many_dots c.grammar lg.1.2.text h.2 in
-      (1, rw (h.0, h.1) (grammar_refused request name lg.1.0 dots_text lg.0 command named lg.1.1 many), count, λ d. let p = h.0 in cc)
-  decides_at_dots request halt.Memory command named h = (1, for_names request 1 command (one_file request name named), count, inl lg.0)
+      (1, rw (h.0, h.1) (grammar_refused request file lg.1.0 dots_text lg.0 command named lg.1.1 many), count, λ d. let p = h.0 in cc)
+  decides_at_dots request halt.Memory command named h = (1, for_names request 1 command (one_file request file named), count, inl lg.0)
 
   module _ (parser : CheckedGrammar) (prepared : IsPrepared c.grammar parser) where
-    accepted : IsAccepted lg.1.0 c.grammar
-    accepted = accepted_text lg.1.0 c parser lg.1.2 prepared
+    accepted : IsAccepted file.written lg.1.0 c.grammar
+    accepted = accepted_text file.written lg.1.0 c parser lg.1.2 prepared
 
     -- the parser's grammar is accepted, as it is written
     pub is_taken : IsTaken parser
     is_taken =
         let P : CheckedGrammar → Type 0 = IsTaken in
-        subst P (sym prepared.0) (record { as_it_is = refl; bytes = lg.1.0; accepted = accepted })
+        subst P (sym prepared.0) (record { as_it_is = refl; written = file.written; bytes = lg.1.0; accepted = accepted })
 
-    pub has_grammar : (request : Request) → grammar_file request ≡ Some name → HasGrammar shelf.before request c.grammar
+    pub has_grammar : (request : Request) → grammar_file request ≡ Some file → HasGrammar shelf.before request c.grammar
     has_grammar request named =
-        record { name = name; named = named; bytes = lg.1.0; gives = lg.1.1; accepted = accepted }
+        record { file = file; named = named; bytes = lg.1.0; gives = lg.1.1; accepted = accepted }
 
     -- the grammar is all that was asked for
-    pub decides_task : (t : Task) (r : Result (Vec ℕ Global) Stop) → IsCommand words (task_request t name) →
-        DoesTask parser.grammar t r → Decides words shelf r
+    pub decides_task : (t : Task) (r : Result (Vec ℕ Global) Stop) → IsCommand words (task_request t file) →
+        DoesTask parser.grammar file.written t r → Decides words shelf r
     decides_task t (Ok text) command h =
-        let P : CheckedGrammar → Type 0 = λ z. GrammarText z.grammar t text.items in (
+        let P : CheckedGrammar → Type 0 = λ z. GrammarText z.grammar file.written t text.items in (
           1,
-          told_grammar t name text.items c.grammar lg.0 command (has_grammar (task_request t name) (named_of_task t name))
+          told_grammar t file text.items c.grammar lg.0 command (has_grammar (task_request t file) (named_of_task t file))
               (subst P prepared.0 h),
           count,
         )
     decides_task t (Err (halt.Note s line)) command h = absurd h
     decides_task t (Err halt.Memory) command h =
-        (1, for_names (task_request t name) 1 command (one_file (task_request t name) name (named_of_task t name)), count, inl lg.0)
+        (1, for_names (task_request t file) 1 command (one_file (task_request t file) file (named_of_task t file)), count, inl lg.0)
 
 -- what comes of a parser and an input
 module _ (c : CheckedGrammar) (budget : ℕ) (job : Job) (shelf : Change ShelfState) (name : List ℕ) where
@@ -238,7 +252,7 @@ module _ (words : List (List ℕ)) (shelf : Change ShelfState) (request : Reques
       }
 
 -- a job was asked for, and the grammar was accepted
-module _ (words : List (List ℕ)) (shelf : Change ShelfState) (job : Job) (grammar input : List ℕ) (budget : ℕ) (g : Grammar)
+module _ (words : List (List ℕ)) (shelf : Change ShelfState) (job : Job) (grammar : Source) (input : List ℕ) (budget : ℕ) (g : Grammar)
     (command : IsCommand words (request_for job grammar input budget))
     (has : HasGrammar shelf.before (request_for job grammar input budget) g) (parser : CheckedGrammar) (prepared : IsPrepared g parser)
   where
@@ -281,10 +295,10 @@ once_more : (k before between after : ℕ) → between ≡ risen before → afte
 once_more k before between after c1 c2 = c2 ∙ ap (raised k) c1
 
 -- the grammar was loaded, and then a job was run
-pub decides_job : (words : List (List ℕ)) (first loaded last : ShelfState) (job : Job) (file input : List ℕ) (budget : ℕ)
+pub decides_job : (words : List (List ℕ)) (first loaded last : ShelfState) (job : Job) (file : Source) (input : List ℕ) (budget : ℕ)
     (c parser : CheckedGrammar) (r : Result (Vec ℕ Global) Stop) → IsCommand words (request_for job file input budget) →
     Fetched (change first loaded) 1 → ((n : List ℕ) → loaded.holds n ≡ first.holds n) →
-    LoadsGrammar (change first loaded) file (Ok c) →
+    LoadsGrammar file.written (change first loaded) file.name (Ok c) →
     IsPrepared c.grammar parser → Fetched (change loaded last) 1 →
     RunsJob parser budget job (change loaded last) input r → Decides words (change first last) r
 decides_job words first loaded last job file input budget c parser r command count same lg prepared count_2 h = go r h
@@ -320,9 +334,9 @@ decides_job words first loaded last job file input budget c parser r command cou
     )
 
 -- a forest is to be checked, and the grammar was loaded
-module _ (words : List (List ℕ)) (file input name : List ℕ) (command : IsCommand words (verify file input name))
+module _ (words : List (List ℕ)) (file : Source) (input name : List ℕ) (command : IsCommand words (verify file input name))
     (first loaded : ShelfState) (c parser : CheckedGrammar) (count : Fetched (change first loaded) 1)
-    (same : (n : List ℕ) → loaded.holds n ≡ first.holds n) (lg : LoadsGrammar (change first loaded) file (Ok c))
+    (same : (n : List ℕ) → loaded.holds n ≡ first.holds n) (lg : LoadsGrammar file.written (change first loaded) file.name (Ok c))
     (prepared : IsPrepared c.grammar parser) (read : ShelfState) (count_2 : Fetched (change loaded read) 1) where
   has_one : HasGrammar first (verify file input name) c.grammar
   has_one = has_grammar words (change first loaded) file c count lg parser prepared (verify file input name) refl

@@ -1,14 +1,14 @@
 -- What is answered where a task with a grammar is asked for, from the answer by cases.
-use Rattle.std.proofs.Common.{◌≡◌, ℕ, List, [], ◌⊎◌, inl, inr, refl, sym, ◌∙◌, ap, subst, Option, Some, None}
+use Rattle.std.proofs.Common.{◌≡◌, ℕ, List, [], inl, inr, refl, sym, ◌∙◌, ap, subst, Option, Some, None}
 use Rattle.std.proofs.lemmas.Option.{same_Some}
 use Rattle.ig_outside.specs.States.{ShelfState, SinkState}
 use Rattle.ig_outside.specs.Told.{bytes}
 use Rattle.ig_grammar.specs.declared.grammar.Grammar.{Grammar}
-use Rattle.ig_endings.specs.Change.{Change, FetchFailed, PutFailed, Got, Untouched}
+use Rattle.ig_endings.specs.Change.{Change, FetchFailed}
 use Rattle.ig_endings.specs.declared.status.Status.{Status}
 use Rattle.ig_endings.specs.declared.status.Status.TheVariants as status
 use Rattle.ig_command.specs.Commands as asks
-use Rattle.ig_command.specs.Commands.{Request, load, verify, input_file, IsCommand}
+use Rattle.ig_command.specs.Commands.{Request, Source, load, verify, grammar_file, input_file, IsCommand}
 use Rattle.ig_jobs.specs.Jobs.{request_for, task_request}
 use Rattle.ig_jobs.specs.Tasks.{GrammarText}
 use Rattle.ig_jobs.specs.declared.job.Task.{Task}
@@ -28,14 +28,15 @@ task_of (asks.core file) = Some task.Core
 task_of (asks.analyse file) = Some task.Analyse
 task_of request = None
 
-itself : (t : Task) (file : List ℕ) → task_of (task_request t file) ≡ Some t
+itself : (t : Task) (file : Source) → task_of (task_request t file) ≡ Some t
 itself task.Check file = refl
 itself task.Show file = refl
 itself task.Core file = refl
 itself task.Analyse file = refl
 
-module _ (laws : Laws) (words : List (List ℕ)) (shelf : Change ShelfState) (t : Task) (file xs : List ℕ) (g : Grammar)
-    (asked : IsCommand words (task_request t file)) (held : shelf.before.holds file ≡ bytes xs) (accepted : IsAccepted xs g) where
+module _ (laws : Laws) (words : List (List ℕ)) (shelf : Change ShelfState) (t : Task) (file : Source) (xs : List ℕ) (g : Grammar)
+    (asked : IsCommand words (task_request t file)) (held : shelf.before.holds file.name ≡ bytes xs)
+    (accepted : IsAccepted file.written xs g) where
   abbrev request : Request
   request = task_request t file
 
@@ -53,13 +54,18 @@ module _ (laws : Laws) (words : List (List ℕ)) (shelf : Change ShelfState) (t 
       by_task task.Core h = cc
       by_task task.Analyse h = cc
 
-  same_task : (u : Task) (f : List ℕ) → IsCommand words (task_request u f) → u ≡ t
+  same_task : (u : Task) (f : Source) → IsCommand words (task_request u f) → u ≡ t
   same_task u f command =
       same_Some u t (sym (itself u f) ∙ ap task_of (same_request words (task_request u f) request command asked) ∙ itself t file)
 
+  same_source : (u : Task) (f : Source) → IsCommand words (task_request u f) → f ≡ file
+  same_source u f command =
+      same_Some f file
+      (sym (named_of_task u f) ∙ ap grammar_file (same_request words (task_request u f) request command asked) ∙ named_of_task t file)
+
   -- what was decided is the text of the task
   decided_text : (s : Status) (out note : List ℕ) (k : ℕ) → Decided words shelf s out note k → (FetchFailed shelf → ⊥) →
-      (s ≡ status.Done) × GrammarText g t out
+      (s ≡ status.Done) × GrammarText g file.written t out
   decided_text s out note k (answer.usage e none) calm = absurd (none request asked)
   decided_text s out note k (answer.load_over_budget size number b e command many) calm =
       let same = of_one_sort (load size number b) _ command refl in absurd (cc)
@@ -73,8 +79,12 @@ module _ (laws : Laws) (words : List (List ℕ)) (shelf : Change ShelfState) (t 
       gives refused)
   decided_text s out note k (answer.told_grammar u f text h e command has is) calm =
       let same =
-      grammar_is laws words shelf.before request asked file (named_of_task t file) xs held g accepted (task_request u f) h command has in
-      (refl, subst (λ (z : Task). GrammarText g z out) (same_task u f command) (subst (λ (z : Grammar). GrammarText z u out) same is))
+      grammar_is laws words shelf.before request asked file (named_of_task t file) xs held g accepted (task_request u f) h command has in (
+        refl,
+        subst (λ (z : Task). GrammarText g file.written z out) (same_task u f command)
+            (subst (λ (z : Source). GrammarText g z.written u out) (same_source u f command)
+            (subst (λ (z : Grammar). GrammarText z f.written u out) same is)),
+      )
   decided_text s out note k (answer.input_missing r h f e command has n held_not) calm = absurd (no_input r f command n)
   decided_text s out note k (answer.input_unread r h f rose command has n) calm = absurd (calm rose)
   decided_text s out note k (answer.input_refused r h f ys fault e command has n gives faulty cause) calm =

@@ -5,7 +5,7 @@ use Rattle.ig_grammar.specs.declared.grammar.Grammar.{Grammar}
 use Rattle.ig_endings.specs.Change.{Change, FetchFailed, PutFailed}
 use Rattle.ig_endings.specs.declared.status.Status.{Status}
 use Rattle.ig_endings.specs.declared.status.Status.TheVariants as status
-use Rattle.ig_command.specs.Commands.{Request, load, verify, IsCommand}
+use Rattle.ig_command.specs.Commands.{Request, Source, load, verify, IsCommand}
 use Rattle.ig_jobs.specs.Jobs.{Job, print, list, ask, request_for, task_request}
 use Rattle.ig_tool.specs.Outcome as answer
 use Rattle.ig_tool.specs.Outcome.{HasFiles, Decided, Answers, written, noted, unwritten, unnoted, no_memory}
@@ -13,13 +13,13 @@ use Rattle.ig_tool.specs.Headline.{Asks, Outcome, over_budget, no_parse, parsed,
 use Rattle.ig_tool.proofs.Asked.{Laws, Sort, of_job, got_none, no_missing_grammar, no_missing_input, no_refused_grammar, no_refused_input, one_sort, same_grammar, same_input, same_request, sort_of, sort_of_job, sort_of_task}
 
 -- two requests are one only where jobs, files and budgets are
-pub record AreSame (i j : Job) (file input file_2 input_2 : List ℕ) (b c : ℕ) : Type 0 where
+pub record AreSame (i j : Job) (file : Source) (input : List ℕ) (file_2 : Source) (input_2 : List ℕ) (b c : ℕ) : Type 0 where
   pub job : i ≡ j
   pub grammar : file ≡ file_2
   pub read : input ≡ input_2
   pub budget : b ≡ c
 
-same_parts : (i j : Job) (f t u v : List ℕ) (b c : ℕ) → request_for i f t b ≡ request_for j u v c → AreSame i j f t u v b c
+same_parts : (i j : Job) (f : Source) (t : List ℕ) (u : Source) (v : List ℕ) (b c : ℕ) → request_for i f t b ≡ request_for j u v c → AreSame i j f t u v b c
 same_parts print print f t u v b c e = record { job = refl; grammar = cc; read = cc; budget = cc }
 same_parts (list l) (list m) f t u v b c e =
     let same : l ≡ m = cc in record { job = ap list same; grammar = cc; read = cc; budget = cc }
@@ -33,21 +33,21 @@ same_parts (ask q) print f t u v b c e = absurd (cc)
 same_parts (ask q) (list m) f t u v b c e = absurd (cc)
 
 -- the words ask for a job
-module _ (laws : Laws) (words : List (List ℕ)) (shelf : Change ShelfState) (grammar_name input_name : List ℕ) (g : Grammar)
+module _ (laws : Laws) (words : List (List ℕ)) (shelf : Change ShelfState) (grammar : Source) (input_name : List ℕ) (g : Grammar)
     (input : List ℕ) (budget : ℕ) (job : Job)
-    (asked : Asks words shelf.before (request_for job grammar_name input_name budget) g input) where
+    (asked : Asks words shelf.before (request_for job grammar input_name budget) g input) where
   abbrev request : Request
-  request = request_for job grammar_name input_name budget
+  request = request_for job grammar input_name budget
 
   of_one_sort : (r : Request) (m : Sort) → IsCommand words r → sort_of r ≡ m → m ≡ of_job
   of_one_sort r m command e =
-      one_sort words r request m of_job command asked.command e (sort_of_job job grammar_name input_name budget)
+      one_sort words r request m of_job command asked.command e (sort_of_job job grammar input_name budget)
 
-  module _ (f t : List ℕ) (h : Grammar) (text : List ℕ) (b : ℕ) (i : Job)
+  module _ (f : Source) (t : List ℕ) (h : Grammar) (text : List ℕ) (b : ℕ) (i : Job)
       (files : HasFiles words shelf.before (request_for i f t b) h text) where
-    same_files : AreSame i job f t grammar_name input_name b budget
+    same_files : AreSame i job f t grammar input_name b budget
     same_files =
-        same_parts i job f t grammar_name input_name b budget
+        same_parts i job f t grammar input_name b budget
         (same_request words (request_for i f t b) request files.command asked.command)
 
     moved : (s : Status) (out note : List ℕ) → Outcome h text b i s out note → Outcome g input budget job s out note
@@ -107,5 +107,5 @@ module _ (laws : Laws) (words : List (List ℕ)) (shelf : Change ShelfState) (gr
 
 pub headline : (laws : Laws) (words : List (List ℕ)) (shelf : Change ShelfState) (out notes : Change SinkState) (s : Status) →
     Answers words shelf out notes s → Headline words shelf out notes s
-headline laws words shelf out notes s answers grammar_name input_name g input budget job asked calm a b =
-    answer_outcome laws words shelf grammar_name input_name g input budget job asked out notes s answers calm a b
+headline laws words shelf out notes s answers grammar input_name g input budget job asked calm a b =
+    answer_outcome laws words shelf grammar input_name g input budget job asked out notes s answers calm a b

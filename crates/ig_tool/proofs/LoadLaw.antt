@@ -3,7 +3,7 @@ use Rattle.std.proofs.Common.{◌≡◌, ℕ, List, [], inl, inr, refl, ap, subs
 use Rattle.ig_outside.specs.States.{ShelfState, SinkState}
 use Rattle.ig_endings.specs.declared.status.Status.{Status}
 use Rattle.ig_endings.specs.declared.status.Status.TheVariants as status
-use Rattle.ig_command.specs.Commands.{Request, load, verify, grammar_file, IsCommand}
+use Rattle.ig_command.specs.Commands.{Request, Source, load, verify, grammar_file, IsCommand}
 use Rattle.ig_jobs.specs.Jobs.{request_for, task_request}
 use Rattle.ig_endings.specs.Change.{Change}
 use Rattle.ig_tool.specs.Outcome as answer
@@ -21,7 +21,7 @@ module _ (words : List (List ℕ)) (shelf : Change ShelfState) (size number budg
     of_one_sort r m command e = one_sort words r (load size number budget) m of_load command asked e refl
 
     -- no grammar is read
-    no_grammar : (r : Request) (f : List ℕ) → IsCommand words r → grammar_file r ≡ Some f → ⊥
+    no_grammar : (r : Request) (f : Source) → IsCommand words r → grammar_file r ≡ Some f → ⊥
     no_grammar r f command named =
         let none : grammar_file r ≡ None = ap grammar_file (same_request words r (load size number budget) command asked) in cc
 
@@ -43,10 +43,10 @@ module _ (words : List (List ℕ)) (shelf : Change ShelfState) (size number budg
     decided_load t text note k (answer.grammar_refused r f xs line e command named gives refused) = absurd (no_grammar r f command named)
     decided_load t text note k (answer.told_grammar u f line g e command has is) =
         let same = of_one_sort (task_request u f) _ command (sort_of_task u f) in absurd (cc)
-    decided_load t text note k (answer.input_missing r g f e command has n held) = absurd (no_grammar r has.name command has.named)
-    decided_load t text note k (answer.input_unread r g f rose command has n) = absurd (no_grammar r has.name command has.named)
+    decided_load t text note k (answer.input_missing r g f e command has n held) = absurd (no_grammar r has.file command has.named)
+    decided_load t text note k (answer.input_unread r g f rose command has n) = absurd (no_grammar r has.file command has.named)
     decided_load t text note k (answer.input_refused r g f ys fault e command has n gives faulty cause) =
-        absurd (no_grammar r has.name command has.named)
+        absurd (no_grammar r has.file command has.named)
     decided_load t text note k (answer.over_budget f i g input b job e files more) =
         let same = of_one_sort (request_for job f i b) _ files.command (sort_of_job job f i b) in absurd (cc)
     decided_load t text note k (answer.no_parse f i g input b job line e files few none told) =

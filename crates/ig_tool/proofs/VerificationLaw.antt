@@ -1,38 +1,37 @@
 -- What is answered where a forest is to be checked, from the answer by cases.
-use Rattle.std.proofs.Common.{◌≡◌, ◌≤◌, ℕ, List, [], length, inl, inr, refl, sym, ◌∙◌, ap, subst}
+use Rattle.std.proofs.Common.{◌≡◌, ℕ, List, [], inl, inr, refl, ◌∙◌, ap, subst}
 use Rattle.ig_outside.specs.States.{ShelfState, SinkState}
-use Rattle.ig_outside.specs.Told.{bytes, nothing}
+use Rattle.ig_outside.specs.Told.{bytes}
 use Rattle.ig_grammar.specs.declared.grammar.Grammar.{Grammar}
 use Rattle.ig_core_laws.specs.Notation.{unchanged}
-use Rattle.ig_endings.specs.Change.{Change, FetchFailed, PutFailed, Got}
+use Rattle.ig_endings.specs.Change.{Change, FetchFailed, Got}
 use Rattle.ig_grammar.specs.Checked.{CheckedGrammar}
 use Rattle.ig_endings.specs.declared.status.Status.{Status}
 use Rattle.ig_endings.specs.declared.status.Status.TheVariants as status
-use Rattle.ig_command.specs.Commands.{Request, load, verify, IsCommand}
+use Rattle.ig_command.specs.Commands.{Request, Source, load, verify, IsCommand}
 use Rattle.ig_jobs.specs.Jobs.{request_for, task_request}
-use Rattle.ig_jobs.specs.Verifying.{IsReducedText, PassesReduced, Verifies, too_long, no_forest, not_sound, verified, verified_text}
-use Rattle.ig_sources.specs.Sources.{most_forest_bytes}
+use Rattle.ig_jobs.specs.Verifying.{PassesReduced, Verifies, too_long, no_forest, not_sound, verified, verified_text}
 use Rattle.ig_tool.specs.Outcome as answer
-use Rattle.ig_tool.specs.Outcome.{HasFiles, Decided, Answers, written, noted, unwritten, unnoted, no_memory}
+use Rattle.ig_tool.specs.Outcome.{Decided, Answers, written, noted, unwritten, unnoted, no_memory}
 use Rattle.ig_tool.specs.Headline.{Asks, Certification, Verification}
 use Rattle.ig_tool.proofs.Asked.{Laws, Sort, of_check, gives_held, got_none, no_missing_grammar, no_missing_input, no_refused_grammar, no_refused_input, one_sort, same_grammar, same_input, same_request, sort_of, sort_of_job, sort_of_task}
 
 -- the texts that two such requests name
-same_text : (f i n g j m : List ℕ) → verify f i n ≡ verify g j m → n ≡ m
+same_text : (f : Source) (i n : List ℕ) (g : Source) (j m : List ℕ) → verify f i n ≡ verify g j m → n ≡ m
 same_text f i n g j m e = cc
 
-module _ (laws : Laws) (words : List (List ℕ)) (shelf : Change ShelfState) (grammar_name input_name name : List ℕ) (g : Grammar)
-    (input zs : List ℕ) (asked : Asks words shelf.before (verify grammar_name input_name name) g input)
+module _ (laws : Laws) (words : List (List ℕ)) (shelf : Change ShelfState) (grammar : Source) (input_name name : List ℕ) (g : Grammar)
+    (input zs : List ℕ) (asked : Asks words shelf.before (verify grammar input_name name) g input)
     (held : shelf.before.holds name ≡ bytes zs) where
   abbrev request : Request
-  request = verify grammar_name input_name name
+  request = verify grammar input_name name
 
   of_one_sort : (r : Request) (m : Sort) → IsCommand words r → sort_of r ≡ m → m ≡ of_check
   of_one_sort r m command e = one_sort words r request m of_check command asked.command e refl
 
-  told_text : (f i n : List ℕ) → IsCommand words (verify f i n) → shelf.before.holds n ≡ bytes zs
+  told_text : (f : Source) (i n : List ℕ) → IsCommand words (verify f i n) → shelf.before.holds n ≡ bytes zs
   told_text f i n command =
-      ap shelf.before.holds (same_text f i n grammar_name input_name name (same_request words (verify f i n) request command asked.command)) ∙
+      ap shelf.before.holds (same_text f i n grammar input_name name (same_request words (verify f i n) request command asked.command)) ∙
       held
 
   -- what was decided comes of the text, and that of the reduced forest passes

@@ -14,7 +14,7 @@ use Rattle.ig_endings.specs.declared.status.Status.TheVariants as status
 use Rattle.ig_load.specs.Summary.{IsLoadSummary, IsTooLarge}
 use Rattle.ig_load_texts.specs.Line.{summary_text}
 use Rattle.ig_load_texts.specs.declared.summary.Summary.{Summary}
-use Rattle.ig_command.specs.Commands.{Request, load, verify, grammar_file, input_file, IsCommand}
+use Rattle.ig_command.specs.Commands.{Request, Source, load, verify, grammar_file, input_file, IsCommand}
 use Rattle.ig_jobs.specs.Jobs.{Job, print, list, ask, request_for, task_request}
 use Rattle.ig_jobs.specs.declared.job.Task.{Task}
 use Rattle.ig_jobs.specs.Listing.{IsBounded, Begins}
@@ -26,15 +26,15 @@ use Rattle.ig_jobs.specs.Verifying.{IsReducedText, Verifies, verified_text}
 use Rattle.ig_sources.specs.Sources.{most_forest_bytes}
 use Rattle.ig_jobs.specs.Finishes.{IsNoParseNote, Finishes}
 
--- the words are the request, and the shelf tells that it holds its grammar and its input: the first is the text of the
--- grammar, which is accepted, the second is the input
+-- the words are the request, and the shelf tells that it holds its grammar and its input: the first is a text of the
+-- grammar in the notation that they name, which is accepted, the second is the input
 pub record Asks (words : List (List ℕ)) (shelf : ShelfState) (request : Request) (g : Grammar) (input : List ℕ) : Type 0 where
   pub command : IsCommand words request
-  pub grammar_name : List ℕ
-  pub names_grammar : grammar_file request ≡ Some grammar_name
+  pub grammar : Source
+  pub names_grammar : grammar_file request ≡ Some grammar
   pub grammar_bytes : List ℕ
-  pub holds_grammar : shelf.holds grammar_name ≡ bytes grammar_bytes
-  pub accepted : IsAccepted grammar_bytes g
+  pub holds_grammar : shelf.holds grammar.name ≡ bytes grammar_bytes
+  pub accepted : IsAccepted grammar.written grammar_bytes g
   pub input_name : List ℕ
   pub names_input : input_file request ≡ Some input_name
   pub input_bytes : List ℕ
@@ -63,8 +63,8 @@ Says g input budget job out notes answer =
 -- outcome, or memory ran out
 abbrev pub Headline : List (List ℕ) → Change ShelfState → Change SinkState → Change SinkState → Status → Type 0
 Headline words shelf out notes answer =
-    (grammar_name input_name : List ℕ) (g : Grammar) (input : List ℕ) (budget : ℕ) (job : Job) →
-    Asks words shelf.before (request_for job grammar_name input_name budget) g input →
+    (grammar : Source) (input_name : List ℕ) (g : Grammar) (input : List ℕ) (budget : ℕ) (job : Job) →
+    Asks words shelf.before (request_for job grammar input_name budget) g input →
     (FetchFailed shelf → ⊥) → (PutFailed out → ⊥) → (PutFailed notes → ⊥) → Says g input budget job out notes answer
 
 -- a listing is lawful where a depth is given, or the permitted trees have a highest one, and where the word of the cursor, if
@@ -89,8 +89,8 @@ pub record GotText (g : Grammar) (input : List ℕ) (budget : ℕ) (job : Job) (
 -- ran out
 abbrev pub Completeness : List (List ℕ) → Change ShelfState → Change SinkState → Change SinkState → Status → Type 0
 Completeness words shelf out notes answer =
-    (grammar_name input_name : List ℕ) (g : Grammar) (input : List ℕ) (budget : ℕ) (job : Job) →
-    Asks words shelf.before (request_for job grammar_name input_name budget) g input →
+    (grammar : Source) (input_name : List ℕ) (g : Grammar) (input : List ℕ) (budget : ℕ) (job : Job) →
+    Asks words shelf.before (request_for job grammar input_name budget) g input →
     (FetchFailed shelf → ⊥) → (PutFailed out → ⊥) → (PutFailed notes → ⊥) → (IsOver (unchanged g) input budget → ⊥) →
     IsParsed (unchanged g) input → IsLawful (unchanged g) input job →
     ((answer ≡ status.NoMemory) × Untouched out) ⊎ ((answer ≡ status.Done) × GotText g input budget job out notes)
@@ -99,19 +99,19 @@ Completeness words shelf out notes answer =
 -- answer is status 0 and out got the text of the task, or memory ran out, and out got nothing
 abbrev pub GrammarCommands : List (List ℕ) → Change ShelfState → Change SinkState → Change SinkState → Status → Type 0
 GrammarCommands words shelf out notes answer =
-    (task : Task) (file xs : List ℕ) (g : Grammar) → IsCommand words (task_request task file) →
-    shelf.before.holds file ≡ bytes xs → IsAccepted xs g → (FetchFailed shelf → ⊥) → (PutFailed out → ⊥) →
+    (task : Task) (file : Source) (xs : List ℕ) (g : Grammar) → IsCommand words (task_request task file) →
+    shelf.before.holds file.name ≡ bytes xs → IsAccepted file.written xs g → (FetchFailed shelf → ⊥) → (PutFailed out → ⊥) →
     (PutFailed notes → ⊥) →
     ((answer ≡ status.NoMemory) × Untouched out) ⊎
-    ((answer ≡ status.Done) × ((text : List ℕ) × (GrammarText g task text × Got out text × Untouched notes)))
+    ((answer ≡ status.Done) × ((text : List ℕ) × (GrammarText g file.written task text × Got out text × Untouched notes)))
 
 -- where the words ask that a forest be checked, the shelf tells that it holds the grammar, the input and the text of the forest,
 -- the first two are accepted and nothing failed outside, the answer is what comes of the text, or memory ran out, and out got
 -- nothing
 abbrev pub Verification : List (List ℕ) → Change ShelfState → Change SinkState → Change SinkState → Status → Type 0
 Verification words shelf out notes answer =
-    (grammar_name input_name name : List ℕ) (g : Grammar) (input zs : List ℕ) →
-    Asks words shelf.before (verify grammar_name input_name name) g input → shelf.before.holds name ≡ bytes zs →
+    (grammar : Source) (input_name name : List ℕ) (g : Grammar) (input zs : List ℕ) →
+    Asks words shelf.before (verify grammar input_name name) g input → shelf.before.holds name ≡ bytes zs →
     (FetchFailed shelf → ⊥) → (PutFailed out → ⊥) → (PutFailed notes → ⊥) →
     ((answer ≡ status.NoMemory) × Untouched out) ⊎
     ((text : List ℕ) × ((note : List ℕ) × (Verifies (unchanged g) input zs answer text note × Got out text × Got notes note)))
@@ -120,8 +120,8 @@ Verification words shelf out notes answer =
 -- with the line, or memory ran out
 abbrev pub Certification : List (List ℕ) → Change ShelfState → Change SinkState → Change SinkState → Status → Type 0
 Certification words shelf out notes answer =
-    (grammar_name input_name name : List ℕ) (g : Grammar) (input zs : List ℕ) →
-    Asks words shelf.before (verify grammar_name input_name name) g input → shelf.before.holds name ≡ bytes zs →
+    (grammar : Source) (input_name name : List ℕ) (g : Grammar) (input zs : List ℕ) →
+    Asks words shelf.before (verify grammar input_name name) g input → shelf.before.holds name ≡ bytes zs →
     (FetchFailed shelf → ⊥) → (PutFailed out → ⊥) → (PutFailed notes → ⊥) → length zs ≤ most_forest_bytes →
     IsReducedText (unchanged g) input zs →
     ((answer ≡ status.NoMemory) × Untouched out) ⊎ ((answer ≡ status.Done) × Got out verified_text × Got notes [])

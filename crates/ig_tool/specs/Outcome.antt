@@ -1,5 +1,5 @@
 -- What the top call answers, by cases.
-use Rattle.std.specs.Prelude.{◌≡◌, ◌≢◌, ◌≤◌, ℕ, zero, List, [], length, Option, Some}
+use Rattle.std.specs.Prelude.{◌≡◌, ◌≢◌, ◌≤◌, ℕ, zero, List, [], length, Some}
 use Rattle.ig_text.specs.Decoding.{IsDecoded, IsFaulty}
 use Rattle.ig_text.specs.declared.text.TextFault.{TextFault}
 use Rattle.ig_text.specs.declared.text.TextFault.TheVariants as text_fault
@@ -12,7 +12,7 @@ use Rattle.ig_parse.specs.Parses.{IsUnparsed, IsOver, HasForest}
 use Rattle.ig_load.specs.Summary.{IsLoadSummary, IsTooLarge}
 use Rattle.ig_load_texts.specs.Line.{summary_text}
 use Rattle.ig_load_texts.specs.declared.summary.Summary.{Summary}
-use Rattle.ig_command.specs.Commands.{Request, load, verify, grammar_file, input_file, files_of, IsCommand}
+use Rattle.ig_command.specs.Commands.{Request, Source, load, verify, grammar_file, input_file, files_of, IsCommand}
 use Rattle.ig_endings.specs.Change.{Change, Fetched, IsCalm, FetchFailed, Stood, Got, Failed, Untouched, Noted}
 use Rattle.ig_endings.specs.Notes.{budget_note, cannot_read_note, cannot_write_note, grammar_note, input_note, no_memory_note, usage_note}
 use Rattle.ig_endings.specs.declared.status.Status.{Status}
@@ -26,13 +26,13 @@ use Rattle.ig_jobs.specs.Tasks.{GrammarText}
 use Rattle.ig_jobs.specs.Verifying.{Verifies, PassesReduced}
 use Rattle.ig_jobs.specs.Finishes.{IsNoParseNote, Finishes}
 
--- the file of the request's grammar may give it, and it is accepted
+-- the file of the request's grammar may give it in its notation, and it is accepted
 pub record HasGrammar (shelf : ShelfState) (request : Request) (g : Grammar) : Type 0 where
-  pub name : List ℕ
-  pub named : grammar_file request ≡ Some name
+  pub file : Source
+  pub named : grammar_file request ≡ Some file
   pub bytes : List ℕ
-  pub gives : MayGive (shelf.holds name) bytes
-  pub accepted : IsAccepted bytes g
+  pub gives : MayGive (shelf.holds file.name) bytes
+  pub accepted : IsAccepted file.written bytes g
 
 -- the file of the request's input may give it
 pub record HasInput (shelf : ShelfState) (request : Request) (input : List ℕ) : Type 0 where
@@ -62,19 +62,20 @@ pub data Decided (words : List (List ℕ)) (shelf : Change ShelfState) : Status 
       (IsTooLarge size number budget → ⊥) → IsLoadSummary size number summary →
       Decided words shelf status.Done (summary_text summary) [] 0
   -- nothing is held under the grammar's name
-  grammar_missing : (request : Request) (file : List ℕ) → IsCalm shelf → IsCommand words request →
-      grammar_file request ≡ Some file → shelf.before.holds file ≡ nothing →
-      Decided words shelf status.ReadFault [] (cannot_read_note file) 1
+  grammar_missing : (request : Request) (file : Source) → IsCalm shelf → IsCommand words request →
+      grammar_file request ≡ Some file → shelf.before.holds file.name ≡ nothing →
+      Decided words shelf status.ReadFault [] (cannot_read_note file.name) 1
   -- the fetch of the grammar failed
-  grammar_unread : (request : Request) (file : List ℕ) → FetchFailed shelf → IsCommand words request →
-      grammar_file request ≡ Some file → Decided words shelf status.ReadFault [] (cannot_read_note file) 1
+  grammar_unread : (request : Request) (file : Source) → FetchFailed shelf → IsCommand words request →
+      grammar_file request ≡ Some file → Decided words shelf status.ReadFault [] (cannot_read_note file.name) 1
   -- the grammar's bytes are refused
-  grammar_refused : (request : Request) (file xs text : List ℕ) → IsCalm shelf → IsCommand words request →
-      grammar_file request ≡ Some file → MayGive (shelf.before.holds file) xs → IsRefused xs text →
+  grammar_refused : (request : Request) (file : Source) (xs text : List ℕ) → IsCalm shelf → IsCommand words request →
+      grammar_file request ≡ Some file → MayGive (shelf.before.holds file.name) xs → IsRefused file.written xs text →
       Decided words shelf status.Grammar [] (grammar_note text) 1
   -- the grammar is accepted, and the text is what was asked of it
-  told_grammar : (task : Task) (file text : List ℕ) (g : Grammar) → IsCalm shelf → IsCommand words (task_request task file) →
-      HasGrammar shelf.before (task_request task file) g → GrammarText g task text → Decided words shelf status.Done text [] 1
+  told_grammar : (task : Task) (file : Source) (text : List ℕ) (g : Grammar) → IsCalm shelf → IsCommand words (task_request task file) →
+      HasGrammar shelf.before (task_request task file) g → GrammarText g file.written task text →
+      Decided words shelf status.Done text [] 1
   -- the grammar is accepted, and nothing is held under the input's name
   input_missing : (request : Request) (g : Grammar) (file : List ℕ) → IsCalm shelf → IsCommand words request →
       HasGrammar shelf.before request g → input_file request ≡ Some file → shelf.before.holds file ≡ nothing →
@@ -89,29 +90,29 @@ pub data Decided (words : List (List ℕ)) (shelf : Change ShelfState) : Status 
       MayGive (shelf.before.holds file) ys → IsFaulty ys fault → fault ≢ text_fault.Memory →
       Decided words shelf status.Input [] (input_note fault) 2
   -- more items than the budget are reachable
-  over_budget : (grammar_name input_name : List ℕ) (g : Grammar) (input : List ℕ) (budget : ℕ) (job : Job) → IsCalm shelf →
-      HasFiles words shelf.before (request_for job grammar_name input_name budget) g input →
+  over_budget : (grammar : Source) (input_name : List ℕ) (g : Grammar) (input : List ℕ) (budget : ℕ) (job : Job) → IsCalm shelf →
+      HasFiles words shelf.before (request_for job grammar input_name budget) g input →
       IsOver (unchanged g) input budget → Decided words shelf status.Budget [] (budget_note budget) 2
   -- the budget suffices, and no tree is permitted
-  no_parse : (grammar_name input_name : List ℕ) (g : Grammar) (input : List ℕ) (budget : ℕ) (job : Job) (note : List ℕ) →
-      IsCalm shelf → HasFiles words shelf.before (request_for job grammar_name input_name budget) g input →
+  no_parse : (grammar : Source) (input_name : List ℕ) (g : Grammar) (input : List ℕ) (budget : ℕ) (job : Job) (note : List ℕ) →
+      IsCalm shelf → HasFiles words shelf.before (request_for job grammar input_name budget) g input →
       (IsOver (unchanged g) input budget → ⊥) → IsUnparsed (unchanged g) input → IsNoParseNote (unchanged g) input note →
       Decided words shelf status.NoParse [] note 2
   -- the budget suffices, a tree is permitted, and the forest says what comes of the job
-  parsed : (grammar_name input_name : List ℕ) (g : Grammar) (input : List ℕ) (budget : ℕ) (job : Job) (f : Forest) (s : Status)
-      (out note : List ℕ) → IsCalm shelf → HasFiles words shelf.before (request_for job grammar_name input_name budget) g input →
+  parsed : (grammar : Source) (input_name : List ℕ) (g : Grammar) (input : List ℕ) (budget : ℕ) (job : Job) (f : Forest) (s : Status)
+      (out note : List ℕ) → IsCalm shelf → HasFiles words shelf.before (request_for job grammar input_name budget) g input →
       HasForest (unchanged g) input budget f → Finishes (unchanged g) input f job s out note → Decided words shelf s out note 2
   -- a forest is to be checked, and nothing is held under the name of its text
-  forest_missing : (grammar_name input_name file : List ℕ) (g : Grammar) (input : List ℕ) → IsCalm shelf →
-      HasFiles words shelf.before (verify grammar_name input_name file) g input → shelf.before.holds file ≡ nothing →
+  forest_missing : (grammar : Source) (input_name file : List ℕ) (g : Grammar) (input : List ℕ) → IsCalm shelf →
+      HasFiles words shelf.before (verify grammar input_name file) g input → shelf.before.holds file ≡ nothing →
       Decided words shelf status.ReadFault [] (cannot_read_note file) 3
   -- the fetch of its text failed
-  forest_unread : (grammar_name input_name file : List ℕ) (g : Grammar) (input : List ℕ) → FetchFailed shelf →
-      HasFiles words shelf.before (verify grammar_name input_name file) g input →
+  forest_unread : (grammar : Source) (input_name file : List ℕ) (g : Grammar) (input : List ℕ) → FetchFailed shelf →
+      HasFiles words shelf.before (verify grammar input_name file) g input →
       Decided words shelf status.ReadFault [] (cannot_read_note file) 3
   -- the forest was checked; the reduced one passes
-  checked : (grammar_name input_name file : List ℕ) (g : Grammar) (input zs : List ℕ) (s : Status) (out note : List ℕ) →
-      IsCalm shelf → HasFiles words shelf.before (verify grammar_name input_name file) g input →
+  checked : (grammar : Source) (input_name file : List ℕ) (g : Grammar) (input zs : List ℕ) (s : Status) (out note : List ℕ) →
+      IsCalm shelf → HasFiles words shelf.before (verify grammar input_name file) g input →
       MayGive (shelf.before.holds file) zs → Verifies (unchanged g) input zs s out note → PassesReduced (unchanged g) input zs s →
       Decided words shelf s out note 3
 

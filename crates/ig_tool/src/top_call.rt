@@ -1,7 +1,7 @@
 //! The top call.
 ghost use Rattle.std.specs.Prelude.{◌≡◌, ℕ, List, map, string_bytes};
 ghost use Rattle.ig_core_laws.specs.Notation.{unchanged};
-ghost use Rattle.ig_command.specs.Commands.{IsCommand, verify};
+ghost use Rattle.ig_command.specs.Commands.{IsCommand, stored_source, verify};
 ghost use Rattle.ig_endings.specs.Change.{change, Fetched};
 ghost use Rattle.ig_jobs.specs.Jobs.{request_for, stored_job, task_request};
 ghost use Rattle.ig_jobs.specs.Verifying.{IsTaken};
@@ -10,15 +10,17 @@ ghost use Rattle.ig_tool.specs.Decisions.{Decides, RunsCheck, RunsJob};
 ghost use Rattle.ig_tool.specs.Headline.{Completeness, GrammarCommands, Headline};
 ghost use Rattle.ig_tool.specs.Headline.{Certification, LoadCommands, Verification};
 
-use ig_command::{command_of, load_sizes_are_few};
+use ig_command::{Source, command_of, load_sizes_are_few};
 use ig_endings::{Status, Stop, end, usage};
 use ig_jobs::{
     Files, Job, Task, Work, do_task, parse, parser_of, summary_line, verify_text, work_of,
 };
-use ig_notation::{one_reading, texts_are_read_or_refused};
 use ig_outside::{Shelf, Sink};
 use ig_parse::Parser;
-use ig_sources::{load_forest, load_grammar, load_input, read_grammars_are_buildable};
+use ig_sources::{
+    load_forest, load_grammar, load_input, one_reading, read_grammars_are_buildable,
+    read_grammars_have_readings, texts_are_read_or_refused,
+};
 use ig_text::Text;
 use std::alloc::Global;
 
@@ -27,9 +29,10 @@ use std::alloc::Global;
 /// empty output isn't put.
 ///
 /// `check G` puts `ok`, `show G` the canonical text of the grammar, `core G` the text of its core
-/// grammar, `analyse G` a line of facts for each declaration, and `forest G I` the text of the reduced forest of the grammar and the input, where no
-/// more items are reachable than the option `--budget` says, or 1,000,000. `trees G I` puts a line
-/// for each tree of that forest in the order of their cursors: its cursor, a space and the tree.
+/// grammar, `analyse G` a line of facts for each declaration, and `forest G I` the text of the
+/// reduced forest of the grammar and the input, where no more items are reachable than the option
+/// `--budget` says, or 1,000,000. `trees G I` puts a line for each tree of that forest in the order
+/// of their cursors: its cursor, a space and the tree.
 /// `--depth` is the greatest height that a tree may have; without it a forest that has no highest
 /// tree is refused. `--count` is the greatest number of lines, 20 without it, and `--after` the
 /// cursor of a tree, behind which the listing goes on.
@@ -44,8 +47,12 @@ use std::alloc::Global;
 /// [`show_summary`](ig_load_texts::show_summary) for the load of that size and number.
 ///
 /// `verify G I F` puts the line `verified` where F is the text of a forest that keeps to the rules
-/// of one of the grammar and the input, so that each of its trees is permitted; it need not have all
-/// of them.
+/// of one of the grammar and the input, so that each of its trees is permitted; it need not have
+/// all of them.
+///
+/// The option `--notation` of each of these but `load` says in which notation the grammar text is:
+/// `own`, which is meant without it, or `w3c`, that of section 6 of the XML recommendation; `show`
+/// puts the text in the same notation.
 ///
 /// The words come without the program's name. All memory is taken before the first put.
 pub fn iguana<F: Shelf, O: Sink, N: Sink>(
@@ -112,21 +119,23 @@ fn decide<F: Shelf>(alloc: Global, words: &[String], shelf: &mut F) -> Result<Ve
     }
 }
 
-/// What comes of a task with the grammar in the file of that name.
+/// What comes of a task with the grammar in that file.
 fn on_grammar<F: Shelf>(
     alloc: Global,
     shelf: &mut F,
-    name: &str,
+    source: Source<'_>,
     task: Task,
 ) -> Result<Vec<u8>, Stop>
-    ensures answer { (words : List (List ℕ)) → IsCommand words (task_request task name.now) →
+    ensures answer { (words : List (List ℕ)) →
+        IsCommand words (task_request task (stored_source source.entry)) →
         Decides words (change (F.state shelf.old) (F.state shelf.new)) result }
     ensures same { (n : List ℕ) → (F.state shelf.new).holds n ≡ (F.state shelf.old).holds n }
 {
     read_grammars_are_buildable();
-    let checked = load_grammar(alloc, shelf, name)?;
+    read_grammars_have_readings();
+    let checked = load_grammar(alloc, shelf, source.name, source.notation)?;
     let parser = parser_of(alloc, &checked)?;
-    do_task(alloc, &parser, task)
+    do_task(alloc, &parser, source.notation, task)
 }
 
 /// What comes of a job with the grammar and the input in these files.
@@ -138,13 +147,13 @@ fn on_input<F: Shelf>(
     job: Job<'_>,
 ) -> Result<Vec<u8>, Stop>
     ensures answer { (words : List (List ℕ)) →
-        IsCommand words (request_for (stored_job job.entry) files.entry.grammar.now
+        IsCommand words (request_for (stored_job job.entry) (stored_source files.entry.grammar)
         files.entry.input.now budget) →
         Decides words (change (F.state shelf.old) (F.state shelf.new)) result }
     ensures same { (n : List ℕ) → (F.state shelf.new).holds n ≡ (F.state shelf.old).holds n }
 {
     read_grammars_are_buildable();
-    let checked = load_grammar(alloc, shelf, files.grammar)?;
+    let checked = load_grammar(alloc, shelf, files.grammar.name, files.grammar.notation)?;
     let parser = parser_of(alloc, &checked)?;
     run(alloc, shelf, &parser, files.input, budget, job)
 }
@@ -178,12 +187,13 @@ fn on_forest<F: Shelf>(
     name: &str,
 ) -> Result<Vec<u8>, Stop>
     ensures answer { (words : List (List ℕ)) →
-        IsCommand words (verify files.entry.grammar.now files.entry.input.now name.now) →
+        IsCommand words (verify (stored_source files.entry.grammar) files.entry.input.now
+        name.now) →
         Decides words (change (F.state shelf.old) (F.state shelf.new)) result }
     ensures same { (n : List ℕ) → (F.state shelf.new).holds n ≡ (F.state shelf.old).holds n }
 {
     read_grammars_are_buildable();
-    let checked = load_grammar(alloc, shelf, files.grammar)?;
+    let checked = load_grammar(alloc, shelf, files.grammar.name, files.grammar.notation)?;
     let parser = parser_of(alloc, &checked)?;
     let input = load_input(alloc, shelf, files.input)?;
     check_forest(alloc, shelf, &parser, &input, name)

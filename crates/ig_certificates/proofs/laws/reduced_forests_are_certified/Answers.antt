@@ -10,6 +10,7 @@ returns c =
       told = c.read_cores_tell_names.ensures;
       draft = c.reduced_forests_are_drafts.ensures;
       integers = c.cores_have_small_integers.ensures;
+      integers_in_w3c = c.w3c_cores_have_small_integers.ensures;
       sound = c.reduced_forests_are_sound.ensures;
       whole = c.sound_forests_have_no_flaw.ensures;
       tell = c.texts_tell_drafts.ensures;

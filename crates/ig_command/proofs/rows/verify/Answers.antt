@@ -2,12 +2,12 @@ use Rattle.std.proofs.Common.{◌∙◌, ap}
 use Rattle.std.specs.Prelude.{codes}
 use Rattle.std.proofs.lemmas.Result.{IfOk-weaker}
 use Rattle.clap.specs.Words.{App, with_rule}
-use Rattle.ig_command.specs.Rows.{place}
+use Rattle.ig_command.specs.Rows.{option, place}
 use Rattle.ig_command.proofs.rows.verify.Goals as goal
 
 pub returns : goal.returns
 returns c =
-    IfOk-weaker c.with_place-2.result _ _
-    (λ r h. h ∙ ap (λ (a : App). with_rule a (place (codes "F"))) (c.in_ok-both.ensures ∙
-    ap (λ (a : App). with_rule a (place (codes "I"))) c.in_ok-grammar.ensures))
-    c.with_place-2.ensures
+    IfOk-weaker c.with_option.result _ _
+    (λ r h. h ∙ ap (λ (a : App). with_rule a (option (codes "notation"))) (c.in_ok-three.ensures ∙
+    ap (λ (a : App). with_rule a (place (codes "F"))) c.in_ok-both.ensures))
+    c.with_option.ensures

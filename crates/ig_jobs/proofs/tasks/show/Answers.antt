@@ -1,8 +1,10 @@
-use Rattle.std.proofs.Common.{ap, sym, ◌∙◌}
-use Rattle.std.specs.Prelude.{encode_utf8_all}
-use Rattle.std.proofs.lemmas.Str.{encodes-chars}
 use Rattle.ig_jobs.proofs.tasks.show.Goals as goal
 
-pub returns : goal.returns
-returns c =
-    sym (encodes-chars c.in_ok-text.text.items c.in_ok-text.ensures.utf8) ∙ ap encode_utf8_all c.in_ok-text.ensures.spelled
+pub returns-in-Own : goal.returns-in-Own
+returns-in-Own c = rw c.in-Own.is c.show_in_own.ensures
+
+pub show_in_w3c-requires : goal.show_in_w3c-requires
+show_in_w3c-requires c = rw c.in-W3c.is at c.requires
+
+pub returns-in-W3c : goal.returns-in-W3c
+returns-in-W3c c = rw c.in-W3c.is c.show_in_w3c.ensures

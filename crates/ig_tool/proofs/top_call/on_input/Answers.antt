@@ -2,6 +2,7 @@ use Rattle.std.proofs.Common.{subst, sym, ◌∙◌}
 use Rattle.ig_text.proofs.Options.{passed_on}
 use Rattle.ig_endings.specs.Change.{change}
 use Rattle.ig_jobs.specs.Jobs.{stored_job}
+use Rattle.ig_command.specs.Commands.{stored_source}
 use Rattle.ig_tool.specs.Decisions.{Decides}
 use Rattle.ig_tool.proofs.top_call.on_input.Goals as goal
 use Rattle.ig_tool.proofs.Deciding.{grammar_of_job, decides_at_grammar, decides_at_dots, decides_job, loaded_is_buildable, still_unchanged}
@@ -9,8 +10,8 @@ use Rattle.ig_tool.proofs.Deciding.{grammar_of_job, decides_at_grammar, decides_
 pub returns-in_err-checked-clause-answer : goal.returns-in_err-checked-clause-answer
 returns-in_err-checked-clause-answer g c = λ words command.
     subst (Decides words _) (sym (passed_on c.from_residual.result c.in_err-checked.field-0.0 c.from_residual.ensures.1))
-    (decides_at_grammar words _ _ c.args.files.grammar.now c.in_err-checked.field-0.0 command
-    (grammar_of_job (stored_job c.args.job) c.args.files.grammar.now c.args.files.input.now c.args.budget)
+    (decides_at_grammar words _ _ (stored_source c.args.files.grammar) c.in_err-checked.field-0.0 command
+    (grammar_of_job (stored_job c.args.job) (stored_source c.args.files.grammar) c.args.files.input.now c.args.budget)
     c.in_err-checked.ensures.counted c.in_err-checked.ensures.answer)
 
 pub parser_of-requires-clause-as_it_is : goal.parser_of-requires-clause-as_it_is
@@ -19,19 +20,19 @@ parser_of-requires-clause-as_it_is g c = c.in_ok-checked.ensures.answer.1.2.as_i
 pub parser_of-requires-clause-buildable : goal.parser_of-requires-clause-buildable
 parser_of-requires-clause-buildable g c =
     let shelf = change (g.F.Shelf.state c.args.shelf.now) (g.F.Shelf.state c.load_grammar.new.shelf) in
-    loaded_is_buildable c.read_grammars_are_buildable.ensures shelf c.args.files.grammar.now c.in_ok-checked.checked
+    loaded_is_buildable c.read_grammars_are_buildable.ensures shelf (stored_source c.args.files.grammar) c.in_ok-checked.checked
     c.in_ok-checked.ensures.answer
 
 pub returns-in_err-parser-clause-answer : goal.returns-in_err-parser-clause-answer
 returns-in_err-parser-clause-answer g c = λ words command.
     subst (Decides words _) (sym (passed_on c.from_residual-in_err-parser.result c.in_err-parser.field-0.0 c.from_residual-in_err-parser.ensures.1))
-    (decides_at_dots words _ c.args.files.grammar.now c.in_ok-checked.checked c.in_ok-checked.ensures.counted c.in_ok-checked.ensures.answer
+    (decides_at_dots words _ (stored_source c.args.files.grammar) c.in_ok-checked.checked c.in_ok-checked.ensures.counted c.in_ok-checked.ensures.answer
     _ c.in_err-parser.field-0.0 command
-    (grammar_of_job (stored_job c.args.job) c.args.files.grammar.now c.args.files.input.now c.args.budget) c.in_err-parser.ensures)
+    (grammar_of_job (stored_job c.args.job) (stored_source c.args.files.grammar) c.args.files.input.now c.args.budget) c.in_err-parser.ensures)
 
 pub returns-clause-answer : goal.returns-clause-answer
 returns-clause-answer g c = λ words command.
-    decides_job words _ _ _ (stored_job c.args.job) c.args.files.grammar.now c.args.files.input.now c.args.budget c.in_ok-checked.checked
+    decides_job words _ _ _ (stored_job c.args.job) (stored_source c.args.files.grammar) c.args.files.input.now c.args.budget c.in_ok-checked.checked
     c.in_ok-parser.parser c.run.result command c.in_ok-checked.ensures.counted c.in_ok-checked.ensures.same c.in_ok-checked.ensures.answer
     c.in_ok-parser.ensures c.run.ensures.counted c.run.ensures.answer
 
