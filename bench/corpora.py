@@ -138,12 +138,34 @@ def python_files():
             yield found
 
 
+# Packages of documents: stylesheets, catalogs, settings, keyboard layouts, and languages that an editor colours.
+XML_DOCUMENTS = (
+    ("docbook-xsl", "usr/share/xml/docbook/stylesheet/docbook-xsl/html", (".xml", ".xsl")),
+    ("docbook-xsl", "usr/share/xml/docbook/stylesheet/docbook-xsl/manpages", (".xml", ".xsl")),
+    ("docbook-xml", "usr/share/xml/docbook/schema/dtd", ".xml"),
+    ("fontconfig-config", "usr/share/fontconfig/conf.avail", ".conf"),
+    ("xkb-data", "usr/share/X11/xkb/rules", ".xml"),
+    ("libgtksourceview-4-common", "usr/share/gtksourceview-4/language-specs", ".lang"),
+)
+
+
+def xml_files():
+    """Whole documents, each once."""
+    seen = set()
+    for package, folder, endings in XML_DOCUMENTS:
+        for found in texts(os.path.join(binary_package(package), folder), endings, lambda text: text not in seen):
+            seen.add(found.text)
+            yield Found(os.path.join(package, os.path.basename(folder), found.name), found.text)
+
+
 LANGUAGES = {
     "JSON": (("examples/json/grammar.ig",), json_files),
     "Haskell": (("examples/haskell/grammar.ig",), haskell_files),
     "OCaml": (("examples/ocaml/grammar.ig",), ocaml_files),
     "Java": (("examples/java/grammar.ig",), java_files),
     "Python": (("examples/python/grammar.ig",), python_files),
+    "XML": (("examples/xml10/grammar.ebnf", "--notation", "w3c"), xml_files),
+    "XML by tags": (("examples/xml10/matched.ig",), xml_files),
 }
 
 
@@ -214,7 +236,7 @@ def row(language, results):
 
 def plot(all_results, path):
     """Draws time over size, both by powers of ten: a point for each file, a colour for each language."""
-    colours = ("#1f77b4", "#d62728", "#2ca02c", "#9467bd", "#ff7f0e")
+    colours = ("#1f77b4", "#d62728", "#2ca02c", "#9467bd", "#ff7f0e", "#17becf", "#8c564b")
     points = [(language, result) for language, results in all_results.items() for result in results if result.trees in ("one", "more")]
     points = [(language, result.characters, max(result.seconds, 0.001)) for language, result in points if result.characters >= 100]
     left, right, low, high = 2, math.log10(MOST_CHARACTERS), -3, 2
