@@ -1,0 +1,14 @@
+pub mod Lists
+pub mod Recording
+pub mod Tables
+pub mod Adding
+pub mod Returning
+pub mod Firsts
+pub mod Nodes
+pub mod Event
+pub mod Stored
+pub mod Ends
+pub mod Calls
+pub mod Begin
+pub mod Steps
+pub mod Taking

@@ -1,0 +1,13 @@
+use Rattle.std.proofs.Common.{refl, subst, sym}
+use Rattle.ig_engine.specs.Adding.{AddsBehind}
+use Rattle.ig_engine.proofs.Adding.{pushes_of}
+use Rattle.ig_engine.proofs.events.add_behind.Goals as goal
+
+pub push-requires-clause-new : goal.push-requires-clause-new
+push-requires-clause-new g c = c.requires.new c.in-Some.item c.in-Some.is
+
+pub returns-in-Some : goal.returns-in-Some
+returns-in-Some g c =
+    subst (λ z. AddsBehind c.args.found.now c.push.new.self z c.args.way c.args.budget c.push.result) (sym c.in-Some.is)
+    (pushes_of c.args.found.now c.push.new.self c.in-Some.item c.args.way c.args.budget c.push.result c.push.ensures.pushed c.push.ensures.within
+    c.push.ensures.over)

@@ -1,0 +1,70 @@
+use Rattle.std.proofs.Common.{[], Some, refl, sym, ap, ◌∙◌}
+use Rattle.std.specs.Prelude.{None, Ok, Err}
+use Rattle.std.proofs.lemmas.Option.{slice_get_within}
+use Rattle.ig_text.proofs.Lists.{contains_from_at}
+use Rattle.ig_engine.specs.Reached.{means, reached}
+use Rattle.ig_engine.proofs.Adding.{adds_exit, returns_of}
+use Rattle.ig_engine.proofs.Returning.{by_node_here, call_there, returned_none, returned_some}
+use Rattle.ig_engine.proofs.returns.return_qualified.Goals as goal
+
+pub nonterminal_of-nonterminal-requires : goal.nonterminal_of-nonterminal-requires
+nonterminal_of-nonterminal-requires g c =
+    (c.requires.tables.items c.args.item (contains_from_at c.args.found.now.items c.args.number c.args.item c.requires.there)).instance
+
+pub behind_return-requires-clause-there : goal.behind_return-requires-clause-there
+behind_return-requires-clause-there g c =
+    (c.requires.tables.items c.args.item (contains_from_at c.args.found.now.items c.args.number c.args.item c.requires.there)).env
+
+pub behind_return-requires-clause-calls : goal.behind_return-requires-clause-calls
+behind_return-requires-clause-calls g c =
+    let call = c.requires.calls.1 in (
+      call.label,
+      call.excluded,
+      call_there c.laws.ensures.tables c.args.context.now.core.now c.args.context.now.text.now
+          (means (reached c.args.envs.now.keys c.args.stacks.now c.args.found.now) c.args.item) c.requires.calls.0 call.label call.excluded call.calls
+          c.nonterminal_of-nonterminal.result c.nonterminal_of-nonterminal.ensures,
+    )
+
+pub returns-in_err-behind : goal.returns-in_err-behind
+returns-in_err-behind g c =
+    adds_exit _ c.args.context.now.budget (reached c.args.envs.now.keys c.args.stacks.now c.args.found.now) _ c.from_residual.result c.from_residual.ensures.1
+
+pub returns-in_default : goal.returns-in_default
+returns-in_default g c =
+    let a = reached c.args.envs.now.keys c.args.stacks.now c.args.found.now in
+    let call = c.requires.calls.1 in
+    let m =
+    c.in_ok-behind.ensures.moves call.label call.excluded
+    (call_there c.laws.ensures.tables c.args.context.now.core.now c.args.context.now.text.now (means a c.args.item) c.requires.calls.0 call.label call.excluded call.calls
+    c.nonterminal_of-nonterminal.result c.nonterminal_of-nonterminal.ensures) in
+    returned_none c.laws.ensures.tables c.args.context.now.core.now c.args.context.now.text.now a c.requires.tables c.args.number c.args.item c.requires.there c.args.done c.args.end
+    c.requires.calls.0 call.label call.excluded call.calls c.behind_return.new.envs.keys c.in_ok-behind.ensures.extends
+    (c.in_ok-behind.ensures.once c.requires.tables.environments) _ m c.args.context.now.budget c.in_default.is
+
+pub add_returned-requires : goal.add_returned-requires
+add_returned-requires g c =
+    let a = reached c.args.envs.now.keys c.args.stacks.now c.args.found.now in
+    let call = c.requires.calls.1 in
+    let m =
+    c.in_ok-behind.ensures.moves call.label call.excluded
+    (call_there c.laws.ensures.tables c.args.context.now.core.now c.args.context.now.text.now (means a c.args.item) c.requires.calls.0 call.label call.excluded call.calls
+    c.nonterminal_of-nonterminal.result c.nonterminal_of-nonterminal.ensures) in
+    record {
+      by_node = by_node_here c.laws.ensures.tables c.args.context.now.core.now c.args.context.now.text.now a c.requires.tables c.args.number c.args.item c.requires.there c.args.done c.args.end
+          c.requires.calls.0 call.label call.excluded call.calls c.behind_return.new.envs.keys c.in_ok-behind.ensures.extends
+          (c.in_ok-behind.ensures.once c.requires.tables.environments) _ m c.args.context.now.budget c.requires.by_nodes c.in-Some.behind c.in-Some.is;
+    }
+
+pub returns : goal.returns
+returns g c =
+    let a = reached c.args.envs.now.keys c.args.stacks.now c.args.found.now in
+    let call = c.requires.calls.1 in
+    let m =
+    c.in_ok-behind.ensures.moves call.label call.excluded
+    (call_there c.laws.ensures.tables c.args.context.now.core.now c.args.context.now.text.now (means a c.args.item) c.requires.calls.0 call.label call.excluded call.calls
+    c.nonterminal_of-nonterminal.result c.nonterminal_of-nonterminal.ensures) in
+    returned_some c.laws.ensures.tables c.args.context.now.core.now c.args.context.now.text.now a c.requires.tables c.args.number c.args.item c.requires.there c.args.done c.args.end
+    c.requires.calls.0 call.label call.excluded call.calls c.behind_return.new.envs.keys c.in_ok-behind.ensures.extends
+    (c.in_ok-behind.ensures.once c.requires.tables.environments) _ m c.args.context.now.budget c.in-Some.behind c.in-Some.is c.add_returned.new.self c.add_returned.result
+    (returns_of c.args.found.now c.add_returned.new.self c.in-Some.behind c.args.number c.args.done c.args.context.now.budget c.add_returned.result
+    c.add_returned.ensures.returned c.add_returned.ensures.within c.add_returned.ensures.over)

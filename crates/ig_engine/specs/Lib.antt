@@ -1,0 +1,4 @@
+pub mod Reached
+pub mod Adding
+pub mod Given
+pub mod Stepping

@@ -1,0 +1,16 @@
+//! What a run has come to.
+
+use ig_expr::Values;
+use ig_found::Found;
+use ig_gss::Stacks;
+use ig_queue::Schedule;
+use indexmap::IndexSet;
+
+/// What a run has come to: the environments and the stacks that its items name by number, and what
+/// it has found.
+#[derive(Drop)]
+pub(crate) struct State<S: Schedule + Drop> {
+    pub(crate) envs: IndexSet<Values>,
+    pub(crate) found: Found<S>,
+    pub(crate) stacks: Stacks,
+}

@@ -1,0 +1,190 @@
+//! A run, one ticket at a time.
+ghost use Rattle.std.specs.Prelude.{◌≡◌, ◌<◌, ℕ, [], List, MatchResult, None, Some, Err, Ok};
+ghost use Rattle.std.specs.Prelude.{IfErr, IfOk};
+ghost use Rattle.ig_engine.specs.Adding.{Events};
+ghost use Rattle.ig_engine.specs.Reached.{IsReached, Taking, reached};
+ghost use Rattle.ig_engine.specs.Stepping.{IsEmpty, IsUnbegun, Steps};
+ghost use Rattle.ig_item.specs.declared.core_grammar.Nonterminal as tree;
+ghost use Rattle.ig_item.specs.declared.run_fault.RunFault as fault;
+ghost use Rattle.ig_steps.specs.Names.{all_dots};
+
+use crate::events::take;
+use crate::laws::laws;
+use crate::progress::Progress;
+use crate::state::State;
+use ig_expr::Values;
+use ig_found::Found;
+use ig_gss::Stacks;
+use ig_item::{Core, InstanceKey, Item, RunFault, Way};
+use ig_moves::{Context, first_item};
+use ig_queue::Schedule;
+use ig_steps::{Dots, dots_of_core};
+use ig_tables::enter_values;
+use ig_text::{Sequence, Text};
+use indexmap::IndexSet;
+use std::alloc::Global;
+
+/// A run over a work list. Between two steps without a refusal exactly those items are found that
+/// follow from the ones taken, in exactly the ways that the rules give, and its stacks are those of
+/// the items taken.
+#[derive(Drop)]
+pub struct Run<'a, S: Schedule + Drop> {
+    alloc: Global,
+    core: &'a Core,
+    text: &'a Text,
+    dots: Sequence<Sequence<Dots>>,
+    budget: u32,
+    state: State<S>,
+    refused: Option<RunFault>,
+    ghost known: { dots ≡ all_dots core.now },
+}
+
+/// Finds the first root item, in a state in which nothing is there. `Budget` exactly where the
+/// budget is 0.
+fn begin<S: Schedule + Drop>(
+    alloc: Global,
+    state: &mut State<S>,
+    budget: u32,
+) -> Result<(), RunFault>
+    requires { IsEmpty (reached state.old.envs.keys state.old.stacks state.old.found) }
+    ensures { (core : List tree.Nonterminal) (text : List ℕ) → MatchResult result
+        (λ _. IsReached core text budget
+        (reached state.new.envs.keys state.new.stacks state.new.found))
+        (IsUnbegun core text budget) }
+{
+    laws();
+    let env = enter_values(&mut state.envs, Values::new(alloc))?;
+    let key = InstanceKey {
+        nonterminal: 0,
+        env,
+        start: 0,
+    };
+    let (root, _) = state.stacks.node(key)?;
+    let first = first_item(root, key, 1);
+    state.found.push(first, Way::Begin, budget)
+}
+
+/// A state in which the first root item is found.
+fn begun<S: Schedule + Drop>(alloc: Global, budget: u32, schedule: S) -> Result<State<S>, RunFault>
+    requires { S.waiting schedule ≡ [] }
+    ensures { (core : List tree.Nonterminal) (text : List ℕ) → MatchResult result
+        (λ state. IsReached core text budget (reached state.envs.keys state.stacks state.found))
+        (IsUnbegun core text budget) }
+{
+    let mut state = State {
+        envs: IndexSet::new(alloc),
+        found: Found::new(alloc, schedule)?,
+        stacks: Stacks::new(alloc),
+    };
+    begin(alloc, &mut state, budget)?;
+    Ok(state)
+}
+
+/// Takes the item of that number, by what a run goes by.
+fn take_in<S: Schedule + Drop>(
+    alloc: Global,
+    core: &Core,
+    text: &Text,
+    dots: &[Sequence<Dots>],
+    budget: u32,
+    state: &mut State<S>,
+    item: Item,
+    number: u32,
+) -> Result<(), RunFault>
+    requires known { dots.now ≡ all_dots core.now }
+    requires taking { Taking core.now text.now budget item number
+        (reached state.old.envs.keys state.old.stacks state.old.found) }
+    ensures { Events core.now text.now budget
+        (reached state.old.envs.keys state.old.stacks state.old.found)
+        (reached state.new.envs.keys state.new.stacks state.new.found) result }
+{
+    let context = Context {
+        alloc,
+        core,
+        text,
+        dots,
+        budget,
+    };
+    take(&context, state, item, number)
+}
+
+impl<'a, S: Schedule + Drop> Run<'a, S> {
+    /// A run that has found the first root item. `Budget` exactly where the budget is 0, if memory
+    /// doesn't run out before; refused, it drops the schedule.
+    pub fn start(
+        alloc: Global,
+        core: &'a Core,
+        text: &'a Text,
+        budget: u32,
+        schedule: S,
+    ) -> Result<Run<'a, S>, RunFault>
+        requires { S.waiting schedule ≡ [] }
+        ensures core { IfOk result (λ r. r.core.now ≡ core.now) }
+        ensures text { IfOk result (λ r. r.text.now ≡ text.now) }
+        ensures budget { IfOk result (λ r. r.budget ≡ budget) }
+        ensures going { IfOk result (λ r. r.refused ≡ None) }
+        ensures whole { IfOk result (λ r. IsReached core.now text.now budget
+            (reached r.state.envs.keys r.state.stacks r.state.found)) }
+        ensures fault { IfErr result (IsUnbegun core.now text.now budget) }
+    {
+        let dots = dots_of_core(alloc, core)?;
+        let state = begun(alloc, budget, schedule)?;
+        Ok(Run {
+            alloc,
+            core,
+            text,
+            dots,
+            budget,
+            state,
+            refused: None,
+        })
+    }
+
+    /// Takes the ticket that the schedule gives and finds all that follows from its item and those
+    /// taken before; `Done` exactly where no ticket waits, and then nothing changes. `Budget`
+    /// exactly where more items than the budget follow from those taken, if memory doesn't run out
+    /// before. After a refusal each later step answers the same and changes nothing.
+    pub fn step(&mut self) -> Result<Progress, RunFault>
+        requires whole { self.old.refused ≡ None → IsReached self.old.core.now self.old.text.now
+            self.old.budget
+            (reached self.old.state.envs.keys self.old.state.stacks self.old.state.found) }
+        ensures core { self.new.core.now ≡ self.old.core.now }
+        ensures text { self.new.text.now ≡ self.old.text.now }
+        ensures budget { self.new.budget ≡ self.old.budget }
+        ensures again { (f : fault.RunFault) → self.old.refused ≡ Some f → result ≡ Err f }
+        ensures still { (f : fault.RunFault) → self.old.refused ≡ Some f → self.new ≡ self.old }
+        ensures steps { self.old.refused ≡ None → Steps self.old.core.now self.old.text.now
+            self.old.budget
+            (reached self.old.state.envs.keys self.old.state.stacks self.old.state.found)
+            (reached self.new.state.envs.keys self.new.state.stacks self.new.state.found) result }
+        ensures whole { self.new.refused ≡ None → IsReached self.old.core.now self.old.text.now
+            self.old.budget
+            (reached self.new.state.envs.keys self.new.state.stacks self.new.state.found) }
+        ensures refused { IfErr result (λ f. self.new.refused ≡ Some f) }
+        ensures going { IfOk result (λ _. self.new.refused ≡ None) }
+    {
+        if let Some(fault) = self.refused {
+            return Err(fault);
+        }
+        let Some((number, item)) = self.state.found.take() else {
+            return Ok(Progress::Done);
+        };
+        let taken = take_in(
+            self.alloc,
+            self.core,
+            self.text,
+            self.dots.as_slice(),
+            self.budget,
+            &mut self.state,
+            item,
+            number,
+        );
+        match taken {
+            Ok(()) => Ok(Progress::More),
+            Err(fault) => {
+                self.refused = Some(fault);
+                Err(fault)
+            }
+        }
+    }
+}

@@ -1,0 +1,260 @@
+-- What a run has found, as more is found, and as tickets are taken.
+use Rattle.std.proofs.Common.{◌≡◌, ◌∙◌, ⊎_elim, ℕ, zero, suc, ◌+◌, ◌<◌, List, [], ◌∷◌, ◌++◌, Some, length, take, Contains, slice_get, refl, sym, ap, subst, arith, length-append}
+use Rattle.std.specs.List.Sorted.{IsPermutation}
+use Rattle.std.proofs.lemmas.List.{take_all, length-take-le, take-append-le}
+use Rattle.std.proofs.lemmas.List.Sorted.{IsPermutation-sym, Contains-permutation}
+use Rattle.std.proofs.lemmas.Option.{get_or_from_slice_get, slice_get_within}
+use Rattle.std.proofs.lemmas.List.Elements.{Contains-append_left, Contains-append_right, Contains-append_cases}
+use Rattle.ig_text.proofs.Lists.{at_from_contains, contains_one, contains_first, contains_later, in_rest, it_is_in, left_at, none_in_nil, place_cases, place_last}
+use Rattle.ig_text.proofs.Differing.{both_differ, one_differs, pushed_differ}
+use Rattle.ig_item.specs.Ways.{WayLists}
+use Rattle.ig_item.specs.WellKinded.{NoneTwice}
+use Rattle.ig_item.specs.declared.items.Item as stored
+use Rattle.ig_item.specs.declared.ways.Way.{Way}
+use Rattle.ig_item.specs.declared.ways.Way.TheVariants.{Node}
+use Rattle.ig_item.specs.declared.ways.FurtherWay.{FurtherWay}
+use Rattle.ig_item.specs.declared.ways.FurtherEnd.{FurtherEnd}
+use Rattle.ig_queue.specs.declared.ticket.Ticket.{Ticket}
+use Rattle.ig_tables.specs.Returned.{Entry, entry}
+use Rattle.ig_found.specs.Finding.{ComesOnce, IsFinding, IsKept, IsNodeAt, IsTicket, ticket_of, ways_to, with_end, with_first, with_further}
+use Rattle.ig_found.proofs.Shuffled.{shuffled_differ}
+
+-- of the same lists
+pub kept_same : (items items2 : List stored.Item) (lists lists2 : WayLists) (index index2 : List Entry) (waiting waiting2 : List Ticket) →
+    items2 ≡ items → lists2 ≡ lists → index2 ≡ index → waiting2 ≡ waiting → IsKept items lists index waiting →
+    IsKept items2 lists2 index2 waiting2
+kept_same items items2 lists lists2 index index2 waiting waiting2 a b c d kept =
+    subst (λ (z : List stored.Item). IsKept z lists2 index2 waiting2) (sym a)
+    (subst (λ (z : WayLists). IsKept items z index2 waiting2) (sym b)
+    (subst (λ (z : List Entry). IsKept items lists z waiting2) (sym c)
+    (subst (λ (z : List Ticket). IsKept items lists index z) (sym d) kept)))
+
+-- nothing is found
+pub kept_none : IsKept [] (record { firsts = []; further = []; ends = [] }) [] []
+kept_none =
+    record {
+      once = λ i j x a b. cc a;
+      tickets = λ t c. absurd (none_in_nil t c);
+      waits_once = λ i j x a b. cc a;
+      numbered = (0, refl);
+      sound = λ e entry c. absurd (none_in_nil entry c);
+      complete = λ e k x a node. cc a;
+    }
+
+module _ (items : List stored.Item) (lists : WayLists) (index : List Entry) (waiting : List Ticket) (kept : IsKept items lists index waiting) where
+  -- further ways and ends say nothing of the items
+  pub kept_further : (w : FurtherWay) → IsKept items (with_further lists w) index waiting
+  kept_further w =
+      record {
+        once = kept.once;
+        tickets = kept.tickets;
+        waits_once = kept.waits_once;
+        numbered = kept.numbered;
+        sound = kept.sound;
+        complete = kept.complete;
+      }
+
+  pub kept_end : (e : FurtherEnd) → IsKept items (with_end lists e) index waiting
+  kept_end e =
+      record {
+        once = kept.once;
+        tickets = kept.tickets;
+        waits_once = kept.waits_once;
+        numbered = kept.numbered;
+        sound = kept.sound;
+        complete = kept.complete;
+      }
+
+  -- tickets in another order, one of which is taken
+  pub kept_taken : (t : Ticket) (rest : List Ticket) → IsPermutation waiting (t ∷ rest) → IsKept items lists index rest
+  kept_taken t rest moved =
+      record {
+        once = kept.once;
+        tickets = λ u c. kept.tickets u (there u c);
+        waits_once = λ i j u a b. let e = differ (suc i) (suc j) u a b in omega (arith, e);
+        numbered = kept.numbered;
+        sound = kept.sound;
+        complete = kept.complete;
+      }
+    where
+      there : (u : Ticket) → Contains rest u → Contains waiting u
+      there u c = Contains-permutation (t ∷ rest) waiting u (IsPermutation-sym waiting (t ∷ rest) moved) (contains_later t rest u c)
+
+      differ : NoneTwice (t ∷ rest)
+      differ = shuffled_differ waiting (t ∷ rest) kept.waits_once moved
+
+  -- the ticket that was taken waited, and waits no more
+  pub taken_waited : (t : Ticket) (rest : List Ticket) → IsPermutation waiting (t ∷ rest) → IsTicket items t
+  taken_waited t rest moved =
+      kept.tickets t (Contains-permutation (t ∷ rest) waiting t (IsPermutation-sym waiting (t ∷ rest) moved) (contains_first t rest))
+
+  pub taken_gone : (t : Ticket) (rest : List Ticket) → IsPermutation waiting (t ∷ rest) → Contains rest t → ⊥
+  taken_gone t rest moved c =
+      let at = at_from_contains rest t c in
+      let e = shuffled_differ waiting (t ∷ rest) kept.waits_once moved zero (suc at.0) t refl at.1 in omega (arith, e)
+
+  -- no ticket has the number of the next item
+  pub none_behind : (x : stored.Item) (number : ℕ) → number ≡ length items → Contains waiting (ticket_of x number) → ⊥
+  none_behind x number is c =
+      let t = kept.tickets (ticket_of x number) c in
+      let l = slice_get_within items number t.item t.there in omega (arith, is, l)
+
+  -- what contracts see
+  pub is_finding : IsFinding (record { items = items; ways = ways_to items lists; waiting = waiting })
+  is_finding =
+      let (n, long) = kept.numbered in
+      record {
+        once = kept.once;
+        numbered = length-take-le (length items) lists.firsts (omega (arith, long));
+        tickets = kept.tickets;
+        waits_once = kept.waits_once;
+      }
+
+  -- a way that is added alone
+  pub kept_way : (way : Way) (more : List Entry) → length lists.firsts ≡ length items → IsKept items (with_first lists way) more waiting
+  kept_way way more numbered =
+      record {
+        once = kept.once;
+        tickets = kept.tickets;
+        waits_once = kept.waits_once;
+        numbered = (1, longer);
+        sound = λ e. absurd (let l = longer in omega (arith, e, l));
+        complete = λ e. absurd (let l = longer in omega (arith, e, l));
+      }
+    where
+      longer : length (lists.firsts ++ way ∷ []) ≡ length items + 1
+      longer = let a = length-append lists.firsts (way ∷ []) in omega (arith, a, numbered)
+
+  module _ (x : stored.Item) (way : Way) (new : Contains items x → ⊥) (numbered : length lists.firsts ≡ length items) where
+    once_more : NoneTwice (items ++ x ∷ [])
+    once_more = pushed_differ items x kept.once new
+
+    longer_by_one : length (lists.firsts ++ way ∷ []) ≡ length (items ++ x ∷ []) + 0
+    longer_by_one =
+        let a = length-append lists.firsts (way ∷ []) in let b = length-append items (x ∷ []) in omega (arith, a, b, numbered)
+
+    still_ticket : (t : Ticket) → IsTicket items t → IsTicket (items ++ x ∷ []) t
+    still_ticket t is =
+        record { item = is.item; there = left_at items (x ∷ []) t.number is.item is.there; position = is.position }
+
+    -- the entries of the items before the new one
+    sound_before : (e : Entry) → Contains index e → slice_get (items ++ x ∷ []) e.number ≡ Some e.item
+    sound_before e c = left_at items (x ∷ []) e.number e.item (kept.sound numbered e c)
+
+    -- the way of the new item is the one that was added, and those of the others are as before
+    node_before : (k : ℕ) → k < length items → IsNodeAt (lists.firsts ++ way ∷ []) k → IsNodeAt lists.firsts k
+    node_before k lt (prev, done, node) =
+        ⊎_elim (λ (h : slice_get lists.firsts k ≡ Some (Node prev done)). (prev, done, h))
+        (λ (h : (k ≡ length lists.firsts) × (way ≡ Node prev done)). absurd (let e = h.0 in omega (arith, e, lt, numbered)))
+        (place_cases lists.firsts way (Node prev done) k node)
+
+    node_behind : (k : ℕ) → k ≡ length items → IsNodeAt (lists.firsts ++ way ∷ []) k → (prev : ℕ) × (done : ℕ) × (way ≡ Node prev done)
+    node_behind k last (prev, done, node) =
+        ⊎_elim
+        (λ (h : slice_get lists.firsts k ≡ Some (Node prev done)).
+        absurd (let l = slice_get_within lists.firsts k (Node prev done) h in omega (arith, l, last, numbered)))
+        (λ (h : (k ≡ length lists.firsts) × (way ≡ Node prev done)). (prev, done, h.1))
+        (place_cases lists.firsts way (Node prev done) k node)
+
+    -- an item with its way, which was found by no call; its ticket lacks
+    pub kept_once : ComesOnce way → IsKept (items ++ x ∷ []) (with_first lists way) index waiting
+    kept_once once =
+        record {
+          once = once_more;
+          tickets = λ t c. still_ticket t (kept.tickets t c);
+          waits_once = kept.waits_once;
+          numbered = (0, longer_by_one);
+          sound = λ e. sound_before;
+          complete = λ e k y at node.
+              ⊎_elim (λ (h : slice_get items k ≡ Some y). kept.complete numbered k y h (node_before k (slice_get_within items k y h) node))
+              (λ (h : (k ≡ length items) × (x ≡ y)).
+              let (prev, done, is) = node_behind k h.0 node in absurd (subst ComesOnce is once))
+              (place_cases items x y k at);
+        }
+
+    -- the same of one that was found by a call
+    pub kept_node : (number : ℕ) → number ≡ length items →
+        IsKept (items ++ x ∷ []) (with_first lists way) (index ++ entry x number ∷ []) waiting
+    kept_node number is =
+        record {
+          once = once_more;
+          tickets = λ t c. still_ticket t (kept.tickets t c);
+          waits_once = kept.waits_once;
+          numbered = (0, longer_by_one);
+          sound = λ e entered c.
+              ⊎_elim (λ (h : Contains index entered). sound_before entered h)
+              (λ (h : Contains (entry x number ∷ []) entered).
+              subst (λ (z : Entry). slice_get (items ++ x ∷ []) z.number ≡ Some z.item) (sym (contains_one (entry x number) entered h))
+              (subst (λ n. slice_get (items ++ x ∷ []) n ≡ Some x) (sym is) (place_last items x)))
+              (Contains-append_cases index (entry x number ∷ []) entered c);
+          complete = λ e k y at node.
+              ⊎_elim
+              (λ (h : slice_get items k ≡ Some y).
+              Contains-append_left index (entry x number ∷ []) (entry y k)
+              (kept.complete numbered k y h (node_before k (slice_get_within items k y h) node)))
+              (λ (h : (k ≡ length items) × (x ≡ y)).
+              Contains-append_right index (entry x number ∷ []) (entry y k)
+              (subst (λ (z : stored.Item). Contains (entry x number ∷ []) (entry z k)) h.1
+              (subst (λ n. Contains (entry x number ∷ []) (entry x n)) (is ∙ sym h.0) (it_is_in (entry x number)))))
+              (place_cases items x y k at);
+        }
+
+    -- what contracts see: the way is added with its item
+    pub ways_pushed : ways_to (items ++ x ∷ []) (with_first lists way) ≡ with_first (ways_to items lists) way
+    ways_pushed =
+        ap (λ z. record { firsts = z; further = lists.further; ends = lists.ends })
+        (take_all (length (items ++ x ∷ [])) (lists.firsts ++ way ∷ []) (let l = longer_by_one in omega (arith, l)) ∙
+        ap (λ z. z ++ way ∷ []) (sym (take_all (length items) lists.firsts (omega (arith, numbered)))))
+
+  -- and not without it
+  pub ways_alone : (way : Way) → length lists.firsts ≡ length items → ways_to items (with_first lists way) ≡ ways_to items lists
+  ways_alone way numbered =
+      ap (λ z. record { firsts = z; further = lists.further; ends = lists.ends })
+      (take-append-le (length items) lists.firsts (way ∷ []) (omega (arith, numbered)))
+
+  -- a ticket more
+  pub kept_put : (t : Ticket) (more : List Ticket) → IsTicket items t → (Contains waiting t → ⊥) → IsPermutation (t ∷ waiting) more →
+      IsKept items lists index more
+  kept_put t more is none moved =
+      record {
+        once = kept.once;
+        tickets = λ u c. there u (Contains-permutation more (t ∷ waiting) u (IsPermutation-sym (t ∷ waiting) more moved) c);
+        waits_once = shuffled_differ (t ∷ waiting) more differ moved;
+        numbered = kept.numbered;
+        sound = kept.sound;
+        complete = kept.complete;
+      }
+    where
+      there : (u : Ticket) → Contains (t ∷ waiting) u → IsTicket items u
+      there u c = ⊎_elim (λ (h : t ≡ u). subst (IsTicket items) h is) (kept.tickets u) (in_rest t waiting u c)
+
+      differ : NoneTwice (t ∷ waiting)
+      differ =
+          both_differ (t ∷ []) waiting (one_differs t) kept.waits_once
+          (λ u c d. none (subst (Contains waiting) (contains_one t u c) d))
+
+  -- an item that is found by calls only, and has no entry, isn't there
+  pub not_indexed : (x : stored.Item) → length lists.firsts ≡ length items → ((n : ℕ) → Contains index (entry x n) → ⊥) →
+      ((k : ℕ) → slice_get items k ≡ Some x → IsNodeAt (take (length items) lists.firsts) k) → Contains items x → ⊥
+  not_indexed x numbered none nodes c =
+      let (k, at) = at_from_contains items x c in
+      none k (kept.complete numbered k x at
+      (subst (λ z. IsNodeAt z k) (take_all (length items) lists.firsts (omega (arith, numbered))) (nodes k at)))
+
+-- the ticket of an item that was added at the end
+pub ticket_behind : (items : List stored.Item) (x : stored.Item) (number : ℕ) → number ≡ length items →
+    IsTicket (items ++ x ∷ []) (ticket_of x number)
+ticket_behind items x number is =
+    record {
+      item = x;
+      there = subst (λ n. slice_get (items ++ x ∷ []) n ≡ Some x) (sym is) (place_last items x);
+      position = refl;
+    }
+
+-- the ticket of the item that has its number
+pub taken_is : (items : List stored.Item) (t : Ticket) (x : stored.Item) → IsTicket items t → slice_get items t.number ≡ Some x →
+    t ≡ ticket_of x t.number
+taken_is items t x is at =
+    let same : is.item ≡ x =
+    sym (get_or_from_slice_get items t.number is.item x is.there) ∙ get_or_from_slice_get items t.number x x at in
+    ap (λ n. record { position = n; number = t.number }) (is.position ∙ ap (λ (z : stored.Item). z.position) same)

@@ -1,0 +1,3 @@
+mod Shuffled
+mod Keeping
+mod Returning

@@ -1,0 +1,13 @@
+use Rattle.std.proofs.Common.{sym, ap, ◌∙◌}
+use Rattle.std.specs.Option.{option_copied}
+use Rattle.ig_gss.proofs.Linked.{first_of_none, first_of_some}
+use Rattle.ig_gss.proofs.chains.Chains.last.Goals as goal
+
+pub returns-in_err-cell : goal.returns-in_err-cell
+returns-in_err-cell g c =
+    first_of_none _ _ c.args.last _ (c.as_slice.ensures.value ∙ c.self.view_is) (sym (ap option_copied c.in_err-cell.was) ∙ c.cell_at.ensures)
+    c.from_residual.ensures
+
+pub returns : goal.returns
+returns g c =
+    first_of_some _ _ c.args.last _ (c.as_slice.ensures.value ∙ c.self.view_is) (sym (ap option_copied c.in_ok-cell.was) ∙ c.cell_at.ensures)

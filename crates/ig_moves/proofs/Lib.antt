@@ -1,0 +1,5 @@
+pub mod Growing
+pub mod Pasts
+pub mod Steps
+pub mod Coming
+pub mod Callees

@@ -1,0 +1,5 @@
+use Rattle.ig_run_laws.proofs.Renaming.{ended_runs_have_ways}
+use Rattle.ig_run_laws.proofs.laws.ended_runs_have_ways.Goals as goal
+
+pub returns : goal.returns
+returns c = ended_runs_have_ways

@@ -1,0 +1,15 @@
+//! Laws of a run over a work list: what is found and in which ways, what waits, and the stacks in
+//! which callers and callees meet, whichever came first. Each event, in which one ticket is taken,
+//! keeps that exactly those items are found which follow from the ones taken, with exactly their
+//! ways (`events_keep`, `ends_keep`); once no ticket waits, these are exactly the reachable items
+//! (`ended_runs_are_complete`), and exactly all ways to them (`ended_runs_have_ways`).
+#![tactic(auto)]
+
+mod laws;
+
+pub use laws::{
+    all_follows_in_some_way, budgets_suffice, ended_runs_are_complete, ended_runs_have_ways,
+    ends_keep, events_keep, events_take_one, firsts_are_new, firsts_are_recorded,
+    refused_budgets_are_exceeded, returns_are_past_calls, returns_come_by_nodes, runs_begin,
+    steps_are_followed, steps_come_once,
+};
