@@ -23,7 +23,8 @@ import os
 import re
 import shlex
 
-from forest_text import count_trees, read_forest
+from forest_count import count_trees
+from forest_text import read_forest
 
 NO_PARSE = 1
 USAGE = 2
