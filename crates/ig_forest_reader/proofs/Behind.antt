@@ -1,34 +1,29 @@
 -- Where a text stands at the front of some bytes.
-use Rattle.std.proofs.Common.{◌≡◌, ℕ, ◌+◌, ◌<◌, ◌≤◌, ◌++◌, List, ◌∷◌, sym, ap, ◌∙◌, length, drop, slice_index_or}
-use Rattle.std.proofs.lemmas.List.{drop_all, drop_more}
+use Rattle.std.proofs.Common.{◌≡◌, Bor, ℕ, ◌<◌, ◌++◌, List, Option, Some, None, MatchOption, refl, ap, ◌∙◌, subst, length, take, drop, arith}
+use Rattle.std.specs.List.{IsSplitAt}
+use Rattle.std.proofs.lemmas.List.{length-append}
+use Rattle.ig_forest_reader.proofs.Leading.{cut_there, cut_whole}
 
--- the first i bytes of the text stood there
-pub record PastBytes (bytes text rest : List ℕ) (i : ℕ) : Type 0 where
-  pub told : (us : List ℕ) → bytes ≡ text ++ us → rest ≡ drop i text ++ us
-  pub exact : (us : List ℕ) → rest ≡ drop i text ++ us → bytes ≡ text ++ us
+-- what a cut behind as many bytes as the text has says
+abbrev pub Split : List ℕ → List ℕ → Option (Bor (List ℕ) × Bor (List ℕ)) → Type 0
+Split bytes text r = MatchOption r (length bytes < length text) (λ p. IsSplitAt bytes (length text) p.0.now p.1.now)
 
-pub no_bytes : (bytes text : List ℕ) → PastBytes bytes text bytes 0
-no_bytes bytes text = record { told = λ us e. e; exact = λ us e. e }
+pub too_short : (bytes text us : List ℕ) (r : Option (Bor (List ℕ) × Bor (List ℕ))) → Split bytes text r → r ≡ None →
+    bytes ≡ text ++ us → ⊥
+too_short bytes text us r cases is e =
+    let less : length bytes < length text = subst (Split bytes text) is cases in
+    let long = ap length e ∙ length-append text us in
+    omega (arith, less, long)
 
-next_byte : (text us : List ℕ) (i : ℕ) → i < length text →
-    drop i text ++ us ≡ slice_index_or text i 0 ∷ (drop (i + 1) text ++ us)
-next_byte text us i less = ap (λ (z : List ℕ). z ++ us) (drop_more text i 0 less)
+-- the front and the rest
+pub split_there : (bytes text : List ℕ) (r : Option (Bor (List ℕ) × Bor (List ℕ))) (p : Bor (List ℕ) × Bor (List ℕ)) →
+    Split bytes text r → r ≡ Some p →
+    (bytes ≡ p.0.now ++ p.1.now) × (p.0.now ≡ take (length text) bytes) × (p.1.now ≡ drop (length text) bytes)
+split_there bytes text r p cases is =
+    let cut : IsSplitAt bytes (length text) p.0.now p.1.now = subst (Split bytes text) is cases in
+    (cut_whole bytes p.0.now p.1.now (length text) cut.1 cut.2, cut.1, cut.2)
 
-pub byte_told : (bytes text rest us : List ℕ) (i : ℕ) → i < length text → PastBytes bytes text rest i → bytes ≡ text ++ us →
-    rest ≡ slice_index_or text i 0 ∷ (drop (i + 1) text ++ us)
-byte_told bytes text rest us i less p e = p.told us e ∙ next_byte text us i less
-
-pub one_byte : (bytes text rest behind : List ℕ) (i : ℕ) → i < length text → PastBytes bytes text rest i →
-    ((us : List ℕ) → rest ≡ slice_index_or text i 0 ∷ us → behind ≡ us) → rest ≡ slice_index_or text i 0 ∷ behind →
-    PastBytes bytes text behind (i + 1)
-one_byte bytes text rest behind i less p told exact =
-    record {
-      told = λ us e. told (drop (i + 1) text ++ us) (byte_told bytes text rest us i less p e);
-      exact = λ us e. p.exact us (exact ∙ ap (λ (z : List ℕ). slice_index_or text i 0 ∷ z) e ∙ sym (next_byte text us i less));
-    }
-
-pub all_told : (bytes text rest us : List ℕ) (i : ℕ) → length text ≤ i → PastBytes bytes text rest i → bytes ≡ text ++ us → rest ≡ us
-all_told bytes text rest us i past p e = p.told us e ∙ ap (λ (z : List ℕ). z ++ us) (drop_all i text past)
-
-pub all_there : (bytes text rest : List ℕ) (i : ℕ) → length text ≤ i → PastBytes bytes text rest i → bytes ≡ text ++ rest
-all_there bytes text rest i past p = p.exact rest (sym (ap (λ (z : List ℕ). z ++ rest) (drop_all i text past)))
+pub split_told : (bytes text us front rest : List ℕ) →
+    (bytes ≡ front ++ rest) × (front ≡ take (length text) bytes) × (rest ≡ drop (length text) bytes) → bytes ≡ text ++ us →
+    (front ≡ text) × (rest ≡ us)
+split_told bytes text us front rest split e = cut_there bytes text us front rest (length text) split.1 split.2 refl e

@@ -2,10 +2,9 @@
 use Rattle.std.proofs.Common.{◌≡◌, inl, inr, ℕ, suc, ◌+◌, ◌++◌, List, [], ◌∷◌, Bool, true, false, nat_lt, nat_eq, MatchBool, Option, Some, None, MatchOption, refl, sym, ap, ap₂, ◌∙◌, subst, length, take, drop, cond, arith}
 use Rattle.std.specs.List.{prefix_len}
 use Rattle.std.proofs.lemmas.Bool.Decides.{eqb_tells}
-use Rattle.std.specs.Char.{is_ascii_digit}
 use Rattle.std.proofs.Math.Seq.{take-append_seam, drop-append_seam}
 use Rattle.std.proofs.lemmas.List.{take-append-drop}
-use Rattle.ig_forest_reader.specs.Runs.{Each, more, Stops, at, IsDigit, IsPlain, IsInner, is_inner}
+use Rattle.ig_forest_reader.specs.Runs.{Each, more, Stops, at, IsPlain, IsInner, is_inner}
 
 one_more : (n : ℕ) → 1 + n ≡ suc n
 one_more n = omega arith
@@ -18,15 +17,6 @@ run_length p P passes fails [] (u ∷ us) a (at _ _ not) = ap (λ (b : Bool). co
 run_length p P passes fails (x ∷ xs) us (more _ _ q a) s =
     let rest = run_length p P passes fails xs us a s in
     ap (λ (b : Bool). cond b (1 + prefix_len p (xs ++ us)) 0) (passes x q) ∙ ap (λ (n : ℕ). 1 + n) rest ∙ one_more (length xs)
-
-digit_passes : (c : ℕ) → IsDigit c → is_ascii_digit c ≡ true
-digit_passes c (low, high) = grind arith
-
-other_fails : (c : ℕ) → (IsDigit c → ⊥) → is_ascii_digit c ≡ false
-other_fails c not = grind arith
-
-pub digits_length : (xs us : List ℕ) → Each IsDigit xs → Stops IsDigit us → prefix_len is_ascii_digit (xs ++ us) ≡ length xs
-digits_length = run_length is_ascii_digit IsDigit digit_passes other_fails
 
 -- a cut after the run
 pub cut_there : (bytes xs us front back : List ℕ) (n : ℕ) → front ≡ take n bytes → back ≡ drop n bytes → n ≡ length xs →

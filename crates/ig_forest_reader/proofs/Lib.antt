@@ -4,6 +4,7 @@ pub mod TellingForests
 pub mod Leading
 pub mod Behind
 pub mod Numerals
+pub mod Reading
 pub mod Values
 pub mod Spelled
 pub mod Children

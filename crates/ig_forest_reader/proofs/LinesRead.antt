@@ -2,7 +2,6 @@
 use Rattle.std.proofs.Common.{◌≡◌, Result, Ok, Err, Bor, ℕ, ◌<◌, ◌++◌, List, [], ◌∷◌, Some, All, refl, sym, ap, ap₂, ◌∙◌, subst, length, drop, slice_get}
 use Rattle.std.specs.Prelude.{codes, flat_map, encode_utf8_all, option_map, IfOk, OnOk}
 use Rattle.std.specs.Fmt.{decimal}
-use Rattle.std.specs.BTreeMap.{BTreeMap}
 use Rattle.std.specs.List.{AllByRecursion}
 use Rattle.std.proofs.lemmas.List.{append_assoc}
 use Rattle.std.proofs.lemmas.List.Elements.{All-from_recursion}
@@ -23,6 +22,7 @@ use Rattle.ig_forest_text.specs.ForestText.{choice_text, entry_text, head_text, 
 use Rattle.ig_forest_reader.specs.Runs.{Stops, IsChoice, NoItem}
 use Rattle.ig_forest_reader.specs.Shown.{Added, Begun, HeadRead, IsIndex, ItemLineRead, ItemRead, Keeps, NoItemLine, NoItemRead, NoNode, NoNodeLine, NoPlace, NodeLineRead, NodeRead, NoStart, PlaceRead, Reads, StartRead, lookup, place_line}
 use Rattle.ig_forest_reader.specs.declared.fault.ForestFault.{ForestFault}
+use Rattle.ig_forest_reader.specs.declared.names.NameTable.{NameTable}
 use Rattle.ig_forest_reader.specs.declared.fault.ForestFault.TheVariants.{NotAForest, Memory}
 use Rattle.ig_forest_reader.specs.Written.{TellsNames, IsNamed, IsSmall, IsSmallEntry, IsSmallSpan, IsTagOf}
 use Rattle.ig_forest_reader.proofs.Telling.{head_joined, values_joined}
@@ -65,12 +65,12 @@ pub old_is : (core : List Nonterminal) (what : List ℕ) (k : ℕ) (bytes rest :
 old_is core what k bytes rest old none new n e s = subst (λ (z : List Value). StartRead core what k bytes rest z new n) e s
 
 -- the name that the index finds is that of the nonterminal
-pub head_read : (core : List Nonterminal) (index : BTreeMap (Bor (List ℕ)) ℕ) (what : List ℕ) (k : ℕ)
+pub head_read : (core : List Nonterminal) (index : NameTable) (what : List ℕ) (k : ℕ)
     (bytes begun behind named word second rest : List ℕ) (n : ℕ) → IsIndex core index → lookup index word ≡ Some n →
     bytes ≡ what ++ begun → begun ≡ decimal k ++ behind → behind ≡ codes " " ++ named → named ≡ word ++ second →
     second ≡ codes " (" ++ rest → HeadRead core what k bytes rest n
 head_read core index what k bytes begun behind named word second rest n is found e f g h i =
-    let less = is.there word n found in
+    let less = is.numbers.there word n found in
     let x = get_within core n less in
     record {
       there = less;
@@ -78,7 +78,7 @@ head_read core index what k bytes begun behind named word second rest n is found
       named = ap (option_map (λ (z : Nonterminal). z.name)) x.1;
       spelled =
           e ∙ ap (λ (z : List ℕ). what ++ z) (f ∙ ap (λ (z : List ℕ). decimal k ++ z) (g ∙ ap (λ (z : List ℕ). 32 ∷ z) (h ∙
-          ap (λ (z : List ℕ). z ++ second) (is.names word n x.0 found x.1) ∙ ap (λ (z : List ℕ). encode_utf8_all x.0.name ++ z) i)));
+          ap (λ (z : List ℕ). z ++ second) (is.numbers.names word n x.0 found x.1) ∙ ap (λ (z : List ℕ). encode_utf8_all x.0.name ++ z) i)));
     }
 
 -- nodes

@@ -10,20 +10,21 @@ use Rattle.std.proofs.lemmas.Slice.Eq.{bytes_eq-Decides}
 use Rattle.std.proofs.lemmas.Map.Text.{btree_map_updates_str}
 use Rattle.std.proofs.lemmas.Option.{same_Some, none-some, slice_get_within}
 use Rattle.ig_item.specs.declared.core_grammar.Nonterminal.{Nonterminal}
-use Rattle.ig_forest_reader.specs.Shown.{IsIndex, lookup}
+use Rattle.ig_forest_reader.specs.Shown.{FindsNames, IsIndex, lookup, number_at}
+use Rattle.ig_forest_reader.specs.declared.names.NameTable.{NameTable}
 use Rattle.ig_forest_reader.specs.Written.{IsNamed, TellsNames}
 use Rattle.ig_forest_reader.proofs.TellingLines.{named_there}
 
 -- the index has the nonterminals with smaller numbers
 pub record IndexBelow (core : List Nonterminal) (n : ℕ) (index : BTreeMap (Bor (List ℕ)) ℕ) : Type 0 where
-  pub finds : (m : ℕ) (x : Nonterminal) → m < n → slice_get core m ≡ Some x → lookup index (encode_utf8_all x.name) ≡ Some m
-  pub there : (bytes : List ℕ) (m : ℕ) → lookup index bytes ≡ Some m → m < n
-  pub names : (bytes : List ℕ) (m : ℕ) (x : Nonterminal) → lookup index bytes ≡ Some m → slice_get core m ≡ Some x →
+  pub finds : (m : ℕ) (x : Nonterminal) → m < n → slice_get core m ≡ Some x → number_at index (encode_utf8_all x.name) ≡ Some m
+  pub there : (bytes : List ℕ) (m : ℕ) → number_at index bytes ≡ Some m → m < n
+  pub names : (bytes : List ℕ) (m : ℕ) (x : Nonterminal) → number_at index bytes ≡ Some m → slice_get core m ≡ Some x →
       bytes ≡ encode_utf8_all x.name
 
 pub index_begins : (core : List Nonterminal) (index : BTreeMap (Bor (List ℕ)) ℕ) → index.entries ≡ [] → IndexBelow core 0 index
 index_begins core index empty =
-    let none : (bytes : List ℕ) → lookup index bytes ≡ None = λ bytes. rw empty refl in
+    let none : (bytes : List ℕ) → number_at index bytes ≡ None = λ bytes. rw empty refl in
     record {
       finds = λ m x less there. absurd (omega (arith, less));
       there = λ bytes m e. absurd (none-some _ (sym (none bytes) ∙ e));
@@ -53,26 +54,26 @@ index_grows core n x m t bytes tells at is below u =
       names = λ key k y e there. named key k y e there (bytes_eq bytes key) refl (updated key);
     }
   where
-    updated : (key : List ℕ) → lookup t key ≡ cond (bytes_eq bytes key) (Some n) (lookup m key)
+    updated : (key : List ℕ) → number_at t key ≡ cond (bytes_eq bytes key) (Some n) (number_at m key)
     updated key = btree_map_updates_str bytes m t (Some n) u key
 
-    other : (k : ℕ) (y : Nonterminal) (key : List ℕ) → (bytes ≡ key → ⊥) → lookup m key ≡ Some k → (b : Bool) →
-        bytes_eq bytes key ≡ b → lookup t key ≡ cond (bytes_eq bytes key) (Some n) (lookup m key) → lookup t key ≡ Some k
+    other : (k : ℕ) (y : Nonterminal) (key : List ℕ) → (bytes ≡ key → ⊥) → number_at m key ≡ Some k → (b : Bool) →
+        bytes_eq bytes key ≡ b → number_at t key ≡ cond (bytes_eq bytes key) (Some n) (number_at m key) → number_at t key ≡ Some k
     other k y key differs found true q e = absurd (differs ((bytes_eq-Decides bytes key).0 q))
-    other k y key differs found false q e = e ∙ ap (λ (b : Bool). cond b (Some n) (lookup m key)) q ∙ found
+    other k y key differs found false q e = e ∙ ap (λ (b : Bool). cond b (Some n) (number_at m key)) q ∙ found
 
     here : (k : ℕ) (key : List ℕ) → bytes ≡ key → k ≡ n → (b : Bool) → bytes_eq bytes key ≡ b →
-        lookup t key ≡ cond (bytes_eq bytes key) (Some n) (lookup m key) → lookup t key ≡ Some k
+        number_at t key ≡ cond (bytes_eq bytes key) (Some n) (number_at m key) → number_at t key ≡ Some k
     here k key same place b q e =
-        e ∙ ap (λ (z : Bool). cond z (Some n) (lookup m key)) ((bytes_eq-Decides bytes key).1 same) ∙ ap Some (sym place)
+        e ∙ ap (λ (z : Bool). cond z (Some n) (number_at m key)) ((bytes_eq-Decides bytes key).1 same) ∙ ap Some (sym place)
 
-    within : (key : List ℕ) (k : ℕ) → lookup t key ≡ Some k → (b : Bool) →
-        lookup t key ≡ cond b (Some n) (lookup m key) → k < n + 1
+    within : (key : List ℕ) (k : ℕ) → number_at t key ≡ Some k → (b : Bool) →
+        number_at t key ≡ cond b (Some n) (number_at m key) → k < n + 1
     within key k found true e = let same = same_Some n k (sym e ∙ found) in omega (arith, same)
     within key k found false e = let less = below.there key k (sym e ∙ found) in omega (arith, less)
 
-    named : (key : List ℕ) (k : ℕ) (y : Nonterminal) → lookup t key ≡ Some k → slice_get core k ≡ Some y → (b : Bool) →
-        bytes_eq bytes key ≡ b → lookup t key ≡ cond b (Some n) (lookup m key) → key ≡ encode_utf8_all y.name
+    named : (key : List ℕ) (k : ℕ) (y : Nonterminal) → number_at t key ≡ Some k → slice_get core k ≡ Some y → (b : Bool) →
+        bytes_eq bytes key ≡ b → number_at t key ≡ cond b (Some n) (number_at m key) → key ≡ encode_utf8_all y.name
     named key k y found there true q e =
         let same : n ≡ k = same_Some n k (sym e ∙ found) in
         let one : x ≡ y = same_Some x y (sym at ∙ ap (slice_get core) same ∙ there) in
@@ -80,7 +81,7 @@ index_grows core n x m t bytes tells at is below u =
     named key k y found there false q e = below.names key k y (sym e ∙ found) there
 
 pub index_whole : (core : List Nonterminal) (n : ℕ) (index : BTreeMap (Bor (List ℕ)) ℕ) → length core ≤ n → n ≤ length core →
-    IndexBelow core n index → IsIndex core index
+    IndexBelow core n index → FindsNames core index
 index_whole core n index past upto below =
     record {
       finds = λ m x at. (let within = slice_get_within core m x at in below.finds m x (omega (arith, within, past)) at);
@@ -88,8 +89,14 @@ index_whole core n index past upto below =
       names = below.names;
     }
 
-pub found_name : (core : List Nonterminal) (index : BTreeMap (Bor (List ℕ)) ℕ) (n : ℕ) (name word : List ℕ) → IsIndex core index →
+pub found_name : (core : List Nonterminal) (index : NameTable) (n : ℕ) (name word : List ℕ) → IsIndex core index →
     IsNamed core n name → word ≡ encode_utf8_all name → lookup index word ≡ Some n
 found_name core index n name word is named same =
     let x = named_there (slice_get core n) name named in
-    ap (lookup index) (same ∙ ap encode_utf8_all (sym x.2)) ∙ is.finds n x.0 x.1
+    ap (lookup index) (same ∙ ap encode_utf8_all (sym x.2)) ∙ is.numbers.finds n x.0 x.1
+
+-- a name that was guessed is the one that is found
+pub guessed_name : (core : List Nonterminal) (index : NameTable) (n : ℕ) (x : Nonterminal) (word : List ℕ) → IsIndex core index →
+    slice_get index.nonterminals.now n ≡ Some x → word ≡ encode_utf8_all x.name → Some n ≡ lookup index word
+guessed_name core index n x word is at same =
+    sym (ap (lookup index) same ∙ is.numbers.finds n x (ap (λ (z : List Nonterminal). slice_get z n) (sym is.same) ∙ at))

@@ -1,5 +1,6 @@
 -- Runs of bytes of one kind.
-use Rattle.std.specs.Prelude.{◌≡◌, ℕ, ◌<◌, ◌≤◌, List, [], ◌∷◌, Bool, nat_lt, not, ◌==◌, ◌&&◌}
+use Rattle.std.specs.Prelude.{◌≡◌, ℕ, ◌<◌, ◌≤◌, List, [], ◌∷◌, Bool, nat_lt, not, ◌==◌, ◌&&◌, MatchOption, Option, drop, take}
+use denote.Ref.{Bor}
 
 -- each member has the property
 pub data Each (P : ℕ → Type 0) : List ℕ → Type 0 where
@@ -42,3 +43,9 @@ IsChoice c = c ≡ 97
 
 abbrev pub IsComma : ℕ → Type 0
 IsComma c = c ≡ 44
+
+-- the number is that of the digits before place i, and after it stands what begins there; none where these digits don't lead well
+abbrev pub IsBefore : List ℕ → ℕ → ℕ → Option (ℕ × Bor (List ℕ)) → Type 0
+IsBefore bytes i number result =
+    MatchOption result (LeadsWell (take i bytes) → ⊥)
+    (λ r. LeadsWell (take i bytes) × (r.0 ≡ number) × (r.1.now ≡ drop i bytes))

@@ -24,6 +24,7 @@ use Rattle.ig_forest_text.specs.ForestText.{forest_text, head_text, item_line, i
 use Rattle.ig_forest_reader.specs.Runs.{Stops, IsChoice, NoItem}
 use Rattle.ig_forest_reader.specs.Written.{HasFirstRoot, IsDraftOf, IsSmall, IsSmallTag, IsNamed, IsNodeOf, IsItemOf}
 use Rattle.ig_forest_reader.specs.declared.fault.ForestFault.{ForestFault}
+use Rattle.ig_forest_reader.specs.declared.names.NameTable.{NameTable}
 use Rattle.ig_forest_reader.specs.declared.fault.ForestFault.TheVariants.{NotAForest, Memory}
 
 -- what was read; where nothing was, that nothing could be, or want of memory
@@ -43,17 +44,26 @@ pub record Added {A : Type 0} (P : A → Type 0) (texts : List A → List ℕ) (
 abbrev pub Keeps : {A : Type 0} → List A → List A → Type 0
 Keeps {A} old new = (k : ℕ) (x : A) → slice_get old k ≡ Some x → slice_get new k ≡ Some x
 
--- what the index has at these bytes
-abbrev pub lookup : BTreeMap (Bor (List ℕ)) ℕ → List ℕ → Option ℕ
-lookup index bytes = get_by (λ k. slice_cmp nat_cmp bytes k.now) index
+-- the number at these bytes
+abbrev pub number_at : BTreeMap (Bor (List ℕ)) ℕ → List ℕ → Option ℕ
+number_at numbers bytes = get_by (λ k. slice_cmp nat_cmp bytes k.now) numbers
 
--- the index finds each name of the core grammar, and finds nonterminals alone
-pub record IsIndex (core : List Nonterminal) (index : BTreeMap (Bor (List ℕ)) ℕ) : Type 0 where
+-- the numbers are found by the names of the core grammar, and are of nonterminals alone
+pub record FindsNames (core : List Nonterminal) (numbers : BTreeMap (Bor (List ℕ)) ℕ) : Type 0 where
   pub finds : (n : ℕ) (nonterminal : Nonterminal) → slice_get core n ≡ Some nonterminal →
-      lookup index (encode_utf8_all nonterminal.name) ≡ Some n
-  pub there : (bytes : List ℕ) (n : ℕ) → lookup index bytes ≡ Some n → n < length core
-  pub names : (bytes : List ℕ) (n : ℕ) (nonterminal : Nonterminal) → lookup index bytes ≡ Some n →
+      number_at numbers (encode_utf8_all nonterminal.name) ≡ Some n
+  pub there : (bytes : List ℕ) (n : ℕ) → number_at numbers bytes ≡ Some n → n < length core
+  pub names : (bytes : List ℕ) (n : ℕ) (nonterminal : Nonterminal) → number_at numbers bytes ≡ Some n →
       slice_get core n ≡ Some nonterminal → bytes ≡ encode_utf8_all nonterminal.name
+
+-- what the table has at these bytes
+abbrev pub lookup : NameTable → List ℕ → Option ℕ
+lookup index bytes = number_at index.numbers bytes
+
+-- the table is one of the core grammar
+pub record IsIndex (core : List Nonterminal) (index : NameTable) : Type 0 where
+  pub same : index.nonterminals.now ≡ core
+  pub numbers : FindsNames core index.numbers
 
 -- some alternative of the nonterminal has the tag
 pub record HasTag (core : List Nonterminal) (n : ℕ) (tag : Tag) : Type 0 where

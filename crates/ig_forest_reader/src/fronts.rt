@@ -2,11 +2,11 @@
 //! reader says what it answers where such a part stands there, and that the bytes begin with the
 //! text of what it gives.
 ghost use Rattle.std.specs.Prelude.{◌≡◌, ◌∷◌, ℕ, List, [], ◌++◌, ◌<◌, ◌≤◌, ◌+◌, ◌*◌, ◌-◌};
-ghost use Rattle.std.specs.Prelude.{nat_lt, IsTrue, ◌↔◌, Contains, ℤ, MatchOption, codes};
+ghost use Rattle.std.specs.Prelude.{nat_lt, IsTrue, ◌↔◌, Contains, ℤ, MatchBool, MatchOption};
+ghost use Rattle.std.specs.Prelude.{codes, length};
 ghost use Rattle.std.specs.Int.Signed.{mag};
 ghost use Rattle.std.specs.Fmt.{decimal, signed_decimal};
 ghost use Rattle.std.specs.List.{prefix_len};
-ghost use Rattle.std.specs.Char.{is_ascii_digit};
 ghost use Rattle.ig_text.specs.Limits.{numbers_end, integers_end};
 ghost use Rattle.ig_text.specs.declared.text.Span.{Span as a_span};
 ghost use Rattle.ig_expr.specs.declared.value.Value.{Value as value_type};
@@ -17,30 +17,13 @@ ghost use Rattle.ig_forest_tables.specs.declared.entry.Entry.{Entry as entry_typ
 ghost use Rattle.ig_forest_tables.specs.declared.entry.Entry.TheVariants as an_entry;
 ghost use Rattle.ig_pieces.specs.ValueText.{span_text, value_text};
 ghost use Rattle.ig_forest_reader.specs.Runs.{Each, Stops, IsDigit, IsPlain, IsInner, is_inner};
-ghost use Rattle.ig_forest_reader.specs.Runs.{LeadsWell};
+ghost use Rattle.ig_forest_reader.specs.Runs.{IsBefore, LeadsWell};
 ghost use Rattle.ig_forest_reader.specs.Written.{IsSmallSpan, IsSmall, IsSmallChild, IsSmallEntry};
 
 use ig_expr::Value;
 use ig_forest_tables::{Child, Entry};
 use ig_text::Span;
 use itoa::Buffer;
-
-/// The number of digits at the front.
-fn digits_end(bytes: &[u8]) -> usize
-    ensures { result ≡ prefix_len is_ascii_digit bytes.now }
-{
-    bytes.iter().take_while(|c| c.is_ascii_digit()).count()
-}
-
-/// The digits at the front, and what stands after them.
-fn split_digits(bytes: &[u8]) -> (&[u8], &[u8])
-    ensures whole { bytes.now ≡ result.0.now ++ result.1.now }
-    ensures told { (ds us : List ℕ) → Each IsDigit ds → Stops IsDigit us →
-        bytes.now ≡ ds ++ us → (result.0.now ≡ ds) × (result.1.now ≡ us) }
-{
-    let end = digits_end(bytes);
-    bytes.split_at(end)
-}
 
 /// Whether there are digits, and the first is no zero before others.
 fn leads_well(digits: &[u8]) -> bool
@@ -51,6 +34,14 @@ fn leads_well(digits: &[u8]) -> bool
         [_] => true,
         [first, ..] => *first != b'0',
     }
+}
+
+/// Whether the byte is a digit.
+#[inline(always)]
+fn is_digit(byte: u8) -> bool
+    ensures { MatchBool result (IsDigit byte) (IsDigit byte → ⊥) }
+{
+    byte.is_ascii_digit()
 }
 
 /// The number with a digit more at its end, where it has 32 bits.
@@ -65,22 +56,6 @@ fn with_digit(number: u32, digit: u8) -> Option<u32>
     number.checked_mul(10)?.checked_add(u32::from(digit - b'0'))
 }
 
-/// The number that prints as these digits.
-fn number_of(digits: &[u8]) -> Option<u32>
-    ensures told { (n : ℕ) → n < numbers_end → digits.now ≡ decimal n → result ≡ Some n }
-    ensures exact { MatchOption result (Unit {0})
-        (λ n. (n < numbers_end) × (digits.now ≡ decimal n)) }
-{
-    if !leads_well(digits) {
-        return None;
-    }
-    let mut number = 0;
-    for digit in digits {
-        number = with_digit(number, *digit)?;
-    }
-    Some(number)
-}
-
 /// The number itself, which is in the range of its type.
 pub(crate) fn in_range(number: u32) -> u32
     ensures same { result ≡ number }
@@ -89,48 +64,56 @@ pub(crate) fn in_range(number: u32) -> u32
     number
 }
 
+/// The number whose digits stand before that place, and what stands from there on; `None` exactly
+/// where there are none, or a zero before others.
+#[inline(always)]
+fn number_before(bytes: &[u8], place: usize, number: u32) -> Option<(u32, &[u8])>
+    requires { place ≤ length bytes.now }
+    ensures { IsBefore bytes.now place number result }
+{
+    let (digits, rest) = bytes.split_at(place);
+    if !leads_well(digits) {
+        return None;
+    }
+    Some((number, rest))
+}
+
 /// A number.
+#[inline(always)]
 pub(crate) fn read_number(bytes: &[u8]) -> Option<(u32, &[u8])>
     ensures small { MatchOption result (Unit {0}) (λ r. r.0 < numbers_end) }
     ensures exact { MatchOption result (Unit {0}) (λ r. bytes.now ≡ decimal r.0 ++ r.1.now) }
     ensures told { (n : ℕ) (us : List ℕ) → n < numbers_end → Stops IsDigit us →
         bytes.now ≡ decimal n ++ us → MatchOption result ⊥ (λ r. (r.0 ≡ n) × (r.1.now ≡ us)) }
 {
-    let (digits, rest) = split_digits(bytes);
-    let Some(number) = number_of(digits) else {
-        return None;
-    };
-    Some((number, rest))
-}
-
-/// What stands after that byte.
-#[inline(always)]
-fn read_byte(bytes: &[u8], byte: u8) -> Option<&[u8]>
-    ensures told { (us : List ℕ) → bytes.now ≡ byte ∷ us →
-        MatchOption result ⊥ (λ r. r.now ≡ us) }
-    ensures exact { MatchOption result (Unit {0}) (λ r. bytes.now ≡ byte ∷ r.now) }
-{
-    let (first, rest) = bytes.split_first()?;
-    if *first == byte {
-        return Some(rest);
+    let mut number = 0;
+    for (place, byte) in bytes.iter().enumerate() {
+        if !is_digit(*byte) {
+            return number_before(bytes, place, number);
+        }
+        number = with_digit(number, *byte)?;
     }
-    None
+    number_before(bytes, bytes.len(), number)
 }
 
-/// What stands after that text. Texts are short, so they are compared byte by byte.
+/// What stands after that text.
+#[inline(always)]
 pub(crate) fn read_behind<'a>(bytes: &'a [u8], text: &[u8]) -> Option<&'a [u8]>
     ensures told { (us : List ℕ) → bytes.now ≡ text.now ++ us →
         MatchOption result ⊥ (λ r. r.now ≡ us) }
     ensures exact { MatchOption result (Unit {0}) (λ r. bytes.now ≡ text.now ++ r.now) }
 {
-    let mut rest = bytes;
-    for byte in text {
-        rest = read_byte(rest, *byte)?;
+    let Some((front, rest)) = bytes.split_at_checked(text.len()) else {
+        return None;
+    };
+    if is_text(front, text) {
+        return Some(rest);
     }
-    Some(rest)
+    None
 }
 
 /// What stands after that number.
+#[inline(always)]
 pub(crate) fn read_behind_number(bytes: &[u8], number: u32) -> Option<&[u8]>
     ensures exact { MatchOption result (Unit {0}) (λ r. bytes.now ≡ decimal number ++ r.now) }
     ensures told { (us : List ℕ) → number < numbers_end → Stops IsDigit us →
@@ -153,6 +136,7 @@ fn is_same(number: u32, other: u32) -> bool
 }
 
 /// A span.
+#[inline(always)]
 pub(crate) fn read_span(bytes: &[u8]) -> Option<(Span, &[u8])>
     ensures small { MatchOption result (Unit {0}) (λ r. IsSmallSpan r.0) }
     ensures exact { MatchOption result (Unit {0}) (λ r. bytes.now ≡ span_text r.0 ++ r.1.now) }
@@ -188,11 +172,20 @@ pub(crate) fn split_word(bytes: &[u8]) -> (&[u8], &[u8])
     bytes.split_at(end)
 }
 
-/// Whether the bytes are that text.
+/// Whether the bytes are that text. Texts are short, so they are compared byte by byte.
+#[inline(always)]
 pub(crate) fn is_text(bytes: &[u8], text: &[u8]) -> bool
     ensures { IsTrue result ↔ (bytes.now ≡ text.now) }
 {
-    bytes == text
+    if bytes.len() != text.len() {
+        return false;
+    }
+    for (place, byte) in bytes.iter().enumerate() {
+        if *byte != text[place] {
+            return false;
+        }
+    }
+    true
 }
 
 /// Whether a point is among the bytes.

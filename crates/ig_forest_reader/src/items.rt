@@ -11,14 +11,14 @@ ghost use Rattle.ig_forest_reader.specs.Written.{TellsNames};
 use crate::fault::ForestFault;
 use crate::fronts::{read_behind, read_last_span, read_number};
 use crate::lists::{push_entries, push_values};
+use crate::names::NameTable;
 use crate::nodes::read_start;
-use crate::tables::push_list;
+use crate::tables::{push_item, push_list};
 use ig_expr::Value;
 use ig_forest_tables::{Entry, ItemTable};
 use ig_item::EnvironmentTable;
 use ig_live::ItemRow;
 use std::alloc::Global;
-use std::collections::BTreeMap;
 
 /// An alternative, a dot, and what stands after the opening bracket.
 fn read_dot(bytes: &[u8]) -> Option<(u32, u32, &[u8])>
@@ -85,7 +85,7 @@ fn read_place<'a>(
 fn read_item_line<'a>(
     alloc: Global,
     lists: &mut EnvironmentTable,
-    index: &BTreeMap<&[u8], u32>,
+    index: &NameTable<'_>,
     number: u32,
     bytes: &'a [u8],
 ) -> Result<(ItemRow, &'a [u8]), ForestFault>
@@ -100,12 +100,13 @@ fn read_item_line<'a>(
     read_place(lists, &mut env, nonterminal, values, behind)
 }
 
-/// The item of that number with its entries.
+/// The item of that number with its entries, which pass through that list.
 fn read_item<'a>(
     alloc: Global,
     lists: &mut EnvironmentTable,
     items: &mut ItemTable,
-    index: &BTreeMap<&[u8], u32>,
+    entries: &mut Vec<Entry>,
+    index: &NameTable<'_>,
     number: u32,
     bytes: &'a [u8],
 ) -> Result<&'a [u8], ForestFault>
@@ -115,9 +116,9 @@ fn read_item<'a>(
         (NoItemRead core lists.new number bytes.now) result }
 {
     let (row, behind) = read_item_line(alloc, lists, index, number, bytes)?;
-    let mut entries: Vec<Entry> = Vec::new(alloc);
-    let rest = push_entries(&mut entries, behind)?;
-    items.push(row, entries.as_slice())?;
+    entries.clear();
+    let rest = push_entries(entries, behind)?;
+    push_item(items, row, entries.as_slice())?;
     Ok(rest)
 }
 
@@ -126,7 +127,7 @@ pub(crate) fn push_items<'a>(
     alloc: Global,
     lists: &mut EnvironmentTable,
     items: &mut ItemTable,
-    index: &BTreeMap<&[u8], u32>,
+    index: &NameTable<'_>,
     many: u32,
     bytes: &'a [u8],
 ) -> Result<&'a [u8], ForestFault>
@@ -136,9 +137,10 @@ pub(crate) fn push_items<'a>(
         Reads (λ rest. ItemsRead core lists.new many bytes.now rest.now items.new)
         (NoItems core lists.new many bytes.now) result }
 {
+    let mut entries: Vec<Entry> = Vec::new(alloc);
     let mut rest = bytes;
     for number in 0..many {
-        rest = read_item(alloc, lists, items, index, number, rest)?;
+        rest = read_item(alloc, lists, items, &mut entries, index, number, rest)?;
     }
     Ok(rest)
 }

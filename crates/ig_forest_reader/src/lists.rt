@@ -103,6 +103,7 @@ fn push_first<'a>(out: &mut Vec<Value>, bytes: &'a [u8]) -> Result<&'a [u8], For
 
 /// Adds the values that stand at the front, up to the closing bracket, and answers what stands
 /// after that.
+#[inline(always)]
 pub(crate) fn push_values<'a>(
     out: &mut Vec<Value>,
     bytes: &'a [u8],

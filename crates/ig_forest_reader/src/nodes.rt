@@ -12,19 +12,19 @@ ghost use Rattle.ig_forest_reader.specs.Written.{IsNamed, TellsNames};
 use crate::fault::ForestFault;
 use crate::fronts::{read_behind, read_behind_number, read_last_span, split_word};
 use crate::lists::push_values;
-use crate::names::nonterminal_of;
+use crate::names::{NameTable, nonterminal_of};
 use crate::tables::{push_list, push_node};
 use crate::tags::push_choices;
 use ig_expr::Value;
 use ig_forest_tables::{Choice, NodeRow, NodeRows};
 use ig_item::{Core, EnvironmentTable};
 use std::alloc::Global;
-use std::collections::BTreeMap;
 
 /// What stands at the front of the line of that number up to its values: what it is of, the
 /// number, and the name of its nonterminal.
+#[inline(always)]
 pub(crate) fn read_head<'a>(
-    index: &BTreeMap<&[u8], u32>,
+    index: &NameTable<'_>,
     what: &[u8],
     number: u32,
     bytes: &'a [u8],
@@ -58,9 +58,10 @@ pub(crate) fn read_head<'a>(
 }
 
 /// What stands at the front of the line of that number with its values, which are added.
+#[inline(always)]
 pub(crate) fn read_start<'a>(
     out: &mut Vec<Value>,
-    index: &BTreeMap<&[u8], u32>,
+    index: &NameTable<'_>,
     what: &[u8],
     number: u32,
     bytes: &'a [u8],
@@ -83,7 +84,7 @@ pub(crate) fn read_start<'a>(
 fn read_node_line<'a>(
     alloc: Global,
     lists: &mut EnvironmentTable,
-    index: &BTreeMap<&[u8], u32>,
+    index: &NameTable<'_>,
     number: u32,
     bytes: &'a [u8],
 ) -> Result<(NodeRow, &'a [u8]), ForestFault>
@@ -107,12 +108,13 @@ fn read_node_line<'a>(
     Ok((row, rest))
 }
 
-/// The node of that number with its alternatives.
+/// The node of that number with its alternatives, which pass through that list.
 fn read_node<'a>(
     alloc: Global,
     lists: &mut EnvironmentTable,
     nodes: &mut NodeRows,
-    index: &BTreeMap<&[u8], u32>,
+    choices: &mut Vec<Choice>,
+    index: &NameTable<'_>,
     core: &Core,
     number: u32,
     bytes: &'a [u8],
@@ -125,8 +127,8 @@ fn read_node<'a>(
         (NoNode core.now lists.new number bytes.now) result }
 {
     let (row, behind) = read_node_line(alloc, lists, index, number, bytes)?;
-    let mut choices: Vec<Choice> = Vec::new(alloc);
-    let rest = push_choices(&mut choices, core, row.nonterminal, behind)?;
+    choices.clear();
+    let rest = push_choices(choices, core, row.nonterminal, behind)?;
     push_node(nodes, row, choices.as_slice())?;
     Ok(rest)
 }
@@ -136,7 +138,7 @@ pub(crate) fn push_nodes<'a>(
     alloc: Global,
     lists: &mut EnvironmentTable,
     nodes: &mut NodeRows,
-    index: &BTreeMap<&[u8], u32>,
+    index: &NameTable<'_>,
     core: &Core,
     many: u32,
     bytes: &'a [u8],
@@ -147,9 +149,10 @@ pub(crate) fn push_nodes<'a>(
     ensures { Reads (λ rest. NodesRead core.now lists.new many bytes.now rest.now nodes.new)
         (NoNodes core.now lists.new many bytes.now) result }
 {
+    let mut choices: Vec<Choice> = Vec::new(alloc);
     let mut rest = bytes;
     for number in 0..many {
-        rest = read_node(alloc, lists, nodes, index, core, number, rest)?;
+        rest = read_node(alloc, lists, nodes, &mut choices, index, core, number, rest)?;
     }
     Ok(rest)
 }

@@ -15,11 +15,15 @@ use ig_forest_tables::{ItemNode, Node};
 use ig_steps::{Known, Qualifiers, is_true, matches_none, only, span_bound, value};
 use ig_text::{Pattern, Span, Text, Word};
 
-/// Whether both lists have the same values.
+/// Whether both lists have the same values. Most have none.
+#[inline(always)]
 pub(crate) fn are_same(a: &[Value], b: &[Value]) -> bool
     ensures { IsTrue result ↔ (a.now ≡ b.now) }
 {
     equal_values_are_one();
+    if a.is_empty() {
+        return b.is_empty();
+    }
     a == b
 }
 

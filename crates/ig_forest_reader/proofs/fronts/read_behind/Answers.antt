@@ -1,26 +1,20 @@
-use Rattle.std.proofs.Common.{◌++◌, ◌+◌, drop, arith}
-use Rattle.ig_forest_reader.proofs.Behind.{no_bytes, one_byte, byte_told, all_told, all_there}
+use Rattle.std.proofs.Common.{◌∙◌, ◌++◌, List, ℕ, ap}
+use Rattle.ig_text.proofs.Booleans.{refuted}
+use Rattle.ig_forest_reader.proofs.Behind.{too_short, split_there, split_told}
 use Rattle.ig_forest_reader.proofs.fronts.read_behind.Goals as goal
 
-pub loop-byte-init : goal.loop-byte-init
-loop-byte-init c = no_bytes c.args.bytes.now c.args.text.now
+pub returns-in_default-clause-told : goal.returns-in_default-clause-told
+returns-in_default-clause-told c us e = absurd (too_short c.args.bytes.now c.args.text.now us c.split_at_checked.result c.split_at_checked.ensures.cases c.in_default.is e)
 
-pub returns-in_err-rest-clause-told : goal.returns-in_err-rest-clause-told
-returns-in_err-rest-clause-told c us e =
-    absurd (c.in_err-rest.ensures.told (drop (c.loop-byte.byte-index + 1) c.args.text.now ++ us)
-    (byte_told c.args.bytes.now c.args.text.now c.loop-byte.rest.now us c.loop-byte.byte-index c.loop-byte-test.true c.loop-byte.invariant e))
-
-pub loop-byte-preserved : goal.loop-byte-preserved
-loop-byte-preserved c =
-    one_byte c.args.bytes.now c.args.text.now c.loop-byte.rest.now c.in_ok-rest.rest.now c.loop-byte.byte-index c.loop-byte-test.true
-    c.loop-byte.invariant c.in_ok-rest.ensures.told c.in_ok-rest.ensures.exact
+pub returns-then-is_text : goal.returns-then-is_text
+returns-then-is_text c =
+    let split = split_there c.args.bytes.now c.args.text.now c.split_at_checked.result _ c.split_at_checked.ensures.cases c.in-Some.is in
+    record {
+      told = λ us e. (split_told c.args.bytes.now c.args.text.now us c.in-Some.front.now c.in-Some.rest.now split e).1;
+      exact = split.0 ∙ ap (λ (z : List ℕ). z ++ c.in-Some.rest.now) (c.is_text.ensures.0 c.if-is_text.true);
+    }
 
 pub returns-clause-told : goal.returns-clause-told
 returns-clause-told c us e =
-    let past = c.loop-byte-test.false in
-    all_told c.args.bytes.now c.args.text.now c.loop-byte.rest.now us c.loop-byte.byte-index (omega (arith, past)) c.loop-byte.invariant e
-
-pub returns-clause-exact : goal.returns-clause-exact
-returns-clause-exact c =
-    let past = c.loop-byte-test.false in
-    all_there c.args.bytes.now c.args.text.now c.loop-byte.rest.now c.loop-byte.byte-index (omega (arith, past)) c.loop-byte.invariant
+    let split = split_there c.args.bytes.now c.args.text.now c.split_at_checked.result _ c.split_at_checked.ensures.cases c.in-Some.is in
+    absurd (refuted c.is_text.result c.is_text.ensures c.if-is_text.false (split_told c.args.bytes.now c.args.text.now us c.in-Some.front.now c.in-Some.rest.now split e).0)

@@ -26,9 +26,9 @@ returns c =
           item_read core tells c.read_item_line.new.lists c.args.number c.args.bytes.now c.in_ok-row.behind.now c.in_ok-rest.rest.now
           c.in_ok-row.row c.push_entries.new.out.items c.as_slice.result.now c.args.items.now _
           (read_ok _ _ _ _ (c.read_item_line.ensures.read core tells is) c.in_ok-row.was)
-          (subst (λ (z : List Entry). Added IsSmallEntry (flat_map entry_text) c.in_ok-row.behind.now c.in_ok-rest.rest.now z c.push_entries.new.out.items) c.new-entries.ensures.items c.in_ok-rest.ensures.added)
+          (subst (λ (z : List Entry). Added IsSmallEntry (flat_map entry_text) c.in_ok-row.behind.now c.in_ok-rest.rest.now z c.push_entries.new.out.items) c.clear.ensures.items c.in_ok-rest.ensures.added)
           (λ xs us small stops e.
           let read = c.in_ok-rest.ensures.told xs us small stops e in
-          (read.0, read.1 ∙ ap (λ (z : List Entry). z ++ xs) c.new-entries.ensures.items))
-          c.as_slice.ensures.value c.in_ok-push.ensures;
+          (read.0, read.1 ∙ ap (λ (z : List Entry). z ++ xs) c.clear.ensures.items))
+          c.as_slice.ensures.value c.in_ok-push_item.ensures;
     }

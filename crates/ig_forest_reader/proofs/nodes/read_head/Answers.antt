@@ -51,7 +51,7 @@ returns-in_default-nonterminal_of c =
           let number = some_read _ _ _ (c.read_behind_number.ensures.told (behind_number name us) few (stops_at 32 _ (omega arith)) begun) c.in-Some-read_behind_number.is in
           let started = some_read _ _ _ (c.read_behind-2.ensures.told (encode_utf8_all name ++ behind_name us) number) c.in-Some-read_behind.is in
           let cut = c.split_word.ensures.told (encode_utf8_all name) (behind_name us) (name_plain core tells n name named) (stops_plain _) started in
-          c.in_default-nonterminal_of.not-Some n (c.nonterminal_of.ensures ∙ found_name core c.args.index.now n name c.split_word.result.0.now is named cut.0);
+          c.in_default-nonterminal_of.not-Some n (c.nonterminal_of.ensures core is ∙ found_name core c.args.index.now n name c.split_word.result.0.now is named cut.0);
     }
 
 pub returns-in_default-read_behind-2 : goal.returns-in_default-read_behind-2
@@ -72,7 +72,7 @@ returns c =
       read = λ core is.
           head_read core c.args.index.now c.args.what.now c.args.number c.args.bytes.now c.in-Some.begun.now c.in-Some-read_behind_number.behind.now
           c.in-Some-read_behind.named.now c.split_word.result.0.now c.split_word.result.1.now c.in-Some-read_behind-2.values.now
-          c.in-Some-nonterminal_of.nonterminal is (sym c.nonterminal_of.ensures ∙ c.in-Some-nonterminal_of.is)
+          c.in-Some-nonterminal_of.nonterminal is (sym (c.nonterminal_of.ensures core is) ∙ c.in-Some-nonterminal_of.is)
           (some_is _ _ _ c.read_behind.ensures.exact c.in-Some.is)
           (some_is _ _ _ c.read_behind_number.ensures.exact c.in-Some-read_behind_number.is)
           (some_is _ _ _ c.read_behind-2.ensures.exact c.in-Some-read_behind.is) c.split_word.ensures.whole
@@ -82,7 +82,7 @@ returns c =
           let number = some_read _ _ _ (c.read_behind_number.ensures.told (behind_number name us) few (stops_at 32 _ (omega arith)) begun) c.in-Some-read_behind_number.is in
           let started = some_read _ _ _ (c.read_behind-2.ensures.told (encode_utf8_all name ++ behind_name us) number) c.in-Some-read_behind.is in
           let cut = c.split_word.ensures.told (encode_utf8_all name) (behind_name us) (name_plain core tells n name named) (stops_plain _) started in
-          let found = c.nonterminal_of.ensures ∙ found_name core c.args.index.now n name c.split_word.result.0.now is named cut.0 in
+          let found = c.nonterminal_of.ensures core is ∙ found_name core c.args.index.now n name c.split_word.result.0.now is named cut.0 in
           let last = some_read _ _ _ (c.read_behind-3.ensures.told us cut.1) c.in-Some-read_behind-2.is in
           (same_Some _ n (sym c.in-Some-nonterminal_of.is ∙ found), last);
     }

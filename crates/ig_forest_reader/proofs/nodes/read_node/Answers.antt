@@ -29,9 +29,9 @@ returns c =
           (λ name named.
           subst
           (λ (z : List Choice). Added (IsTagOf c.args.core.now c.in_ok-row.row.nonterminal) (flat_map (choice_text name)) c.in_ok-row.behind.now
-          c.in_ok-rest.rest.now z c.push_choices.new.out.items) c.new-choices.ensures.items (c.in_ok-rest.ensures.added name named))
+          c.in_ok-rest.rest.now z c.push_choices.new.out.items) c.clear.ensures.items (c.in_ok-rest.ensures.added name named))
           (λ name xs us named small stops e.
           let read = c.in_ok-rest.ensures.told name xs us named small stops e in
-          (read.0, read.1 ∙ ap (λ (z : List Choice). z ++ xs) c.new-choices.ensures.items))
+          (read.0, read.1 ∙ ap (λ (z : List Choice). z ++ xs) c.clear.ensures.items))
           c.as_slice.ensures.value c.in_ok-push_node.ensures;
     }

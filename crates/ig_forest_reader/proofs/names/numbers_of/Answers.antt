@@ -1,7 +1,7 @@
 use Rattle.std.proofs.Common.{◌≡◌, ◌∙◌, ◌+◌, ℕ, Some, length, slice_get, ap, refl, arith}
 use Rattle.std.proofs.lemmas.Option.{slice_get_read}
 use Rattle.ig_forest_reader.proofs.NameIndex.{index_begins, index_grows, index_whole}
-use Rattle.ig_forest_reader.proofs.names.index_names.Goals as goal
+use Rattle.ig_forest_reader.proofs.names.numbers_of.Goals as goal
 
 pub loop-nonterminal-init : goal.loop-nonterminal-init
 loop-nonterminal-init c = (refl, omega arith, index_begins c.args.nonterminals.now c.new-index.result c.new-index.ensures.empty)
