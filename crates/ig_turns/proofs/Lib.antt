@@ -1,0 +1,4 @@
+mod Played
+mod Places
+mod Strays
+mod Totals
