@@ -9,3 +9,4 @@ pub mod Meets
 pub mod Requests
 pub mod Matched
 pub mod Sizes
+pub mod SameRequests

@@ -1,20 +1,21 @@
 -- What a row asks for, by the values that were found and by the parts of the words.
 use Rattle.std.proofs.Common.{◌≡◌, ◌∙◌, ℕ, Bool, true, false, List, [], ◌∷◌, length, map, refl, sym, ap, ap₂, subst, Option, Some, None}
 use Rattle.std.proofs.lemmas.Bool.{and_from, or_left}
-use Rattle.std.specs.Prelude.{if◌then◌else◌, ◌&&◌, ◌||◌, not, option_map, option_and_then, is_some, codes, drop}
+use Rattle.std.specs.Prelude.{if◌then◌else◌, ◌&&◌, ◌||◌, not, IfSome, option_map, option_and_then, is_some, codes, drop}
 use Rattle.std.specs.List.{list_all, list_any, after_first, before_first}
 use Rattle.ig_text.specs.Words.{is_word}
 use Rattle.ig_text.proofs.Booleans.{first_true, rest_true}
 use Rattle.ig_text.proofs.Options.{mapped}
 use Rattle.ig_command.specs.Words.{Parts, Setting, is_apart, is_equals, is_joined, is_long, is_value, no_parts, parts_of, with_positional, with_setting, word_before}
-use Rattle.ig_command.specs.Commands.{Listing, Request, are_among, listing_with, number_if, number_of, number_or, option_in, question_with, request_of, request_with, row, most_budget, most_count, most_depth, most_number, most_size, usual_budget, usual_count, Source, source, source_in, notation_with, notation_in}
+use Rattle.ig_command.specs.Commands.{Listing, Request, are_among, listing_with, number_if, number_of, number_or, option_in, question_with, request_of, request_with, row, most_budget, most_count, most_depth, most_number, most_size, usual_budget, usual_count, Source, source, source_in, notation_with, notation_in, order_with, order_in, order_of, run_with, run_in, stored_order, Orders}
 use Rattle.ig_command.specs.Commands.{check, show, core, forest, trees, query, load, verify, analyse, for_forest, for_grammar, for_load, for_query, for_trees, for_verify}
 use Rattle.ig_command.specs.Commands.{Reads, budget_in, count_in, listing_in, question_in, stored_request}
-use Rattle.ig_command.specs.Rows.{Answers, Finds, HasParts, IsRefused, asked, budget_found, listing_found, question_found, with_both, with_three, notation_found, source_of, for_one, found_request, is_empty, may_stand, names_of, places_of, row_of}
+use Rattle.ig_command.specs.Rows.{Answers, Finds, HasParts, IsRefused, asked, budget_found, listing_found, question_found, with_both, with_three, notation_found, order_found, order_for, run_found, source_of, for_one, found_request, is_empty, may_stand, names_of, places_of, row_of}
 use Rattle.clap.specs.Words.{first_value, found_of}
 use Rattle.clap.specs.declared.parser.matches.ArgMatches.{ArgMatches}
 use Rattle.ig_command.specs.declared.command.Command.{Command}
 use Rattle.ig_command.specs.declared.command.Notation.{Notation}
+use Rattle.ig_queue.specs.declared.order.Order.{Order}
 use Rattle.ig_command.specs.declared.rows.Row.{Row}
 use Rattle.ig_command.specs.declared.rows.Row.TheVariants as rows
 
@@ -95,6 +96,14 @@ budget_same : (find : Finds) (options : List Setting) → option_in (codes "budg
     budget_found find ≡ budget_in options
 budget_same find options e = sym (ap (option_and_then (number_or usual_budget 1 most_budget)) e)
 
+order_same : (find : Finds) (options : List Setting) → option_in (codes "order") options ≡ Some (find (codes "order")) →
+    order_found find ≡ order_in options
+order_same find options e = sym (ap (option_and_then order_with) e)
+
+run_same : (find : Finds) (options : List Setting) → option_in (codes "budget") options ≡ Some (find (codes "budget")) →
+    option_in (codes "order") options ≡ Some (find (codes "order")) → run_found find ≡ run_in options
+run_same find options b o = ap₂ run_with (budget_same find options b) (order_same find options o)
+
 listing_same : (find : Finds) (options : List Setting) → option_in (codes "depth") options ≡ Some (find (codes "depth")) →
     option_in (codes "count") options ≡ Some (find (codes "count")) → option_in (codes "after") options ≡ Some (find (codes "after")) →
     listing_found find ≡ listing_in options
@@ -120,36 +129,36 @@ found_asked rows.Core find p has =
     one_file core find p.positional p.options has.files (notation_same find p.options (has.options (codes "notation") refl))
 found_asked rows.Forest find p has =
     two_files (find (codes "G")) (find (codes "I")) p.positional has.files (source_of (notation_found find))
-    (λ g i. option_map (forest g i) (budget_found find))
+    (λ g i. option_map (forest g i) (run_found find))
     (λ words. for_forest words p.options)
     (λ g i. ap₂ (λ n b. option_and_then (λ s. option_map (forest s i) b) (option_map (source g) n))
     (notation_same find p.options (has.options (codes "notation") refl))
-    (budget_same find p.options (has.options (codes "budget") refl)))
+    (run_same find p.options (has.options (codes "budget") refl) (has.options (codes "order") refl)))
 found_asked rows.Trees find p has =
     two_files (find (codes "G")) (find (codes "I")) p.positional has.files (source_of (notation_found find))
-    (λ g i. option_and_then (λ budget. option_map (trees g i budget) (listing_found find)) (budget_found find))
+    (λ g i. option_and_then (λ budget. option_map (trees g i budget) (listing_found find)) (run_found find))
     (λ words. for_trees words p.options)
-    (λ g i. ap (λ n. option_and_then (λ s. option_and_then (λ budget. option_map (trees s i budget) (listing_found find)) (budget_found find))
+    (λ g i. ap (λ n. option_and_then (λ s. option_and_then (λ budget. option_map (trees s i budget) (listing_found find)) (run_found find))
     (option_map (source g) n)) (notation_same find p.options (has.options (codes "notation") refl)) ∙
     ap₂ (λ l b. option_and_then (λ s. option_and_then (λ budget. option_map (trees s i budget) l) b) (source_in g p.options))
     (listing_same find p.options (has.options (codes "depth") refl) (has.options (codes "count") refl) (has.options (codes "after") refl))
-    (budget_same find p.options (has.options (codes "budget") refl)))
+    (run_same find p.options (has.options (codes "budget") refl) (has.options (codes "order") refl)))
 found_asked rows.Query find p has =
     two_files (find (codes "G")) (find (codes "I")) p.positional has.files (source_of (notation_found find))
-    (λ g i. option_and_then (λ budget. option_map (query g i budget) (question_found find)) (budget_found find))
+    (λ g i. option_and_then (λ budget. option_map (query g i budget) (question_found find)) (run_found find))
     (λ words. for_query words p.options)
-    (λ g i. ap (λ n. option_and_then (λ s. option_and_then (λ budget. option_map (query s i budget) (question_found find)) (budget_found find))
+    (λ g i. ap (λ n. option_and_then (λ s. option_and_then (λ budget. option_map (query s i budget) (question_found find)) (run_found find))
     (option_map (source g) n)) (notation_same find p.options (has.options (codes "notation") refl)) ∙
     ap₂ (λ q b. option_and_then (λ s. option_and_then (λ budget. option_map (query s i budget) q) b) (source_in g p.options))
     (question_same find p.options (has.options (codes "what") refl) (has.options (codes "name") refl))
-    (budget_same find p.options (has.options (codes "budget") refl)))
+    (run_same find p.options (has.options (codes "budget") refl) (has.options (codes "order") refl)))
 found_asked rows.Load find p has =
     two_files (find (codes "SIZE")) (find (codes "NUMBER")) p.positional has.files (λ o. o)
-    (λ size number. option_and_then (λ s. option_and_then (λ n. option_map (load s n) (budget_found find))
+    (λ size number. option_and_then (λ s. option_and_then (λ n. option_map (load s n) (run_found find))
     (number_of 0 most_number number)) (number_of 1 most_size size))
     (λ words. for_load words p.options)
     (λ size number. ap (λ b. option_and_then (λ s. option_and_then (λ n. option_map (load s n) b)
-    (number_of 0 most_number number)) (number_of 1 most_size size)) (budget_same find p.options (has.options (codes "budget") refl)))
+    (number_of 0 most_number number)) (number_of 1 most_size size)) (run_same find p.options (has.options (codes "budget") refl) (has.options (codes "order") refl)))
 found_asked rows.Verify find p has =
     three_files (find (codes "G")) (find (codes "I")) (find (codes "F")) (notation_found find) p.positional p.options has.files
     (notation_same find p.options (has.options (codes "notation") refl))
@@ -162,17 +171,17 @@ row_asked r find p has =
     found_asked r find p has ∙ sym (ap (λ b. if b then asked r p.positional p.options else None) has.among)
 
 -- an option that stands twice
-abbrev no_request : Option Request
+abbrev pub no_request : Option Request
 no_request = None
 
-never : {A : Type 0} (o : Option A) → option_and_then (λ x. no_request) o ≡ None
+pub never : {A : Type 0} (o : Option A) → option_and_then (λ x. no_request) o ≡ None
 never None = refl
 never (Some x) = refl
 
 abbrev Value : Type 0
 Value = Option (Option (List ℕ))
 
-none_each : {A : Type 0} (f : A → Option Request) (o : Option A) → ((x : A) → f x ≡ None) → option_and_then f o ≡ None
+pub none_each : {A : Type 0} (f : A → Option Request) (o : Option A) → ((x : A) → f x ≡ None) → option_and_then f o ≡ None
 none_each f None h = refl
 none_each f (Some x) h = h x
 
@@ -188,10 +197,22 @@ grammar_twice : (g : List ℕ) (ask : Source → Request) (n : Value) → (is_so
 grammar_twice g ask None e = refl
 grammar_twice g ask (Some n) e = absurd (cc)
 
-forest_twice : (g : Source) (i : List ℕ) (b : Value) → (is_some b && true) ≡ false →
-    option_map (forest g i) (option_and_then (number_or usual_budget 1 most_budget) b) ≡ None
-forest_twice g i None e = refl
-forest_twice g i (Some b) e = absurd (cc)
+-- a run of which the budget or the order stands twice has no budget
+abbrev budget_of : Value → Option ℕ
+budget_of b = option_and_then (number_or usual_budget 1 most_budget) b
+
+abbrev ordered : Value → Value → Option ℕ
+ordered b o = run_with (budget_of b) (option_and_then order_with o)
+
+unordered : (b : Option ℕ) → run_with b None ≡ None
+unordered None = refl
+unordered (Some n) = refl
+
+forest_twice : (g : Source) (i : List ℕ) (b o : Value) → (is_some b && (is_some o && true)) ≡ false →
+    option_map (forest g i) (ordered b o) ≡ None
+forest_twice g i None o e = refl
+forest_twice g i (Some b) None e = ap (option_map (forest g i)) (unordered (number_or usual_budget 1 most_budget b))
+forest_twice g i (Some b) (Some o) e = absurd (cc)
 
 no_listing : (g : Source) (i : List ℕ) (b : Option ℕ) (l : Option Listing) → l ≡ None →
     option_and_then (λ budget. option_map (trees g i budget) l) b ≡ None
@@ -206,32 +227,40 @@ no_after None n = refl
 no_after (Some d) None = refl
 no_after (Some d) (Some n) = refl
 
-trees_twice : (g : Source) (i : List ℕ) (b d n a : Value) → (is_some b && (is_some d && (is_some n && (is_some a && true)))) ≡ false →
+trees_twice : (g : Source) (i : List ℕ) (b o d n a : Value) →
+    (is_some b && (is_some o && (is_some d && (is_some n && (is_some a && true))))) ≡ false →
     option_and_then (λ budget. option_map (trees g i budget) (listing_with (option_and_then (number_if 0 most_depth) d)
-    (option_and_then (number_or usual_count 1 most_count) n) a)) (option_and_then (number_or usual_budget 1 most_budget) b) ≡ None
-trees_twice g i None d n a e = refl
-trees_twice g i (Some b) None n a e = never (number_or usual_budget 1 most_budget b)
-trees_twice g i (Some b) (Some d) None a e =
-    no_listing g i (number_or usual_budget 1 most_budget b) _ (no_count (number_if 0 most_depth d) a)
-trees_twice g i (Some b) (Some d) (Some n) None e =
-    no_listing g i (number_or usual_budget 1 most_budget b) _ (no_after (number_if 0 most_depth d) (number_or usual_count 1 most_count n))
-trees_twice g i (Some b) (Some d) (Some n) (Some a) e = absurd (cc)
+    (option_and_then (number_or usual_count 1 most_count) n) a)) (ordered b o) ≡ None
+trees_twice g i None o d n a e = refl
+trees_twice g i (Some b) None d n a e =
+    ap (option_and_then (λ budget. option_map (trees g i budget) (listing_with (option_and_then (number_if 0 most_depth) d)
+    (option_and_then (number_or usual_count 1 most_count) n) a))) (unordered (number_or usual_budget 1 most_budget b))
+trees_twice g i (Some b) (Some o) None n a e = never (ordered (Some b) (Some o))
+trees_twice g i (Some b) (Some o) (Some d) None a e =
+    no_listing g i (ordered (Some b) (Some o)) _ (no_count (number_if 0 most_depth d) a)
+trees_twice g i (Some b) (Some o) (Some d) (Some n) None e =
+    no_listing g i (ordered (Some b) (Some o)) _ (no_after (number_if 0 most_depth d) (number_or usual_count 1 most_count n))
+trees_twice g i (Some b) (Some o) (Some d) (Some n) (Some a) e = absurd (cc)
 
-query_twice : (g : Source) (i : List ℕ) (b w n : Value) → (is_some b && (is_some w && (is_some n && true))) ≡ false →
+query_twice : (g : Source) (i : List ℕ) (b o w n : Value) → (is_some b && (is_some o && (is_some w && (is_some n && true)))) ≡ false →
     option_and_then (λ budget. option_map (query g i budget) (option_and_then (λ name. option_and_then (question_with name) w) n))
-    (option_and_then (number_or usual_budget 1 most_budget) b) ≡ None
-query_twice g i None w n e = refl
-query_twice g i (Some b) None None e = never (number_or usual_budget 1 most_budget b)
-query_twice g i (Some b) None (Some n) e = never (number_or usual_budget 1 most_budget b)
-query_twice g i (Some b) (Some w) None e = never (number_or usual_budget 1 most_budget b)
-query_twice g i (Some b) (Some w) (Some n) e = absurd (cc)
+    (ordered b o) ≡ None
+query_twice g i None o w n e = refl
+query_twice g i (Some b) None w n e =
+    ap (option_and_then (λ budget. option_map (query g i budget) (option_and_then (λ name. option_and_then (question_with name) w) n)))
+    (unordered (number_or usual_budget 1 most_budget b))
+query_twice g i (Some b) (Some o) None None e = never (ordered (Some b) (Some o))
+query_twice g i (Some b) (Some o) None (Some n) e = never (ordered (Some b) (Some o))
+query_twice g i (Some b) (Some o) (Some w) None e = never (ordered (Some b) (Some o))
+query_twice g i (Some b) (Some o) (Some w) (Some n) e = absurd (cc)
 
-load_twice : (x y : Option ℕ) (b : Value) → (is_some b && true) ≡ false →
-    option_and_then (λ s. option_and_then (λ n. option_map (load s n) (option_and_then (number_or usual_budget 1 most_budget) b)) y) x ≡ None
-load_twice None y None e = refl
-load_twice (Some s) None None e = refl
-load_twice (Some s) (Some n) None e = refl
-load_twice x y (Some b) e = absurd (cc)
+load_twice : (x y : Option ℕ) (b o : Value) → (is_some b && (is_some o && true)) ≡ false →
+    option_and_then (λ s. option_and_then (λ n. option_map (load s n) (ordered b o)) y) x ≡ None
+load_twice None y b o e = refl
+load_twice (Some s) None b o e = refl
+load_twice (Some s) (Some n) None o e = refl
+load_twice (Some s) (Some n) (Some b) None e = ap (option_map (load s n)) (unordered (number_or usual_budget 1 most_budget b))
+load_twice x y (Some b) (Some o) e = absurd (cc)
 
 abbrev Twice : Row → List Setting → Type 0
 Twice r options = list_all (λ name. is_some (option_in name options)) (names_of r) ≡ false
@@ -250,33 +279,36 @@ refused_asks rows.Core (g ∷ i ∷ ws) options h = refl
 refused_asks rows.Forest [] options h = refl
 refused_asks rows.Forest (g ∷ []) options h = refl
 refused_asks rows.Forest (g ∷ i ∷ []) options h =
-    in_it g (λ s. option_map (forest s i) (budget_in options)) (option_in (codes "notation") options)
-    (is_some (option_in (codes "budget") options) && true) (h refl)
-    (λ e s. forest_twice s i (option_in (codes "budget") options) e)
+    in_it g (λ s. option_map (forest s i) (run_in options)) (option_in (codes "notation") options)
+    (is_some (option_in (codes "budget") options) && (is_some (option_in (codes "order") options) && true)) (h refl)
+    (λ e s. forest_twice s i (option_in (codes "budget") options) (option_in (codes "order") options) e)
 refused_asks rows.Forest (g ∷ i ∷ w ∷ ws) options h = refl
 refused_asks rows.Trees [] options h = refl
 refused_asks rows.Trees (g ∷ []) options h = refl
 refused_asks rows.Trees (g ∷ i ∷ []) options h =
-    in_it g (λ s. option_and_then (λ budget. option_map (trees s i budget) (listing_in options)) (budget_in options))
+    in_it g (λ s. option_and_then (λ budget. option_map (trees s i budget) (listing_in options)) (run_in options))
     (option_in (codes "notation") options)
-    (is_some (option_in (codes "budget") options) && (is_some (option_in (codes "depth") options) &&
-    (is_some (option_in (codes "count") options) && (is_some (option_in (codes "after") options) && true)))) (h refl)
-    (λ e s. trees_twice s i (option_in (codes "budget") options) (option_in (codes "depth") options) (option_in (codes "count") options)
-    (option_in (codes "after") options) e)
+    (is_some (option_in (codes "budget") options) && (is_some (option_in (codes "order") options) &&
+    (is_some (option_in (codes "depth") options) && (is_some (option_in (codes "count") options) &&
+    (is_some (option_in (codes "after") options) && true))))) (h refl)
+    (λ e s. trees_twice s i (option_in (codes "budget") options) (option_in (codes "order") options) (option_in (codes "depth") options)
+    (option_in (codes "count") options) (option_in (codes "after") options) e)
 refused_asks rows.Trees (g ∷ i ∷ w ∷ ws) options h = refl
 refused_asks rows.Query [] options h = refl
 refused_asks rows.Query (g ∷ []) options h = refl
 refused_asks rows.Query (g ∷ i ∷ []) options h =
-    in_it g (λ s. option_and_then (λ budget. option_map (query s i budget) (question_in options)) (budget_in options))
+    in_it g (λ s. option_and_then (λ budget. option_map (query s i budget) (question_in options)) (run_in options))
     (option_in (codes "notation") options)
-    (is_some (option_in (codes "budget") options) && (is_some (option_in (codes "what") options) &&
-    (is_some (option_in (codes "name") options) && true))) (h refl)
-    (λ e s. query_twice s i (option_in (codes "budget") options) (option_in (codes "what") options) (option_in (codes "name") options) e)
+    (is_some (option_in (codes "budget") options) && (is_some (option_in (codes "order") options) &&
+    (is_some (option_in (codes "what") options) && (is_some (option_in (codes "name") options) && true)))) (h refl)
+    (λ e s. query_twice s i (option_in (codes "budget") options) (option_in (codes "order") options) (option_in (codes "what") options)
+    (option_in (codes "name") options) e)
 refused_asks rows.Query (g ∷ i ∷ w ∷ ws) options h = refl
 refused_asks rows.Load [] options h = refl
 refused_asks rows.Load (size ∷ []) options h = refl
 refused_asks rows.Load (size ∷ number ∷ []) options h =
-    load_twice (number_of 1 most_size size) (number_of 0 most_number number) (option_in (codes "budget") options) (h refl)
+    load_twice (number_of 1 most_size size) (number_of 0 most_number number) (option_in (codes "budget") options)
+    (option_in (codes "order") options) (h refl)
 refused_asks rows.Load (size ∷ number ∷ w ∷ ws) options h = refl
 refused_asks rows.Verify [] options h = refl
 refused_asks rows.Verify (g ∷ []) options h = refl
@@ -414,3 +446,28 @@ read_from words (Some command) e = sym e
 pub reads : (words : List (List ℕ)) (name : List ℕ) (ws : List (List ℕ)) (o : Option Command) → words ≡ name ∷ ws →
     option_map stored_request o ≡ request_of (name ∷ ws) → Reads words o
 reads words name ws o same e = read_from words o (e ∙ sym (ap request_of same))
+
+-- the order of a row's command is the one that the words name
+order_by : (find : Finds) (name : List ℕ) (ws : List (List ℕ)) (p : Parts) (order : Order) → parts_of ws ≡ Some p →
+    option_in (codes "order") p.options ≡ Some (find (codes "order")) → order_found find ≡ Some order → order_of (name ∷ ws) ≡ Some order
+order_by find name ws p order e at is =
+    ap (option_and_then (λ (q : Parts). order_in q.options)) e ∙ sym (order_same find p.options at) ∙ is
+
+order_named : (r : Row) (find : Finds) (name : List ℕ) (ws : List (List ℕ)) (p : Parts) (order : Order) → parts_of ws ≡ Some p →
+    HasParts (places_of r) (names_of r) find p → order_for r find ≡ Some order → order_of (name ∷ ws) ≡ Some order
+order_named rows.Check find name ws p order e has is = absurd (cc)
+order_named rows.Show find name ws p order e has is = absurd (cc)
+order_named rows.Core find name ws p order e has is = absurd (cc)
+order_named rows.Forest find name ws p order e has is = order_by find name ws p order e (has.options (codes "order") refl) is
+order_named rows.Trees find name ws p order e has is = order_by find name ws p order e (has.options (codes "order") refl) is
+order_named rows.Query find name ws p order e has is = order_by find name ws p order e (has.options (codes "order") refl) is
+order_named rows.Load find name ws p order e has is = order_by find name ws p order e (has.options (codes "order") refl) is
+order_named rows.Verify find name ws p order e has is = absurd (cc)
+order_named rows.Analyse find name ws p order e has is = absurd (cc)
+
+pub orders : (words : List (List ℕ)) (name : List ℕ) (ws : List (List ℕ)) (r : Row) (m : ArgMatches) (o : Option Command) →
+    words ≡ name ∷ ws → Answers r (parts_of ws) (Some m) →
+    IfSome o (λ c. stored_order c ≡ order_for r (first_value (found_of m))) → Orders words o
+orders words name ws r m None same has is = tt
+orders words name ws r m (Some c) same has is =
+    λ order e. ap order_of same ∙ order_named r (first_value (found_of m)) name ws has.0 order has.1 has.2 (sym is ∙ e)

@@ -8,7 +8,7 @@ use Rattle.ig_text.specs.Words.{is_digit}
 use Rattle.ig_expr.specs.Reading.{spelled}
 use Rattle.ig_command.specs.Words.{Parts, Setting, parts_of}
 use Rattle.ig_command.specs.Commands.{Request, check, show, core, forest, trees, query, load, verify, analyse, IsCommand, request_of, request_with, row, are_among, number_of, most_size, most_number, Source, source_in}
-use Rattle.ig_command.specs.Commands.{budget_in, listing_in, question_in, for_grammar, for_forest, for_trees, for_query, for_load, for_verify}
+use Rattle.ig_command.specs.Commands.{run_in, listing_in, question_in, for_grammar, for_forest, for_trees, for_query, for_load, for_verify}
 use Rattle.ig_command.specs.Rows.{asked, names_of, row_of}
 use Rattle.ig_command.specs.declared.rows.Row.{Row}
 use Rattle.ig_command.specs.declared.rows.Row.TheVariants as rows
@@ -70,17 +70,17 @@ forest_fits : (words : List (List ℕ)) (options : List Setting) → AllFit (for
 forest_fits [] options = none_fits
 forest_fits (g ∷ []) options = none_fits
 forest_fits (g ∷ i ∷ []) options =
-    then_fits (λ (s : Source). option_map (forest s i) (budget_in options)) (source_in g options)
-    (λ s found. mapped_fits (forest s i) (budget_in options) (λ b. tt))
+    then_fits (λ (s : Source). option_map (forest s i) (run_in options)) (source_in g options)
+    (λ s found. mapped_fits (forest s i) (run_in options) (λ b. tt))
 forest_fits (g ∷ i ∷ h ∷ others) options = none_fits
 
 trees_fit : (words : List (List ℕ)) (options : List Setting) → AllFit (for_trees words options)
 trees_fit [] options = none_fits
 trees_fit (g ∷ []) options = none_fits
 trees_fit (g ∷ i ∷ []) options =
-    then_fits (λ (s : Source). option_and_then (λ (b : ℕ). option_map (trees s i b) (listing_in options)) (budget_in options))
+    then_fits (λ (s : Source). option_and_then (λ (b : ℕ). option_map (trees s i b) (listing_in options)) (run_in options))
     (source_in g options)
-    (λ s is. then_fits (λ (b : ℕ). option_map (trees s i b) (listing_in options)) (budget_in options)
+    (λ s is. then_fits (λ (b : ℕ). option_map (trees s i b) (listing_in options)) (run_in options)
     (λ b found. mapped_fits (trees s i b) (listing_in options) (λ l. tt)))
 trees_fit (g ∷ i ∷ h ∷ others) options = none_fits
 
@@ -88,9 +88,9 @@ query_fits : (words : List (List ℕ)) (options : List Setting) → AllFit (for_
 query_fits [] options = none_fits
 query_fits (g ∷ []) options = none_fits
 query_fits (g ∷ i ∷ []) options =
-    then_fits (λ (s : Source). option_and_then (λ (b : ℕ). option_map (query s i b) (question_in options)) (budget_in options))
+    then_fits (λ (s : Source). option_and_then (λ (b : ℕ). option_map (query s i b) (question_in options)) (run_in options))
     (source_in g options)
-    (λ s is. then_fits (λ (b : ℕ). option_map (query s i b) (question_in options)) (budget_in options)
+    (λ s is. then_fits (λ (b : ℕ). option_map (query s i b) (question_in options)) (run_in options)
     (λ b found. mapped_fits (query s i b) (question_in options) (λ q. tt)))
 query_fits (g ∷ i ∷ h ∷ others) options = none_fits
 
@@ -98,11 +98,11 @@ load_fits : (words : List (List ℕ)) (options : List Setting) → AllFit (for_l
 load_fits [] options = none_fits
 load_fits (s ∷ []) options = none_fits
 load_fits (s ∷ n ∷ []) options =
-    then_fits (λ (size : ℕ). option_and_then (λ (number : ℕ). option_map (load size number) (budget_in options)) (number_of 0 most_number n))
+    then_fits (λ (size : ℕ). option_and_then (λ (number : ℕ). option_map (load size number) (run_in options)) (number_of 0 most_number n))
     (number_of 1 most_size s)
     (λ size found.
-    then_fits (λ (number : ℕ). option_map (load size number) (budget_in options)) (number_of 0 most_number n)
-    (λ number read. mapped_fits (load size number) (budget_in options) (λ b. number_fits 1 most_size size s found)))
+    then_fits (λ (number : ℕ). option_map (load size number) (run_in options)) (number_of 0 most_number n)
+    (λ number read. mapped_fits (load size number) (run_in options) (λ b. number_fits 1 most_size size s found)))
 load_fits (s ∷ n ∷ h ∷ others) options = none_fits
 
 verify_fits : (words : List (List ℕ)) (options : List Setting) → AllFit (for_verify words options)

@@ -13,6 +13,8 @@ use Rattle.ig_command.specs.declared.command.Question.TheVariants as asks
 use Rattle.ig_command.specs.declared.command.Notation.{Notation}
 use Rattle.ig_command.specs.declared.command.Notation.TheVariants as notation
 use Rattle.ig_command.specs.declared.command.Source.{Source as StoredSource}
+use Rattle.ig_queue.specs.declared.order.Order.{Order}
+use Rattle.ig_queue.specs.declared.order.Order.TheVariants as orders
 
 -- the file of a grammar, by its name, and the notation of its text
 pub record Source : Type 0 where
@@ -188,6 +190,25 @@ notation_with (Some word) =
 abbrev pub notation_in : List Setting → Option Notation
 notation_in options = option_and_then notation_with (option_in (codes "notation") options)
 
+-- the order that `--order` names; oldest first where it doesn't stand
+abbrev pub order_with : Option (List ℕ) → Option Order
+order_with None = Some orders.Fifo
+order_with (Some word) =
+    if is_word word (codes "fifo") then Some orders.Fifo
+    else (if is_word word (codes "lifo") then Some orders.Lifo
+    else (if is_word word (codes "lowest") then Some orders.Lowest
+    else (if is_word word (codes "plain") then Some orders.Plain else None)))
+
+abbrev pub order_in : List Setting → Option Order
+order_in options = option_and_then order_with (option_in (codes "order") options)
+
+-- the budget of a run, where its order is one
+abbrev pub run_with : Option ℕ → Option Order → Option ℕ
+run_with budget order = option_and_then (λ n. option_map (λ o. n) order) budget
+
+abbrev pub run_in : List Setting → Option ℕ
+run_in options = run_with (budget_in options) (order_in options)
+
 -- the grammar in the file of this name
 abbrev pub source_in : List ℕ → List Setting → Option Source
 source_in file options = option_map (source file) (notation_in options)
@@ -199,24 +220,24 @@ for_grammar ask words options = None
 
 abbrev pub for_forest : List (List ℕ) → List Setting → Option Request
 for_forest (grammar ∷ input ∷ []) options =
-    option_and_then (λ g. option_map (forest g input) (budget_in options)) (source_in grammar options)
+    option_and_then (λ g. option_map (forest g input) (run_in options)) (source_in grammar options)
 for_forest words options = None
 
 abbrev pub for_trees : List (List ℕ) → List Setting → Option Request
 for_trees (grammar ∷ input ∷ []) options =
-    option_and_then (λ g. option_and_then (λ budget. option_map (trees g input budget) (listing_in options)) (budget_in options))
+    option_and_then (λ g. option_and_then (λ budget. option_map (trees g input budget) (listing_in options)) (run_in options))
     (source_in grammar options)
 for_trees words options = None
 
 abbrev pub for_query : List (List ℕ) → List Setting → Option Request
 for_query (grammar ∷ input ∷ []) options =
-    option_and_then (λ g. option_and_then (λ budget. option_map (query g input budget) (question_in options)) (budget_in options))
+    option_and_then (λ g. option_and_then (λ budget. option_map (query g input budget) (question_in options)) (run_in options))
     (source_in grammar options)
 for_query words options = None
 
 abbrev pub for_load : List (List ℕ) → List Setting → Option Request
 for_load (size ∷ number ∷ []) options =
-    option_and_then (λ s. option_and_then (λ n. option_map (load s n) (budget_in options))
+    option_and_then (λ s. option_and_then (λ n. option_map (load s n) (run_in options))
     (number_of 0 most_number number)) (number_of 1 most_size size)
 for_load words options = None
 
@@ -239,12 +260,12 @@ request_with name =
     if is_word name (codes "check") then row (codes "notation" ∷ []) (for_grammar check)
     else (if is_word name (codes "show") then row (codes "notation" ∷ []) (for_grammar show)
     else (if is_word name (codes "core") then row (codes "notation" ∷ []) (for_grammar core)
-    else (if is_word name (codes "forest") then row (codes "notation" ∷ codes "budget" ∷ []) for_forest
+    else (if is_word name (codes "forest") then row (codes "notation" ∷ codes "budget" ∷ codes "order" ∷ []) for_forest
     else (if is_word name (codes "trees")
-    then row (codes "notation" ∷ codes "budget" ∷ codes "depth" ∷ codes "count" ∷ codes "after" ∷ []) for_trees
+    then row (codes "notation" ∷ codes "budget" ∷ codes "order" ∷ codes "depth" ∷ codes "count" ∷ codes "after" ∷ []) for_trees
     else (if is_word name (codes "query")
-    then row (codes "notation" ∷ codes "budget" ∷ codes "what" ∷ codes "name" ∷ []) for_query
-    else (if is_word name (codes "load") then row (codes "budget" ∷ []) for_load
+    then row (codes "notation" ∷ codes "budget" ∷ codes "order" ∷ codes "what" ∷ codes "name" ∷ []) for_query
+    else (if is_word name (codes "load") then row (codes "budget" ∷ codes "order" ∷ []) for_load
     else (if is_word name (codes "verify") then row (codes "notation" ∷ []) for_verify
     else (if is_word name (codes "analyse") then row (codes "notation" ∷ []) (for_grammar analyse)
     else (λ parts. None)))))))))
@@ -276,10 +297,10 @@ abbrev pub stored_request : Command → Request
 stored_request (stored.Check grammar) = check (stored_source grammar)
 stored_request (stored.Show grammar) = show (stored_source grammar)
 stored_request (stored.Core grammar) = core (stored_source grammar)
-stored_request (stored.Forest grammar input budget) = forest (stored_source grammar) input.now budget
-stored_request (stored.Trees grammar input budget listing) = trees (stored_source grammar) input.now budget (stored_listing listing)
-stored_request (stored.Query grammar input budget question) = query (stored_source grammar) input.now budget (stored_question question)
-stored_request (stored.Load size number budget) = load size number budget
+stored_request (stored.Forest grammar input budget order) = forest (stored_source grammar) input.now budget
+stored_request (stored.Trees grammar input budget order listing) = trees (stored_source grammar) input.now budget (stored_listing listing)
+stored_request (stored.Query grammar input budget order question) = query (stored_source grammar) input.now budget (stored_question question)
+stored_request (stored.Load size number budget order) = load size number budget
 stored_request (stored.Verify grammar input text) = verify (stored_source grammar) input.now text.now
 stored_request (stored.Analyse grammar) = analyse (stored_source grammar)
 
@@ -287,3 +308,21 @@ stored_request (stored.Analyse grammar) = analyse (stored_source grammar)
 abbrev pub Reads : List (List ℕ) → Option Command → Type 0
 Reads words None = (request : Request) → IsCommand words request → ⊥
 Reads words (Some command) = IsCommand words (stored_request command)
+
+-- the order in which a stored command runs, where it does
+abbrev pub stored_order : Command → Option Order
+stored_order (stored.Forest grammar input budget order) = Some order
+stored_order (stored.Trees grammar input budget order listing) = Some order
+stored_order (stored.Query grammar input budget order question) = Some order
+stored_order (stored.Load size number budget order) = Some order
+stored_order command = None
+
+-- the order that the words name
+abbrev pub order_of : List (List ℕ) → Option Order
+order_of [] = None
+order_of (name ∷ words) = option_and_then (λ parts. order_in parts.options) (parts_of words)
+
+-- the command runs in the order that the words name, where it does
+abbrev pub Orders : List (List ℕ) → Option Command → Type 0
+Orders words None = Unit {0}
+Orders words (Some command) = (order : Order) → stored_order command ≡ Some order → order_of words ≡ Some order

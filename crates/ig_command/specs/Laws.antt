@@ -1,7 +1,20 @@
 -- What holds of commands.
-use Rattle.std.specs.Prelude.{ℕ, ◌≤◌, List}
-use Rattle.ig_command.specs.Commands.{IsCommand, load, most_size}
+use Rattle.std.specs.Prelude.{◌≡◌, ℕ, ◌≤◌, if◌then◌else◌, List, [], ◌∷◌, Some, codes}
+use Rattle.ig_text.specs.Words.{is_word}
+use Rattle.ig_command.specs.Words.{Parts, Setting}
+use Rattle.ig_command.specs.Commands.{IsCommand, Request, load, most_size, request_with}
 
 -- a load that words ask for has a size that may be asked for
 abbrev pub LoadSizesAreFew : Type 0
 LoadSizesAreFew = (words : List (List ℕ)) (size number budget : ℕ) → IsCommand words (load size number budget) → size ≤ most_size
+
+-- the options but those of the name `order`
+abbrev pub unordered : List Setting → List Setting
+unordered [] = []
+unordered (option ∷ options) = if is_word option.name (codes "order") then unordered options else option ∷ unordered options
+
+-- commands whose words are the same but for the order that they name, if they name one, ask for the same
+abbrev pub OrdersAskTheSame : Type 0
+OrdersAskTheSame =
+    (name : List ℕ) (p q : Parts) (r s : Request) → p.positional ≡ q.positional → unordered p.options ≡ unordered q.options →
+    request_with name p ≡ Some r → request_with name q ≡ Some s → r ≡ s

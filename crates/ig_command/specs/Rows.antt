@@ -5,11 +5,12 @@ use Rattle.clap.specs.Words.{App, Rule, new_app, new_rule, first_value, found_of
 use Rattle.clap.specs.declared.parser.matches.ArgMatches.{ArgMatches}
 use Rattle.ig_text.specs.Words.{is_word}
 use Rattle.ig_command.specs.Words.{Parts, Setting, is_equals, is_long, is_value}
-use Rattle.ig_command.specs.Commands.{Listing, Question, Request, are_among, for_forest, for_grammar, for_load, for_query, for_trees, for_verify, listing_with, most_budget, most_count, most_depth, most_number, most_size, number_if, number_of, number_or, notation_with, option_in, question_with, source, Source, usual_budget, usual_count}
+use Rattle.ig_command.specs.Commands.{Listing, Question, Request, are_among, for_forest, for_grammar, for_load, for_query, for_trees, for_verify, listing_with, most_budget, most_count, most_depth, most_number, most_size, number_if, number_of, number_or, notation_with, option_in, order_with, question_with, run_with, source, Source, usual_budget, usual_count}
 use Rattle.ig_command.specs.Commands.{check, show, core, forest, trees, query, load, verify, analyse}
 use Rattle.ig_command.specs.declared.command.Notation.{Notation}
 use Rattle.ig_command.specs.declared.rows.Row.{Row}
 use Rattle.ig_command.specs.declared.rows.Row.TheVariants as rows
+use Rattle.ig_queue.specs.declared.order.Order.{Order}
 
 -- the row of the command of this name
 abbrev pub row_of : List ℕ → Option Row
@@ -41,10 +42,10 @@ abbrev pub names_of : Row → List (List ℕ)
 names_of rows.Check = codes "notation" ∷ []
 names_of rows.Show = codes "notation" ∷ []
 names_of rows.Core = codes "notation" ∷ []
-names_of rows.Forest = codes "notation" ∷ codes "budget" ∷ []
-names_of rows.Trees = codes "notation" ∷ codes "budget" ∷ codes "depth" ∷ codes "count" ∷ codes "after" ∷ []
-names_of rows.Query = codes "notation" ∷ codes "budget" ∷ codes "what" ∷ codes "name" ∷ []
-names_of rows.Load = codes "budget" ∷ []
+names_of rows.Forest = codes "notation" ∷ codes "budget" ∷ codes "order" ∷ []
+names_of rows.Trees = codes "notation" ∷ codes "budget" ∷ codes "order" ∷ codes "depth" ∷ codes "count" ∷ codes "after" ∷ []
+names_of rows.Query = codes "notation" ∷ codes "budget" ∷ codes "order" ∷ codes "what" ∷ codes "name" ∷ []
+names_of rows.Load = codes "budget" ∷ codes "order" ∷ []
 names_of rows.Verify = codes "notation" ∷ []
 names_of rows.Analyse = codes "notation" ∷ []
 
@@ -103,6 +104,12 @@ with_three ask first second third = option_and_then (λ a. option_and_then (λ b
 abbrev pub budget_found : Finds → Option ℕ
 budget_found find = number_or usual_budget 1 most_budget (find (codes "budget"))
 
+abbrev pub order_found : Finds → Option Order
+order_found find = order_with (find (codes "order"))
+
+abbrev pub run_found : Finds → Option ℕ
+run_found find = run_with (budget_found find) (order_found find)
+
 abbrev pub count_found : Finds → Option ℕ
 count_found find = number_or usual_count 1 most_count (find (codes "count"))
 
@@ -118,19 +125,27 @@ found_request rows.Check find = for_one check find
 found_request rows.Show find = for_one show find
 found_request rows.Core find = for_one core find
 found_request rows.Forest find =
-    with_both (λ g i. option_map (forest g i) (budget_found find)) (source_found find) (find (codes "I"))
+    with_both (λ g i. option_map (forest g i) (run_found find)) (source_found find) (find (codes "I"))
 found_request rows.Trees find =
-    with_both (λ g i. option_and_then (λ budget. option_map (trees g i budget) (listing_found find)) (budget_found find))
+    with_both (λ g i. option_and_then (λ budget. option_map (trees g i budget) (listing_found find)) (run_found find))
     (source_found find) (find (codes "I"))
 found_request rows.Query find =
-    with_both (λ g i. option_and_then (λ budget. option_map (query g i budget) (question_found find)) (budget_found find))
+    with_both (λ g i. option_and_then (λ budget. option_map (query g i budget) (question_found find)) (run_found find))
     (source_found find) (find (codes "I"))
 found_request rows.Load find =
-    with_both (λ size number. option_and_then (λ s. option_and_then (λ n. option_map (load s n) (budget_found find))
+    with_both (λ size number. option_and_then (λ s. option_and_then (λ n. option_map (load s n) (run_found find))
     (number_of 0 most_number number)) (number_of 1 most_size size)) (find (codes "SIZE")) (find (codes "NUMBER"))
 found_request rows.Verify find =
     with_three (λ g i f. Some (verify g i f)) (source_found find) (find (codes "I")) (find (codes "F"))
 found_request rows.Analyse find = for_one analyse find
+
+-- the order in which the row's command runs, where it does
+abbrev pub order_for : Row → Finds → Option Order
+order_for rows.Forest find = order_found find
+order_for rows.Trees find = order_found find
+order_for rows.Query find = order_found find
+order_for rows.Load find = order_found find
+order_for r find = None
 
 abbrev pub is_empty : List ℕ → Bool
 is_empty [] = true

@@ -1,16 +1,19 @@
 //! What a command asks for, and how its words are read.
-ghost use Rattle.std.specs.Prelude.{◌≡◌, IfOk, Some, map, option_map, string_bytes};
+ghost use Rattle.std.specs.Prelude.{◌≡◌, IfOk, IfSome, None, Some, map, option_map};
+ghost use Rattle.std.specs.Prelude.{string_bytes};
 ghost use Rattle.std.specs.Option.{option_copied};
 ghost use Rattle.clap.specs.Words.{first_value, found_of};
-ghost use Rattle.ig_command.specs.Commands.{Reads, number_if, number_of, number_or};
+ghost use Rattle.ig_command.specs.Commands.{Orders, Reads, number_if, number_of, number_or};
 ghost use Rattle.ig_command.specs.Commands.{question_with, stored_listing, stored_question};
 ghost use Rattle.ig_command.specs.Commands.{notation_with, stored_request, stored_source};
+ghost use Rattle.ig_command.specs.Commands.{order_with, stored_order};
 ghost use Rattle.ig_command.specs.Rows.{budget_found, count_found, found_request, listing_found};
-ghost use Rattle.ig_command.specs.Rows.{notation_found, source_found};
+ghost use Rattle.ig_command.specs.Rows.{notation_found, order_for, order_found, source_found};
 
 use crate::rows::{Row, matches_of, row_named};
 use crate::words::{all_may_stand, read_number};
 use clap::ArgMatches;
+use ig_queue::Order;
 use std::alloc::{AllocError, Global};
 
 /// The budget where none is given.
@@ -89,16 +92,19 @@ pub enum Command<'a> {
         grammar: Source<'a>,
     },
     /// The forest of the grammar and the input, where no more items than the budget are reachable.
+    /// The items are taken in that order.
     Forest {
         grammar: Source<'a>,
         input: &'a str,
         budget: u32,
+        order: Order,
     },
     /// Its trees.
     Trees {
         grammar: Source<'a>,
         input: &'a str,
         budget: u32,
+        order: Order,
         listing: Listing<'a>,
     },
     /// An answer from it.
@@ -106,6 +112,7 @@ pub enum Command<'a> {
         grammar: Source<'a>,
         input: &'a str,
         budget: u32,
+        order: Order,
         question: Question<'a>,
     },
     /// The numbers of the forest of a grammar and an input that are made.
@@ -113,6 +120,7 @@ pub enum Command<'a> {
         size: u32,
         number: u64,
         budget: u32,
+        order: Order,
     },
     /// That a forest of the grammar and the input, which its text tells, is checked.
     Verify {
@@ -129,7 +137,8 @@ pub enum Command<'a> {
 /// The command that the words are, as the table of commands says: a name, then positional words and
 /// options in any order.
 pub fn command_of(alloc: Global, words: &[String]) -> Result<Option<Command<'_>>, AllocError>
-    ensures { IfOk result (Reads (map string_bytes words.now)) }
+    ensures reads { IfOk result (Reads (map string_bytes words.now)) }
+    ensures order { IfOk result (Orders (map string_bytes words.now)) }
 {
     let Some((name, others)) = words.split_first() else {
         return Ok(None);
@@ -148,8 +157,10 @@ pub fn command_of(alloc: Global, words: &[String]) -> Result<Option<Command<'_>>
 
 /// The command of the row with the values that were found.
 fn command_in<'a>(row: Row, matches: &ArgMatches<'a>) -> Option<Command<'a>>
-    ensures { option_map stored_request result
+    ensures request { option_map stored_request result
         ≡ found_request row (first_value (found_of matches.now)) }
+    ensures order { IfSome result (λ c. stored_order c
+        ≡ order_for row (first_value (found_of matches.now))) }
 {
     match row {
         Row::Check => check_command(matches),
@@ -166,8 +177,9 @@ fn command_in<'a>(row: Row, matches: &ArgMatches<'a>) -> Option<Command<'a>>
 
 /// The command that checks the grammar.
 fn check_command<'a>(matches: &ArgMatches<'a>) -> Option<Command<'a>>
-    ensures { option_map stored_request result
+    ensures request { option_map stored_request result
         ≡ found_request Row.Check (first_value (found_of matches.now)) }
+    ensures order { IfSome result (λ c. stored_order c ≡ None) }
 {
     let grammar = source_of(matches)?;
     Some(Command::Check { grammar })
@@ -175,8 +187,9 @@ fn check_command<'a>(matches: &ArgMatches<'a>) -> Option<Command<'a>>
 
 /// The command for its text.
 fn show_command<'a>(matches: &ArgMatches<'a>) -> Option<Command<'a>>
-    ensures { option_map stored_request result
+    ensures request { option_map stored_request result
         ≡ found_request Row.Show (first_value (found_of matches.now)) }
+    ensures order { IfSome result (λ c. stored_order c ≡ None) }
 {
     let grammar = source_of(matches)?;
     Some(Command::Show { grammar })
@@ -184,8 +197,9 @@ fn show_command<'a>(matches: &ArgMatches<'a>) -> Option<Command<'a>>
 
 /// The command for the text of its core grammar.
 fn core_command<'a>(matches: &ArgMatches<'a>) -> Option<Command<'a>>
-    ensures { option_map stored_request result
+    ensures request { option_map stored_request result
         ≡ found_request Row.Core (first_value (found_of matches.now)) }
+    ensures order { IfSome result (λ c. stored_order c ≡ None) }
 {
     let grammar = source_of(matches)?;
     Some(Command::Core { grammar })
@@ -193,74 +207,91 @@ fn core_command<'a>(matches: &ArgMatches<'a>) -> Option<Command<'a>>
 
 /// The command for the forest of two files.
 fn forest_command<'a>(matches: &ArgMatches<'a>) -> Option<Command<'a>>
-    ensures { option_map stored_request result
+    ensures request { option_map stored_request result
         ≡ found_request Row.Forest (first_value (found_of matches.now)) }
+    ensures order { IfSome result (λ c. stored_order c
+        ≡ order_found (first_value (found_of matches.now))) }
 {
     let grammar = source_of(matches)?;
     let input = matches.get_str("I")?;
     let budget = budget_of(matches)?;
+    let order = order_of(matches)?;
     Some(Command::Forest {
         grammar,
         input,
         budget,
+        order,
     })
 }
 
 /// The command for the trees of two files.
 fn trees_command<'a>(matches: &ArgMatches<'a>) -> Option<Command<'a>>
-    ensures { option_map stored_request result
+    ensures request { option_map stored_request result
         ≡ found_request Row.Trees (first_value (found_of matches.now)) }
+    ensures order { IfSome result (λ c. stored_order c
+        ≡ order_found (first_value (found_of matches.now))) }
 {
     let grammar = source_of(matches)?;
     let input = matches.get_str("I")?;
     let budget = budget_of(matches)?;
+    let order = order_of(matches)?;
     let listing = listing_of(matches)?;
     Some(Command::Trees {
         grammar,
         input,
         budget,
+        order,
         listing,
     })
 }
 
 /// The command for an answer from the forest of two files.
 fn query_command<'a>(matches: &ArgMatches<'a>) -> Option<Command<'a>>
-    ensures { option_map stored_request result
+    ensures request { option_map stored_request result
         ≡ found_request Row.Query (first_value (found_of matches.now)) }
+    ensures order { IfSome result (λ c. stored_order c
+        ≡ order_found (first_value (found_of matches.now))) }
 {
     let grammar = source_of(matches)?;
     let input = matches.get_str("I")?;
     let budget = budget_of(matches)?;
+    let order = order_of(matches)?;
     let question = question_named(matches.get_str("what"), matches.get_str("name"))?;
     Some(Command::Query {
         grammar,
         input,
         budget,
+        order,
         question,
     })
 }
 
 /// The command for a load.
 fn load_command<'a>(matches: &ArgMatches<'a>) -> Option<Command<'a>>
-    ensures { option_map stored_request result
+    ensures request { option_map stored_request result
         ≡ found_request Row.Load (first_value (found_of matches.now)) }
+    ensures order { IfSome result (λ c. stored_order c
+        ≡ order_found (first_value (found_of matches.now))) }
 {
     let size = matches.get_str("SIZE")?;
     let number = matches.get_str("NUMBER")?;
     let size = read_small(size, 1, MOST_SIZE)?;
     let number = read_number(number, 0, u64::MAX)?;
     let budget = budget_of(matches)?;
+    let order = order_of(matches)?;
     Some(Command::Load {
         size,
         number,
         budget,
+        order,
     })
 }
 
 /// The command that checks a forest.
 fn verify_command<'a>(matches: &ArgMatches<'a>) -> Option<Command<'a>>
-    ensures { option_map stored_request result
+    ensures request { option_map stored_request result
         ≡ found_request Row.Verify (first_value (found_of matches.now)) }
+    ensures order { IfSome result (λ c. stored_order c ≡ None) }
 {
     let grammar = source_of(matches)?;
     let input = matches.get_str("I")?;
@@ -274,8 +305,9 @@ fn verify_command<'a>(matches: &ArgMatches<'a>) -> Option<Command<'a>>
 
 /// The command for the facts of the grammar's nonterminals.
 fn analyse_command<'a>(matches: &ArgMatches<'a>) -> Option<Command<'a>>
-    ensures { option_map stored_request result
+    ensures request { option_map stored_request result
         ≡ found_request Row.Analyse (first_value (found_of matches.now)) }
+    ensures order { IfSome result (λ c. stored_order c ≡ None) }
 {
     let grammar = source_of(matches)?;
     Some(Command::Analyse { grammar })
@@ -317,6 +349,42 @@ fn notation_named(word: &str) -> Option<Notation>
     }
     if word == "w3c" {
         return Some(Notation::W3c);
+    }
+    None
+}
+
+/// The order of a run.
+fn order_of(matches: &ArgMatches<'_>) -> Option<Order>
+    ensures { result ≡ order_found (first_value (found_of matches.now)) }
+{
+    order_or_fifo(matches.get_str("order"))
+}
+
+/// The order that `--order` names, or oldest first.
+fn order_or_fifo(value: Option<&str>) -> Option<Order>
+    ensures { result ≡ order_with (option_copied value.entry) }
+{
+    match value {
+        Some(word) => order_named(word),
+        None => Some(Order::Fifo),
+    }
+}
+
+/// The order of that name.
+fn order_named(word: &str) -> Option<Order>
+    ensures { result ≡ order_with (Some word.now) }
+{
+    if word == "fifo" {
+        return Some(Order::Fifo);
+    }
+    if word == "lifo" {
+        return Some(Order::Lifo);
+    }
+    if word == "lowest" {
+        return Some(Order::Lowest);
+    }
+    if word == "plain" {
+        return Some(Order::Plain);
     }
     None
 }

@@ -13,4 +13,4 @@ mod rows;
 mod words;
 
 pub use command::{Command, Listing, MOST_SIZE, Notation, Question, Source, command_of};
-pub use laws::load_sizes_are_few;
+pub use laws::{load_sizes_are_few, orders_ask_the_same};

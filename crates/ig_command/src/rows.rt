@@ -125,11 +125,11 @@ fn both_files<'a>(alloc: Global) -> Result<Command<'a>, AllocError>
 fn forest<'a>(alloc: Global) -> Result<Command<'a>, AllocError>
     ensures { IfOk result (λ c. app_of c
         ≡ app_with (place (codes "G") ∷ place (codes "I") ∷ option (codes "notation")
-        ∷ option (codes "budget") ∷ [])) }
+        ∷ option (codes "budget") ∷ option (codes "order") ∷ [])) }
 {
     let both = both_files(alloc)?;
     let with_notation = with_option(alloc, both, "notation")?;
-    with_option(alloc, with_notation, "budget")
+    with_run(alloc, with_notation)
 }
 
 /// The command for the forest, with two more options.
@@ -140,10 +140,11 @@ fn forest_with<'a>(
 ) -> Result<Command<'a>, AllocError>
     ensures { IfOk result (λ c. app_of c
         ≡ app_with (place (codes "G") ∷ place (codes "I") ∷ option (codes "notation")
-        ∷ option (codes "budget") ∷ option first.entry.now ∷ option second.entry.now ∷ [])) }
+        ∷ option (codes "budget") ∷ option (codes "order") ∷ option first.entry.now
+        ∷ option second.entry.now ∷ [])) }
 {
-    let with_budget = forest(alloc)?;
-    let with_first = with_option(alloc, with_budget, first)?;
+    let of_forest = forest(alloc)?;
+    let with_first = with_option(alloc, of_forest, first)?;
     with_option(alloc, with_first, second)
 }
 
@@ -151,8 +152,8 @@ fn forest_with<'a>(
 fn trees<'a>(alloc: Global) -> Result<Command<'a>, AllocError>
     ensures { IfOk result (λ c. app_of c
         ≡ app_with (place (codes "G") ∷ place (codes "I") ∷ option (codes "notation")
-        ∷ option (codes "budget") ∷ option (codes "depth") ∷ option (codes "count")
-        ∷ option (codes "after") ∷ [])) }
+        ∷ option (codes "budget") ∷ option (codes "order") ∷ option (codes "depth")
+        ∷ option (codes "count") ∷ option (codes "after") ∷ [])) }
 {
     let with_numbers = forest_with(alloc, "depth", "count")?;
     with_option(alloc, with_numbers, "after")
@@ -162,7 +163,8 @@ fn trees<'a>(alloc: Global) -> Result<Command<'a>, AllocError>
 fn query<'a>(alloc: Global) -> Result<Command<'a>, AllocError>
     ensures { IfOk result (λ c. app_of c
         ≡ app_with (place (codes "G") ∷ place (codes "I") ∷ option (codes "notation")
-        ∷ option (codes "budget") ∷ option (codes "what") ∷ option (codes "name") ∷ [])) }
+        ∷ option (codes "budget") ∷ option (codes "order") ∷ option (codes "what")
+        ∷ option (codes "name") ∷ [])) }
 {
     forest_with(alloc, "what", "name")
 }
@@ -170,11 +172,11 @@ fn query<'a>(alloc: Global) -> Result<Command<'a>, AllocError>
 /// The command for a load.
 fn load<'a>(alloc: Global) -> Result<Command<'a>, AllocError>
     ensures { IfOk result (λ c. app_of c ≡ app_with (place (codes "SIZE")
-        ∷ place (codes "NUMBER") ∷ option (codes "budget") ∷ [])) }
+        ∷ place (codes "NUMBER") ∷ option (codes "budget") ∷ option (codes "order") ∷ [])) }
 {
     let size = with_place(alloc, bare(alloc), "SIZE")?;
     let both = with_place(alloc, size, "NUMBER")?;
-    with_option(alloc, both, "budget")
+    with_run(alloc, both)
 }
 
 /// The command that checks a forest.
@@ -219,4 +221,13 @@ fn with_option<'a>(
 {
     let argument = Arg::new(alloc, name).long(name);
     command.arg(argument)
+}
+
+/// The command with the options of a run.
+fn with_run<'a>(alloc: Global, command: Command<'a>) -> Result<Command<'a>, AllocError>
+    ensures { IfOk result (λ c. app_of c ≡ with_rule (with_rule (app_of command.entry)
+        (option (codes "budget"))) (option (codes "order"))) }
+{
+    let with_budget = with_option(alloc, command, "budget")?;
+    with_option(alloc, with_budget, "order")
 }

@@ -1,5 +1,5 @@
 -- Functions that add items, one after the other.
-use Rattle.std.proofs.Common.{◌≡◌, ◌⊎◌, ⊎_elim, inl, inr, ℕ, ◌<◌, ◌≤◌, List, [], ◌∷◌, ◌++◌, length, Contains, Some, refl, sym, ap, ◌∙◌, subst, arith, map, slice_get, length-append}
+use Rattle.std.proofs.Common.{◌≡◌, ◌⊎◌, ⊎_elim, ℕ, ◌<◌, ◌≤◌, List, [], ◌∷◌, ◌++◌, length, Contains, Some, refl, sym, ap, ◌∙◌, subst, arith, map, slice_get, length-append}
 use Rattle.std.specs.Prelude.{Result, Ok, Err, OnOk, IfErr, Option, None}
 use Rattle.std.specs.Result.{IsErrAnd}
 use Rattle.std.specs.List.Sorted.{IsPermutation}
@@ -15,7 +15,6 @@ use Rattle.ig_item.specs.declared.run_fault.RunFault.{RunFault}
 use Rattle.ig_item.specs.declared.run_fault.RunFault.TheVariants as fault
 use Rattle.ig_item.specs.declared.ways.Way.{Way}
 use Rattle.ig_item.specs.declared.ways.Way.TheVariants.{Node as Tree}
-use Rattle.ig_queue.specs.declared.ticket.Ticket.{Ticket}
 use Rattle.ig_found.specs.Finding as numbered
 use Rattle.ig_found.specs.Finding.{Pushed, Returns, ticket_of}
 use Rattle.ig_moves.specs.Tables.{Moves}
@@ -26,7 +25,7 @@ use Rattle.ig_engine.specs.Given as laws
 use Rattle.ig_engine.specs.Reached.{Reached, AreTables, Named, keys_in, means, reached, seen}
 use Rattle.ig_engine.proofs.Lists.{extends_itself, extends_by, extends_same, extends_then}
 use Rattle.ig_engine.proofs.Recording.{records_nothing, records_alike, records_then, records_new, records_further, finds_nothing, finds_one, finds_then, finds_alike}
-use Rattle.ig_engine.proofs.Tables.{grown_means, grown_seen, grown_tables, not_seen}
+use Rattle.ig_engine.proofs.Tables.{grown_seen, grown_tables, not_seen}
 
 -- nothing is to be added
 pub adds_nothing : (may : Way → Item → Type 0) (budget : ℕ) (a : Reached) → AreTables a → ((way : Way) (x : Item) → may way x → ⊥) →

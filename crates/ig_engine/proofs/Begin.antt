@@ -1,6 +1,6 @@
 -- A run begins.
 use Rattle.std.proofs.Common.{◌≡◌, ◌↔◌, ℕ, zero, suc, ◌<◌, ◌≤◌, List, [], ◌∷◌, ◌++◌, length, Contains, Some, refl, sym, ap, ◌∙◌, subst, arith, slice_get, map}
-use Rattle.std.specs.Prelude.{Bool, true, false, IfErr, IsTrue, MatchResult, Result, Ok, Err, slice_index_or}
+use Rattle.std.specs.Prelude.{Bool, true, false, IfErr, MatchResult, Result, Ok, Err, slice_index_or}
 use Rattle.std.specs.Result.{IsErrAnd}
 use Rattle.std.proofs.lemmas.Result.{err_from_is_err_and}
 use Rattle.std.specs.List.Sorted.{IsPermutation}
@@ -10,7 +10,7 @@ use Rattle.std.proofs.lemmas.Option.{get_or_from_slice_get, slice_get_within}
 use Rattle.ig_text.proofs.Lists.{contains_from_at, contains_one, it_is_in, none_in_nil}
 use Rattle.ig_expr.specs.declared.value.Value.{Value}
 use Rattle.ig_item.specs.Items.{Item, MoreThan, first, root_instance}
-use Rattle.ig_item.specs.Tables.{HaveValues, instance_by}
+use Rattle.ig_item.specs.Tables.{instance_by}
 use Rattle.ig_item.specs.Ways.{WayLists}
 use Rattle.ig_item.specs.WellKinded.{NoneTwice}
 use Rattle.ig_item.specs.declared.core_grammar.Nonterminal.{Nonterminal}
@@ -24,18 +24,16 @@ use Rattle.ig_queue.specs.declared.ticket.Ticket.{Ticket}
 use Rattle.ig_found.specs.Finding as numbered
 use Rattle.ig_found.specs.Finding.{Pushed, ticket_of}
 use Rattle.ig_gss.specs.Nodes as shared
-use Rattle.ig_gss.specs.declared.marks.Edge.{Edge}
 use Rattle.ig_moves.specs.Laws.{IsFirstNamed}
 use Rattle.ig_moves.specs.Tables.{IsNamed, first_stored}
 use Rattle.ig_run_laws.specs.Finding.{Finding}
 use Rattle.ig_run_laws.specs.Laws.{begun}
 use Rattle.ig_run_laws.specs.Run.{IsWhole}
-use Rattle.ig_run_laws.specs.Stacks.{Node, fresh}
+use Rattle.ig_run_laws.specs.Stacks.{fresh}
 use Rattle.ig_engine.specs.Adding.{Pushes}
 use Rattle.ig_engine.specs.Given as laws
-use Rattle.ig_engine.specs.Stepping.{IsEmpty, IsUnbegun}
-use Rattle.ig_engine.specs.Reached.{Reached, AreBare, AreTables, IsReached, keys_in, means, node_seen, nodes_in, reached, seen}
-use Rattle.ig_engine.proofs.Tables.{finding}
+use Rattle.ig_engine.specs.Stepping.{IsBegun, IsEmpty, IsUnbegun}
+use Rattle.ig_engine.specs.Reached.{Reached, AreTables, means, nodes_in, reached, seen}
 
 module _ (given : laws.Given) (core : List Nonterminal) (text : List ℕ) (envs : List (List Value)) (nodes : List shared.Node)
     (empty f : numbered.Finding) (env : ℕ) (once : NoneTwice envs) (at : slice_get envs env ≡ Some [])
@@ -113,17 +111,21 @@ module _ (given : laws.Given) (core : List Nonterminal) (text : List ℕ) (envs 
       subst (λ (z : Finding). IsWhole core text z (nodes_in s)) (sym seen_is)
       (subst (IsWhole core text (begun f.waiting)) (sym nodes_seen) (given.runs.runs_begin core text f.waiting ticket_is))
 
-  pub begins : (budget : ℕ) → length f.items ≤ budget → IsReached core text budget (reached envs nodes f)
+  pub begins : (budget : ℕ) → length f.items ≤ budget → IsBegun core text budget (reached envs nodes f)
   begins budget within =
-      subst (λ (z : List shared.Node). IsReached core text budget (reached envs z f)) (sym nodes_are)
+      subst (λ (z : List shared.Node). IsBegun core text budget (reached envs z f)) (sym nodes_are)
       (record {
-        tables = tables;
-        whole = whole;
-        bare = record {
-          each = λ node c e h.
-              absurd (none_in_nil e (subst (λ (z : shared.Node). Contains z.edges e) (contains_one (shared.fresh key) node c) h));
+        between = record {
+          tables = tables;
+          whole = whole;
+          bare = record {
+            each = λ node c e h.
+                absurd (none_in_nil e (subst (λ (z : shared.Node). Contains z.edges e) (contains_one (shared.fresh key) node c) h));
+          };
+          within = within;
         };
-        within = within;
+        first = seen_is;
+        waits = ticket_is;
       })
 
   -- one item is reachable, so that none is in the budget
@@ -155,13 +157,13 @@ pub begins_with : (given : laws.Given) (core : List Nonterminal) (text : List �
     nodes ≡ shared.fresh (record { nonterminal = 0; env = env; start = 0 }) ∷ [] → root ≡ 0 → (f : numbered.Finding) (item : stored.Item) →
     item ≡ first_stored root (record { nonterminal = 0; env = env; start = 0 }) 1 → (r : Result (Unit {0}) RunFault) →
     Pushes s.found f item Begin budget r →
-    MatchResult r (λ u. IsReached core text budget (reached envs nodes f)) (IsUnbegun core text budget)
+    MatchResult r (λ u. IsBegun core text budget (reached envs nodes f)) (IsUnbegun core text budget)
 begins_with given core text budget s e envs env once at nodes root nodes_are root_is f item item_is r p =
     go r (subst (λ (z : stored.Item). Pushes s.found f z Begin budget r)
     (item_is ∙ ap (λ (z : ℕ). first_stored z (record { nonterminal = 0; env = env; start = 0 }) 1) root_is) p)
   where
     go : (r : Result (Unit {0}) RunFault) → Pushes s.found f (first_stored 0 (record { nonterminal = 0; env = env; start = 0 }) 1) Begin budget r →
-        MatchResult r (λ u. IsReached core text budget (reached envs nodes f)) (IsUnbegun core text budget)
+        MatchResult r (λ u. IsBegun core text budget (reached envs nodes f)) (IsUnbegun core text budget)
     go (Ok u) q = begins given core text envs nodes s.found f env once at nodes_are e.items e.ways e.waiting q.0 budget q.1
     go (Err fault.Budget) q = none_fits given core text envs nodes s.found f env once at nodes_are e.items e.ways e.waiting q.0 budget q.1
     go (Err fault.Memory) q = tt

@@ -1,9 +1,9 @@
 -- An item before a call is taken.
-use Rattle.std.proofs.Common.{◌≡◌, ◌↔◌, ◌⊎◌, ⊎_elim, inl, inr, ℕ, ◌<◌, ◌≤◌, List, [], ◌∷◌, ◌++◌, length, Contains, Some, refl, sym, ap, ◌∙◌, subst, arith, slice_get, map}
-use Rattle.std.specs.Prelude.{Result, Ok, Err, Option, None, IsTrue, true, false}
+use Rattle.std.proofs.Common.{◌≡◌, ◌⊎◌, ⊎_elim, inl, inr, ℕ, ◌<◌, List, [], ◌∷◌, ◌++◌, length, Contains, Some, refl, sym, ap, ◌∙◌, subst, slice_get, map}
+use Rattle.std.specs.Prelude.{Ok, Err, Option, None, IsTrue, true, false}
 use Rattle.std.proofs.lemmas.List.{map-append}
 use Rattle.std.proofs.lemmas.Option.{same_Some, slice_get_within}
-use Rattle.ig_text.proofs.Lists.{contains_from_at, same_map, in_pushed, mapped_at, mapped_in, none_in_nil, place_last, unmapped_at, unmapped_in}
+use Rattle.ig_text.proofs.Lists.{contains_from_at, same_map, in_pushed, mapped_at, mapped_in, none_in_nil, place_last, unmapped_in}
 use Rattle.ig_text.specs.declared.pattern.Pattern.{Pattern}
 use Rattle.ig_expr.specs.Expression.{Expression}
 use Rattle.ig_expr.specs.declared.value.Value.{Value}
@@ -24,22 +24,21 @@ use Rattle.ig_gss.specs.Nodes as shared
 use Rattle.ig_gss.specs.declared.marks.Edge.{Edge}
 use Rattle.ig_gss.specs.declared.marks.Pop as marks
 use Rattle.ig_moves.specs.Rules.{IsCallee}
-use Rattle.ig_moves.specs.Tables.{GivesCallee, IsNamed}
-use Rattle.ig_run_laws.specs.AfterBy.{AfterCall}
+use Rattle.ig_moves.specs.Tables.{GivesCallee}
 use Rattle.ig_run_laws.specs.Finding.{Finding, Finds, IsRecorded, Records}
 use Rattle.ig_run_laws.specs.Rules.{IsCaller, IsFirstOf, IsReturn}
 use Rattle.ig_run_laws.specs.Stacks.{Node, HasPop, Meets, Pop, fresh, keys_of, pop}
 use Rattle.ig_tables.specs.Extends.{Extends}
-use Rattle.ig_engine.specs.Adding.{Adds, By, ComeByNodes, Events, IsAdded, IsOnward, IsReturnAtOne, Refuses}
+use Rattle.ig_engine.specs.Adding.{Adds, By, ComeByNodes, IsAdded, IsOnward, IsReturnAtOne, Refuses}
 use Rattle.ig_engine.specs.Given as laws
 use Rattle.ig_engine.specs.Reached.{Reached, AreBare, AreTables, IsBare, IsEdge, Taking, keys_in, means, node_seen, nodes_in, reached, seen}
 use Rattle.ig_engine.proofs.Adding.{adds_grown, adds_nothing}
 use Rattle.ig_engine.proofs.Event as events
-use Rattle.ig_engine.proofs.Lists.{extends_at, extends_by, extends_itself, extends_same, extends_then, none_twice_longer}
+use Rattle.ig_engine.proofs.Lists.{extends_at, extends_by, extends_same, extends_then, none_twice_longer}
 use Rattle.ig_engine.proofs.Nodes.{HaveToo, had, made, meets_call, more_edge, one_node, seen_edge, updated}
-use Rattle.ig_engine.proofs.Recording.{finds_alike, records_alike, records_known}
+use Rattle.ig_engine.proofs.Recording.{records_known}
 use Rattle.ig_engine.proofs.Stored.{WasThere, edge_keys, edge_was, edges_there, pops_there, same_keys_seen, same_keys_tables}
-use Rattle.ig_engine.proofs.Tables.{finding, grown_nodes, grown_seen, grown_tables}
+use Rattle.ig_engine.proofs.Tables.{finding, grown_nodes, grown_tables}
 
 module _ (given : laws.Given) (core : List Nonterminal) (text : List ℕ) (budget : ℕ) (item : stored.Item) (number : ℕ) (s : Reached)
     (taking : Taking core text budget item number s) (root : HasRoot core) (names : List (List ℕ)) (n : ℕ) (arguments : List Expression)

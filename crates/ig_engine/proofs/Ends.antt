@@ -1,6 +1,6 @@
 -- A complete item is taken.
-use Rattle.std.proofs.Common.{◌≡◌, ◌↔◌, ◌⊎◌, ⊎_elim, inl, inr, ℕ, ◌<◌, ◌≤◌, List, [], ◌∷◌, ◌++◌, length, Contains, Some, refl, sym, ap, ◌∙◌, subst, arith, slice_get, map}
-use Rattle.std.specs.Prelude.{Result, Ok, Err, IsTrue, slice_index_or}
+use Rattle.std.proofs.Common.{◌≡◌, ⊎_elim, inl, ℕ, ◌<◌, List, length, Contains, Some, refl, sym, ap, ◌∙◌, subst, slice_get, map}
+use Rattle.std.specs.Prelude.{Err}
 use Rattle.std.proofs.lemmas.Option.{same_Some, slice_get_within, get_or_from_slice_get}
 use Rattle.ig_text.proofs.Lists.{contains_from_at, mapped_at, mapped_in, unmapped_at, unmapped_in}
 use Rattle.ig_item.specs.Items.{Item, IsComplete}
@@ -11,16 +11,14 @@ use Rattle.ig_item.specs.declared.items.Item as stored
 use Rattle.ig_item.specs.declared.run_fault.RunFault.{RunFault}
 use Rattle.ig_item.specs.declared.ways.Way.{Way}
 use Rattle.ig_item.specs.declared.ways.Way.TheVariants.{Node as Tree}
-use Rattle.ig_queue.specs.declared.ticket.Ticket.{Ticket}
 use Rattle.ig_found.specs.Finding as numbered
 use Rattle.ig_gss.specs.Nodes as shared
 use Rattle.ig_gss.specs.declared.marks.Edge.{Edge}
 use Rattle.ig_gss.specs.declared.marks.Pop as marks
 use Rattle.ig_moves.specs.Tables.{no_key}
-use Rattle.ig_run_laws.specs.AfterBy.{AfterEnd}
-use Rattle.ig_run_laws.specs.Finding.{Finding, IsNewTicket, Records}
+use Rattle.ig_run_laws.specs.Finding.{IsNewTicket, Records}
 use Rattle.ig_run_laws.specs.Rules.{IsCaller, IsReturn}
-use Rattle.ig_run_laws.specs.Stacks.{Node, HasEdge, HasPop, IsFirstThere, Meets, Pop, pop}
+use Rattle.ig_run_laws.specs.Stacks.{Node, HasPop, IsFirstThere, Meets, Pop, pop}
 use Rattle.ig_engine.specs.Adding.{Adds, ComeByNodes, Events, IsAdded, IsOnward, IsReturnByOne}
 use Rattle.ig_engine.specs.Given as laws
 use Rattle.ig_engine.specs.Reached.{Reached, AreBare, AreTables, IsEdge, Taking, keys_in, means, node_seen, nodes_in, reached, seen}

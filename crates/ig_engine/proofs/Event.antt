@@ -1,21 +1,19 @@
 -- An item is taken: what its event makes of the run.
-use Rattle.std.proofs.Common.{◌≡◌, ◌↔◌, ◌⊎◌, ⊎_elim, inl, inr, ℕ, zero, suc, ◌<◌, ◌≤◌, List, [], ◌∷◌, ◌++◌, length, Contains, Some, refl, sym, ap, ◌∙◌, subst, arith, slice_get, map}
+use Rattle.std.proofs.Common.{◌≡◌, ◌↔◌, ◌⊎◌, ℕ, ◌<◌, ◌≤◌, List, length, Contains, Some, refl, sym, ap, ◌∙◌, subst, arith, slice_get, map}
 use Rattle.std.specs.Prelude.{Result, Ok, Err, Option, None, IsTrue}
 use Rattle.std.specs.Result.{IsErrAnd}
 use Rattle.std.proofs.lemmas.List.{length-map}
-use Rattle.std.proofs.lemmas.Option.{same_Some, slice_get_within}
+use Rattle.std.proofs.lemmas.Option.{slice_get_within}
 use Rattle.std.proofs.lemmas.Result.{err_from_is_err_and}
 use Rattle.ig_text.proofs.Lists.{contains_from_at, mapped_in}
 use Rattle.ig_text.specs.declared.pattern.Pattern.{Pattern}
 use Rattle.ig_expr.specs.Expression.{Expression}
 use Rattle.ig_expr.specs.declared.value.Value.{Value}
-use Rattle.ig_item.specs.Items.{Item, Calls, IsComplete, StandsBefore}
-use Rattle.ig_item.specs.Step.{Test, Bind, Term, Call}
-use Rattle.ig_item.specs.Tables.{HaveValues}
+use Rattle.ig_item.specs.Items.{Item, IsComplete, StandsBefore}
+use Rattle.ig_item.specs.Step.{Test, Bind, Term}
 use Rattle.ig_item.specs.WellKinded.{IsWellKinded, NoneTwice}
 use Rattle.ig_item.specs.declared.core_grammar.Nonterminal.{Nonterminal}
 use Rattle.ig_item.specs.declared.items.Instance.{Instance}
-use Rattle.ig_item.specs.declared.items.InstanceKey.{InstanceKey}
 use Rattle.ig_item.specs.declared.items.Item as stored
 use Rattle.ig_item.specs.declared.run_fault.RunFault.{RunFault}
 use Rattle.ig_item.specs.declared.run_fault.RunFault.TheVariants as fault
@@ -27,19 +25,19 @@ use Rattle.ig_found.specs.Finding.{ticket_of}
 use Rattle.ig_gss.specs.Nodes as shared
 use Rattle.ig_gss.specs.declared.marks.Edge.{Edge}
 use Rattle.ig_moves.specs.Rules.{IsBehindTest, IsBehindBind, IsBehind, step_at}
-use Rattle.ig_moves.specs.Tables.{Moves, IsNamed}
+use Rattle.ig_moves.specs.Tables.{Moves}
 use Rattle.ig_run_laws.specs.AfterBy.{AfterBy}
-use Rattle.ig_run_laws.specs.Finding.{Finding, IsNewTicket, Records}
+use Rattle.ig_run_laws.specs.Finding.{Finding, Records}
 use Rattle.ig_run_laws.specs.Rules.{IsCaller}
-use Rattle.ig_run_laws.specs.Stacks.{Node, IsFirstThere, Meets}
+use Rattle.ig_run_laws.specs.Stacks.{IsFirstThere, Meets}
 use Rattle.ig_tables.specs.Extends.{Extends}
 use Rattle.ig_engine.specs.Adding.{Adds, AddsBehind, By, Events, IsAdded, IsOnward, IsOver, Refuses}
 use Rattle.ig_engine.specs.Given as laws
 use Rattle.ig_engine.specs.Reached.{Reached, AreBare, AreTables, IsBare, Named, Taking, keys_in, means, node_seen, nodes_in, reached, seen, with_tickets}
 use Rattle.ig_engine.proofs.Adding.{moved_new, moved_pushes}
-use Rattle.ig_engine.proofs.Lists.{extends_itself, extends_same, extends_within}
+use Rattle.ig_engine.proofs.Lists.{extends_same, extends_within}
 use Rattle.ig_engine.proofs.Nodes.{meets_nothing}
-use Rattle.ig_engine.proofs.Recording.{finds_alike, no_new, records_alike}
+use Rattle.ig_engine.proofs.Recording.{finds_alike, records_alike}
 use Rattle.ig_engine.proofs.Tables.{grown_nodes}
 
 module _ (given : laws.Given) (core : List Nonterminal) (text : List ℕ) (budget : ℕ) (item : stored.Item) (number : ℕ) (s : Reached)

@@ -1,5 +1,5 @@
 -- The first items of an instance.
-use Rattle.std.proofs.Common.{◌≡◌, ◌⊎◌, ⊎_elim, inl, inr, ℕ, zero, suc, ◌+◌, ◌<◌, ◌≤◌, List, [], ◌++◌, Some, Contains, None, Option, length, refl, sym, ap, ◌∙◌, subst, arith, slice_get}
+use Rattle.std.proofs.Common.{◌≡◌, ◌⊎◌, ⊎_elim, inl, inr, ℕ, zero, suc, ◌+◌, ◌<◌, ◌≤◌, List, Some, Contains, None, Option, length, refl, sym, ap, ◌∙◌, arith, slice_get}
 use Rattle.std.specs.Prelude.{Result, Ok, Err, option_map}
 use Rattle.std.proofs.lemmas.Option.{same_Some, slice_get_within}
 use Rattle.ig_text.proofs.Lists.{get_within, contains_from_at, mapped_in}
@@ -20,7 +20,7 @@ use Rattle.ig_run_laws.specs.Rules.{IsFirstOf}
 use Rattle.ig_engine.specs.Adding.{Adds, By, IsAdded, Pushes}
 use Rattle.ig_engine.specs.Given as laws
 use Rattle.ig_engine.specs.Reached.{Reached, AreTables, Named, keys_in, means, reached, seen}
-use Rattle.ig_engine.proofs.Adding.{adds_alike, adds_nothing, adds_then, pushes_add, stops_alike, stops_then}
+use Rattle.ig_engine.proofs.Adding.{adds_alike, adds_nothing, adds_then, pushes_add, stops_alike}
 use Rattle.ig_engine.proofs.Lists.{extends_cases}
 
 -- x is the first item of one of the first n alternatives

@@ -12,3 +12,4 @@ pub mod Calls
 pub mod Begin
 pub mod Steps
 pub mod Taking
+pub mod Ended

@@ -1,9 +1,9 @@
 -- Lists that grow at their end.
-use Rattle.std.proofs.Common.{◌≡◌, ◌⊎◌, ⊎_elim, inl, inr, ℕ, ◌+◌, ◌≤◌, ◌<◌, List, [], ◌∷◌, ◌++◌, length, Contains, Some, sym, ap, ◌∙◌, subst, arith, slice_get, length-append, append_assoc}
+use Rattle.std.proofs.Common.{◌≡◌, ◌⊎◌, ⊎_elim, ℕ, ◌+◌, ◌≤◌, ◌<◌, List, [], ◌∷◌, ◌++◌, length, Contains, Some, sym, ap, ◌∙◌, subst, arith, slice_get, length-append, append_assoc}
 use Rattle.std.proofs.lemmas.List.{append-nil}
 use Rattle.std.proofs.lemmas.Option.{same_Some, slice_get_within}
 use Rattle.std.proofs.lemmas.List.Elements.{Contains-append_left, Contains-append_cases}
-use Rattle.ig_text.proofs.Lists.{left_at, right_at, sides, get_within, contains_from_at, place_cases}
+use Rattle.ig_text.proofs.Lists.{left_at, sides, get_within, contains_from_at, place_cases}
 use Rattle.ig_item.specs.WellKinded.{NoneTwice}
 use Rattle.ig_tables.specs.Extends.{Extends}
 

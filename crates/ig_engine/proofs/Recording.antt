@@ -1,10 +1,10 @@
 -- What is recorded, one after the other.
-use Rattle.std.proofs.Common.{◌≡◌, ◌↔◌, ◌⊎◌, ⊎_elim, inl, inr, ℕ, zero, suc, ◌+◌, ◌<◌, ◌≤◌, List, [], ◌∷◌, ◌++◌, Some, length, Contains, refl, sym, ap, ◌∙◌, subst, arith, slice_get, length-append}
+use Rattle.std.proofs.Common.{◌≡◌, ◌⊎◌, ⊎_elim, inl, inr, ℕ, zero, suc, ◌<◌, ◌≤◌, List, [], ◌∷◌, ◌++◌, Some, length, Contains, refl, sym, ap, ◌∙◌, subst, arith, slice_get, length-append}
 use Rattle.std.specs.List.Sorted.{IsPermutation}
 use Rattle.std.proofs.lemmas.List.Sorted.{IsPermutation-sym, Contains-permutation, length_permutation}
 use Rattle.std.proofs.lemmas.Option.{same_Some, slice_get_within}
 use Rattle.std.proofs.lemmas.List.Elements.{Contains-append_right, Contains-append_cases}
-use Rattle.ig_text.proofs.Lists.{sides, right_at, left_at, none_in_nil, contains_one, contains_first, contains_later, it_is_in, in_rest, place_last, place_cases}
+use Rattle.ig_text.proofs.Lists.{none_in_nil, contains_one, contains_first, contains_later, it_is_in, in_rest, place_last, place_cases}
 use Rattle.ig_item.specs.Items.{Item}
 use Rattle.ig_item.specs.Ways.{WayLists, WayTo, found, again}
 use Rattle.ig_item.specs.WellKinded.{NoneTwice}

@@ -1,5 +1,5 @@
 -- Items behind calls.
-use Rattle.std.proofs.Common.{◌≡◌, ◌⊎◌, ⊎_elim, inl, inr, ℕ, ◌<◌, List, [], ◌∷◌, ◌++◌, length, Contains, Some, refl, sym, ap, ◌∙◌, subst, arith, slice_get, append_assoc, reverse}
+use Rattle.std.proofs.Common.{◌≡◌, ◌⊎◌, ⊎_elim, inl, inr, ℕ, List, [], ◌∷◌, ◌++◌, length, Contains, Some, refl, sym, ap, ◌∙◌, subst, arith, slice_get, append_assoc, reverse}
 use Rattle.std.specs.Prelude.{Result, Ok, Err, Option, None, IsTrue}
 use Rattle.std.proofs.lemmas.Option.{same_Some, slice_get_within}
 use Rattle.std.proofs.lemmas.List.{length-map, append-nil}
@@ -19,7 +19,6 @@ use Rattle.ig_item.specs.declared.ways.Way.{Way}
 use Rattle.ig_item.specs.declared.ways.Way.TheVariants.{Node as Tree}
 use Rattle.ig_gss.specs.Nodes as shared
 use Rattle.ig_gss.specs.declared.marks.Edge.{Edge}
-use Rattle.ig_gss.specs.declared.marks.Pop.{Pop}
 use Rattle.ig_found.specs.Finding as numbered
 use Rattle.ig_moves.specs.Rules.{IsCallAt, IsPastCall, step_at}
 use Rattle.ig_item.specs.Step.{Call}
@@ -28,9 +27,9 @@ use Rattle.ig_run_laws.specs.Rules.{IsCaller, IsReturn}
 use Rattle.ig_tables.specs.Extends.{Extends}
 use Rattle.ig_engine.specs.Adding.{Adds, By, ComeByNodes, IsAdded, IsReturnBy, ReturnsIn}
 use Rattle.ig_engine.specs.Given as laws
-use Rattle.ig_engine.specs.Reached.{Reached, AreTables, IsBare, IsEdge, Named, keys_in, means, reached, seen}
+use Rattle.ig_engine.specs.Reached.{Reached, AreTables, IsBare, IsEdge, Named, means, reached, seen}
 use Rattle.ig_engine.proofs.Adding.{adds_alike, adds_nothing, adds_then, returns_add, stops_alike, stops_then, between_tables, moved_alike, moved_into, moved_named, moved_nothing}
-use Rattle.ig_engine.proofs.Lists.{extends_at, extends_within, extends_itself}
+use Rattle.ig_engine.proofs.Lists.{extends_at, extends_within}
 use Rattle.ig_engine.proofs.Tables.{grown_means}
 
 -- the item behind the call of the item of number n, which is this one

@@ -1,21 +1,16 @@
 -- The nodes by number, where one has an edge or a pop more.
-use Rattle.std.proofs.Common.{◌≡◌, ◌⊎◌, ⊎_elim, inl, inr, ℕ, zero, suc, ◌<◌, List, [], ◌∷◌, ◌++◌, length, Contains, Some, refl, sym, ap, ◌∙◌, subst, arith, slice_get, map}
+use Rattle.std.proofs.Common.{◌≡◌, ◌⊎◌, ⊎_elim, inl, inr, ℕ, zero, suc, ◌<◌, List, [], ◌∷◌, ◌++◌, length, Contains, Some, refl, sym, ap, subst, arith, slice_get, map}
 use Rattle.std.proofs.lemmas.List.{length-map}
 use Rattle.ig_text.proofs.Lists.{contains_first, contains_later, contains_from_at, get_within, in_pushed, in_rest, none_in_nil}
-use Rattle.ig_expr.specs.declared.value.Value.{Value}
 use Rattle.ig_item.specs.Tables.{HaveValues}
 use Rattle.ig_item.specs.WellKinded.{NoneTwice}
 use Rattle.ig_item.specs.declared.items.InstanceKey.{InstanceKey}
-use Rattle.ig_item.specs.declared.items.Item as stored
 use Rattle.ig_gss.specs.Nodes.{Node, edges_at, keys_of, pops_at, with_edge, with_pop}
 use Rattle.ig_gss.specs.declared.marks.Edge.{Edge}
 use Rattle.ig_gss.specs.declared.marks.Pop.{Pop}
-use Rattle.ig_found.specs.Finding as numbered
 use Rattle.ig_moves.specs.Tables.{IsNamed, item_by}
-use Rattle.ig_run_laws.specs.Finding.{Finding}
 use Rattle.ig_engine.specs.Reached.{Reached, AreTables, reached, seen}
 use Rattle.ig_engine.proofs.Tables.{finding}
-use Rattle.ig_item.specs.Items.{Item}
 
 -- the marks of the node at a place
 pub edges_there : (nodes : List Node) (k : ℕ) (n : Node) → slice_get nodes k ≡ Some n → edges_at nodes k ≡ n.edges

@@ -1,18 +1,13 @@
 -- What the tables of a run tell, as they grow.
-use Rattle.std.proofs.Common.{◌≡◌, ◌⊎◌, ⊎_elim, inl, inr, ℕ, ◌<◌, List, [], ◌∷◌, ◌++◌, length, Contains, Some, refl, sym, ap, ◌∙◌, subst, slice_get, map}
-use Rattle.std.specs.Prelude.{Option}
-use Rattle.std.proofs.lemmas.Option.{slice_get_within}
+use Rattle.std.proofs.Common.{◌≡◌, ℕ, List, Contains, ap, subst, map}
 use Rattle.ig_text.proofs.Lists.{mapped_in, unmapped_in, same_map}
 use Rattle.ig_expr.specs.declared.value.Value.{Value}
 use Rattle.ig_item.specs.Items.{Item}
-use Rattle.ig_item.specs.Tables.{instance_by}
 use Rattle.ig_item.specs.Ways.{WayLists}
 use Rattle.ig_item.specs.WellKinded.{NoneTwice}
 use Rattle.ig_item.specs.declared.items.Instance.{Instance}
-use Rattle.ig_item.specs.declared.items.InstanceKey.{InstanceKey}
 use Rattle.ig_item.specs.declared.items.Item as stored
 use Rattle.ig_queue.specs.declared.ticket.Ticket.{Ticket}
-use Rattle.ig_gss.specs.Nodes as shared
 use Rattle.ig_moves.specs.Laws.{StaysNamed}
 use Rattle.ig_run_laws.specs.Finding.{Finding}
 use Rattle.ig_run_laws.specs.Stacks.{Node, Pop, pop}

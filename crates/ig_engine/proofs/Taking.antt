@@ -1,11 +1,10 @@
 -- A ticket is taken.
-use Rattle.std.proofs.Common.{◌≡◌, ◌↔◌, ◌⊎◌, ⊎_elim, ℕ, List, [], ◌∷◌, Contains, Some, refl, sym, ap, ◌∙◌, subst, slice_get}
+use Rattle.std.proofs.Common.{◌≡◌, ⊎_elim, ℕ, List, ◌∷◌, Contains, Some, sym, ap, ◌∙◌, subst, slice_get}
 use Rattle.std.specs.Prelude.{Ok, Err}
 use Rattle.std.specs.List.Sorted.{IsPermutation}
 use Rattle.std.proofs.lemmas.List.Sorted.{IsPermutation-sym, Contains-permutation}
 use Rattle.ig_text.proofs.Lists.{contains_first, contains_later, in_rest, mapped_at}
 use Rattle.ig_expr.specs.declared.value.Value.{Value}
-use Rattle.ig_item.specs.Ways.{WayLists}
 use Rattle.ig_item.specs.declared.core_grammar.Nonterminal.{Nonterminal}
 use Rattle.ig_item.specs.declared.items.Item as stored
 use Rattle.ig_item.specs.declared.run_fault.RunFault.{RunFault}
@@ -67,10 +66,3 @@ module _ (core : List Nonterminal) (text : List ℕ) (budget : ℕ) (envs : List
       Steps core text budget (reached envs nodes a) c (Err f)
   unfolding took_one
   stops c f o = (took_one, subst (λ (z : numbered.Finding). Refuses core text budget (reached envs nodes z) f) other_tickets o)
-
--- none waits
-pub rests : (core : List Nonterminal) (text : List ℕ) (budget : ℕ) (envs : List (List Value)) (nodes : List shared.Node)
-    (a b : numbered.Finding) → b.items ≡ a.items → b.ways ≡ a.ways → a.waiting ≡ [] → b.waiting ≡ [] →
-    Steps core text budget (reached envs nodes a) (reached envs nodes b) (Ok progress.Done)
-rests core text budget envs nodes a b items ways none still =
-    (none, λ i. reached envs nodes (record { items = items i; ways = ways i; waiting = (still ∙ sym none) i }))

@@ -17,7 +17,7 @@ use Rattle.ig_run_laws.specs.Finding.{Finds, IsNewTicket, IsTaken, Records}
 use Rattle.ig_run_laws.specs.Rules.{IsReturn}
 use Rattle.ig_run_laws.specs.Run.{FollowMore}
 use Rattle.ig_tables.specs.Extends.{Extends}
-use Rattle.ig_engine.specs.Reached.{Reached, AreTables, IsReached, means, seen}
+use Rattle.ig_engine.specs.Reached.{Reached, AreTables, IsReached, seen}
 
 -- what `may` allows, in that way
 abbrev pub By : Way → (Item → Type 0) → Way → Item → Type 0

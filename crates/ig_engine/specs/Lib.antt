@@ -2,3 +2,5 @@ pub mod Reached
 pub mod Adding
 pub mod Given
 pub mod Stepping
+pub mod Running
+pub mod CodingRunning

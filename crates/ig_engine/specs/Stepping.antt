@@ -1,5 +1,5 @@
 -- The begin of a run, and its steps.
-use Rattle.std.specs.Prelude.{◌≡◌, ◌<◌, ℕ, List, [], ◌∷◌, Contains, Result, Ok, Err}
+use Rattle.std.specs.Prelude.{◌≡◌, ◌↔◌, ℕ, List, [], ◌∷◌, Contains, Result, Ok, Err}
 use Rattle.std.specs.List.Sorted.{IsPermutation}
 use Rattle.ig_item.specs.Items.{MoreThan}
 use Rattle.ig_item.specs.declared.core_grammar.Nonterminal.{Nonterminal}
@@ -8,8 +8,9 @@ use Rattle.ig_item.specs.declared.run_fault.RunFault.{RunFault}
 use Rattle.ig_item.specs.declared.run_fault.RunFault.TheVariants as fault
 use Rattle.ig_queue.specs.declared.ticket.Ticket.{Ticket}
 use Rattle.ig_found.specs.Finding.{ticket_of}
+use Rattle.ig_run_laws.specs.Laws.{begun}
 use Rattle.ig_engine.specs.Adding.{IsOnward, Refuses}
-use Rattle.ig_engine.specs.Reached.{Reached, IsReached, reached, with_tickets}
+use Rattle.ig_engine.specs.Reached.{IsReached, Reached, reached, seen, with_tickets}
 use Rattle.ig_engine.specs.declared.progress.Progress.{Progress}
 use Rattle.ig_engine.specs.declared.progress.Progress.TheVariants as progress
 
@@ -20,6 +21,12 @@ pub record IsEmpty (s : Reached) : Type 0 where
   pub items : s.found.items ≡ []
   pub ways : s.found.ways ≡ record { firsts = []; further = []; ends = [] }
   pub waiting : s.found.waiting ≡ []
+
+-- the first root item was found, and waits; none is taken
+pub record IsBegun (core : List Nonterminal) (text : List ℕ) (budget : ℕ) (s : Reached) : Type 0 where
+  pub between : IsReached core text budget s
+  pub first : seen s ≡ begun s.found.waiting
+  pub waits : (t : Ticket) → Contains s.found.waiting t ↔ (t ≡ record { position = 0; number = 0 })
 
 -- why a run doesn't begin: the first root item is one more than the budget; or memory ran out
 abbrev pub IsUnbegun : List Nonterminal → List ℕ → ℕ → RunFault → Type 0

@@ -1,13 +1,16 @@
 //! A run, one ticket at a time.
 ghost use Rattle.std.specs.Prelude.{◌≡◌, ◌<◌, ℕ, [], List, MatchResult, None, Some, Err, Ok};
-ghost use Rattle.std.specs.Prelude.{IfErr, IfOk};
+ghost use Rattle.std.specs.Prelude.{◌≤◌, IfErr, IfOk, length};
 ghost use Rattle.ig_engine.specs.Adding.{Events};
-ghost use Rattle.ig_engine.specs.Reached.{IsReached, Taking, reached};
-ghost use Rattle.ig_engine.specs.Stepping.{IsEmpty, IsUnbegun, Steps};
+ghost use Rattle.ig_engine.specs.Reached.{Taking, reached};
+ghost use Rattle.ig_engine.specs.Running.{IsBetween};
+ghost use Rattle.ig_engine.specs.Stepping.{IsBegun, IsEmpty, IsUnbegun, Steps};
+ghost use Rattle.ig_item.specs.Recorded.{IsRecorded};
 ghost use Rattle.ig_item.specs.declared.core_grammar.Nonterminal as tree;
 ghost use Rattle.ig_item.specs.declared.run_fault.RunFault as fault;
 ghost use Rattle.ig_steps.specs.Names.{all_dots};
 
+use crate::ending::recorded;
 use crate::events::take;
 use crate::laws::laws;
 use crate::progress::Progress;
@@ -15,14 +18,15 @@ use crate::state::State;
 use ig_expr::Values;
 use ig_found::Found;
 use ig_gss::Stacks;
-use ig_item::{Core, InstanceKey, Item, RunFault, Way};
+use ig_item::{Core, InstanceKey, Item, Recorded, RunFault, Way};
 use ig_moves::{Context, first_item};
 use ig_queue::Schedule;
 use ig_steps::{Dots, dots_of_core};
 use ig_tables::enter_values;
 use ig_text::{Sequence, Text};
 use indexmap::IndexSet;
-use std::alloc::Global;
+use std::alloc::{AllocError, Global};
+use std::marker::Model;
 
 /// A run over a work list. Between two steps without a refusal exactly those items are found that
 /// follow from the ones taken, in exactly the ways that the rules give, and its stacks are those of
@@ -36,7 +40,26 @@ pub struct Run<'a, S: Schedule + Drop> {
     budget: u32,
     state: State<S>,
     refused: Option<RunFault>,
-    ghost known: { dots ≡ all_dots core.now },
+}
+
+impl<'a, S: Schedule + Drop> Model for Run<'a, S> {
+    ghost use Rattle.std.specs.Prelude.{◌≡◌};
+    ghost use Rattle.ig_engine.specs.Reached.{reached};
+    ghost use Rattle.ig_engine.specs.Running.{IsBetween, Running, running};
+    ghost use Rattle.ig_steps.specs.Names.{all_dots};
+
+    ghost Value = { Running };
+
+    ghost use Rattle.ig_engine.specs.CodingRunning.{running_code};
+
+    ghost coded = { running_code };
+
+    ghost view = { λ r. running r.core.now r.text.now r.budget
+        (reached r.state.envs.keys r.state.stacks r.state.found) r.refused };
+
+    ghost invariant = { λ r. (r.dots ≡ all_dots r.core.now) ×
+        IsBetween (running r.core.now r.text.now r.budget
+        (reached r.state.envs.keys r.state.stacks r.state.found) r.refused) };
 }
 
 /// Finds the first root item, in a state in which nothing is there. `Budget` exactly where the
@@ -48,7 +71,7 @@ fn begin<S: Schedule + Drop>(
 ) -> Result<(), RunFault>
     requires { IsEmpty (reached state.old.envs.keys state.old.stacks state.old.found) }
     ensures { (core : List tree.Nonterminal) (text : List ℕ) → MatchResult result
-        (λ _. IsReached core text budget
+        (λ _. IsBegun core text budget
         (reached state.new.envs.keys state.new.stacks state.new.found))
         (IsUnbegun core text budget) }
 {
@@ -68,7 +91,7 @@ fn begin<S: Schedule + Drop>(
 fn begun<S: Schedule + Drop>(alloc: Global, budget: u32, schedule: S) -> Result<State<S>, RunFault>
     requires { S.waiting schedule ≡ [] }
     ensures { (core : List tree.Nonterminal) (text : List ℕ) → MatchResult result
-        (λ state. IsReached core text budget (reached state.envs.keys state.stacks state.found))
+        (λ state. IsBegun core text budget (reached state.envs.keys state.stacks state.found))
         (IsUnbegun core text budget) }
 {
     let mut state = State {
@@ -119,12 +142,11 @@ impl<'a, S: Schedule + Drop> Run<'a, S> {
         schedule: S,
     ) -> Result<Run<'a, S>, RunFault>
         requires { S.waiting schedule ≡ [] }
-        ensures core { IfOk result (λ r. r.core.now ≡ core.now) }
-        ensures text { IfOk result (λ r. r.text.now ≡ text.now) }
+        ensures core { IfOk result (λ r. r.core ≡ core.now) }
+        ensures text { IfOk result (λ r. r.text ≡ text.now) }
         ensures budget { IfOk result (λ r. r.budget ≡ budget) }
         ensures going { IfOk result (λ r. r.refused ≡ None) }
-        ensures whole { IfOk result (λ r. IsReached core.now text.now budget
-            (reached r.state.envs.keys r.state.stacks r.state.found)) }
+        ensures begun { IfOk result (λ r. IsBegun core.now text.now budget r.state) }
         ensures fault { IfErr result (IsUnbegun core.now text.now budget) }
     {
         let dots = dots_of_core(alloc, core)?;
@@ -145,21 +167,14 @@ impl<'a, S: Schedule + Drop> Run<'a, S> {
     /// exactly where more items than the budget follow from those taken, if memory doesn't run out
     /// before. After a refusal each later step answers the same and changes nothing.
     pub fn step(&mut self) -> Result<Progress, RunFault>
-        requires whole { self.old.refused ≡ None → IsReached self.old.core.now self.old.text.now
-            self.old.budget
-            (reached self.old.state.envs.keys self.old.state.stacks self.old.state.found) }
-        ensures core { self.new.core.now ≡ self.old.core.now }
-        ensures text { self.new.text.now ≡ self.old.text.now }
+        ensures core { self.new.core ≡ self.old.core }
+        ensures text { self.new.text ≡ self.old.text }
         ensures budget { self.new.budget ≡ self.old.budget }
         ensures again { (f : fault.RunFault) → self.old.refused ≡ Some f → result ≡ Err f }
         ensures still { (f : fault.RunFault) → self.old.refused ≡ Some f → self.new ≡ self.old }
-        ensures steps { self.old.refused ≡ None → Steps self.old.core.now self.old.text.now
-            self.old.budget
-            (reached self.old.state.envs.keys self.old.state.stacks self.old.state.found)
-            (reached self.new.state.envs.keys self.new.state.stacks self.new.state.found) result }
-        ensures whole { self.new.refused ≡ None → IsReached self.old.core.now self.old.text.now
-            self.old.budget
-            (reached self.new.state.envs.keys self.new.state.stacks self.new.state.found) }
+        ensures steps { self.old.refused ≡ None → Steps self.old.core self.old.text
+            self.old.budget self.old.state self.new.state result }
+        ensures between { IsBetween self.new }
         ensures refused { IfErr result (λ f. self.new.refused ≡ Some f) }
         ensures going { IfOk result (λ _. self.new.refused ≡ None) }
     {
@@ -186,5 +201,34 @@ impl<'a, S: Schedule + Drop> Run<'a, S> {
                 Err(fault)
             }
         }
+    }
+
+    /// How many items are found. Takes no memory.
+    pub fn len(&self) -> usize
+        ensures { result ≡ length self.now.state.found.items }
+    {
+        self.state.found.items().len()
+    }
+
+    /// What a run found whose last step answered `Done`: the items that are reachable, each once,
+    /// and exactly the ways in which they come about. Refused for want of memory alone, which a
+    /// table of 4,294,967,296 members is, too.
+    pub fn finish(self) -> Result<Recorded<'a>, AllocError>
+        requires going { self.refused ≡ None }
+        requires ended { self.state.found.waiting ≡ [] }
+        ensures core { IfOk result (λ r. r.core ≡ self.entry.core) }
+        ensures text { IfOk result (λ r. r.text ≡ self.entry.text) }
+        ensures items { IfOk result (λ r. r.tables.items ≡ self.entry.state.found.items) }
+        ensures within { IfOk result (λ r. length r.tables.items ≤ self.entry.budget) }
+        ensures recorded { IfOk result IsRecorded }
+    {
+        let Run {
+            alloc,
+            core,
+            text,
+            state,
+            ..
+        } = self;
+        recorded(alloc, core, text, state)
     }
 }

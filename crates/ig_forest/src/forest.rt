@@ -1,19 +1,16 @@
 //! The reduced forest: tables that are trim, how they are made, and readers that hand out borrowing
 //! views.
-ghost use Rattle.std.specs.Prelude.{◌≡◌, ◌↔◌, IfOk, MatchOption, Contains, length, option_map};
+ghost use Rattle.std.specs.Prelude.{◌≡◌, IfOk, MatchOption, length, option_map};
 ghost use Rattle.std.specs.Prelude.{slice_get};
-ghost use Rattle.ig_item.specs.Items.{Item, Reachable, RootIsComplete};
-ghost use Rattle.ig_item.specs.Tables.{items_of};
+ghost use Rattle.ig_item.specs.Items.{RootIsComplete};
 ghost use Rattle.ig_forest.specs.Reduced.{IsReduced};
 ghost use Rattle.ig_forest_tables.specs.Unfold.{IsTrim};
 ghost use Rattle.ig_forest_tables.specs.Views.{item_node_view, node_view};
 
 use crate::builder::from_recorded;
 use ig_forest_tables::{ForestTables, ItemNode, Node};
-use ig_item::{Core, Items, Recorded, RunFault};
+use ig_item::Recorded;
 use ig_live::first_root;
-use ig_plain::{budgets_suffice, saturate_with_ways};
-use ig_text::Text;
 use std::alloc::{AllocError, Global};
 use std::marker::Model;
 
@@ -35,26 +32,6 @@ impl Model for Forest {
 }
 
 impl Forest {
-    /// The reduced forest of the core grammar and the text, whose reachable items are these. `None`
-    /// exactly where no complete item of the root over the whole text is reachable.
-    pub fn build(
-        alloc: Global,
-        items: &Items,
-        core: &Core,
-        text: &Text,
-    ) -> Result<Option<Forest>, AllocError>
-        requires { (x : Item) → Contains (items_of items.now) x ↔ Reachable core.now text.now x }
-        ensures { IfOk result (λ forest. MatchOption forest
-            (RootIsComplete core.now text.now → ⊥) (IsReduced core.now text.now)) }
-    {
-        budgets_suffice();
-        match saturate_with_ways(alloc, core, text, items.len()) {
-            Ok(recorded) => Forest::of_recorded(alloc, &recorded),
-            Err(RunFault::Budget) => unreachable!(),
-            Err(RunFault::Memory) => Err(AllocError),
-        }
-    }
-
     /// The reduced forest of what was recorded. `None` exactly where no complete item of the root
     /// over the whole text is reachable.
     pub fn of_recorded(alloc: Global, recorded: &Recorded) -> Result<Option<Forest>, AllocError>

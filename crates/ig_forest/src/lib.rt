@@ -12,8 +12,7 @@
 //! and evaluates nothing. `ig_live` marks the live items from the root backward and puts them into
 //! order, as rows of numbers. One pass over them gives the nodes with their alternatives, which are
 //! then put in order where they aren't, and another one the entries of all items, which stand side
-//! by side. [`Forest::build`] makes it of items alone, whose ways it records first. The readers
-//! hand out borrowing views.
+//! by side. The readers hand out borrowing views.
 #![tactic(auto)]
 
 mod builder;

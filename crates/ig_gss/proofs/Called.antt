@@ -1,23 +1,21 @@
 -- What each call makes of the nodes and of the tables below them.
-use Rattle.std.proofs.Common.{◌≡◌, ◌∙◌, ℕ, suc, ◌<◌, ◌≤◌, Bool, true, false, List, [], ◌∷◌, ◌++◌, Option, Some, None, Contains, length, map, reverse, slice_get, get_or, set, refl, sym, ap, ap₂, subst, arith}
-use Rattle.std.specs.Prelude.{IfNone, IfSome, not}
-use Rattle.std.specs.List.{list_any}
+use Rattle.std.proofs.Common.{◌≡◌, ◌∙◌, ℕ, suc, ◌<◌, ◌≤◌, true, false, List, [], ◌∷◌, ◌++◌, Option, Some, None, Contains, length, map, reverse, slice_get, get_or, set, refl, sym, ap, ap₂, subst, arith}
+use Rattle.std.specs.Prelude.{IfNone, IfSome}
 use Rattle.std.proofs.lemmas.List.{length_push}
 use Rattle.std.proofs.lemmas.Option.{same_Some, slice_get_read}
 use Rattle.indexmap.specs.IndexMap.{insert_entry}
-use Rattle.indexmap.specs.IndexSet.{insert_key}
-use Rattle.ig_text.proofs.Lists.{place_last}
 use Rattle.ig_item.specs.declared.items.InstanceKey.{InstanceKey}
+use Rattle.ig_tables.specs.Extends.{IsNew}
 use Rattle.ig_gss.specs.declared.marks.Edge.{Edge}
 use Rattle.ig_gss.specs.declared.marks.Pop.{Pop}
 use Rattle.ig_gss.specs.declared.chains.Cell.{Cell}
 use Rattle.ig_gss.specs.declared.tops.Tops.{Tops}
 use Rattle.ig_gss.specs.declared.places.Place.{Place}
 use Rattle.ig_gss.specs.Chains.{cell, chain}
-use Rattle.ig_gss.specs.Nodes.{Node, fresh, ended, keys_of, edges_at, pops_at, items_at, ends_at, with_edge, with_pop}
+use Rattle.ig_gss.specs.Nodes.{Node, fresh, ended, keys_of, edges_at, pops_at, items_at, ends_at, with_edge, with_pop, FindsNode, MakesNode}
 use Rattle.ig_gss.specs.Places.{place, HasAll, GrowsBy, IsHighest}
 use Rattle.ig_gss.specs.Views.{AreStacks, node_by, nodes_with}
-use Rattle.ig_gss.proofs.Keyed.{key_eq, key_decides, new_key, old_key, key_at, place_eq}
+use Rattle.ig_gss.proofs.Keyed.{place_eq}
 use Rattle.ig_gss.proofs.Entered.{has_all, had_all, no_pops, latest_pop, none_above, not_in_table}
 use Rattle.ig_gss.proofs.Shown as shown
 
@@ -27,50 +25,45 @@ module _ (keys : List InstanceKey) (tops : List Tops) (es : List (Cell Edge)) (p
   view = nodes_with (node_by es ps) keys tops
 
   -- a node that is new
-  module _ (key : InstanceKey) (more_keys : List InstanceKey) (more_tops : List Tops) (t : Tops) (b : Bool)
-      (inserted : more_keys ≡ insert_key key_eq keys key) (told : b ≡ not (list_any (key_eq key) keys)) (new : b ≡ true)
+  module _ (key : InstanceKey) (more_keys : List InstanceKey) (more_tops : List Tops) (t : Tops) (k : ℕ) (is_new : IsNew keys more_keys key k)
       (pushed : more_tops ≡ tops ++ t ∷ []) (edge_is : t.edge ≡ 0) (pop_is : t.pop ≡ 0) (flag : t.is_indexed ≡ false) where
-    added : (more_keys ≡ keys ++ key ∷ []) × (Contains keys key → ⊥)
-    added = new_key key_decides keys more_keys key b inserted told new
-
     pub node_keeps : AreStacks more_keys more_tops es ps ends
     node_keeps =
-        subst (λ z. AreStacks z more_tops es ps ends) (sym added.0)
-        (subst (λ z. AreStacks (keys ++ key ∷ []) z es ps ends) (sym pushed) (shown.node_keeps keys tops es ps ends a key t edge_is pop_is flag added.1))
+        subst (λ z. AreStacks z more_tops es ps ends) (sym is_new.added)
+        (subst (λ z. AreStacks (keys ++ key ∷ []) z es ps ends) (sym pushed) (shown.node_keeps keys tops es ps ends a key t edge_is pop_is flag is_new.new))
 
-    pub node_shows : nodes_with (node_by es ps) more_keys more_tops ≡ now ++ fresh key ∷ []
+    node_shows : nodes_with (node_by es ps) more_keys more_tops ≡ now ++ fresh key ∷ []
     node_shows =
-        ap₂ (nodes_with (node_by es ps)) added.0 pushed ∙ shown.node_view keys tops es ps ends a key t edge_is pop_is flag ∙
+        ap₂ (nodes_with (node_by es ps)) is_new.added pushed ∙ shown.node_view keys tops es ps ends a key t edge_is pop_is flag ∙
         ap (λ z. z ++ fresh key ∷ []) view_is
 
-    pub node_lacked : Contains (keys_of now) key → ⊥
-    node_lacked c = added.1 (subst (λ z. Contains z key) (ap keys_of (sym view_is) ∙ shown.shown_keys es ps keys tops) c)
+    node_lacked : Contains (keys_of now) key → ⊥
+    node_lacked c = is_new.new (subst (λ z. Contains z key) (ap keys_of (sym view_is) ∙ shown.shown_keys es ps keys tops) c)
 
-    pub new_at : (k : ℕ) → k ≡ length keys → slice_get (keys_of (nodes_with (node_by es ps) more_keys more_tops)) k ≡ Some key
-    new_at k is =
-        ap₂ slice_get (shown.shown_keys es ps more_keys more_tops ∙ added.0) is ∙ place_last keys key
+    pub node_made : MakesNode now (nodes_with (node_by es ps) more_keys more_tops) key k
+    node_made = (
+      node_shows,
+      is_new.last ∙ sym (shown.shown_length es ps keys tops) ∙ ap length view_is,
+      node_lacked,
+    )
 
   -- a node that was there
-  module _ (key : InstanceKey) (more_keys : List InstanceKey) (b : Bool)
-      (inserted : more_keys ≡ insert_key key_eq keys key) (told : b ≡ not (list_any (key_eq key) keys)) (old : b ≡ false) where
-    stayed : more_keys ≡ keys
-    stayed = old_key key_decides keys more_keys key b inserted told old
+  module _ (key : InstanceKey) (more_keys : List InstanceKey) (more_tops : List Tops) (stayed : more_keys ≡ keys) (same : more_tops ≡ tops) where
+    pub found_keeps : AreStacks more_keys more_tops es ps ends
+    found_keeps =
+        subst (λ z. AreStacks z more_tops es ps ends) (sym stayed) (subst (λ z. AreStacks keys z es ps ends) (sym same) a)
 
-    pub found_keeps : AreStacks more_keys tops es ps ends
-    found_keeps = subst (λ z. AreStacks z tops es ps ends) (sym stayed) a
+    pub node_found : (k : ℕ) → slice_get more_keys k ≡ Some key → FindsNode now (nodes_with (node_by es ps) more_keys more_tops) key k
+    node_found k at = (
+      ap₂ (nodes_with (node_by es ps)) stayed same ∙ view_is,
+      subst (λ z. (n : Node) × (slice_get z k ≡ Some n) × (n.key ≡ key)) view_is
+          (shown.node_of_key es ps keys tops k key (subst (λ z. slice_get z k ≡ Some key) stayed at)),
+    )
 
-    pub found_shows : nodes_with (node_by es ps) more_keys tops ≡ now
-    found_shows = ap (λ z. nodes_with (node_by es ps) z tops) stayed ∙ view_is
-
-    pub found_at : (k : ℕ) (x : InstanceKey) → slice_get more_keys k ≡ Some x → key_eq key x ≡ true →
-        (n : Node) × (slice_get now k ≡ Some n) × (n.key ≡ key)
-    found_at k x at same =
-        subst (λ z. (n : Node) × (slice_get z k ≡ Some n) × (n.key ≡ key)) view_is
-        (shown.node_of_key es ps keys tops k key (subst (λ z. slice_get z k ≡ Some key) stayed (key_at key_decides more_keys key x k at same)))
-
-    pub old_at : (more_tops : List Tops) → more_tops ≡ tops → (k : ℕ) (x : InstanceKey) → slice_get more_keys k ≡ Some x → key_eq key x ≡ true →
-        slice_get (keys_of (nodes_with (node_by es ps) more_keys more_tops)) k ≡ Some key
-    old_at more_tops is k x at same = ap (λ z. slice_get z k) (shown.shown_keys es ps more_keys more_tops) ∙ key_at key_decides more_keys key x k at same
+  -- the instance of a node by its number
+  pub key_there : (more_keys : List InstanceKey) (more_tops : List Tops) (key : InstanceKey) (k : ℕ) → slice_get more_keys k ≡ Some key →
+      slice_get (keys_of (nodes_with (node_by es ps) more_keys more_tops)) k ≡ Some key
+  key_there more_keys more_tops key k at = ap (λ z. slice_get z k) (shown.shown_keys es ps more_keys more_tops) ∙ at
 
   -- the node of a number, of which the tops were read
   module _ (node : ℕ) (lt : node < length now) where

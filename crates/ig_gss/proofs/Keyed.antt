@@ -1,17 +1,12 @@
 -- The keys of a map, where `==` decides whether keys are the same.
-use Rattle.std.proofs.Common.{◌≡◌, ◌∙◌, ◌⊎◌, inl, inr, ⊎_elim, ℕ, List, [], ◌∷◌, ◌++◌, Bool, true, false, cond, Option, None, Some, Contains, map, refl, sym, ap, subst, not, slice_get, true≢false}
+use Rattle.std.proofs.Common.{◌≡◌, ◌∙◌, ◌⊎◌, inl, inr, ⊎_elim, List, [], ◌∷◌, Bool, true, false, cond, Option, None, Some, Contains, map, refl, sym, ap, subst, true≢false}
 use Rattle.std.specs.Prelude.{if◌then◌else◌, IfNone, IfSome}
 use Rattle.std.specs.Map.{lookup}
 use Rattle.std.proofs.lemmas.Map.Views.{Contains-from_lookup}
 use Rattle.std.specs.Bool.{Decides}
 use Rattle.std.proofs.lemmas.Bool.Decides.{Decides-like, Decides-and, Decides-eqb}
-use Rattle.std.specs.List.{list_any}
-use Rattle.std.proofs.lemmas.List.Folds.{list_any_at}
 use Rattle.indexmap.specs.IndexMap.{insert_entry}
-use Rattle.indexmap.specs.IndexSet.{insert_key}
 use Rattle.ig_text.proofs.Lists.{contains_first, contains_later, in_rest, none_in_nil, contains_one}
-use Rattle.ig_item.specs.declared.items.InstanceKey.{InstanceKey}
-use Rattle.ig_item.specs.contracts.items.InstanceKeyPartialEq.TheImpl as key_impl
 use Rattle.ig_gss.specs.declared.places.Place.{Place}
 use Rattle.ig_gss.specs.contracts.places.PlacePartialEq.TheImpl as place_impl
 
@@ -50,19 +45,7 @@ module _ {K V : Type 0} {eq : K → K → Bool} (decides : (x y : K) → Decides
       by true is rest = subst (Contains (e.0 ∷ map (λ (z : K × V). z.0) es)) (sym ((decides k e.0).0 is)) (contains_first e.0 (map (λ (z : K × V). z.0) es))
       by false is rest = contains_later e.0 (map (λ (z : K × V). z.0) (insert_entry eq es k v)) k rest
 
--- instances and places are told apart by their numbers
-abbrev pub key_eq : InstanceKey → InstanceKey → Bool
-key_eq = key_impl.eq-value.it
-
-same_key : (x y : InstanceKey) → (x.nonterminal ≡ y.nonterminal) × ((x.env ≡ y.env) × (x.start ≡ y.start)) → x ≡ y
-same_key x y p = λ i. record { nonterminal = p.0 i; env = p.1.0 i; start = p.1.1 i }
-
-pub key_decides : (x y : InstanceKey) → Decides (key_eq x y) (x ≡ y)
-key_decides x y =
-    Decides-like _ (same_key x y) (λ e. (ap (λ (z : InstanceKey). z.nonterminal) e, (ap (λ (z : InstanceKey). z.env) e, ap (λ (z : InstanceKey). z.start) e)))
-    (Decides-and _ _ (Decides-eqb x.nonterminal y.nonterminal)
-    (Decides-and _ _ (Decides-eqb x.env y.env) (Decides-eqb x.start y.start)))
-
+-- places are told apart by their numbers
 abbrev pub place_eq : Place → Place → Bool
 place_eq = place_impl.eq-value.it
 
@@ -73,32 +56,6 @@ pub place_decides : (x y : Place) → Decides (place_eq x y) (x ≡ y)
 place_decides x y =
     Decides-like _ (same_place x y) (λ e. (ap (λ (z : Place). z.node) e, ap (λ (z : Place). z.end) e))
     (Decides-and _ _ (Decides-eqb x.node y.node) (Decides-eqb x.end y.end))
-
--- what inserting into a set makes of its keys
-module _ {K : Type 0} {eq : K → K → Bool} (decides : (x y : K) → Decides (eq x y) (x ≡ y)) where
-  pub new_key : (before after : List K) (x : K) (b : Bool) → after ≡ insert_key eq before x → b ≡ not (list_any (eq x) before) → b ≡ true →
-      (after ≡ before ++ x ∷ []) × (Contains before x → ⊥)
-  new_key before after x b is told new = go (list_any (eq x) before) refl
-    where
-      go : (t : Bool) → list_any (eq x) before ≡ t → (after ≡ before ++ x ∷ []) × (Contains before x → ⊥)
-      go true e = let no : true ≡ false = sym new ∙ told ∙ ap not e in absurd (true≢false no)
-      go false e = (
-        is ∙ ap (λ t. if t then before else before ++ x ∷ []) e,
-        λ c.
-            let there : list_any (eq x) before ≡ true = list_any_at (eq x) before c.0 x c.1 ((decides x _).1 (sym c.2)) in
-            true≢false (sym there ∙ e),
-      )
-
-  pub old_key : (before after : List K) (x : K) (b : Bool) → after ≡ insert_key eq before x → b ≡ not (list_any (eq x) before) → b ≡ false →
-      after ≡ before
-  old_key before after x b is told old = go (list_any (eq x) before) refl
-    where
-      go : (t : Bool) → list_any (eq x) before ≡ t → after ≡ before
-      go true e = is ∙ ap (λ t. if t then before else before ++ x ∷ []) e
-      go false e = let no : true ≡ false = ap not (sym e) ∙ sym told ∙ old in absurd (true≢false no)
-
-  pub key_at : (after : List K) (x k : K) (n : ℕ) → slice_get after n ≡ Some k → eq x k ≡ true → slice_get after n ≡ Some x
-  key_at after x k n e t = e ∙ ap Some (sym ((decides x k).0 t))
 
 -- what a look-up finds in the entries
 module _ {K V : Type 0} {eq : K → K → Bool} (decides : (x y : K) → Decides (eq x y) (x ≡ y)) where

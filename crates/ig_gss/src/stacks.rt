@@ -8,8 +8,9 @@ use crate::chains::{Chains, Walk};
 use crate::marks::{Edge, Pop};
 use crate::places::{Place, done_at, make_ready};
 use crate::tops::Tops;
-use ig_item::{InstanceKey, number};
-use indexmap::{IndexMap, IndexSet};
+use ig_item::InstanceKey;
+use ig_tables::InstanceSet;
+use indexmap::IndexMap;
 use std::alloc::{AllocError, Global};
 use std::marker::Model;
 
@@ -21,7 +22,7 @@ use std::marker::Model;
 /// asked for an end below that one, its pops are entered into a table, as are its later ones.
 #[derive(Drop)]
 pub struct Stacks {
-    keys: IndexSet<InstanceKey>,
+    keys: InstanceSet,
     tops: Vec<Tops>,
     edges: Chains<Edge>,
     pops: Chains<Pop>,
@@ -35,9 +36,9 @@ impl Model for Stacks {
 
     ghost Value = { List Node };
 
-    ghost view = { λ s. nodes_with (node_by s.edges s.pops) s.keys.keys s.tops.items };
+    ghost view = { λ s. nodes_with (node_by s.edges s.pops) s.keys s.tops.items };
 
-    ghost invariant = { λ s. AreStacks s.keys.keys s.tops.items s.edges s.pops s.ends.entries };
+    ghost invariant = { λ s. AreStacks s.keys s.tops.items s.edges s.pops s.ends.entries };
 }
 
 impl Stacks {
@@ -46,7 +47,7 @@ impl Stacks {
         ensures { result ≡ [] }
     {
         Stacks {
-            keys: IndexSet::new(alloc),
+            keys: InstanceSet::new(alloc),
             tops: Vec::new(alloc),
             edges: Chains::new(alloc),
             pops: Chains::new(alloc),
@@ -58,11 +59,11 @@ impl Stacks {
     pub fn once(&self)
         ensures { AreOnce self.now }
     {
-        let _nodes = self.keys.len();
+        let _nodes = self.tops.len();
     }
 
-    /// The node of an instance, and whether it is new; then it stands at the end. Refused for want of
-    /// memory, or of a number of 32 bits, the nodes are as before.
+    /// The node of an instance, and whether it is new; then it stands at the end. Refused for want
+    /// of memory, or of a number of 32 bits, the nodes are as before.
     #[inline]
     pub fn node(&mut self, key: InstanceKey) -> Result<(u32, bool), AllocError>
         ensures found { IfOk result (λ r. r.1 ≡ false → FindsNode self.old self.new key r.0) }
@@ -70,21 +71,20 @@ impl Stacks {
         ensures there { IfOk result (λ r. slice_get (keys_of self.new) r.0 ≡ Some key) }
         ensures refused { OnErr result (self.new ≡ self.old) }
     {
-        let behind = number(self.keys.len())?;
         self.tops.reserve(1)?;
-        let (place, is_new) = self.keys.insert_full(key)?;
+        let (node, is_new) = self.keys.enter(key)?;
         if is_new {
             self.tops.push(Tops::none())?;
-            return Ok((behind, true));
+            return Ok((node, true));
         }
-        Ok((number(place)?, false))
+        Ok((node, false))
     }
 
     /// The number of nodes. Takes no memory.
     pub fn len(&self) -> usize
         ensures { result ≡ length self.now }
     {
-        self.keys.len()
+        self.keys().len()
     }
 
     /// The instance of a node by its number; `None` exactly where there is no such node. Takes no
@@ -104,11 +104,11 @@ impl Stacks {
         self.keys.as_slice()
     }
 
-    /// The instances of all nodes, by their numbers. Refused for want of memory alone.
+    /// The instances of all nodes, by their numbers. Takes no memory, and isn't refused.
     pub fn into_keys(self) -> Result<Vec<InstanceKey>, AllocError>
         ensures { IfOk result (λ keys. keys.items ≡ keys_of self) }
     {
-        self.keys().to_vec(*self.tops.allocator())
+        Ok(self.keys.into_vec())
     }
 
     /// Adds an edge at the end of those of a node, which has to be there, as its item has not.

@@ -1,10 +1,11 @@
 //! What a command asks for: a task with a grammar, a job by a forest, a check of a forest, or a
 //! load.
 ghost use Rattle.std.specs.Prelude.{◌≡◌};
-ghost use Rattle.ig_command.specs.Commands.{stored_request};
-ghost use Rattle.ig_jobs.specs.Jobs.{work_request};
+ghost use Rattle.ig_command.specs.Commands.{stored_order, stored_request};
+ghost use Rattle.ig_jobs.specs.Jobs.{work_order, work_request};
 
 use ig_command::{Command, Listing, Question, Source};
+use ig_queue::Order;
 
 /// What is done with a grammar alone.
 #[derive(Clone, Copy)]
@@ -44,18 +45,25 @@ pub struct Files<'a> {
 pub enum Work<'a> {
     /// A task with the grammar in that file.
     OnGrammar(Source<'a>, Task),
-    /// A job with a grammar and an input, where no more items are reachable than that many.
-    OnInput(Files<'a>, u32, Job<'a>),
+    /// A job with a grammar and an input, where no more items are reachable than that many, and are
+    /// taken in that order.
+    OnInput(Files<'a>, u32, Order, Job<'a>),
     /// The forest is checked that the text in the file of that name tells.
     OnForest(Files<'a>, &'a str),
     /// The line of a load of this size and number, where no more items are reachable than the
-    /// budget.
-    OfLoad { size: u32, number: u64, budget: u32 },
+    /// budget, and are taken in that order.
+    OfLoad {
+        size: u32,
+        number: u64,
+        budget: u32,
+        order: Order,
+    },
 }
 
 /// What the command asks for. Takes no memory.
 pub fn work_of(command: Command<'_>) -> Work<'_>
-    ensures { work_request result ≡ stored_request command.entry }
+    ensures request { work_request result ≡ stored_request command.entry }
+    ensures order { work_order result ≡ stored_order command.entry }
 {
     match command {
         Command::Check { grammar } => Work::OnGrammar(grammar, Task::Check),
@@ -65,27 +73,32 @@ pub fn work_of(command: Command<'_>) -> Work<'_>
             grammar,
             input,
             budget,
-        } => Work::OnInput(Files { grammar, input }, budget, Job::Print),
+            order,
+        } => Work::OnInput(Files { grammar, input }, budget, order, Job::Print),
         Command::Trees {
             grammar,
             input,
             budget,
+            order,
             listing,
-        } => Work::OnInput(Files { grammar, input }, budget, Job::List(listing)),
+        } => Work::OnInput(Files { grammar, input }, budget, order, Job::List(listing)),
         Command::Query {
             grammar,
             input,
             budget,
+            order,
             question,
-        } => Work::OnInput(Files { grammar, input }, budget, Job::Ask(question)),
+        } => Work::OnInput(Files { grammar, input }, budget, order, Job::Ask(question)),
         Command::Load {
             size,
             number,
             budget,
+            order,
         } => Work::OfLoad {
             size,
             number,
             budget,
+            order,
         },
         Command::Verify {
             grammar,

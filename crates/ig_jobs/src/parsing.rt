@@ -17,6 +17,7 @@ use ig_parse::{
     Parser, ambiguity_is_two_permitted, cyclic_is_without_highest, spans_are_of_declarations,
 };
 use ig_print::{Report, show_report};
+use ig_queue::Order;
 use ig_text::Text;
 use std::alloc::Global;
 
@@ -37,7 +38,7 @@ pub fn parser_of(alloc: Global, checked: &Checked) -> Result<Parser<'_>, Stop>
 }
 
 /// What comes of a job by the forest of the parser's grammar, which no pass has changed, and the
-/// input.
+/// input. The items are taken in that order, which changes nothing.
 ///
 /// Stops with the status `Budget` exactly where more items are reachable than the budget; with
 /// `NoParse` exactly where no tree is permitted; with `DepthNeeded` or `BadCursor` where a listing
@@ -47,6 +48,7 @@ pub fn parse(
     parser: &Parser<'_>,
     input: &Text,
     budget: u32,
+    order: Order,
     job: Job<'_>,
 ) -> Result<Vec<u8>, Stop>
     requires as_it_is { parser.now ≡ unchanged parser.now.grammar }
@@ -59,7 +61,7 @@ pub fn parse(
     tags_name_nonterminals();
     let core = parser.core();
     let _nonterminals = core.nonterminals();
-    let recorded = match parser.saturate(alloc, input, budget) {
+    let recorded = match parser.run(alloc, input, budget, order) {
         Ok(recorded) => recorded,
         Err(RunFault::Budget) => return Err(over_budget(alloc, budget)),
         Err(RunFault::Memory) => return Err(Stop::Memory),

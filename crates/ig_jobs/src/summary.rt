@@ -7,17 +7,24 @@ use ig_endings::{Stop, over_budget};
 use ig_item::RunFault;
 use ig_load::load;
 use ig_load_texts::show_summary;
+use ig_queue::Order;
 use std::alloc::Global;
 
-/// The line of what a load of this size and number says.
+/// The line of what a load of this size and number says, whose items are taken in that order.
 ///
 /// Stops with the status `Budget` exactly where more items are reachable than the budget, or for
 /// want of memory.
-pub fn summary_line(alloc: Global, size: u32, number: u64, budget: u32) -> Result<Vec<u8>, Stop>
+pub fn summary_line(
+    alloc: Global,
+    size: u32,
+    number: u64,
+    budget: u32,
+    order: Order,
+) -> Result<Vec<u8>, Stop>
     requires { size ≤ most_size }
     ensures { LoadsText size number budget result }
 {
-    match load(alloc, size, number, budget) {
+    match load(alloc, size, number, budget, order) {
         Ok(summary) => {
             let line = show_summary(alloc, &summary)?;
             Ok(line)

@@ -17,18 +17,25 @@ use ig_load_grammar::{load_grammar, load_inputs_are_permitted, load_parser};
 use ig_load_texts::{MOST_OPERANDS, Summary, load_input};
 use ig_parse::{Parser, ambiguity_is_two_permitted, cyclic_is_without_highest};
 use ig_query::is_ambiguous;
+use ig_queue::Order;
 use std::alloc::{AllocError, Global};
 
 /// What the forest of the load's grammar and the input of this size and number has, where no more
-/// items than the budget are reachable. The size is the number of operands, from 1 to
-/// [`MOST_OPERANDS`]; 0 is taken for 1. `Budget` comes exactly where more items are reachable, if
-/// memory doesn't run out before.
-pub fn load(alloc: Global, size: u32, number: u64, budget: u32) -> Result<Summary, RunFault>
+/// items than the budget are reachable, in whatever order they are taken. The size is the number of
+/// operands, from 1 to [`MOST_OPERANDS`]; 0 is taken for 1. `Budget` comes exactly where more items
+/// are reachable, if memory doesn't run out before.
+pub fn load(
+    alloc: Global,
+    size: u32,
+    number: u64,
+    budget: u32,
+    order: Order,
+) -> Result<Summary, RunFault>
     requires { size ≤ MOST_OPERANDS }
     ensures { Loads size number budget result }
 {
     let grammar = load_grammar(alloc)?;
-    load_under(alloc, &grammar, size, number, budget)
+    load_under(alloc, &grammar, size, number, budget, order)
 }
 
 /// The same under that grammar, which is lent, so that no fault behind it has to drop it.
@@ -38,6 +45,7 @@ fn load_under(
     size: u32,
     number: u64,
     budget: u32,
+    order: Order,
 ) -> Result<Summary, RunFault>
     requires own { grammar.now ≡ unchanged LoadGrammar }
     requires few { size ≤ MOST_OPERANDS }
@@ -46,7 +54,7 @@ fn load_under(
     load_inputs_are_permitted();
     let input = load_input(alloc, size, number)?;
     let parser = load_parser(alloc, grammar)?;
-    let recorded = parser.saturate(alloc, &input, budget)?;
+    let recorded = parser.run(alloc, &input, budget, order)?;
     let summary = summarize(alloc, &parser, &recorded)?;
     Ok(summary)
 }

@@ -17,6 +17,7 @@ use indexmap::IndexSet;
 use std::alloc::AllocError;
 
 /// Whether a call has neither a label nor an excluded pattern. Takes no memory.
+#[inline(always)]
 pub fn is_bare(qualifiers: &Qualifiers<'_>) -> bool
     ensures { IsTrue result ↔
         ((qualifiers.now.label.now ≡ None) × (qualifiers.now.not.now ≡ [])) }
@@ -27,6 +28,8 @@ pub fn is_bare(qualifiers: &Qualifiers<'_>) -> bool
 /// The instance of that nonterminal that an item calls with these arguments, where it stands; its
 /// values are added to the environments. `None` exactly where an argument has no value. Refused for
 /// want of memory alone.
+// Out of line, so that what a caller does with other items keeps these in registers.
+#[inline(never)]
 pub fn callee_of(
     context: &Context<'_>,
     envs: &mut IndexSet<Values>,
@@ -58,6 +61,7 @@ pub fn callee_of(
 }
 
 /// The first item of that alternative, numbered from 1, of the instance of that number and key.
+#[inline(always)]
 pub fn first_item(instance: u32, key: InstanceKey, alternative: u32) -> Item
     ensures { result ≡ first_stored instance key alternative }
 {

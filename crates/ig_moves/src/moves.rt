@@ -21,6 +21,7 @@ use indexmap::IndexSet;
 use std::alloc::AllocError;
 
 /// The values of the environment of that number. Takes no memory.
+#[inline(always)]
 pub fn values_at(envs: &IndexSet<Values>, env: u32) -> &[Value]
     requires { env < length envs.now.keys }
     ensures { result.now ≡ slice_index_or envs.now.keys env [] }
@@ -30,6 +31,7 @@ pub fn values_at(envs: &IndexSet<Values>, env: u32) -> &[Value]
 
 /// The item behind a test; `None` exactly where its condition isn't true. Refused where 32 bits
 /// don't hold the dot, or for want of memory.
+#[inline(always)]
 pub fn behind_test(
     context: &Context<'_>,
     envs: &mut IndexSet<Values>,
@@ -57,6 +59,7 @@ pub fn behind_test(
 
 /// The item behind a binding, whose value is added to the environment; `None` exactly where its
 /// expression has no value. Refused for want of memory alone.
+#[inline(always)]
 pub fn behind_bind(
     context: &Context<'_>,
     envs: &mut IndexSet<Values>,
@@ -85,6 +88,7 @@ pub fn behind_bind(
 /// The item behind a terminal, with the span added to the environment where it has a label; `None`
 /// exactly where its pattern doesn't match, or the text that it matches is a match of an excluded
 /// pattern. Refused for want of memory alone.
+#[inline(always)]
 pub fn behind_terminal(
     context: &Context<'_>,
     envs: &mut IndexSet<Values>,
@@ -107,6 +111,7 @@ pub fn behind_terminal(
 /// The item behind a call whose callee ended at `end`, with the span added to the environment where
 /// it has a label; `None` exactly where the text that the call covers is a match of an excluded
 /// pattern. Refused for want of memory alone.
+#[inline(always)]
 pub fn behind_call(
     context: &Context<'_>,
     envs: &mut IndexSet<Values>,

@@ -36,6 +36,7 @@ pub fn past_bare(item: Item, end: u32) -> Result<Item, AllocError>
 
 /// The item after its next step, which bound this value and came to `end`. Its environment is added
 /// to the table.
+#[inline(always)]
 pub(crate) fn past(
     alloc: Global,
     envs: &mut IndexSet<Values>,

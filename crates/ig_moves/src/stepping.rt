@@ -14,6 +14,7 @@ use ig_steps::{Known, known_at};
 
 /// The step behind the dot of an item of that nonterminal; `None` exactly where there is none.
 /// Takes no memory.
+#[inline(always)]
 pub fn step_behind(core: &Core, nonterminal: u32, item: Item) -> Option<&Step>
     ensures { option_map (λ step. step_of step.now) result ≡ step_at core.now nonterminal
         item.alternative item.dot }
@@ -24,6 +25,7 @@ pub fn step_behind(core: &Core, nonterminal: u32, item: Item) -> Option<&Step>
 
 /// What is known where an item of that nonterminal stands before that step: the names that are
 /// visible there, and the forms of the step's expressions. Takes no memory.
+#[inline(always)]
 pub fn known_before<'a>(
     context: &Context<'a>,
     nonterminal: u32,

@@ -21,11 +21,12 @@ use Rattle.ig_forest_tables.specs.Forest.{Forest}
 use Rattle.ig_forest.specs.Laws.{CursorsAreOrderedAsTrees, UnfoldsToCoreTrees, HasOneCursor, OnlyOne, RootIsThere}
 use Rattle.ig_forest.specs.Reduced.{IsReduced}
 use Rattle.ig_forest_tables.specs.Unfold.{Unfold}
+use Rattle.ig_engine.specs.Running.{IsRefused}
 use Rattle.ig_plain.specs.Run.{Refuses}
 use Rattle.ig_query.specs.Report.{IsReport}
 use Rattle.ig_print.specs.declared.report.Report.{Report}
 use Rattle.ig_parse.specs.Faults.{fault_of}
-use Rattle.ig_parse.specs.Parses.{AreReachable, HasNone, IsForestOf, IsParsed, IsUnparsed, MayHaveForest, Saturates}
+use Rattle.ig_parse.specs.Parses.{AreReachable, HasNone, IsForestOf, IsParsed, IsUnparsed, MayHaveForest, Finds}
 use Rattle.ig_parse.specs.declared.fault.ParseFault.{ParseFault}
 use Rattle.ig_parse.specs.declared.fault.ParseFault.TheVariants.{TooManyDots, Memory}
 
@@ -55,11 +56,18 @@ pub runs_of : (c inside : CheckedGrammar) (core : List Nonterminal) → inside �
 runs_of c inside core same kept kinded =
     subst (λ z. Runs z core) same (record { buildable = kept.0; numbered = kept.1; is = kept.2; kinded = kinded })
 
+-- a run over a work list is refused for what saturation is refused for
+pub refused : {A : Type 0} (core : List Nonterminal) (text : List ℕ) (budget : ℕ) (r : Result A RunFault) →
+    IfErr r (IsRefused core text budget) → IfErr r (Refuses core text budget)
+refused core text budget (Ok a) h = tt
+refused core text budget (Err run_fault.Budget) h = h
+refused core text budget (Err run_fault.Memory) h = tt
+
 -- what a run finds, and why it finds nothing
 module _ (c : CheckedGrammar) (text : List ℕ) (budget : ℕ) (core : List Nonterminal) (runs : Runs c core) where
-  pub saturates : (r : Result Recording RunFault) → IfOk r (λ z. z.core ≡ core) → IfOk r (λ z. z.text ≡ text) → IfOk r IsRecorded →
-      IfOk r (λ _. MoreThan core text budget → ⊥) → IfErr r (Refuses core text budget) → Saturates c text budget r
-  saturates (Ok z) core_is text_is recorded within fault =
+  pub finds : (r : Result Recording RunFault) → IfOk r (λ z. z.core ≡ core) → IfOk r (λ z. z.text ≡ text) → IfOk r IsRecorded →
+      IfOk r (λ _. MoreThan core text budget → ⊥) → IfErr r (Refuses core text budget) → Finds c text budget r
+  finds (Ok z) core_is text_is recorded within fault =
       record {
         suffices = subst (λ k. MoreThan k text budget → ⊥) runs.is within;
         core = core_is ∙ runs.is;
@@ -67,8 +75,8 @@ module _ (c : CheckedGrammar) (text : List ℕ) (budget : ℕ) (core : List Nont
         reachable = subst₂ (λ k t. (x : Item) → Contains (items_of z.tables) x ↔ Reachable k t x) (core_is ∙ runs.is) text_is recorded.reachable;
         once = recorded.once;
       }
-  saturates (Err run_fault.Budget) core_is text_is recorded within fault = subst (λ k. MoreThan k text budget) runs.is fault
-  saturates (Err run_fault.Memory) core_is text_is recorded within fault = tt
+  finds (Err run_fault.Budget) core_is text_is recorded within fault = subst (λ k. MoreThan k text budget) runs.is fault
+  finds (Err run_fault.Memory) core_is text_is recorded within fault = tt
 
 -- the core grammar of a recording, where it is the parser's
 pub runs_recorded : (c : CheckedGrammar) (core other : List Nonterminal) → Runs c core → other ≡ CoreOf c → Runs c other
@@ -159,7 +167,7 @@ module _ (law : Given) (c : CheckedGrammar) (text : List ℕ) (core : List Nonte
 
 -- the parts of an answer
 module _ (c : CheckedGrammar) (text : List ℕ) (budget : ℕ) where
-  pub no_items : (e : RunFault) (fault : ParseFault) → Saturates c text budget (Err e) → fault ≡ fault_of e → HasNone c text budget fault
+  pub no_items : (e : RunFault) (fault : ParseFault) → Finds c text budget (Err e) → fault ≡ fault_of e → HasNone c text budget fault
   no_items run_fault.Budget fault over is = subst (HasNone c text budget) (sym is) over
   no_items run_fault.Memory fault over is = subst (HasNone c text budget) (sym is) tt
 

@@ -68,10 +68,10 @@ module _ (c : CheckedGrammar) (text : List ℕ) where
       pub reachable : AreReachable recording.tables
       pub once : NoneTwice (items_of recording.tables)
 
-    abbrev pub Saturates : Result Recording RunFault → Type 0
-    Saturates (Ok recording) = HasItems recording
-    Saturates (Err run_fault.Budget) = IsOver
-    Saturates (Err run_fault.Memory) = Unit {0}
+    abbrev pub Finds : Result Recording RunFault → Type 0
+    Finds (Ok recording) = HasItems recording
+    Finds (Err run_fault.Budget) = IsOver
+    Finds (Err run_fault.Memory) = Unit {0}
 
     -- why there is no forest: want of memory may come at any time
     abbrev pub HasNone : ParseFault → Type 0

@@ -4,11 +4,12 @@ ghost use Rattle.ig_core_laws.specs.Lowered.{CoreOf, IsBuildable};
 ghost use Rattle.ig_item.specs.Core.{dots};
 ghost use Rattle.ig_item.specs.Limits.{most_dots};
 ghost use Rattle.ig_core.specs.declared.fault.CoreFault.TheVariants as core_fault;
-ghost use Rattle.ig_parse.specs.Parses.{AreReachable, IsTooMany, MayHaveForest, Parses, Saturates};
+ghost use Rattle.ig_parse.specs.Parses.{AreReachable, Finds, IsTooMany, MayHaveForest, Parses};
 ghost use Rattle.ig_query.specs.Report.{IsReport};
 ghost use Rattle.ig_parse.specs.declared.fault.ParseFault.TheVariants.{NoParse, TooManyDots};
 
 use crate::fault::ParseFault;
+use crate::run::run_in;
 use ig_core::{CoreFault, build};
 use ig_core_laws::{core_trees_are_permitted_trees, tags_rise_in_cores, values_are_those_of_core};
 use ig_forest::{
@@ -18,9 +19,9 @@ use ig_forest::{
 use ig_grammar::Checked;
 use ig_item::{Core, Items, Recorded, RunFault, complete_root_items_are_trees};
 use ig_meaning::derivations_are_annotated;
-use ig_plain::saturate_with_ways;
 use ig_print::Report;
 use ig_query::report;
+use ig_queue::Order;
 use ig_text::Text;
 use std::alloc::{AllocError, Global};
 use std::marker::Model;
@@ -77,18 +78,20 @@ impl<'g> Parser<'g> {
         &self.core
     }
 
-    /// The reachable items of the core grammar and the text, each once, and how they come about.
-    /// `Budget` comes exactly where there are more than `budget`, if memory doesn't run out before.
-    pub fn saturate<'p>(
+    /// The reachable items of the core grammar and the text, each once, and how they come about;
+    /// they are taken in that order, and are the same in each. `Budget` comes exactly where there
+    /// are more than `budget`, if memory doesn't run out before.
+    pub fn run<'p>(
         &'p self,
         alloc: Global,
         text: &'p Text,
         budget: u32,
+        order: Order,
     ) -> Result<Recorded<'p>, RunFault>
-        ensures { Saturates self.now text.now budget result }
+        ensures { Finds self.now text.now budget result }
     {
         let _nonterminals = self.core.nonterminals();
-        saturate_with_ways(alloc, &self.core, text, budget)
+        run_in(alloc, order, &self.core, text, budget)
     }
 
     /// The reduced forest of exactly the permitted trees of the whole text that was recorded with
@@ -133,7 +136,7 @@ impl<'g> Parser<'g> {
         ensures parses { Parses self.now text.now budget result }
         ensures dots { IfErr result (λ fault. fault ≢ TooManyDots) }
     {
-        let recorded = self.saturate(alloc, text, budget)?;
+        let recorded = self.run(alloc, text, budget, Order::Fifo)?;
         match self.forest(alloc, &recorded)? {
             Some(forest) => Ok(forest),
             None => {

@@ -2,9 +2,10 @@
 //!
 //! `parsing` parses, and tries parsers; its forests are walked and asked in `listings` and
 //! `queries`. The passes, the crates of their parts included, run there inside a parser, once over
-//! each form of symbol. `top_call` tries the commands over a shelf and sinks in memory, which may
-//! fail, `checks` those that tell facts of a grammar and check a forest, and `notations` those on
-//! texts of either notation. Tests of libraries by themselves stand in `ig_tests`.
+//! each form of symbol. `runs` goes by schedules of its own. `top_call` tries the commands over a
+//! shelf and sinks in memory, which may fail, `worked` has worked rows of each, `checks` tries
+//! those that tell facts of a grammar and check a forest, and `notations` those on texts of either
+//! notation. Tests of libraries by themselves stand in `ig_tests`.
 #![tactic(auto)]
 
 #[cfg(test)]
@@ -18,4 +19,8 @@ mod parsing;
 #[cfg(test)]
 mod queries;
 #[cfg(test)]
+mod runs;
+#[cfg(test)]
 mod top_call;
+#[cfg(test)]
+mod worked;

@@ -12,6 +12,7 @@ use ig_grammar::Checked;
 use ig_notation::{read, read_grammars_are_regular};
 use ig_parse::{ParseFault, Parser, parse};
 use ig_query::is_ambiguous;
+use ig_queue::Order;
 use ig_scope::check;
 use ig_sources::read_grammars_are_buildable;
 use ig_text::Text;
@@ -25,7 +26,7 @@ const LETTER: &str = "start S; syntax S = \"a\";";
 const BUDGET: u32 = 1_000_000;
 
 /// The grammar of the text, which can be built since it was read.
-fn checked(alloc: Global, source: &str) -> Result<Checked, Fail>
+pub(crate) fn checked(alloc: Global, source: &str) -> Result<Checked, Fail>
     ensures { IfOk result (λ checked. IsBuildable checked) }
 {
     read_grammars_are_regular();
@@ -165,7 +166,7 @@ fn tells_facts(rt: HostRuntime) -> Result<(), Fail> {
 
 /// The numbers of items and of nodes, which the parser finds of the text one by one.
 fn counts_of(alloc: Global, parser: &Parser<'_>, text: &Text) -> Result<(u32, u32), Fail> {
-    let recorded = parser.saturate(alloc, text, BUDGET)?;
+    let recorded = parser.run(alloc, text, BUDGET, Order::Fifo)?;
     let nodes = match parser.forest(alloc, &recorded)? {
         Some(forest) => forest.nodes(),
         None => 0,
@@ -175,7 +176,7 @@ fn counts_of(alloc: Global, parser: &Parser<'_>, text: &Text) -> Result<(u32, u3
 
 /// How far the parser's items come in the text.
 fn position_of(alloc: Global, parser: &Parser<'_>, text: &Text) -> Result<u32, Fail> {
-    let recorded = parser.saturate(alloc, text, BUDGET)?;
+    let recorded = parser.run(alloc, text, BUDGET, Order::Fifo)?;
     let report = parser.report(alloc, recorded.items(), text)?;
     Ok(report.position)
 }

@@ -23,8 +23,9 @@ use Rattle.ig_calls.specs.declared.waiting.Waiting.{Waiting}
 use Rattle.ig_calls.specs.declared.waiting.Called.{Called}
 use Rattle.ig_calls.specs.declared.waiting.Caller.{Caller}
 use Rattle.ig_plain.specs.Found.{means, instances_in, found_in, later_in, taken_in, Named, Adds}
-use Rattle.ig_plain.specs.Rules as rules
-use Rattle.ig_plain.specs.Rules.{After, IsCaller, IsPastCall}
+use Rattle.ig_run_laws.specs.Rules as rules
+use Rattle.ig_moves.specs.Rules.{IsPastCall}
+use Rattle.ig_run_laws.specs.Rules.{After, IsCaller}
 use Rattle.ig_calls.specs.Waiting.{called_at, not_called, lengthened, first_or, with_caller}
 use Rattle.ig_plain.specs.Run.{Chains, ChainEnds, HasCallers, HasEnd, IsWaiting, IsRun, IsTaken}
 use Rattle.ig_plain.proofs.Extending.{extends_itself}
@@ -237,7 +238,7 @@ module _ (core : List Nonterminal) (text : List ℕ) (law : ReachableIsClosed) (
       end_within v.callers.items (called_at v i).first (called_at v i).last h.ended
 
   -- what follows: the first items, which are there, and where the callee ended here, the item after the call
-  sorts : (x : Item) → After core text (taken_in s k) one x →
+  sorts : (x : Item) → After core text (Contains (taken_in s k)) one x →
       Contains (found_in s ++ later_in s) x ⊎
       (HasEnd core (taken_in s k) callee p × MatchesNone text excluded one.position p × (x ≡ past one (span_of label one.position p) p))
   sorts x (rules.test names e before holds f) = let z = one_step core text one names calls.names _ _ before calls.before in cc
@@ -291,7 +292,7 @@ module _ (core : List Nonterminal) (text : List ℕ) (law : ReachableIsClosed) (
         end : HasEnd core (taken_in s k) callee p
         end = (r.waiting.ends i callee (called_at v i) there there_known).0 is
 
-        sound : (x : Item) → IsPastCall text label excluded p one x → After core text (taken_in s k) one x
+        sound : (x : Item) → IsPastCall text label excluded p one x → After core text (Contains (taken_in s k)) one x
         sound x m =
             rules.return end.item label excluded end.among (subst (λ (z : Instance). Calls core text one z label excluded) (sym end.of) calls) end.complete
             (subst (λ (n : ℕ). MatchesNone text excluded one.position n) (sym end.ends) m.0)

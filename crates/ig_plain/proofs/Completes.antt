@@ -7,7 +7,7 @@ use Rattle.ig_text.proofs.Lists.{contains_from_at, same_map}
 use Rattle.ig_item.specs.Step.{Call}
 use Rattle.ig_item.specs.Core.{IsAlternative}
 use Rattle.ig_item.specs.Items as items
-use Rattle.ig_item.specs.Items.{Item, Follows, Reachable, IsComplete, Calls, MatchesNone, StandsBefore, past, span_of, first}
+use Rattle.ig_item.specs.Items.{Item, IsComplete, Calls, MatchesNone, past, span_of, first, Follows, Reachable, StandsBefore}
 use Rattle.ig_item.specs.Laws.{ReachableIsClosed}
 use Rattle.ig_item.specs.Tables.{instance_by}
 use Rattle.ig_item.specs.WellKinded.{NoneTwice}
@@ -19,10 +19,11 @@ use Rattle.ig_item.specs.declared.run_fault.RunFault.{RunFault}
 use Rattle.ig_plain.specs.declared.found.Found.{Found}
 use Rattle.ig_calls.specs.declared.waiting.Waiting.{Waiting}
 use Rattle.ig_calls.specs.declared.waiting.Called.{Called}
-use Rattle.ig_plain.specs.Tables.{no_key}
+use Rattle.ig_moves.specs.Tables.{no_key}
+use Rattle.ig_run_laws.specs.Rules.{After, IsCaller}
 use Rattle.ig_plain.specs.Found.{means, instances_in, found_in, later_in, taken_in, Named, Grows, Adds}
-use Rattle.ig_plain.specs.Rules as rules
-use Rattle.ig_plain.specs.Rules.{After, IsCaller, StandsAtCall, IsReturn}
+use Rattle.ig_run_laws.specs.Rules as rules
+use Rattle.ig_plain.specs.Rules.{StandsAtCall, IsReturn}
 use Rattle.ig_calls.specs.Waiting.{called_at, not_called, with_end}
 use Rattle.ig_plain.specs.Run.{HasCallers, IsWaiting, IsRun, IsTaken, Taking, IsChainOf, IsReturnToOne}
 use Rattle.ig_plain.proofs.Growth.{grows_not, means_grown, named_grown, all_kept, instance_kept}
@@ -81,7 +82,7 @@ module _ (core : List Nonterminal) (text : List ℕ) (law : ReachableIsClosed) (
 
   module _ (complete : IsComplete core it) where
     -- what follows comes from a caller
-    by_return : (x : Item) → After core text (taken_in s k) it x →
+    by_return : (x : Item) → After core text (Contains (taken_in s k)) it x →
         (caller : Item) × (label : Option (List ℕ)) × (excluded : List Pattern) × Contains (taken_in s k) caller ×
         Calls core text caller it.instance label excluded × MatchesNone text excluded caller.position it.position ×
         (x ≡ past caller (span_of label caller.position it.position) it.position)
@@ -134,7 +135,7 @@ module _ (core : List Nonterminal) (text : List ℕ) (law : ReachableIsClosed) (
     abbrev Returned : Item → Type 0
     Returned = IsReturnToOne core text w.callers.items head p s
 
-    sound : (x : Item) → Returned x → After core text (taken_in s k) it x
+    sound : (x : Item) → Returned x → After core text (Contains (taken_in s k)) it x
     sound x m =
         let among = subst (λ (z : List stored.Item). Contains z m.caller) (one_chain w.callers.items head m.chain m.chained waits.chain waits.chained) m.among in
         let q = waits.callers m.caller among in
@@ -149,7 +150,7 @@ module _ (core : List Nonterminal) (text : List ℕ) (law : ReachableIsClosed) (
         (m.returns.is ∙ ap (λ (z : Option (List ℕ)). past (means s m.caller) (span_of z m.caller.position p) p) label ∙
         ap (λ (n : ℕ). past (means s m.caller) (span_of q.1.label m.caller.position n) n) (sym here))
 
-    complete_one : (x : Item) → After core text (taken_in s k) it x → Returned x
+    complete_one : (x : Item) → After core text (Contains (taken_in s k)) it x → Returned x
     complete_one x a =
         let h = by_return x a in
         let q = waits.all h.0 h.3 (record { label = h.1; excluded = h.2; calls = h.4 }) in

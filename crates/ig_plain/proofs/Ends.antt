@@ -19,7 +19,7 @@ use Rattle.ig_item.specs.declared.items.InstanceKey.{InstanceKey}
 use Rattle.ig_item.specs.declared.items.Item as stored
 use Rattle.ig_plain.specs.declared.found.Found.{Found}
 use Rattle.ig_calls.specs.declared.waiting.Waiting.{Waiting}
-use Rattle.ig_plain.specs.Tables.{IsNamed, no_key}
+use Rattle.ig_moves.specs.Tables.{IsNamed, no_key}
 use Rattle.ig_plain.specs.Found.{means, found_in, later_in, taken_in, Named}
 use Rattle.ig_plain.specs.Run.{IsRun}
 use Rattle.ig_plain.proofs.Growth.{found_named}
@@ -92,34 +92,9 @@ module _ (core : List Nonterminal) (text : List ℕ) (law : ItemsAreInText) (bud
   pub none_twice : NoneTwice (items_of tables)
   none_twice = subst NoneTwice (sym items_same) once
 
-  pub items_few : length (s.done.items ++ s.here.items) ≤ budget
-  items_few =
-      let b = length-append s.done.items s.here.items in let c = ap length no_later in let l = r.taking.within in omega (arith, b, c, l)
-
   pub no_more : MoreThan core text budget → ⊥
   no_more m =
       let l = at_most m.items (found_in s) m.different (λ x c. complete x (m.reachable x c)) in let f = few in let n = m.more in omega (arith, l, f, n)
 
   pub keys_once : NoneTwice tables.instances
   keys_once = instances_once s r.taking.stored.tables.environments r.taking.stored.tables.instances
-
--- tables that are complete
-pub are_tables : (envs table : List (List Value)) (ks keys : List InstanceKey) (items all : List stored.Item) → table ≡ envs → keys ≡ ks → items ≡ all →
-    ((x : stored.Item) → Contains all x → IsNamed envs ks x) → length envs < 4294967296 → length ks < 4294967296 → length all < 4294967296 →
-    AreTables (tables_by keys table items)
-are_tables envs table ks keys items all table_is keys_are items_are named few_envs few_keys few_items =
-    let n = length-map keys (instance_by table) ∙ ap length keys_are in
-    let m = ap length table_is in
-    let i = ap length items_are in
-    record {
-      instances_there = λ x c. let h = (named x (subst (λ (z : List stored.Item). Contains z x) items_are c)).instance in omega (arith, h, n);
-      environments_there = λ x c. let h = (named x (subst (λ (z : List stored.Item). Contains z x) items_are c)).env in omega (arith, h, m);
-      few_instances = omega (arith, n, few_keys);
-      few_environments = omega (arith, m, few_envs);
-      few_items = omega (arith, i, few_items);
-    }
-
-pub same_tables : (envs table : List (List Value)) (ks keys : List InstanceKey) (items all : List stored.Item) → table ≡ envs → keys ≡ ks → items ≡ all →
-    tables_by keys table items ≡ tables_by ks envs all
-same_tables envs table ks keys items all a b c =
-    ap (λ (z : List (List Value)). tables_by keys z items) a ∙ ap (λ (z : List InstanceKey). tables_by z envs items) b ∙ ap (tables_by ks envs) c

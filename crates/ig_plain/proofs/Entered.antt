@@ -20,9 +20,9 @@ use Rattle.ig_plain.specs.declared.trail.Trail.{Trail}
 use Rattle.ig_calls.specs.declared.waiting.Waiting.{Waiting}
 use Rattle.ig_calls.specs.declared.waiting.Called.{Called}
 use Rattle.ig_tables.specs.Extends.{Extends, IsNew}
-use Rattle.ig_plain.specs.Tables.{no_key}
+use Rattle.ig_moves.specs.Tables.{no_key}
+use Rattle.ig_run_laws.specs.Rules.{IsFirstOf}
 use Rattle.ig_plain.specs.Found.{means, found_in, taken_in, instances_in, Named, IsStored, Adds}
-use Rattle.ig_plain.specs.Rules.{IsFirstOf}
 use Rattle.ig_calls.specs.Waiting.{not_called}
 use Rattle.ig_plain.specs.Run.{IsRun}
 use Rattle.ig_plain.specs.Trail.{By, Records, FollowTrail, HasTrail, AreKnown, Unfound}
@@ -141,7 +141,7 @@ module _ (core : List Nonterminal) (text : List ℕ) (budget k : ℕ) (key : Ins
       (items_once key.start t (stored_grown key.start (IsFirstOf core callee) s1 t taking.stored d.grows))
       (taken_grown key.start (IsFirstOf core callee) s1 t k d.grows taking.few)
       rec.ends
-      (λ way x q. subst (IsWay core text (Contains (taken_in s1 k)) (found_in t) x) (sym q.0) (ways.begin (ap (λ (z : Item). z.dot) q.1.4)))
+      (λ way x q. subst (IsWay core text (Contains (taken_in s1 k)) (found_in t) x) (sym q.0) (ways.begin (ap (λ (z : Item). z.dot) q.1.is)))
       (known_more core s1 t v.callers.items
       (record {
         more = d.grows.here.more;
@@ -173,6 +173,6 @@ new_firsts core s s1 key i envs_once once new envs done here later x m c =
     subst (λ (z : List InstanceKey). Contains z key) (sym new.added) (Contains-append_right s.keys (key ∷ []) key (it_is_in key)) in
     let same : its ≡ key =
     one_instance s1.envs.keys s1.keys (subst NoneTwice (sym envs) envs_once) once s1.named.values its key its_there key_there
-    (ap (λ (z : Item). z.instance) (u.2 ∙ m.4)) in
+    (ap (λ (z : Item). z.instance) (u.2 ∙ m.is)) in
     let old : its ≡ slice_index_or s.keys u.0.instance no_key = extends_or s.keys s1.keys u.0.instance no_key grown inside.instance in
     new.new (contains_from_at s.keys u.0.instance key (slice_get-get_or s.keys u.0.instance no_key inside.instance ∙ ap Some (sym old ∙ same)))

@@ -1,5 +1,5 @@
 -- The first items of an instance.
-use Rattle.std.proofs.Common.{◌≡◌, ◌⊎◌, ⊎_elim, inl, inr, ℕ, zero, suc, ◌+◌, ◌<◌, ◌≤◌, List, [], ◌++◌, Some, Contains, None, Option, length, refl, sym, ap, ◌∙◌, arith, slice_get}
+use Rattle.std.proofs.Common.{◌≡◌, ◌⊎◌, ⊎_elim, inl, inr, ℕ, zero, suc, ◌+◌, ◌<◌, ◌≤◌, List, [], ◌++◌, Some, Contains, None, Option, length, refl, sym, ap, ◌∙◌, subst, arith, slice_get}
 use Rattle.std.specs.Prelude.{Result, Ok, Err, slice_index_or, option_map}
 use Rattle.std.proofs.lemmas.Option.{same_Some, slice_get_within, get_or_from_slice_get}
 use Rattle.std.proofs.lemmas.List.Elements.{Contains-append_right}
@@ -16,16 +16,14 @@ use Rattle.ig_item.specs.declared.run_fault.RunFault.{RunFault}
 use Rattle.ig_item.specs.declared.ways.Way.TheVariants.{Begin}
 use Rattle.ig_plain.specs.declared.found.Found.{Found}
 use Rattle.ig_plain.specs.declared.trail.Trail.{Trail}
-use Rattle.ig_plain.specs.Tables.{no_key}
+use Rattle.ig_moves.specs.Tables.{no_key, first_stored}
+use Rattle.ig_run_laws.specs.Rules.{IsFirstOf}
 use Rattle.ig_plain.specs.Found.{means, Named, Grows, Adds}
-use Rattle.ig_plain.specs.Rules.{IsFirst, IsFirstOf}
+use Rattle.ig_plain.specs.Rules.{IsFirst}
 use Rattle.ig_plain.specs.Trail.{By, Records, Unfound}
 use Rattle.ig_plain.proofs.Growth.{grows_weaker, longer, instance_kept, extends_or, extends_cases, means_grown}
 use Rattle.ig_plain.proofs.Additions.{adds_nothing, adds_alike, adds_then}
 use Rattle.ig_plain.proofs.Recording.{records_nothing, records_same, records_then}
-
-abbrev pub first_stored : ℕ → InstanceKey → ℕ → stored.Item
-first_stored instance key n = record { instance = instance; alternative = n + 1; dot = 0; env = key.env; position = key.start }
 
 module _ (core : List Nonterminal) (instance : ℕ) (key : InstanceKey) (budget : ℕ) (a : Found)
     (at : slice_get a.keys instance ≡ Some key) where
@@ -38,11 +36,11 @@ module _ (core : List Nonterminal) (instance : ℕ) (key : InstanceKey) (budget 
   pub no_firsts : slice_get core key.nonterminal ≡ None → Adds key.start (IsFirstOf core callee) budget a a (Ok tt)
   no_firsts none =
       adds_nothing key.start (IsFirstOf core callee) budget a
-      (λ x m. let e : None ≡ Some m.1 = sym none ∙ m.3.there in cc)
+      (λ x m. let e : None ≡ Some m.nonterminal = sym none ∙ m.has.there in cc)
 
   pub records_none : (t : Trail) → slice_get core key.nonterminal ≡ None → Records (By Begin (IsFirstOf core callee)) a a t t
   records_none t none =
-      records_nothing (By Begin (IsFirstOf core callee)) a t (λ w x m. let e : None ≡ Some m.1.1 = sym none ∙ m.1.3.there in cc)
+      records_nothing (By Begin (IsFirstOf core callee)) a t (λ w x m. let e : None ≡ Some m.1.nonterminal = sym none ∙ m.1.has.there in cc)
 
   never : (n : ℕ) → n ≤ 0 → (m : Nonterminal) → {c : CoreAlt} → IsAlternative core key.nonterminal n m c → ⊥
   never zero l m h = let e = h.has in cc
@@ -54,14 +52,15 @@ module _ (core : List Nonterminal) (instance : ℕ) (key : InstanceKey) (budget 
   pub records_begins : (t : Trail) → Records (By Begin (IsFirst core callee 0)) a a t t
   records_begins t = records_nothing (By Begin (IsFirst core callee 0)) a t (λ w x m. never m.1.number m.1.few m.1.nonterminal m.1.has)
 
-  pub first_named : (n : ℕ) (b : Found) → Grows key.start (IsFirst core callee n) a b → Named b (first_stored instance key n)
+  first_named : (n : ℕ) (b : Found) → Grows key.start (IsFirst core callee n) a b → Named b (first_stored instance key (n + 1))
   first_named n b g =
       record {
         instance = let l = slice_get_within a.keys instance key at in let e = ap length g.keys in omega (arith, l, e);
         env = let l = longer a.envs.keys b.envs.keys g.envs in let q = env_there in omega (arith, l, q);
       }
 
-  first_means : (n : ℕ) (b : Found) → Grows key.start (IsFirst core callee n) a b → means b (first_stored instance key n) ≡ first callee (n + 1)
+  first_means : (n : ℕ) (b : Found) → Grows key.start (IsFirst core callee n) a b → means b (first_stored instance key (n + 1)) ≡
+      first callee (n + 1)
   first_means n b g =
       let k : slice_index_or b.keys instance no_key ≡ key =
       ap (λ (z : List InstanceKey). slice_index_or z instance no_key) g.keys ∙ get_or_from_slice_get a.keys instance key no_key at in
@@ -93,13 +92,18 @@ module _ (core : List Nonterminal) (instance : ℕ) (key : InstanceKey) (budget 
       record { number = m.number; nonterminal = m.nonterminal; alternative = m.alternative; has = m.has; few = let l = m.few in omega (arith, l); is = m.is }
 
   first_of : (n : ℕ) (x : Item) → IsFirst core callee n x → IsFirstOf core callee x
-  first_of n x m = (m.number, m.nonterminal, m.alternative, m.has, m.is)
+  first_of n x m =
+      record { number = m.number; nonterminal = m.nonterminal; alternative = m.alternative; has = m.has; is = m.is }
 
   -- the next one, of a nonterminal that has so many alternatives
   module _ (n : ℕ) (nonterminal : Nonterminal) (b : Found) (there : slice_get core key.nonterminal ≡ Some nonterminal)
-      (lt : n < length nonterminal.alternatives) (g : Grows key.start (IsFirst core callee n) a b) where
-    abbrev next : stored.Item
-    next = first_stored instance key n
+      (lt : n < length nonterminal.alternatives) (g : Grows key.start (IsFirst core callee n) a b) (next : stored.Item)
+      (next_is : next ≡ first_stored instance key (n + 1)) where
+    next_means : means b next ≡ first callee (n + 1)
+    next_means = ap (means b) next_is ∙ first_means n b g
+
+    pub next_named : Named b next
+    next_named = subst (Named b) (sym next_is) (first_named n b g)
 
     is_first : (x : Item) → x ≡ means b next → IsFirst core callee (n + 1) x
     is_first x e =
@@ -110,18 +114,19 @@ module _ (core : List Nonterminal) (instance : ℕ) (key : InstanceKey) (budget 
           alternative = alt.0;
           has = record { there = there; has = numbered_next nonterminal n alt.0 alt.1 };
           few = omega arith;
-          is = e ∙ first_means n b g;
+          is = e ∙ next_means;
         }
 
     splits : (x : Item) → IsFirst core callee (n + 1) x → IsFirst core callee n x ⊎ (x ≡ means b next)
     splits x m =
-        ⊎_elim (λ (h : IsFirst core callee n x). inl h) (λ (h : x ≡ first callee (n + 1)). inr (h ∙ sym (first_means n b g))) (up_to n x m)
+        ⊎_elim (λ (h : IsFirst core callee n x). inl h) (λ (h : x ≡ first callee (n + 1)). inr (h ∙ sym next_means)) (up_to n x m)
 
     pub goes : (c : Found) (r : Result (Unit {0}) RunFault) → Adds key.start (IsFirst core callee n) budget a b (Ok tt) →
-        Adds key.start (λ x. x ≡ means b next) budget b c r → Adds key.start (IsFirst core callee (n + 1)) budget a c r
+        Adds next.position (λ x. x ≡ means b next) budget b c r → Adds key.start (IsFirst core callee (n + 1)) budget a c r
     goes c r d e =
         adds_then key.start (IsFirst core callee (n + 1)) (IsFirst core callee n) (λ x. x ≡ means b next) budget a b c r
-        (more_first n) is_first splits d e
+        (more_first n) is_first splits d
+        (subst (λ (p : ℕ). Adds p (λ x. x ≡ means b next) budget b c r) (ap (λ (z : stored.Item). z.position) next_is) e)
 
     pub records_goes : (c : Found) (t u v : Trail) → Records (By Begin (IsFirst core callee n)) a b t u →
         Records (By Begin (λ x. x ≡ means b next)) b c u v → Records (By Begin (IsFirst core callee (n + 1))) a c t v
@@ -140,14 +145,21 @@ module _ (core : List Nonterminal) (instance : ℕ) (key : InstanceKey) (budget 
         (mapped_in (means a) (a.done.items ++ a.here.items) next (Contains-append_right a.done.items a.here.items next h)))
         (λ (h : Contains g.here.more next).
         let m = g.each next h in
-        let numbers : m.number ≡ n + 1 = ap (λ (z : Item). z.alternative) (sym m.is ∙ first_means n b g) in
+        let numbers : m.number ≡ n + 1 = ap (λ (z : Item). z.alternative) (sym m.is ∙ next_means) in
         let few = m.few in omega (arith, numbers, few))
         (extends_cases a.here.items b.here.items next g.here c)
 
   few_firsts : (n : ℕ) (nonterminal : Nonterminal) → slice_get core key.nonterminal ≡ Some nonterminal → length nonterminal.alternatives ≤ n →
       (x : Item) → IsFirstOf core callee x → IsFirst core callee n x
   few_firsts n nonterminal there all x m =
-      record { number = m.0; nonterminal = m.1; alternative = m.2; has = m.3; few = within m.0 m.1 m.2 m.3; is = m.4 }
+      record {
+        number = m.number;
+        nonterminal = m.nonterminal;
+        alternative = m.alternative;
+        has = m.has;
+        few = within m.number m.nonterminal m.alternative m.has;
+        is = m.is;
+      }
     where
       within : (k : ℕ) (m : Nonterminal) (c : CoreAlt) → IsAlternative core key.nonterminal k m c → k ≤ n
       within zero m c h = omega arith

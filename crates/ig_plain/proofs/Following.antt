@@ -9,8 +9,8 @@ use Rattle.ig_item.specs.Items.{Item, Follows, Reachable, StandsBefore, IsComple
 use Rattle.ig_item.specs.Laws.{ReachableIsClosed}
 use Rattle.ig_item.specs.declared.core_grammar.Nonterminal.{Nonterminal}
 use Rattle.ig_item.specs.declared.core_grammar.CoreAlt.{CoreAlt}
-use Rattle.ig_plain.specs.Rules as rules
-use Rattle.ig_plain.specs.Rules.{After}
+use Rattle.ig_run_laws.specs.Rules as rules
+use Rattle.ig_run_laws.specs.Rules.{After}
 
 module _ (core : List Nonterminal) (text : List ℕ) where
   pub same_alternative : (n a : ℕ) (m k : Nonterminal) (u v : CoreAlt) → IsAlternative core n a m u → IsAlternative core n a k v → u ≡ v
@@ -31,33 +31,33 @@ module _ (core : List Nonterminal) (text : List ℕ) where
 
   -- what follows now followed before, or follows from the item that is taken now
   pub splits : (taken : List Item) (it x : Item) → Follows core text (Contains (taken ++ it ∷ [])) x →
-      Follows core text (Contains taken) x ⊎ After core text taken it x
+      Follows core text (Contains taken) x ⊎ After core text (Contains taken) it x
   splits taken it x (items.root y e) = inl (items.root y e)
   splits taken it x (items.test y names c z k before holds e) =
       ⊎_elim (λ (h : Contains taken y). inl (items.test y names c z h before holds e))
-      (λ (h : y ≡ it). inr (subst (λ (v : Item). After core text taken v z) h (rules.test names c before holds e))) (in_pushed taken it y k)
+      (λ (h : y ≡ it). inr (subst (λ (v : Item). After core text (Contains taken) v z) h (rules.test names c before holds e))) (in_pushed taken it y k)
   splits taken it x (items.bind y names name c v z k before has e) =
       ⊎_elim (λ (h : Contains taken y). inl (items.bind y names name c v z h before has e))
-      (λ (h : y ≡ it). inr (subst (λ (u : Item). After core text taken u z) h (rules.bind names name c v before has e))) (in_pushed taken it y k)
+      (λ (h : y ≡ it). inr (subst (λ (u : Item). After core text (Contains taken) u z) h (rules.bind names name c v before has e))) (in_pushed taken it y k)
   splits taken it x (items.terminal y names what label excluded j z k before matches free e) =
       ⊎_elim (λ (h : Contains taken y). inl (items.terminal y names what label excluded j z h before matches free e))
-      (λ (h : y ≡ it). inr (subst (λ (u : Item). After core text taken u z) h (rules.terminal names what label excluded j before matches free e)))
+      (λ (h : y ≡ it). inr (subst (λ (u : Item). After core text (Contains taken) u z) h (rules.terminal names what label excluded j before matches free e)))
       (in_pushed taken it y k)
   splits taken it x (items.call y callee label excluded nonterminal a alternative z k calls at e) =
       ⊎_elim (λ (h : Contains taken y). inl (items.call y callee label excluded nonterminal a alternative z h calls at e))
-      (λ (h : y ≡ it). inr (subst (λ (u : Item). After core text taken u z) h (rules.call callee label excluded nonterminal a alternative calls at e)))
+      (λ (h : y ≡ it). inr (subst (λ (u : Item). After core text (Contains taken) u z) h (rules.call callee label excluded nonterminal a alternative calls at e)))
       (in_pushed taken it y k)
   splits taken it x (items.return y done label excluded z k l calls complete free e) =
       ⊎_elim
       (λ (h : Contains taken y).
       ⊎_elim (λ (i : Contains taken done). inl (items.return y done label excluded z h i calls complete free e))
       (λ (i : done ≡ it).
-      inr (subst (λ (u : Item). After core text taken u z) i (rules.returned y label excluded h calls complete free e)))
+      inr (subst (λ (u : Item). After core text (Contains taken) u z) i (rules.returned y label excluded h calls complete free e)))
       (in_pushed taken it done l))
       (λ (h : y ≡ it).
       ⊎_elim
       (λ (i : Contains taken done).
-      inr (subst (λ (u : Item). After core text taken u z) h (rules.return done label excluded i calls complete free e)))
+      inr (subst (λ (u : Item). After core text (Contains taken) u z) h (rules.return done label excluded i calls complete free e)))
       (λ (i : done ≡ it).
       absurd (not_both y calls.names _ calls.before (subst (IsComplete core) (i ∙ sym h) complete)))
       (in_pushed taken it done l))
@@ -65,7 +65,7 @@ module _ (core : List Nonterminal) (text : List ℕ) where
 
   -- what follows from reachable items is reachable
   pub after_reachable : ReachableIsClosed → (taken : List Item) (it x : Item) → ((y : Item) → Contains taken y → Reachable core text y) →
-      Reachable core text it → After core text taken it x → Reachable core text x
+      Reachable core text it → After core text (Contains taken) it x → Reachable core text x
   after_reachable law taken it x all r (rules.test names e before holds f) = law core text x (items.test it names e x r before holds f)
   after_reachable law taken it x all r (rules.bind names name e v before has f) = law core text x (items.bind it names name e v x r before has f)
   after_reachable law taken it x all r (rules.terminal names what label excluded j before matches free e) =

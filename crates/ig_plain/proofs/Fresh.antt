@@ -1,18 +1,16 @@
 -- What the rules give an item by the step before which the previous one stands; and that an item behind a test, a binding or
 -- a terminal, which comes from one item, isn't found before that is taken.
-use Rattle.std.proofs.Common.{◌≡◌, ◌⊎◌, ⊎_elim, inl, inr, ℕ, suc, List, [], ◌∷◌, Option, Some, Contains, refl, sym, ap, ◌∙◌, subst, arith, slice_get, true}
+use Rattle.std.proofs.Common.{◌≡◌, ◌⊎◌, ⊎_elim, inl, inr, ℕ, suc, List, [], ◌∷◌, Option, Some, Contains, refl, sym, ap, ◌∙◌, subst, arith, slice_get}
 use Rattle.std.proofs.lemmas.List.{append-nil, same_from_push}
 use Rattle.std.proofs.lemmas.Option.{slice_get_within}
-use Rattle.ig_text.specs.Pattern.{Matches}
 use Rattle.ig_text.specs.declared.pattern.Pattern.{Pattern}
 use Rattle.ig_text.proofs.Lists.{at_from_contains, get_within}
 use Rattle.ig_expr.specs.Expression.{Expression}
 use Rattle.ig_expr.specs.declared.value.Value.{Value}
-use Rattle.ig_expr.specs.declared.value.Value.TheVariants.{Bool as truth}
 use Rattle.ig_item.specs.Step.{Step, Test, Bind, Term, Call}
 use Rattle.ig_item.specs.Core.{IsAlternative}
 use Rattle.ig_item.specs.Visible.{names_at}
-use Rattle.ig_item.specs.Items.{Item, Calls, IsComplete, StandsBefore, HasValue, MatchesNone, past, span_of}
+use Rattle.ig_item.specs.Items.{Item, Calls, IsComplete, StandsBefore, MatchesNone, past, span_of, HasValue}
 use Rattle.ig_item.specs.Gives as given
 use Rattle.ig_item.specs.Gives.{NodeKey, Taken, nothing, leaf, tree, Completes, Gives}
 use Rattle.ig_item.specs.Ways as ways
@@ -23,65 +21,17 @@ use Rattle.ig_item.specs.declared.ways.Way.{Way}
 use Rattle.ig_item.specs.declared.ways.Way.TheVariants.{Node}
 use Rattle.ig_plain.specs.declared.found.Found.{Found}
 use Rattle.ig_plain.specs.declared.trail.Trail.{Trail}
-use Rattle.ig_plain.specs.Rules.{IsBehind}
+use Rattle.ig_moves.specs.Laws.{BeforeTests, BeforeBinds, BeforeTerminals}
+use Rattle.ig_moves.specs.Rules.{IsBehind, IsBehindTest, IsBehindBind}
 use Rattle.ig_plain.specs.Found.{found_in}
 use Rattle.ig_plain.specs.Trail as trails
-use Rattle.ig_plain.specs.Trail.{FollowTrail, IsNodeAt, Unfound, IsBehindTest, IsBehindBind}
+use Rattle.ig_plain.specs.Trail.{FollowTrail, IsNodeAt, Unfound}
 use Rattle.ig_plain.proofs.Following.{one_step, not_both}
+use Rattle.ig_plain.proofs.Coming.{gives_passing, gives_reading}
 use Rattle.ig_plain.proofs.Terminals.{from_one, same_item}
-use Rattle.ig_plain.proofs.Calls.{visible_one, calls_one}
+use Rattle.ig_plain.proofs.Calls.{calls_one}
 
 module _ (core : List Nonterminal) (text : List ℕ) (known : Item → Type 0) where
-  -- behind a test
-  pub gives_test : (prev : Item) (what : Taken) (x : Item) (names : List (List ℕ)) (e : Expression) → Gives core text known prev what x →
-      StandsBefore core prev names (Test e) → (what ≡ nothing) × IsBehindTest text names e prev x
-  gives_test p w y names e (given.test prev ns f x k b holds is) before =
-      let z = one_step core text prev ns names (Test f) (Test e) b before in let q : f ≡ e = cc z in
-      let n = visible_one core text prev ns names (Test f) (Test e) b before in
-      (refl, (subst (λ a. HasValue text prev names a (truth true)) q (subst (λ a. HasValue text prev a f (truth true)) n holds), is))
-  gives_test p w y names e (given.bind prev ns name f v x k b has is) before = let z = one_step core text prev ns names _ _ b before in cc
-  gives_test p w y names e (given.terminal prev ns what l f j t x k b m free i is) before =
-      let z = one_step core text prev ns names _ _ b before in cc
-  gives_test p w y names e (given.return prev done l f key x k h c q free is) before =
-      let z = one_step core text prev c.names names _ _ c.before before in cc
-
-  -- behind a binding
-  pub gives_bind : (prev : Item) (what : Taken) (x : Item) (names : List (List ℕ)) (name : List ℕ) (e : Expression) →
-      Gives core text known prev what x →
-      StandsBefore core prev names (Bind name e) → (what ≡ nothing) × IsBehindBind text names e prev x
-  gives_bind p w y names name e (given.test prev ns f x k b holds is) before = let z = one_step core text prev ns names _ _ b before in cc
-  gives_bind p w y names name e (given.bind prev ns other f v x k b has is) before =
-      let z = one_step core text prev ns names (Bind other f) (Bind name e) b before in let q : f ≡ e = cc z in
-      let n = visible_one core text prev ns names (Bind other f) (Bind name e) b before in
-      (refl, (v, subst (λ a. HasValue text prev names a v) q (subst (λ a. HasValue text prev a f v) n has), is))
-  gives_bind p w y names name e (given.terminal prev ns what l f j t x k b m free i is) before =
-      let z = one_step core text prev ns names _ _ b before in cc
-  gives_bind p w y names name e (given.return prev done l f key x k h c q free is) before =
-      let z = one_step core text prev c.names names _ _ c.before before in cc
-
-  -- behind a terminal
-  pub gives_terminal : (prev : Item) (what : Taken) (x : Item) (names : List (List ℕ)) (pattern : Pattern) (label : Option (List ℕ))
-      (excluded : List Pattern) →
-      Gives core text known prev what x → StandsBefore core prev names (Term pattern label excluded) →
-      (what ≡ leaf (record { begin = prev.position; end = x.position })) × IsBehind text pattern label excluded prev x
-  gives_terminal p w y names pattern label excluded (given.test prev ns f x k b holds is) before =
-      let z = one_step core text prev ns names _ _ b before in cc
-  gives_terminal p w y names pattern label excluded (given.bind prev ns other f v x k b has is) before =
-      let z = one_step core text prev ns names _ _ b before in cc
-  gives_terminal p w y names pattern label excluded (given.terminal prev ns other l f j t x k b m free i is) before =
-      let z = one_step core text prev ns names (Term other l f) (Term pattern label excluded) b before in
-      let q : other ≡ pattern = cc z in let n : l ≡ label = cc z in let o : f ≡ excluded = cc z in (
-        i ∙ ap (λ a. leaf (record { begin = prev.position; end = a })) (sym (ap (λ (a : Item). a.position) is)),
-        (
-          j,
-          subst (λ a. Matches text a prev.position j) q m,
-          subst (λ a. MatchesNone text a prev.position j) o free,
-          is ∙ ap (λ a. past prev (span_of a prev.position j) j) n,
-        ),
-      )
-  gives_terminal p w y names pattern label excluded (given.return prev done l f key x k h c q free is) before =
-      let z = one_step core text prev c.names names _ _ c.before before in cc
-
   -- x is behind a call of the instance, of which a known item is complete where x stands
   pub record IsBehindCall (prev : Item) (callee : Instance) (label : Option (List ℕ)) (excluded : List Pattern) (what : Taken)
       (x : Item) : Type 0 where
@@ -176,35 +126,41 @@ module _ (core : List Nonterminal) (text : List ℕ) (known : Item → Type 0) w
       same_item it prev (sym a.instance ∙ b.instance) (sym a.alternative ∙ b.alternative) (cc dots) env position
 
   -- an item behind a test, a binding or a terminal comes from one item
-  from_test : (it prev : Item) (what : Taken) (x : Item) (names : List (List ℕ)) (e : Expression) → StandsBefore core it names (Test e) →
+  from_test : BeforeTests → (it prev : Item) (what : Taken) (x : Item) (names : List (List ℕ)) (e : Expression) → StandsBefore core it names (Test e) →
       IsBehindTest text names e it x → Gives core text known prev what x → it ≡ prev
-  from_test it prev what x names e before m g =
+  from_test law it prev what x names e before m g =
       let a = after_past it x _ _ m.1 in
       let b = gives_after prev what x g in
-      let h = gives_test prev what x names e g (stands_too it prev x names (Test e) a b before) in
+      let h =
+      gives_passing core text known (IsBehindTest text names e prev) prev what x
+      (law core text prev names e (stands_too it prev x names (Test e) a b before)) g in
       let same : past it [] it.position ≡ past prev [] prev.position = sym m.1 ∙ h.1.1 in
       one_before it prev x a b (sym (append-nil it.env) ∙ ap (λ (z : Item). z.env) same ∙ append-nil prev.env) (ap (λ (z : Item). z.position) same)
 
-  from_bind : (it prev : Item) (what : Taken) (x : Item) (names : List (List ℕ)) (name : List ℕ) (e : Expression) →
+  from_bind : BeforeBinds → (it prev : Item) (what : Taken) (x : Item) (names : List (List ℕ)) (name : List ℕ) (e : Expression) →
       StandsBefore core it names (Bind name e) →
       IsBehindBind text names e it x → Gives core text known prev what x → it ≡ prev
-  from_bind it prev what x names name e before m g =
+  from_bind law it prev what x names name e before m g =
       let a = after_past it x _ _ m.2 in
       let b = gives_after prev what x g in
-      let h = gives_bind prev what x names name e g (stands_too it prev x names (Bind name e) a b before) in
+      let h =
+      gives_passing core text known (IsBehindBind text names e prev) prev what x
+      (law core text prev names name e (stands_too it prev x names (Bind name e) a b before)) g in
       let same : past it (m.0 ∷ []) it.position ≡ past prev (h.1.0 ∷ []) prev.position = sym m.2 ∙ h.1.2 in
       one_before it prev x a b (same_from_push it.env prev.env m.0 h.1.0 (ap (λ (z : Item). z.env) same)).0 (ap (λ (z : Item). z.position) same)
 
-  from_terminal : (it prev : Item) (what : Taken) (x : Item) (names : List (List ℕ)) (pattern : Pattern) (label : Option (List ℕ))
+  from_terminal : BeforeTerminals → (it prev : Item) (what : Taken) (x : Item) (names : List (List ℕ)) (pattern : Pattern) (label : Option (List ℕ))
       (excluded : List Pattern) →
       StandsBefore core it names (Term pattern label excluded) → IsBehind text pattern label excluded it x → Gives core text known prev what x →
       it ≡ prev
-  from_terminal it prev what x names pattern label excluded before m g =
+  from_terminal law it prev what x names pattern label excluded before m g =
       let s = stands_too it prev x names (Term pattern label excluded) (after_past it x _ _ m.3) (gives_after prev what x g) before in
-      let h = gives_terminal prev what x names pattern label excluded g s in
+      let h =
+      gives_reading core text known (IsBehind text pattern label excluded prev) prev what x
+      (law core text prev names pattern label excluded s) g in
       from_one core text it prev x
-      (record { names = names; what = pattern; label = label; excluded = excluded; end = m.0; before = before; matches = m.1; is = m.3 })
-      (record { names = names; what = pattern; label = label; excluded = excluded; end = h.1.0; before = s; matches = h.1.1; is = h.1.3 })
+      (record { names = names; what = pattern; label = label; excluded = excluded; before = before; is = m })
+      (record { names = names; what = pattern; label = label; excluded = excluded; before = s; is = h.1 })
 
   -- an item begins an alternative, or a rule gives it
   given_by : (items : List Item) (x : Item) (way : Way) → IsWay core text known items x way →
@@ -273,17 +229,17 @@ module _ (core : List Nonterminal) (text : List ℕ) (s : Found) (trail : Trail)
       not_yet (subst (Contains taken) (sym (one g.0 g.1 g.2)) (known_by x g.0 g.1 g.2))
 
   -- what is behind the item that is taken next isn't found
-  pub new_test : (names : List (List ℕ)) (e : Expression) → StandsBefore core it names (Test e) → Unfound s (IsBehindTest text names e it)
-  new_test names e before x m c =
-      none_found x it.dot (ap (λ (z : Item). z.dot) m.1) (λ prev what g. from_test core text (Contains taken) it prev what x names e before m g) c
+  pub new_test : BeforeTests → (names : List (List ℕ)) (e : Expression) → StandsBefore core it names (Test e) → Unfound s (IsBehindTest text names e it)
+  new_test law names e before x m c =
+      none_found x it.dot (ap (λ (z : Item). z.dot) m.1) (λ prev what g. from_test core text (Contains taken) law it prev what x names e before m g) c
 
-  pub new_bind : (names : List (List ℕ)) (name : List ℕ) (e : Expression) → StandsBefore core it names (Bind name e) →
+  pub new_bind : BeforeBinds → (names : List (List ℕ)) (name : List ℕ) (e : Expression) → StandsBefore core it names (Bind name e) →
       Unfound s (IsBehindBind text names e it)
-  new_bind names name e before x m c =
-      none_found x it.dot (ap (λ (z : Item). z.dot) m.2) (λ prev what g. from_bind core text (Contains taken) it prev what x names name e before m g) c
+  new_bind law names name e before x m c =
+      none_found x it.dot (ap (λ (z : Item). z.dot) m.2) (λ prev what g. from_bind core text (Contains taken) law it prev what x names name e before m g) c
 
-  pub new_terminal : (names : List (List ℕ)) (pattern : Pattern) (label : Option (List ℕ)) (excluded : List Pattern) →
+  pub new_terminal : BeforeTerminals → (names : List (List ℕ)) (pattern : Pattern) (label : Option (List ℕ)) (excluded : List Pattern) →
       StandsBefore core it names (Term pattern label excluded) → Unfound s (IsBehind text pattern label excluded it)
-  new_terminal names pattern label excluded before x m c =
+  new_terminal law names pattern label excluded before x m c =
       none_found x it.dot (ap (λ (z : Item). z.dot) m.3)
-      (λ prev what g. from_terminal core text (Contains taken) it prev what x names pattern label excluded before m g) c
+      (λ prev what g. from_terminal core text (Contains taken) law it prev what x names pattern label excluded before m g) c

@@ -1,13 +1,12 @@
 -- Tables that grow at their end name what they named, and more items are found.
-use Rattle.std.proofs.Common.{◌≡◌, ◌⊎◌, ⊎_elim, inl, inr, ℕ, suc, ◌<◌, ◌≤◌, List, [], ◌++◌, Some, length, map, Contains, refl, sym, ap, ◌∙◌, subst, arith, slice_get, length-append, append_assoc}
-use Rattle.std.specs.Prelude.{slice_index_or, Option, None}
-use Rattle.std.specs.Option.{option_to_list}
+use Rattle.std.proofs.Common.{◌≡◌, ◌⊎◌, ⊎_elim, inl, inr, ℕ, ◌<◌, ◌≤◌, List, [], ◌++◌, Some, length, map, Contains, sym, ap, ◌∙◌, subst, arith, slice_get, length-append, append_assoc}
+use Rattle.std.specs.Prelude.{slice_index_or}
 use Rattle.std.proofs.lemmas.List.{append-nil, map-append}
-use Rattle.std.proofs.lemmas.Option.{slice_get-get_or, slice_get_within, get_or_from_slice_get}
+use Rattle.std.proofs.lemmas.Option.{slice_get-get_or, get_or_from_slice_get}
 use Rattle.std.proofs.lemmas.List.Elements.{Contains-append_left, Contains-append_right, Contains-append_cases}
 use Rattle.ig_text.proofs.Lists.{contains_from_at, left_at, none_in_nil, unmapped_in, same_map}
 use Rattle.ig_expr.specs.declared.value.Value.{Value}
-use Rattle.ig_item.specs.Items.{Item, past}
+use Rattle.ig_item.specs.Items.{Item}
 use Rattle.ig_item.specs.Tables.{instance_by, HaveValues}
 use Rattle.ig_item.specs.WellKinded.{NoneTwice}
 use Rattle.ig_item.specs.declared.items.Instance.{Instance}
@@ -15,7 +14,7 @@ use Rattle.ig_item.specs.declared.items.InstanceKey.{InstanceKey}
 use Rattle.ig_item.specs.declared.items.Item as stored
 use Rattle.ig_plain.specs.declared.found.Found.{Found}
 use Rattle.ig_tables.specs.Extends.{Extends}
-use Rattle.ig_plain.specs.Tables.{IsNamed, IsPast, item_by, no_key}
+use Rattle.ig_moves.specs.Tables.{IsNamed, item_by, no_key}
 use Rattle.ig_plain.specs.Found.{means, found_in, later_in, Named, Grows}
 
 module _ {X : Type 0} where
@@ -63,50 +62,6 @@ means_kept e f keys more x ex kx have n =
     let env = extends_or e f x.env [] ex n.env in
     ap (λ (z : Instance). record { instance = z; alternative = x.alternative; dot = x.dot; env = slice_index_or f x.env []; position = x.position }) instance ∙
     ap (λ (z : List Value). record { instance = instance_by e (slice_index_or keys x.instance no_key); alternative = x.alternative; dot = x.dot; env = z; position = x.position }) env
-
--- what the item after a step means
-pub past_means : (e f : List (List Value)) (keys : List InstanceKey) (it : stored.Item) (bound : Option Value) (end : ℕ) (x : stored.Item) →
-    Extends e f → HaveValues e keys → IsNamed e keys it → IsPast e f it bound end x →
-    item_by f keys x ≡ past (item_by e keys it) (option_to_list bound) end
-past_means e f keys it bound end x ex have n p =
-    let there = have (slice_index_or keys it.instance no_key) (key_there keys it.instance n.instance) in
-    let instance = ap (λ (k : ℕ). instance_by f (slice_index_or keys k no_key)) p.instance ∙ instance_kept e f (slice_index_or keys it.instance no_key) ex there in
-    let env = get_or_from_slice_get f x.env (slice_index_or e it.env [] ++ option_to_list bound) [] p.env in
-    λ i. record { instance = instance i; alternative = p.alternative i; dot = p.dot i; env = env i; position = p.position i }
-
-pub past_none : (e : List (List Value)) (it : stored.Item) (bound : Option Value) (end dot : ℕ) → it.env < length e → bound ≡ None → dot ≡ suc it.dot →
-    IsPast e e it bound end (record { instance = it.instance; alternative = it.alternative; dot = dot; env = it.env; position = end })
-past_none e it bound end dot lt none dot_is =
-    record {
-      instance = refl;
-      alternative = refl;
-      dot = dot_is;
-      position = refl;
-      env = slice_get-get_or e it.env [] lt ∙ ap Some (sym (append-nil (slice_index_or e it.env []))) ∙
-          ap (λ (z : Option Value). Some (slice_index_or e it.env [] ++ option_to_list z)) (sym none);
-    }
-
-pub past_named : (e f : List (List Value)) (keys : List InstanceKey) (it : stored.Item) (bound : Option Value) (end : ℕ) (x : stored.Item) →
-    IsNamed e keys it → IsPast e f it bound end x → IsNamed f keys x
-past_named e f keys it bound end x n p =
-    record {
-      instance = let q = p.instance in omega (arith, q, n.instance);
-      env = slice_get_within f x.env (slice_index_or e it.env [] ++ option_to_list bound) p.env;
-    }
-
--- what the item after a call that binds nothing means
-pub bare_means : (e : List (List Value)) (keys : List InstanceKey) (it : stored.Item) (end dot : ℕ) → dot ≡ suc it.dot →
-    item_by e keys (record { instance = it.instance; alternative = it.alternative; dot = dot; env = it.env; position = end }) ≡
-    past (item_by e keys it) [] end
-bare_means e keys it end dot is =
-    let env = sym (append-nil (slice_index_or e it.env [])) in
-    λ i. record {
-      instance = instance_by e (slice_index_or keys it.instance no_key);
-      alternative = it.alternative;
-      dot = is i;
-      env = env i;
-      position = end;
-    }
 
 module _ (p : ℕ) where
   -- nothing was added

@@ -19,7 +19,7 @@ use Rattle.ig_plain.specs.declared.found.Found.{Found}
 use Rattle.ig_calls.specs.declared.waiting.Waiting.{Waiting}
 use Rattle.ig_tables.specs.Extends.{Extends, IsNew}
 use Rattle.ig_plain.specs.Found.{means, instances_in, taken_in, Named, Adds}
-use Rattle.ig_plain.specs.Rules.{IsFirstOf}
+use Rattle.ig_run_laws.specs.Rules.{IsFirstOf}
 use Rattle.ig_calls.specs.Waiting.{not_called}
 use Rattle.ig_plain.specs.Run.{IsWaiting, IsRun, IsEntered, Refuses}
 use Rattle.ig_plain.proofs.Extending.{extends_same}
@@ -177,7 +177,13 @@ module _ (core : List Nonterminal) (text : List ℕ) (budget k : ℕ) (key : Ins
                   (λ (h : Contains (fresh ∷ []) callee).
                   let e : callee ≡ instance_by s1.envs.keys key = contains_one fresh callee h ∙ sym fresh_same in
                   d.has (first callee a)
-                  (a, nonterminal, alternative, subst (λ (z : Instance). IsAlternative core z.nonterminal a nonterminal alternative) e has, ap (λ (z : Instance). first z a) e))
+                  (record {
+                    number = a;
+                    nonterminal = nonterminal;
+                    alternative = alternative;
+                    has = subst (λ (z : Instance). IsAlternative core z.nonterminal a nonterminal alternative) e has;
+                    is = ap (λ (z : Instance). first z a) e;
+                  }))
                   (Contains-append_cases (instances_in s) (fresh ∷ []) callee
                   (subst (λ (z : List Instance). Contains z callee) (keeps.instances ∙ all_instances) c));
               waiting = subst (λ (z : List Item). IsWaiting core text key.start t z v) (sym (taken2 ∙ taken1))

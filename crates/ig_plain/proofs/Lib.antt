@@ -2,6 +2,7 @@ pub mod Extending
 pub mod Growth
 pub mod Additions
 pub mod Following
+pub mod Coming
 pub mod Distinct
 pub mod Adding
 pub mod Terminals
@@ -9,6 +10,7 @@ pub mod Trails
 pub mod Fresh
 pub mod Indexing
 pub mod Recording
+pub mod Behind
 pub mod Nodes
 pub mod Running
 pub mod Firsts
@@ -34,7 +36,6 @@ pub mod Starting
 pub mod Fewer
 pub mod Ends
 pub mod Ending
-pub mod Forms
 pub mod Listing
 pub mod Triangle
 pub mod PlainItems

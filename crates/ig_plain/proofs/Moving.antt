@@ -14,7 +14,7 @@ use Rattle.ig_calls.specs.declared.waiting.Called.{Called}
 use Rattle.ig_calls.specs.declared.waiting.Caller.{Caller}
 use Rattle.ig_tables.specs.Extends.{Extends}
 use Rattle.ig_plain.specs.Found.{means, instances_in, found_in, later_in, taken_in, count, Named, AreTables, IsStored, Grows}
-use Rattle.ig_plain.specs.Rules.{IsCaller}
+use Rattle.ig_run_laws.specs.Rules.{IsCaller}
 use Rattle.ig_calls.specs.Waiting.{not_called}
 use Rattle.ig_plain.specs.Run as run
 use Rattle.ig_plain.specs.Run.{HasCallers, HasEnd, IsWaiting, IsTaking, IsRun}

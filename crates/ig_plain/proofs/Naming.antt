@@ -9,7 +9,8 @@ use Rattle.ig_item.specs.declared.items.InstanceKey.{InstanceKey}
 use Rattle.ig_item.specs.declared.items.Item as stored
 use Rattle.ig_tables.specs.Extends.{Extends, Enters}
 use Rattle.ig_plain.specs.Arrival.{WereThere}
-use Rattle.ig_plain.specs.Tables.{AreNamed, IsNamed}
+use Rattle.ig_moves.specs.Tables.{IsNamed}
+use Rattle.ig_plain.specs.Tables.{AreNamed}
 use Rattle.ig_plain.proofs.Growth.{named_more, values_more}
 
 -- a list of named items to which one was pushed, if memory lasted

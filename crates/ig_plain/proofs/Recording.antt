@@ -1,35 +1,28 @@
 -- What is recorded of the ways to items, one after the other.
+use Rattle.ig_item.specs.declared.run_fault.RunFault.{RunFault}
 use Rattle.std.proofs.Common.{◌≡◌, ◌⊎◌, ⊎_elim, inl, inr, ℕ, zero, suc, ◌+◌, ◌<◌, List, [], ◌∷◌, ◌++◌, Some, length, Contains, refl, sym, ap, ◌∙◌, subst, arith, slice_get, length-append, append_assoc, map}
-use Rattle.std.specs.Prelude.{Result, Ok, Err, OnOk, Option, option_map}
-use Rattle.std.specs.Option.{option_to_list}
-use Rattle.std.proofs.lemmas.Result.{on_ok_weaker}
+use Rattle.std.specs.Prelude.{Result, Ok, Err, OnOk, option_map}
 use Rattle.std.proofs.lemmas.List.{map-append}
 use Rattle.std.proofs.lemmas.Option.{same_Some, slice_get_within, slice_get-map}
 use Rattle.std.proofs.lemmas.List.Elements.{Contains-append_right, Contains-append_cases}
-use Rattle.ig_text.specs.Pattern.{Matches}
-use Rattle.ig_text.specs.declared.pattern.Pattern.{Pattern}
 use Rattle.ig_text.proofs.Lists.{sides, right_at, none_in_nil, contains_one, it_is_in, get_within, mapped_in, same_map, contains_from_at}
-use Rattle.ig_item.specs.Items.{Item, MatchesNone, past, span_of}
+use Rattle.ig_item.specs.Items.{Item, MatchesNone, past}
 use Rattle.ig_item.specs.Ways.{WayLists, WayTo, found, again}
 use Rattle.ig_expr.specs.declared.value.Value.{Value}
 use Rattle.ig_item.specs.declared.items.InstanceKey.{InstanceKey}
 use Rattle.ig_item.specs.declared.items.Item as stored
-use Rattle.ig_item.specs.declared.run_fault.RunFault.{RunFault}
 use Rattle.ig_item.specs.declared.ways.Way.{Way}
-use Rattle.ig_item.specs.declared.ways.Way.TheVariants.{Leaf, Node}
+use Rattle.ig_item.specs.declared.ways.Way.TheVariants.{Node}
 use Rattle.ig_item.specs.declared.ways.FurtherWay.{FurtherWay}
 use Rattle.ig_plain.specs.declared.found.Found.{Found}
 use Rattle.ig_plain.specs.declared.trail.Trail.{Trail}
 use Rattle.ig_tables.specs.Extends.{Extends}
-use Rattle.ig_plain.specs.Tables.{item_by, IsPast}
-use Rattle.ig_plain.specs.Rules.{IsBehind}
+use Rattle.ig_moves.specs.Tables.{item_by}
 use Rattle.ig_plain.specs.Found.{means, found_in, later_in, Named}
 use Rattle.ig_tables.specs.Returned.{entry}
 use Rattle.ig_plain.specs.Trail.{IsRecorded, here, later, By, ComeByNodes, ComesOnce, IsIndexed, IsNodeAt, Pushes, Unfound, Records, RecordsLater, RecordsTerminal}
-use Rattle.ig_plain.proofs.Growth.{means_kept, past_means, found_named, longer, extends_at, extends_in, extends_then, extends_cases}
+use Rattle.ig_plain.proofs.Growth.{means_kept, found_named, longer, extends_at, extends_in, extends_then, extends_cases}
 use Rattle.ig_plain.proofs.Extending.{extends_itself, extends_by, extends_same}
-use Rattle.ig_text.proofs.Matching.{one_end}
-use Rattle.ig_plain.proofs.Terminals.{one_behind}
 use Rattle.ig_plain.proofs.Indexing.{indexed_same, indexed_once, indexed_node}
 
 -- what holds anyway holds where there is a value
@@ -340,48 +333,6 @@ pub records_same : (way : Way) (may other : Item → Type 0) (a b : Found) (t u 
 records_same way may other a b t u into back r =
     records_alike (By way may) (By way other) a b t u (λ w x m. (m.0, into x m.1)) (λ w x m. (m.0, back x m.1)) r
 
--- the item after a step was added in tables that grew before
-pub records_past : (a b c : Found) (t u : Trail) (way : Way) (it x : stored.Item) (bound : Option Value) (end : ℕ)
-    (r : Result (Unit {0}) RunFault) → OnOk r (Records (By way (λ z. z ≡ means b x)) b c t u) → Named a it →
-    IsPast a.envs.keys b.envs.keys it bound end x → Extends a.envs.keys b.envs.keys → b.keys ≡ a.keys → b.done.items ≡ a.done.items →
-    b.here.items ≡ a.here.items → b.later.items ≡ a.later.items →
-    OnOk r (Records (By way (λ z. z ≡ past (means a it) (option_to_list bound) end)) a c t u)
-records_past a b c t u way it x bound end r d named before envs keys done at behind =
-    on_ok_weaker r
-    (λ (e : Records (By way (λ z. z ≡ means b x)) b c t u).
-    records_after (By way (λ z. z ≡ past (means a it) (option_to_list bound) end)) a b c t u
-    (found_same a b envs more done at) (behind_same a b envs more behind)
-    (indexed_same a.done.items b.done.items a.here.items b.here.items t.ways.firsts t.ways.firsts t.returned t.returned done at refl refl)
-    (records_same way (λ z. z ≡ means b x) (λ z. z ≡ past (means a it) (option_to_list bound) end) b c t u (λ z e. e ∙ is) (λ z e. e ∙ sym is) e)) d
-  where
-    more : Extends a.keys b.keys
-    more = extends_same a.keys b.keys keys
-
-    is : means b x ≡ past (means a it) (option_to_list bound) end
-    is =
-        ap (λ (z : List InstanceKey). item_by b.envs.keys z x) keys ∙
-        past_means a.envs.keys b.envs.keys a.keys it bound end x envs a.named.values named before
-
--- where a condition holds, and where it doesn't
-pub records_where : (C : Type 0) (way : Way) (may : Item → Type 0) (a b : Found) (t u : Trail) → C → Records (By way may) a b t u →
-    Records (By way (λ x. C × may x)) a b t u
-records_where C way may a b t u holds r =
-    records_alike (By way may) (By way (λ x. C × may x)) a b t u (λ w x m. (m.0, (holds, m.1))) (λ w x m. (m.0, m.1.1)) r
-
-pub records_nowhere : (C : Type 0) (way : Way) (may : Item → Type 0) (a : Found) (t : Trail) → (C → ⊥) → Records (By way (λ x. C × may x)) a a t t
-records_nowhere C way may a t never = records_nothing (By way (λ x. C × may x)) a t (λ w x m. never m.1.0)
-
--- with the one value that there is
-pub records_with : {V : Type 0} (C : V → Type 0) (way : Way) (may : V → Item → Type 0) (v : V) (a b : Found) (t u : Trail) → C v →
-    ((w : V) → C w → w ≡ v) → Records (By way (may v)) a b t u → Records (By way (λ x. (w : V) × C w × may w x)) a b t u
-records_with {V} C way may v a b t u holds only r =
-    records_same way (may v) (λ x. (w : V) × C w × may w x) a b t u (λ x m. (v, holds, m))
-    (λ x m. subst (λ (w : V). may w x) (only m.0 m.1) m.2) r
-
-pub records_without : {V : Type 0} (C : V → Type 0) (way : Way) (may : V → Item → Type 0) (a : Found) (t : Trail) → ((w : V) → C w → ⊥) →
-    Records (By way (λ x. (w : V) × C w × may w x)) a a t t
-records_without {V} C way may a t never = records_nothing (By way (λ x. (w : V) × C w × may w x)) a t (λ w x m. never m.1.0 m.1.1)
-
 -- an item was added at a later position
 pub records_later : (n : ℕ) (x : stored.Item) (y : Item) (a b : Found) (t u : Trail) → Extends a.envs.keys b.envs.keys →
     b.keys ≡ a.keys → b.done.items ≡ a.done.items → b.here.items ≡ a.here.items → b.later.items ≡ a.later.items ++ x ∷ [] → means b x ≡ y →
@@ -396,28 +347,3 @@ records_later n x y a b t u envs keys done at behind is ways prevs returned =
       indexed = indexed_same a.done.items b.done.items a.here.items b.here.items t.ways.firsts u.ways.firsts t.returned u.returned done at
           (ap (λ (z : WayLists). z.firsts) ways) returned;
     }
-
--- behind a terminal
-module _ (text : List ℕ) (what : Pattern) (label : Option (List ℕ)) (excluded : List Pattern) (n : ℕ) (it : Item) (a : Found) (t : Trail) where
-  pub records_no_match : ((j : ℕ) → Matches text what it.position j → ⊥) → RecordsTerminal text what label excluded n it a a t t
-  records_no_match never =
-      here (records_nothing (By (Leaf n) (IsBehind text what label excluded it)) a t (λ w x m. never m.1.0 m.1.1))
-
-  pub records_excluded : (j : ℕ) → Matches text what it.position j → (MatchesNone text excluded it.position j → ⊥) →
-      RecordsTerminal text what label excluded n it a a t t
-  records_excluded j m never =
-      here (records_nothing (By (Leaf n) (IsBehind text what label excluded it)) a t
-      (λ w x q. never (subst (MatchesNone text excluded it.position) (one_end text what it.position q.1.0 j q.1.1 m) q.1.2)))
-
-  module _ (b : Found) (u : Trail) (j : ℕ) (m : Matches text what it.position j) (free : MatchesNone text excluded it.position j) where
-    only : (x : Item) → IsBehind text what label excluded it x → x ≡ past it (span_of label it.position j) j
-    only = one_behind text what label excluded 0 0 it a j m
-
-    pub records_here : Records (By (Leaf n) (λ x. x ≡ past it (span_of label it.position j) j)) a b t u →
-        RecordsTerminal text what label excluded n it a b t u
-    records_here r =
-        here (records_same (Leaf n) (λ x. x ≡ past it (span_of label it.position j) j) (IsBehind text what label excluded it) a b t u
-        (λ x e. (j, m, free, e)) only r)
-
-    pub records_behind : RecordsLater n (past it (span_of label it.position j) j) a b t u → RecordsTerminal text what label excluded n it a b t u
-    records_behind r = later (past it (span_of label it.position j) j) (j, m, free, refl) only r

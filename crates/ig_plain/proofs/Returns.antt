@@ -1,10 +1,9 @@
 -- Items behind calls, of a chain of callers.
 use Rattle.std.proofs.Common.{◌≡◌, ◌⊎◌, ⊎_elim, inl, inr, ℕ, zero, suc, ◌-◌, ◌<◌, List, [], ◌∷◌, ◌++◌, Some, Option, length, Contains, refl, sym, ap, ◌∙◌, subst, arith, slice_get, append_assoc}
-use Rattle.std.specs.Prelude.{IsTrue, None, Result, Ok, Err, option_and_then, slice_index_or}
+use Rattle.std.specs.Prelude.{IsTrue, Result, Ok, Err, option_and_then, slice_index_or}
 use Rattle.std.proofs.lemmas.List.{append-nil}
-use Rattle.std.proofs.lemmas.List.Elements.{All-nil, Contains-append_cases, Contains-append_left, Contains-append_right}
+use Rattle.std.proofs.lemmas.List.Elements.{Contains-append_cases, Contains-append_left, Contains-append_right}
 use Rattle.std.proofs.lemmas.Option.{same_Some, slice_get_within, get_or_from_slice_get}
-use Rattle.ig_text.specs.Pattern.{Matches}
 use Rattle.ig_text.specs.declared.pattern.Pattern.{Pattern}
 use Rattle.ig_text.proofs.Lists.{contains_from_at, it_is_in, contains_one, none_in_nil}
 use Rattle.ig_expr.specs.Expression.{Expression}
@@ -24,7 +23,8 @@ use Rattle.ig_plain.specs.declared.found.Found.{Found}
 use Rattle.ig_plain.specs.declared.trail.Trail.{Trail}
 use Rattle.ig_calls.specs.declared.waiting.Caller.{Caller}
 use Rattle.ig_plain.specs.Found.{means, Named, Adds}
-use Rattle.ig_plain.specs.Rules.{StandsAtBareCall, StandsAtCall, IsReturn, step_at, IsPastCall}
+use Rattle.ig_moves.specs.Rules.{step_at, IsPastCall}
+use Rattle.ig_plain.specs.Rules.{StandsAtBareCall, StandsAtCall, IsReturn}
 use Rattle.ig_plain.specs.Run as run
 use Rattle.ig_plain.specs.Run.{Chains, IsChainOf, IsReturnToOne}
 use Rattle.ig_plain.specs.Trail.{AreKnown, By, ComeByNodes, IsIndexed, IsReturnBy, Records}
@@ -75,24 +75,6 @@ module _ (core : List Nonterminal) (text : List ℕ) (it : Item) (end callee : �
   pub records_return : (way : Way) (a b : Found) (t u : Trail) → Records (By way (IsPastCall text label excluded end it)) a b t u →
       Records (By way (IsReturn core text it end)) a b t u
   records_return way a b t u r = records_same way (IsPastCall text label excluded end it) (IsReturn core text it end) a b t u into_return from_return r
-
--- the item after a call that has neither a label nor an excluded pattern
-module _ (core : List Nonterminal) (text : List ℕ) (it : Item) (end : ℕ) (bare : StandsAtBareCall core it) where
-  pub into_bare : (x : Item) → x ≡ past it [] end → IsReturn core text it end x
-  into_bare x e =
-      into_return core text it end bare.callee bare.arguments None [] bare.names bare.before x
-      (All-nil (λ (pattern : Pattern). Matches text pattern it.position end → ⊥), e)
-
-  from_bare : (x : Item) → IsReturn core text it end x → x ≡ past it [] end
-  from_bare x m = (from_return core text it end bare.callee bare.arguments None [] bare.names bare.before x m).1
-
-  pub bare_alike : (budget : ℕ) (a b : Found) (r : Result (Unit {0}) RunFault) → Adds end (λ x. x ≡ past it [] end) budget a b r →
-      Adds end (IsReturn core text it end) budget a b r
-  bare_alike budget a b r d = adds_alike end (λ x. x ≡ past it [] end) (IsReturn core text it end) budget a b r into_bare from_bare d
-
-  pub records_bare : (way : Way) (a b : Found) (t u : Trail) → Records (By way (λ x. x ≡ past it [] end)) a b t u →
-      Records (By way (IsReturn core text it end)) a b t u
-  records_bare way a b t u r = records_same way (λ x. x ≡ past it [] end) (IsReturn core text it end) a b t u into_bare from_bare r
 
 -- how many cells there are from a place + 1 on; none where that is 0
 abbrev pub remaining : ℕ → ℕ → ℕ

@@ -15,9 +15,10 @@ use Rattle.ig_item.specs.declared.run_fault.RunFault.{RunFault}
 use Rattle.ig_item.specs.declared.run_fault.RunFault.TheVariants.{Budget, Memory}
 use Rattle.ig_plain.specs.declared.found.Found.{Found}
 use Rattle.ig_tables.specs.Extends.{Extends}
-use Rattle.ig_plain.specs.Tables.{IsNamed}
+use Rattle.ig_moves.specs.Rules.{ReadsTo}
+use Rattle.ig_moves.specs.Tables.{IsNamed}
+use Rattle.ig_run_laws.specs.Rules.{After}
 use Rattle.ig_plain.specs.Found.{means, found_in, later_in, taken_in, count, Named, IsStored, Grows, GrowsLater, Has, Adds}
-use Rattle.ig_plain.specs.Rules.{After, IsPastTerminal}
 use Rattle.ig_plain.specs.Run.{IsTaking, Refuses}
 use Rattle.ig_plain.proofs.Growth.{extends_cases, means_list, all_kept, found_from, later_same, found_named, means_kept, named_more}
 use Rattle.ig_plain.proofs.Following.{splits, after_reachable}
@@ -78,13 +79,13 @@ module _ (core : List Nonterminal) (text : List ℕ) (law : ReachableIsClosed) (
   taken_reachable : (y : Item) → Contains (taken_in s k) y → Reachable core text y
   taken_reachable y c = r.reachable y (Contains-append_left (found_in s) (later_in s) y (taken_found s k y c))
 
-  pub follows_reachable : (x : Item) → After core text (taken_in s k) (means s item) x → Reachable core text x
+  pub follows_reachable : (x : Item) → After core text (Contains (taken_in s k)) (means s item) x → Reachable core text x
   follows_reachable x a = after_reachable core text law (taken_in s k) (means s item) x taken_reachable it_reachable a
 
   lt : k < length s.here.items
   lt = slice_get_within s.here.items k item at
 
-  module _ (may : Item → Type 0) (t : Found) (g : Grows p may s t) (sound : (x : Item) → may x → After core text (taken_in s k) (means s item) x) where
+  module _ (may : Item → Type 0) (t : Found) (g : Grows p may s t) (sound : (x : Item) → may x → After core text (Contains (taken_in s k)) (means s item) x) where
     reachable_now : (x : Item) → Contains (found_in t ++ later_in t) x → Reachable core text x
     reachable_now x c =
         ⊎_elim
@@ -102,7 +103,7 @@ module _ (core : List Nonterminal) (text : List ℕ) (law : ReachableIsClosed) (
     taken_now = taken_grown p may s t (suc k) g (omega (arith, lt)) ∙ taken_step s k item at
 
     pub takes_found : Has may t → count t ≤ budget →
-        ((x : Item) → After core text (taken_in s k) (means s item) x → may x ⊎ Contains (found_in s ++ later_in s) x) →
+        ((x : Item) → After core text (Contains (taken_in s k)) (means s item) x → may x ⊎ Contains (found_in s ++ later_in s) x) →
         IsTaking core text budget p (suc k) t
     takes_found has within complete =
         record {
@@ -110,7 +111,7 @@ module _ (core : List Nonterminal) (text : List ℕ) (law : ReachableIsClosed) (
           reachable = reachable_now;
           closed = λ x f.
               ⊎_elim (λ (h : Follows core text (Contains (taken_in s k)) x). all_kept p may s t g x (r.closed x h))
-              (λ (h : After core text (taken_in s k) (means s item) x).
+              (λ (h : After core text (Contains (taken_in s k)) (means s item) x).
               ⊎_elim (λ (i : may x). has x i) (λ (i : Contains (found_in s ++ later_in s) x). all_kept p may s t g x i) (complete x h))
               (splits core text (taken_in s k) (means s item) x
               (subst (λ (z : List Item). Follows core text (Contains z) x) taken_now f));
@@ -122,13 +123,13 @@ module _ (core : List Nonterminal) (text : List ℕ) (law : ReachableIsClosed) (
         }
 
   pub refuses : (may : Item → Type 0) (t : Found) (f : RunFault) → Adds p may budget s t (Err f) →
-      ((x : Item) → may x → After core text (taken_in s k) (means s item) x) → Refuses core text budget f
+      ((x : Item) → may x → After core text (Contains (taken_in s k)) (means s item) x) → Refuses core text budget f
   refuses may t Budget d sound = exceeds may t d.grows sound (d.fault refl)
   refuses may t Memory d sound = tt
 
   -- an item is added at a later position
-  module _ (x : Item) (t : Found) (g : GrowsLater p x s t) (past : IsPastTerminal core text (means s item) x)
-      (follows : After core text (taken_in s k) (means s item) x) where
+  module _ (x : Item) (t : Found) (g : GrowsLater p x s t) (past : ReadsTo core text (means s item) x)
+      (follows : After core text (Contains (taken_in s k)) (means s item) x) where
     kept_keys : Extends s.keys t.keys
     kept_keys = record { more = []; is = g.keys ∙ sym (append-nil s.keys) }
 
@@ -223,7 +224,7 @@ module _ (core : List Nonterminal) (text : List ℕ) (law : ReachableIsClosed) (
     pub exceeds_later : budget < count t → MoreThan core text budget
     exceeds_later more = too_many p t stored_later core text budget reachable_later more
 
-    pub takes_later : count t ≤ budget → ((y : Item) → After core text (taken_in s k) (means s item) y → y ≡ x) →
+    pub takes_later : count t ≤ budget → ((y : Item) → After core text (Contains (taken_in s k)) (means s item) y → y ≡ x) →
         IsTaking core text budget p (suc k) t
     takes_later within only =
         record {
@@ -231,7 +232,7 @@ module _ (core : List Nonterminal) (text : List ℕ) (law : ReachableIsClosed) (
           reachable = reachable_later;
           closed = λ y f.
               ⊎_elim (λ (h : Follows core text (Contains (taken_in s k)) y). all_later y (r.closed y h))
-              (λ (h : After core text (taken_in s k) (means s item) y).
+              (λ (h : After core text (Contains (taken_in s k)) (means s item) y).
               subst (Contains (found_in t ++ later_in t)) (sym (only y h)) there_later)
               (splits core text (taken_in s k) (means s item) y
               (subst (λ (z : List Item). Follows core text (Contains z) y) taken_later f));
@@ -243,7 +244,7 @@ module _ (core : List Nonterminal) (text : List ℕ) (law : ReachableIsClosed) (
               (λ (i : Contains (x ∷ []) y). (
                 means s item,
                 subst (λ (z : List Item). Contains z (means s item)) (sym taken_later) (Contains-append_right (taken_in s k) (means s item ∷ []) (means s item) (it_is_in (means s item))),
-                subst (IsPastTerminal core text (means s item)) (sym (contains_one x y i)) past,
+                subst (ReadsTo core text (means s item)) (sym (contains_one x y i)) past,
               ))
               (Contains-append_cases (later_in s) (x ∷ []) y (subst (λ (z : List Item). Contains z y) later_now c));
           few = let e = ap length g.here in omega (arith, lt, e);

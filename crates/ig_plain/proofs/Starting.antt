@@ -19,7 +19,7 @@ use Rattle.ig_calls.specs.declared.waiting.Waiting.{Waiting}
 use Rattle.ig_calls.specs.declared.waiting.Called.{Called}
 use Rattle.ig_calls.specs.declared.waiting.Caller.{Caller}
 use Rattle.ig_plain.specs.Found.{means, found_in, later_in, taken_in}
-use Rattle.ig_plain.specs.Rules.{IsFirstOf}
+use Rattle.ig_run_laws.specs.Rules.{IsFirstOf}
 use Rattle.ig_calls.specs.Waiting.{not_called}
 use Rattle.ig_plain.specs.Trail as trail
 use Rattle.ig_plain.specs.Trail.{IsRecorded, FollowTrail, HasTrail, Records, By, IsUntrodden}
@@ -84,7 +84,7 @@ module _ (core : List Nonterminal) (text : List ℕ) (root : Instance) (s t : Fo
   -- what is allowed begins
   begins : (way : Way) (x : Item) → By Begin (IsFirstOf core root) way x → IsWay core text (Contains known) (found_in t) x way
   begins way x m =
-      subst (IsWay core text (Contains known) (found_in t) x) (sym m.0) (ways.begin (ap (λ (z : Item). z.dot) m.1.4))
+      subst (IsWay core text (Contains known) (found_in t) x) (sym m.0) (ways.begin (ap (λ (z : Item). z.dot) m.1.is))
 
   sound : (way : Way) (x : Item) → IsRecorded t u way x → IsWay core text (Contains known) (found_in t) x way
   sound way x (trail.here k at to) =

@@ -24,7 +24,7 @@ use Rattle.ig_calls.specs.declared.waiting.Waiting.{Waiting}
 use Rattle.ig_calls.specs.declared.waiting.Called.{Called}
 use Rattle.ig_tables.specs.Extends.{IsNew}
 use Rattle.ig_plain.specs.Found.{means, instances_in, found_in, later_in, taken_in, count, IsStored, Grows, Adds}
-use Rattle.ig_plain.specs.Rules.{IsFirstOf}
+use Rattle.ig_run_laws.specs.Rules.{IsFirstOf}
 use Rattle.ig_calls.specs.Waiting.{not_called}
 use Rattle.ig_plain.specs.Run as run
 use Rattle.ig_plain.specs.Run.{IsRun, Refuses}
@@ -106,7 +106,8 @@ module _ (core : List Nonterminal) (text : List ℕ) (law : ReachableIsClosed) (
   reach : (x : Item) → IsFirstOf core root x → Reachable core text x
   reach x f =
       law core text x
-      (items.root x (f.4 ∙ ap (λ (z : Instance). first z f.0) root_is ∙ ap (first root_instance) (only_one f.0 f.1 f.2 f.3)))
+      (items.root x (f.is ∙ ap (λ (z : Instance). first z f.number) root_is ∙
+      ap (first root_instance) (only_one f.number f.nonterminal f.alternative f.has)))
 
   module _ (t : Found) (g : Grows 0 (IsFirstOf core root) s1 t) where
     reachable : (x : Item) → Contains (found_in t ++ later_in t) x → Reachable core text x
@@ -162,7 +163,14 @@ module _ (core : List Nonterminal) (text : List ℕ) (law : ReachableIsClosed) (
           reachable = reachable t d.grows;
           closed = λ x f.
               subst (Contains (found_in t ++ later_in t)) (sym (by_root t d.grows x f ∙ ap (λ (z : Instance). first z 1) (sym root_is)))
-              (d.has (first root 1) (1, kinded.root.nonterminal, kinded.root.alternative, one_alternative, refl));
+              (d.has (first root 1)
+              (record {
+                number = 1;
+                nonterminal = kinded.root.nonterminal;
+                alternative = kinded.root.alternative;
+                has = one_alternative;
+                is = refl;
+              }));
           came = λ x c. absurd (none_later t d.grows x c);
           few = omega arith;
           within = d.within (let e = count_1 in omega (arith, e));
@@ -170,7 +178,13 @@ module _ (core : List Nonterminal) (text : List ℕ) (law : ReachableIsClosed) (
         firsts = λ callee c a nonterminal alternative has.
             let e : callee ≡ root = contains_one root callee (subst (λ (z : List Instance). Contains z callee) all c) in
             d.has (first callee a)
-            (a, nonterminal, alternative, subst (λ (z : Instance). IsAlternative core z.nonterminal a nonterminal alternative) e has, ap (λ (z : Instance). first z a) e);
+            (record {
+              number = a;
+              nonterminal = nonterminal;
+              alternative = alternative;
+              has = subst (λ (z : Instance). IsAlternative core z.nonterminal a nonterminal alternative) e has;
+              is = ap (λ (z : Instance). first z a) e;
+            });
         waiting = record {
           lengths = ap length one ∙ sym (ap length all);
           callers = λ i callee c at known.

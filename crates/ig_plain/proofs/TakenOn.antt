@@ -1,4 +1,5 @@
 -- An item is taken: the ways to what follows from it are recorded.
+use Rattle.ig_expr.specs.Expression.{Expression}
 use Rattle.std.proofs.Common.{◌≡◌, ⊎_elim, inl, inr, ℕ, suc, ◌+◌, ◌<◌, List, [], ◌∷◌, ◌++◌, Some, Option, length, set, Contains, refl, sym, ap, ◌∙◌, subst, arith, slice_get, length-append}
 use Rattle.std.specs.Prelude.{Bool, IsTrue, Result, Ok, Err, OnOk}
 use Rattle.std.proofs.lemmas.List.{length-map}
@@ -6,9 +7,8 @@ use Rattle.std.proofs.lemmas.Option.{same_Some}
 use Rattle.std.proofs.lemmas.List.Elements.{Contains-append_cases}
 use Rattle.ig_text.specs.declared.pattern.Pattern.{Pattern}
 use Rattle.ig_text.proofs.Lists.{contains_from_at, contains_one, none_in_nil}
-use Rattle.ig_expr.specs.Expression.{Expression}
-use Rattle.ig_item.specs.Step.{Test, Bind, Term, Call}
-use Rattle.ig_item.specs.Items.{Item, Calls, IsComplete, StandsBefore, MatchesNone, past, span_of}
+use Rattle.ig_item.specs.Step.{Call}
+use Rattle.ig_item.specs.Items.{Item, Calls, IsComplete, MatchesNone, past, span_of, StandsBefore}
 use Rattle.ig_item.specs.Laws.{ReachableIsClosed, ItemsAreInText}
 use Rattle.ig_item.specs.Gives as given
 use Rattle.ig_item.specs.Gives.{NodeKey, Taken, nothing, leaf, tree, Completes, Gives}
@@ -27,16 +27,18 @@ use Rattle.ig_calls.specs.declared.waiting.Called.{Called}
 use Rattle.ig_calls.specs.declared.waiting.Caller.{Caller}
 use Rattle.ig_plain.specs.Found as found
 use Rattle.ig_plain.specs.Found.{means, found_in, later_in, taken_in, instances_in, Adds, AddsTerminal, GrowsLater}
-use Rattle.ig_plain.specs.Rules as rules
-use Rattle.ig_plain.specs.Rules.{IsBehind, IsReturn, StandsAtBareCall, StandsAtCall, IsPastCall}
+use Rattle.ig_run_laws.specs.Rules.{After}
+use Rattle.ig_moves.specs.Rules.{IsBehind, IsPastCall, Comes, NoItem, NoCall}
+use Rattle.ig_plain.specs.Rules.{IsReturn, StandsAtBareCall, StandsAtCall}
 use Rattle.ig_calls.specs.Waiting.{called_at, lengthened, with_caller, with_end}
 use Rattle.ig_plain.specs.Run as run
 use Rattle.ig_plain.specs.Run.{Chains, IsRun, IsReturnToOne}
 use Rattle.ig_plain.specs.Trail as trails
-use Rattle.ig_plain.specs.Trail.{By, Records, RecordsTerminal, RecordsLater, HasTrail, AreKnown, IsKnown, IsBehindTest, IsBehindBind, IsReturnBy}
+use Rattle.ig_plain.specs.Trail.{By, Records, RecordsTerminal, HasTrail, AreKnown, IsKnown, IsReturnBy, RecordsLater}
 use Rattle.ig_plain.proofs.Extending.{extends_same}
 use Rattle.ig_plain.proofs.Growth.{extends_at}
 use Rattle.ig_plain.proofs.Following.{one_step, not_both}
+use Rattle.ig_plain.proofs.Coming.{follows_read, gives_passing, gives_reading, gives_passed, gives_read}
 use Rattle.ig_plain.proofs.Running.{means_still, taken_later}
 use Rattle.ig_plain.proofs.Recording.{meant_at}
 use Rattle.ig_plain.proofs.Returns.{one_chain}
@@ -47,7 +49,7 @@ use Rattle.ig_plain.proofs.Alone.{keeps_later}
 use Rattle.ig_plain.proofs.Trails.{IsGivenBack, ends_none, ends_one, first_new, more_here, more_later, more_none}
 use Rattle.ig_plain.proofs.Indexing.{indexed_same}
 use Rattle.ig_plain.proofs.Links.{longer_from}
-use Rattle.ig_plain.proofs.Fresh.{gives_test, gives_bind, gives_terminal, gives_call, gives_calls, gives_nothing}
+use Rattle.ig_plain.proofs.Fresh.{gives_call, gives_nothing}
 use Rattle.ig_plain.proofs.Onward.{Goes, EndsAlike, ends_alike_itself, goes_here, goes_still, items_once, stored_at, at_now, grow, known_now, known_still, known_on, first_now, firsts_now, goes_on, goes_unfinished}
 
 -- each item of a chain is that of a cell
@@ -91,92 +93,76 @@ module _ (core : List Nonterminal) (text : List ℕ) (law : ReachableIsClosed) (
       (known_on core text p k s w trail item number r.taking.stored at is h t g v.callers.items callers) alike
   step_on may way t v u (Err f) d rec unfinished sound complete callers alike = tt
 
-  module _ (names : List (List ℕ)) where
-    -- an item before a test
-    pub test_on : (e : Expression) → StandsBefore core it names (Test e) → (t : Found) (u : Trail) (result : Result (Unit {0}) RunFault) →
-        Adds p (IsBehindTest text names e it) budget s t result →
-        OnOk result (Records (By (Pass number) (IsBehindTest text names e it)) s t trail u) →
-        OnOk result (HasTrail core text p (suc k) t w u)
-    test_on e before t u result d rec =
-        step_on (IsBehindTest text names e it) (Pass number) t w u result d rec (λ c. not_both core text it names _ before c)
-        (λ g x m. ways.comes (Pass number) it nothing (ways.pass number it (there t g)) (given.test it names e x is_known before m.0 m.1))
-        (λ g x what q.
-        let b = gives_test core text (Contains now) it what x names e q before in
-        (b.1, subst (Says core (Contains now) (found_in t) x.position (Pass number) it) (sym b.0) (ways.pass number it (there t g))))
-        h.callers (ends_alike_itself w)
+  -- an item that passes on
+  pub passing_on : (passes : Item → Type 0) → Comes core text it passes NoItem NoCall ⊥ → (t : Found) (u : Trail)
+      (result : Result (Unit {0}) RunFault) →
+      Adds p passes budget s t result → OnOk result (Records (By (Pass number) passes) s t trail u) →
+      OnOk result (HasTrail core text p (suc k) t w u)
+  passing_on passes c t u result d rec =
+      step_on passes (Pass number) t w u result d rec c.ending.0
+      (λ g x m.
+      ways.comes (Pass number) it nothing (ways.pass number it (there t g))
+      (gives_passed core text (Contains now) it x is_known ((c.passing x).1 m)))
+      (λ g x what q.
+      let b = gives_passing core text (Contains now) passes it what x c q in
+      (b.1, subst (Says core (Contains now) (found_in t) x.position (Pass number) it) (sym b.0) (ways.pass number it (there t g))))
+      h.callers (ends_alike_itself w)
 
-    -- an item before a binding
-    pub bind_on : (name : List ℕ) (e : Expression) → StandsBefore core it names (Bind name e) →
-        (t : Found) (u : Trail) (result : Result (Unit {0}) RunFault) →
-        Adds p (IsBehindBind text names e it) budget s t result →
-        OnOk result (Records (By (Pass number) (IsBehindBind text names e it)) s t trail u) →
-        OnOk result (HasTrail core text p (suc k) t w u)
-    bind_on name e before t u result d rec =
-        step_on (IsBehindBind text names e it) (Pass number) t w u result d rec (λ c. not_both core text it names _ before c)
-        (λ g x m. ways.comes (Pass number) it nothing (ways.pass number it (there t g)) (given.bind it names name e m.0 x is_known before m.1 m.2))
-        (λ g x what q.
-        let b = gives_bind core text (Contains now) it what x names name e q before in
-        (b.1, subst (Says core (Contains now) (found_in t) x.position (Pass number) it) (sym b.0) (ways.pass number it (there t g))))
-        h.callers (ends_alike_itself w)
+  -- an item that reads on
+  module _ (what : Pattern) (label : Option (List ℕ)) (excluded : List Pattern)
+      (c : Comes core text it NoItem (IsBehind text what label excluded it) NoCall ⊥) where
+    way_behind : (t : Found) → Goes s t k it → (x : Item) → IsBehind text what label excluded it x →
+        IsWay core text (Contains now) (found_in t) x (Leaf number)
+    way_behind t g x m =
+        ways.comes (Leaf number) it (leaf (record { begin = it.position; end = x.position }))
+        (ways.leaf number it (leaf (record { begin = it.position; end = x.position })) (there t g) refl)
+        (gives_read core text (Contains now) it x is_known ((c.reading x).1 m))
 
-    module _ (what : Pattern) (label : Option (List ℕ)) (excluded : List Pattern)
-        (before : StandsBefore core it names (Term what label excluded)) where
-      way_behind : (t : Found) → Goes s t k it → (x : Item) → IsBehind text what label excluded it x →
-          IsWay core text (Contains now) (found_in t) x (Leaf number)
-      way_behind t g x m =
-          ways.comes (Leaf number) it (leaf (record { begin = it.position; end = x.position }))
-          (ways.leaf number it (leaf (record { begin = it.position; end = x.position })) (there t g) refl)
-          (given.terminal it names what label excluded m.0 (leaf (record { begin = it.position; end = x.position })) x is_known before m.1 m.2
-          (ap (λ (a : ℕ). leaf (record { begin = it.position; end = a })) (ap (λ (z : Item). z.position) m.3)) m.3)
+    says_behind : (t : Found) → Goes s t k it → (x : Item) (taken : Taken) → Gives core text (Contains now) it taken x →
+        IsBehind text what label excluded it x × Says core (Contains now) (found_in t) x.position (Leaf number) it taken
+    says_behind t g x taken q =
+        let b = gives_reading core text (Contains now) (IsBehind text what label excluded it) it taken x c q in
+        (b.1, ways.leaf number it taken (there t g) b.0)
 
-      says_behind : (t : Found) → Goes s t k it → (x : Item) (taken : Taken) → Gives core text (Contains now) it taken x →
-          IsBehind text what label excluded it x × Says core (Contains now) (found_in t) x.position (Leaf number) it taken
-      says_behind t g x taken q =
-          let b = gives_terminal core text (Contains now) it taken x names what label excluded q before in
-          (b.1, ways.leaf number it taken (there t g) b.0)
+    follows : (x : Item) → IsBehind text what label excluded it x → After core text (Contains (taken_in s k)) it x
+    follows = follows_read core text it NoItem (IsBehind text what label excluded it) c (Contains (taken_in s k))
 
-      goes_later : (x : Item) (t : Found) → IsBehind text what label excluded it x → GrowsLater p x s t → found_in t ≡ found_in s → Goes s t k it
-      goes_later x t m g same =
-          record {
-            found = extends_same (found_in s) (found_in t) same;
-            once = subst (λ (z : List Item). (i j : ℕ) (y : Item) → slice_get z i ≡ Some y → slice_get z j ≡ Some y → i ≡ j) (sym same)
-                (items_once p s r.taking.stored);
-            instances = (keeps_later core text law budget p k s w item here r at names what label excluded before x t m g).instances;
-            taken = taken_later core text law budget p k s item r.taking at x t g past_terminal
-                (rules.terminal names what label excluded m.0 before m.1 m.2 m.3);
-            numbers = extends_same (s.done.items ++ s.here.items) (t.done.items ++ t.here.items)
-                (ap (λ (z : List stored.Item). z ++ t.here.items) g.done ∙ ap (λ (z : List stored.Item). s.done.items ++ z) g.here);
-            same = means_still core text law budget p k s item r.taking at x t g past_terminal
-                (rules.terminal names what label excluded m.0 before m.1 m.2 m.3);
-          }
-        where
-          past_terminal : rules.IsPastTerminal core text it x
-          past_terminal =
-              record { names = names; what = what; label = label; excluded = excluded; end = m.0; before = before; matches = m.1; is = m.3 }
+    goes_later : (x : Item) (t : Found) → IsBehind text what label excluded it x → GrowsLater p x s t → found_in t ≡ found_in s → Goes s t k it
+    goes_later x t m g same =
+        record {
+          found = extends_same (found_in s) (found_in t) same;
+          once = subst (λ (z : List Item). (i j : ℕ) (y : Item) → slice_get z i ≡ Some y → slice_get z j ≡ Some y → i ≡ j) (sym same)
+              (items_once p s r.taking.stored);
+          instances = (keeps_later core text law budget p k s w item here r at what label excluded c x t m g).instances;
+          taken = taken_later core text law budget p k s item r.taking at x t g ((c.reading x).1 m) (follows x m);
+          numbers = extends_same (s.done.items ++ s.here.items) (t.done.items ++ t.here.items)
+              (ap (λ (z : List stored.Item). z ++ t.here.items) g.done ∙ ap (λ (z : List stored.Item). s.done.items ++ z) g.here);
+          same = means_still core text law budget p k s item r.taking at x t g ((c.reading x).1 m) (follows x m);
+        }
 
-      -- an item before a terminal
-      pub terminal_on : (t : Found) (u : Trail) (result : Result (Unit {0}) RunFault) → AddsTerminal text what label excluded budget p it s t result →
-          OnOk result (RecordsTerminal text what label excluded number it s t trail u) → OnOk result (HasTrail core text p (suc k) t w u)
-      terminal_on t u (Err f) d rec = tt
-      terminal_on t u (Ok o) (found.here d) (trails.here rec) =
-          step_on (IsBehind text what label excluded it) (Leaf number) t w u (Ok o) d rec (λ c. not_both core text it names _ before c)
-          (way_behind t) (says_behind t) h.callers (ends_alike_itself w)
-      terminal_on t u (Ok o) (found.here d) (trails.later x m only rec) =
-          let a = ap length rec.behind in let b = ap length d.grows.later in let c = length-map s.later.items (means s) in
-          let e = length-map t.later.items (means t) in let f = length-append (later_in s) (x ∷ []) in absurd (omega (arith, a, b, c, e, f))
-      terminal_on t u (Ok o) (found.later x m only d) (trails.here rec) =
-          let a = ap length rec.behind in let b = ap length d.0.later in let c = length-map s.later.items (means s) in
-          let e = length-map t.later.items (means t) in let f = length-append s.later.items (d.0.item ∷ []) in absurd (omega (arith, a, b, c, e, f))
-      terminal_on t u (Ok o) (found.later x m only d) (trails.later y n one rec) =
-          let g = goes_later x t m d.0 rec.found in
-          goes_unfinished core text p k s w trail item number r.taking.stored at is h t g (λ c. not_both core text it names _ before c)
-          (By (Leaf number) (λ z. z ≡ y)) w u
-          (more_later core text s t trail u (taken_in s k) h.ways number y rec) (ap (λ (z : WayLists). z.ends) rec.ways)
-          (λ z x2 q.
-          subst (IsWay core text (Contains now) (found_in t) x2) (sym q.0)
-          (way_behind t g x2 (subst (IsBehind text what label excluded it) (sym q.1) n)))
-          (λ x2 taken q. let b = says_behind t g x2 taken q in (Leaf number, (refl, one x2 b.0), b.1))
-          (known_on core text p k s w trail item number r.taking.stored at is h t g w.callers.items h.callers) (ends_alike_itself w)
+    -- an item before a terminal
+    pub terminal_on : (t : Found) (u : Trail) (result : Result (Unit {0}) RunFault) → AddsTerminal text what label excluded budget p it s t result →
+        OnOk result (RecordsTerminal text what label excluded number it s t trail u) → OnOk result (HasTrail core text p (suc k) t w u)
+    terminal_on t u (Err f) d rec = tt
+    terminal_on t u (Ok o) (found.here d) (trails.here rec) =
+        step_on (IsBehind text what label excluded it) (Leaf number) t w u (Ok o) d rec c.ending.0
+        (way_behind t) (says_behind t) h.callers (ends_alike_itself w)
+    terminal_on t u (Ok o) (found.here d) (trails.later x m only rec) =
+        let a = ap length rec.behind in let b = ap length d.grows.later in let n = length-map s.later.items (means s) in
+        let e = length-map t.later.items (means t) in let f = length-append (later_in s) (x ∷ []) in absurd (omega (arith, a, b, n, e, f))
+    terminal_on t u (Ok o) (found.later x m only d) (trails.here rec) =
+        let a = ap length rec.behind in let b = ap length d.0.later in let n = length-map s.later.items (means s) in
+        let e = length-map t.later.items (means t) in let f = length-append s.later.items (d.0.item ∷ []) in absurd (omega (arith, a, b, n, e, f))
+    terminal_on t u (Ok o) (found.later x m only d) (trails.later y n one rec) =
+        let g = goes_later x t m d.0 rec.found in
+        goes_unfinished core text p k s w trail item number r.taking.stored at is h t g c.ending.0
+        (By (Leaf number) (λ z. z ≡ y)) w u
+        (more_later core text s t trail u (taken_in s k) h.ways number y rec) (ap (λ (z : WayLists). z.ends) rec.ways)
+        (λ z x2 q.
+        subst (IsWay core text (Contains now) (found_in t) x2) (sym q.0)
+        (way_behind t g x2 (subst (IsBehind text what label excluded it) (sym q.1) n)))
+        (λ x2 taken q. let b = says_behind t g x2 taken q in (Leaf number, (refl, one x2 b.0), b.1))
+        (known_on core text p k s w trail item number r.taking.stored at is h t g w.callers.items h.callers) (ends_alike_itself w)
 
   -- a complete item
   module _ (complete : IsComplete core it) where
@@ -455,15 +441,12 @@ module _ (core : List Nonterminal) (text : List ℕ) (law : ReachableIsClosed) (
         ))
         callers_now alike
 
-  -- an item before a call that calls no instance
-  pub idle_on : (names : List (List ℕ)) (nonterminal : ℕ) (arguments : List Expression) (label : Option (List ℕ)) (excluded : List Pattern) →
-      StandsBefore core it names (Call nonterminal arguments label excluded) →
-      ((callee : Instance) (l : Option (List ℕ)) (e : List Pattern) → Calls core text it callee l e → ⊥) → HasTrail core text p (suc k) s w trail
-  idle_on names nonterminal arguments label excluded before apart =
+  -- an item of which nothing comes
+  pub idle_on : Comes core text it NoItem NoItem NoCall ⊥ → HasTrail core text p (suc k) s w trail
+  idle_on c =
       let g = goes_still p k s item r.taking.stored at in
-      goes_unfinished core text p k s w trail item number r.taking.stored at is h s g (λ c. not_both core text it names _ before c)
+      goes_unfinished core text p k s w trail item number r.taking.stored at is h s g c.ending.0
       (λ way x. ⊥) w trail
       (more_none core text s s trail trail (taken_in s k) h.ways refl refl refl refl refl (λ i. i)) refl (λ way x m. absurd m)
-      (λ x what q.
-      let b = gives_calls core text (Contains now) it what x names nonterminal arguments label excluded q before in absurd (apart b.0 b.1 b.2 b.3))
+      (λ x what q. absurd (gives_passing core text (Contains now) NoItem it what x c q).1)
       (known_on core text p k s w trail item number r.taking.stored at is h s g w.callers.items h.callers) (ends_alike_itself w)

@@ -16,7 +16,7 @@ use Rattle.ig_calls.specs.declared.waiting.Waiting.{Waiting}
 use Rattle.ig_calls.specs.declared.waiting.Called.{Called}
 use Rattle.ig_calls.specs.declared.waiting.Caller.{Caller}
 use Rattle.ig_plain.specs.Found.{means, Named, instances_in}
-use Rattle.ig_plain.specs.Rules.{IsCaller}
+use Rattle.ig_run_laws.specs.Rules.{IsCaller}
 use Rattle.ig_calls.specs.Waiting.{called_at, not_called, with_end}
 use Rattle.ig_plain.specs.Run.{HasCallers, HasEnd, IsWaiting}
 

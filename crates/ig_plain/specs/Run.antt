@@ -16,7 +16,9 @@ use Rattle.ig_calls.specs.declared.waiting.Waiting.{Waiting}
 use Rattle.ig_calls.specs.declared.waiting.Called.{Called}
 use Rattle.ig_calls.specs.declared.waiting.Caller.{Caller}
 use Rattle.ig_plain.specs.Found.{means, Named, instances_in, found_in, later_in, taken_in, count, IsStored}
-use Rattle.ig_plain.specs.Rules.{IsCaller, IsFirstOf, IsPastTerminal, StandsAtCall, IsReturn}
+use Rattle.ig_moves.specs.Rules.{ReadsTo}
+use Rattle.ig_run_laws.specs.Rules.{IsCaller, IsFirstOf}
+use Rattle.ig_plain.specs.Rules.{StandsAtCall, IsReturn}
 
 -- the callers in a chain that begins at a place + 1: from each cell on to one behind it
 pub data Chains (cells : List Caller) : ℕ → List stored.Item → Type 0 where
@@ -82,7 +84,7 @@ pub record IsTaking (core : List Nonterminal) (text : List ℕ) (budget p k : �
   pub closed : (x : Item) → Follows core text (Contains (taken_in s k)) x → Contains (found_in s ++ later_in s) x
   -- each of the later items came from a taken one, over a terminal
   pub came : (x : Item) → Contains (later_in s) x →
-      (it : Item) × Contains (taken_in s k) it × IsPastTerminal core text it x
+      (it : Item) × Contains (taken_in s k) it × ReadsTo core text it x
   pub few : k ≤ length s.here.items
   pub within : count s ≤ budget
 

@@ -1,10 +1,7 @@
 -- How the items that a run has found came about.
-use Rattle.std.specs.Prelude.{◌≡◌, ◌⊎◌, ℕ, suc, ◌+◌, ◌<◌, List, [], ◌∷◌, ◌++◌, map, length, Contains, Option, Some, slice_get, true, IsTrue, Result, OnOk}
+use Rattle.std.specs.Prelude.{◌≡◌, ◌⊎◌, ℕ, suc, ◌+◌, ◌<◌, List, [], ◌∷◌, ◌++◌, map, length, Contains, Option, Some, slice_get, IsTrue, Result, OnOk}
 use Rattle.ig_text.specs.declared.pattern.Pattern.{Pattern}
-use Rattle.ig_expr.specs.Expression.{Expression}
-use Rattle.ig_expr.specs.declared.value.Value.{Value}
-use Rattle.ig_expr.specs.declared.value.Value.TheVariants.{Bool}
-use Rattle.ig_item.specs.Items.{Item, HasValue, past}
+use Rattle.ig_item.specs.Items.{Item}
 use Rattle.ig_item.specs.Gives.{Taken, Gives}
 use Rattle.ig_item.specs.Ways.{WayLists, WayTo, Says, IsWay, IsFirstEnd, AreEnds}
 use Rattle.ig_item.specs.declared.core_grammar.Nonterminal.{Nonterminal}
@@ -17,7 +14,8 @@ use Rattle.ig_item.specs.declared.ways.FurtherWay.{FurtherWay}
 use Rattle.ig_item.specs.declared.run_fault.RunFault.{RunFault}
 use Rattle.ig_tables.specs.Extends.{Extends}
 use Rattle.ig_tables.specs.Returned.{Entry, entry}
-use Rattle.ig_plain.specs.Rules.{IsBehind, StandsAtBareCall}
+use Rattle.ig_moves.specs.Rules.{IsBehind}
+use Rattle.ig_plain.specs.Rules.{StandsAtBareCall}
 use Rattle.ig_plain.specs.Found.{means, found_in, later_in, taken_in, instances_in}
 use Rattle.ig_plain.specs.declared.found.Found.{Found}
 use Rattle.ig_plain.specs.declared.trail.Trail.{Trail}
@@ -42,14 +40,6 @@ Unfound s may = (x : Item) → may x → Contains (found_in s) x → ⊥
 -- what `may` allows, in that way
 abbrev pub By : Way → (Item → Type 0) → Way → Item → Type 0
 By way may w x = (w ≡ way) × may x
-
--- x is the item behind a test, where its condition is true
-abbrev pub IsBehindTest : List ℕ → List (List ℕ) → Expression → Item → Item → Type 0
-IsBehindTest text names e it x = HasValue text it names e (Bool true) × (x ≡ past it [] it.position)
-
--- x is the item behind a bind, where its expression has a value
-abbrev pub IsBehindBind : List ℕ → List (List ℕ) → Expression → Item → Item → Type 0
-IsBehindBind text names e it x = (v : Value) × HasValue text it names e v × (x ≡ past it (v ∷ []) it.position)
 
 -- an item that came about in that way can't come about once more: no call is before it
 abbrev pub ComesOnce : Way → Type 0

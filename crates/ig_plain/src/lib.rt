@@ -7,7 +7,6 @@
 #![tactic(auto)]
 
 mod adds;
-mod context;
 mod found;
 mod laws;
 mod moves;

@@ -1,31 +1,22 @@
 //! What an item that is taken adds by itself: items behind tests, bindings and terminals.
-ghost use Rattle.std.specs.Prelude.{◌≡◌, [], ◌∷◌, ◌<◌, OnOk, length, slice_index_or};
+ghost use Rattle.std.specs.Prelude.{◌≡◌, [], ◌∷◌, None, OnOk};
 ghost use Rattle.ig_expr.specs.View.{expression_of};
 ghost use Rattle.ig_item.specs.declared.ways.Way.TheVariants.{Node, Pass};
 ghost use Rattle.ig_steps.specs.Compiled.{form_of};
-ghost use Rattle.ig_plain.specs.Rules.{IsBehind, IsPastCall};
+ghost use Rattle.ig_moves.specs.Rules.{IsBehind, IsPastCall, IsBehindBind, IsBehindTest};
 ghost use Rattle.ig_plain.specs.Found.{Adds, AddsTerminal, Named, means};
-ghost use Rattle.ig_plain.specs.Trail.{By, ComeByNodes, IsBehindBind, IsBehindTest, IsIndexed};
+ghost use Rattle.ig_plain.specs.Trail.{By, ComeByNodes, IsIndexed};
 ghost use Rattle.ig_plain.specs.Trail.{Records, RecordsTerminal, Unfound};
 
-use crate::adds::{go_behind_call, go_later, go_on};
-use crate::context::Context;
+use crate::adds::{add_later, add_new, add_returned};
 use crate::found::Found;
 use crate::trail::Trail;
 use ig_calls::Taken;
-use ig_expr::{Expr, Value, Values};
-use ig_item::{RunFault, Way};
-use ig_steps::{Known, Qualifiers, is_true, matches_none, only, span_bound, value};
+use ig_expr::Expr;
+use ig_item::{Item, RunFault, Way};
+use ig_moves::{Context, behind_bind, behind_call, behind_terminal, behind_test, past_bare};
+use ig_steps::{Known, Qualifiers};
 use ig_text::Pattern;
-use indexmap::IndexSet;
-
-/// The values of the environment of that number.
-pub(crate) fn values_at(envs: &IndexSet<Values>, env: u32) -> &[Value]
-    requires { env < length envs.now.keys }
-    ensures { result.now ≡ slice_index_or envs.now.keys env [] }
-{
-    envs.as_slice()[env as usize].as_slice()
-}
 
 /// Adds the item behind a test, where its condition is true. It comes from `from`.
 pub(crate) fn take_test(
@@ -48,14 +39,12 @@ pub(crate) fn take_test(
         known.now.names.now (expression_of condition.now) (means found.old from.item)))
         found.old found.new trail.old trail.new) }
 {
-    let here = from.item.position;
-    let form = only(known.forms);
-    let values = values_at(&found.envs, from.item.env);
-    if !is_true(condition, form, known.names, values, here, context.text) {
+    let envs = &mut found.envs;
+    let Some(behind) = behind_test(context, envs, known, condition, from.item)? else {
         return Ok(());
-    }
+    };
     let way = Way::Pass { prev: from.number };
-    go_on(context, found, trail, from.item, None, here, way)
+    add_new(context, found, trail, behind, way)
 }
 
 /// Adds the item behind a binding, where its expression has a value. It comes from `from`.
@@ -79,14 +68,12 @@ pub(crate) fn take_bind(
         known.now.names.now (expression_of expression.now) (means found.old from.item)))
         found.old found.new trail.old trail.new) }
 {
-    let here = from.item.position;
-    let form = only(known.forms);
-    let values = values_at(&found.envs, from.item.env);
-    let Some(value) = value(form, expression, known.names, values, here, context.text) else {
+    let envs = &mut found.envs;
+    let Some(behind) = behind_bind(context, envs, known, expression, from.item)? else {
         return Ok(());
     };
     let way = Way::Pass { prev: from.number };
-    go_on(context, found, trail, from.item, Some(value), here, way)
+    add_new(context, found, trail, behind, way)
 }
 
 /// Adds the item behind a call whose callee ended at `end`, the position, unless the text that it
@@ -113,12 +100,38 @@ pub(crate) fn go_behind(
         context.now.text.now qualifiers.now.label.now qualifiers.now.not.now end
         (means found.old from.item))) found.old found.new trail.old trail.new) }
 {
-    let start = from.item.position;
-    if !matches_none(qualifiers.not, context.text, start, end) {
+    let envs = &mut found.envs;
+    let Some(behind) = behind_call(context, envs, qualifiers, from.item, end)? else {
         return Ok(());
-    }
-    let bound = span_bound(qualifiers.label, start, end);
-    go_behind_call(context, found, trail, from, bound, done, end)
+    };
+    add_returned(context, found, trail, behind, from.number, done)
+}
+
+/// Adds the item behind a call that has neither a label nor an excluded pattern, whose callee ended
+/// at `end`, the position. It came about from the item of number `prev`, and `done` is the callee's
+/// first complete item here. Most returns are such ones.
+#[inline(always)]
+pub(crate) fn go_behind_bare(
+    context: &Context<'_>,
+    found: &mut Found,
+    trail: &mut Trail,
+    item: Item,
+    prev: u32,
+    done: u32,
+    end: u32,
+) -> Result<(), RunFault>
+    requires named { Named found.old item }
+    requires indexed { IsIndexed found.old trail.old }
+    requires by_nodes { ComeByNodes found.old trail.old
+        (IsPastCall context.now.text.now None [] end (means found.old item)) }
+    ensures adds { Adds end (IsPastCall context.now.text.now None [] end (means found.old item))
+        context.now.budget found.old found.new result }
+    ensures ways { OnOk result (Records (By (Node prev done)
+        (IsPastCall context.now.text.now None [] end (means found.old item)))
+        found.old found.new trail.old trail.new) }
+{
+    let behind = past_bare(item, end)?;
+    add_returned(context, found, trail, behind, prev, done)
 }
 
 /// Adds the item behind a terminal, where its pattern matches a text that is a match of no excluded
@@ -141,17 +154,13 @@ pub(crate) fn take_terminal(
         qualifiers.now.label.now qualifiers.now.not.now from.number (means found.old from.item)
         found.old found.new trail.old trail.new) }
 {
-    let start = from.item.position;
-    let Some(end) = what.ends_at(context.text, start) else {
+    let envs = &mut found.envs;
+    let Some(behind) = behind_terminal(context, envs, what, qualifiers, from.item)? else {
         return Ok(());
     };
-    if !matches_none(qualifiers.not, context.text, start, end) {
-        return Ok(());
-    }
-    let bound = span_bound(qualifiers.label, start, end);
-    if end == start {
+    if behind.position == from.item.position {
         let way = Way::Leaf { prev: from.number };
-        return go_on(context, found, trail, from.item, bound, end, way);
+        return add_new(context, found, trail, behind, way);
     }
-    go_later(context, found, trail, from, bound, end)
+    add_later(context, found, trail, behind, from.number)
 }

@@ -1,6 +1,6 @@
 //! An item is taken: all that follows from it and those before it is added.
-ghost use Rattle.std.specs.Prelude.{◌≡◌, ◌↔◌, ◌<◌, ◌+◌, ◌++◌, ◌∷◌, [], IsTrue};
-ghost use Rattle.std.specs.Prelude.{None, OnOk, Some, length, map, option_map};
+ghost use Rattle.std.specs.Prelude.{◌≡◌, ◌<◌, ◌+◌, ◌++◌, IsTrue};
+ghost use Rattle.std.specs.Prelude.{None, OnOk, Some, length, map};
 ghost use Rattle.std.specs.Prelude.{slice_get};
 ghost use Rattle.ig_item.specs.Items.{IsComplete};
 ghost use Rattle.ig_item.specs.WellKinded.{NoneTwice};
@@ -12,8 +12,10 @@ ghost use Rattle.ig_item.specs.Step.{Call};
 ghost use Rattle.ig_item.specs.View.{step_of};
 ghost use Rattle.ig_item.specs.declared.ways.Way.TheVariants.{Begin, Node};
 ghost use Rattle.ig_plain.specs.Found.{Adds, Named, means};
-ghost use Rattle.ig_plain.specs.Rules.{IsFirstOf, IsReturn, Stands, StandsAtBareCall};
-ghost use Rattle.ig_plain.specs.Rules.{StandsAtCall, step_at};
+ghost use Rattle.ig_moves.specs.Rules.{step_at};
+ghost use Rattle.ig_run_laws.specs.Rules.{IsFirstOf};
+ghost use Rattle.ig_plain.specs.Rules.{IsReturn, StandsAtBareCall};
+ghost use Rattle.ig_plain.specs.Rules.{StandsAtCall};
 ghost use Rattle.ig_steps.specs.Compiled.{form_of};
 ghost use Rattle.ig_plain.specs.Contexts.{EntersIn, EntersOnIn, HasTrailIn, IsNextIn, IsRunIn};
 ghost use Rattle.ig_plain.specs.Contexts.{RunsIn, TakesIn, TakesOnIn, TakingIn};
@@ -21,22 +23,22 @@ ghost use Rattle.ig_plain.specs.Run.{IsChainOf, IsReturnToOne};
 ghost use Rattle.ig_plain.specs.Trail.{AreKnown, By, ComeByNodes, IsIndexed, IsReturnBy};
 ghost use Rattle.ig_plain.specs.Trail.{Records, Unfound};
 
-use crate::adds::{add_new, go_behind_bare_call};
-use crate::context::Context;
+use crate::adds::add_new;
 use crate::found::{Found, number_of};
-use crate::moves::{go_behind, take_bind, take_terminal, take_test, values_at};
+use crate::moves::{go_behind, go_behind_bare, take_bind, take_terminal, take_test};
 use crate::trail::Trail;
 use ig_calls::{
-    Caller, Taken, Waiting, add_called, add_caller, add_end, add_further_end, end_at,
-    enter_arguments, first_caller,
+    Caller, Taken, Waiting, add_called, add_caller, add_end, add_further_end, end_at, first_caller,
 };
 use ig_expr::Expr;
 use ig_item::{
-    Core, InstanceKey, Item, RunFault, Step, Way, environments_fit, items_are_in_text,
-    reachable_is_closed,
+    Core, InstanceKey, Item, RunFault, Step, Way, items_are_in_text, reachable_is_closed,
 };
-use ig_steps::{Known, Qualifiers, argument_values, known_at};
-use std::alloc::AllocError;
+use ig_moves::{
+    Context, before_binds, before_calls, before_terminals, before_tests, callee_of,
+    ends_are_complete, first_item, is_bare, known_before, step_behind, steps_are_behind,
+};
+use ig_steps::{Known, Qualifiers};
 
 /// What a run has come to.
 #[derive(Drop)]
@@ -67,25 +69,10 @@ pub(crate) fn add_firsts(
         return Ok(());
     };
     for alternative in 0..count {
-        let first = Item {
-            instance,
-            alternative: alternative + 1,
-            dot: 0,
-            env: key.env,
-            position: key.start,
-        };
+        let first = first_item(instance, key, alternative + 1);
         add_new(context, found, trail, first, Way::Begin)?;
     }
     Ok(())
-}
-
-/// The step behind the dot of an item of that nonterminal; `None` exactly where there is none.
-fn step_behind(core: &Core, nonterminal: u32, item: Item) -> Option<&Step>
-    ensures { option_map (λ step. step_of step.now) result ≡ step_at core.now nonterminal
-        item.alternative item.dot }
-{
-    let steps = core.steps(nonterminal, item.alternative)?;
-    steps.as_slice().get(item.dot as usize)
 }
 
 /// The nonterminal of an item.
@@ -123,7 +110,7 @@ fn return_to(
     let number = caller.number;
     if caller.is_bare {
         // By `?`, so that the walk over the callers goes on without a second test.
-        go_behind_bare_call(context, found, trail, item, number, done, end)?;
+        go_behind_bare(context, found, trail, item, number, done, end)?;
         return Ok(());
     }
     let nonterminal = nonterminal_of(found, item);
@@ -203,14 +190,6 @@ fn take_complete(context: &Context<'_>, run: &mut Run, taken: Taken) -> Result<(
     return_to_all(context, found, trail, callers, head, taken.number, end)
 }
 
-/// Whether a call has neither a label nor an excluded pattern.
-fn is_bare(qualifiers: &Qualifiers<'_>) -> bool
-    ensures { IsTrue result ↔
-        ((qualifiers.now.label.now ≡ None) × (qualifiers.now.not.now ≡ [])) }
-{
-    qualifiers.label.is_none() && qualifiers.not.is_empty()
-}
-
 /// Takes an item before a call: it waits for the callee, whose first items are added unless another
 /// caller came before, and it returns where the callee ended here already.
 fn take_call(
@@ -234,17 +213,11 @@ fn take_call(
 {
     reachable_is_closed();
     items_are_in_text();
+    before_calls();
     let start = taken.item.position;
-    let values = values_at(&run.found.envs, taken.item.env);
-    let Some(arguments) = argument_values(context.alloc, known, args, values, start, context.text)?
-    else {
+    let envs = &mut run.found.envs;
+    let Some(key) = callee_of(context, envs, known, nonterminal, args, taken.item)? else {
         return Ok(());
-    };
-    let env = enter_arguments(&mut run.found.envs, arguments, taken.item.env)?;
-    let key = InstanceKey {
-        nonterminal,
-        env,
-        start,
     };
     let callee = call_instance(context, run, key)?;
     add_caller(&mut run.waiting, callee, taken, is_bare(qualifiers))?;
@@ -283,8 +256,8 @@ fn take_step(
     requires taking { TakingIn context.now taken run.old }
     requires next { IsNextIn context.now taken run.old }
     requires nonterminal { nonterminal ≡ (means run.old.found taken.item).instance.nonterminal }
-    requires stands { Stands context.now.core.now (means run.old.found taken.item)
-        (step_of step.now) }
+    requires there { step_at context.now.core.now nonterminal taken.item.alternative taken.item.dot
+        ≡ Some (step_of step.now) }
     ensures takes { TakesIn context.now taken run.old run.new result }
     ensures trail { TakesOnIn context.now taken run.old run.new result }
 {
@@ -293,20 +266,20 @@ fn take_step(
     let trail = &mut run.trail;
     match step {
         Step::Term { what, label, not } => {
+            steps_are_behind();
+            before_terminals();
             let not = not.as_slice();
             let qualifiers = Qualifiers { label, not };
             take_terminal(context, found, trail, what, &qualifiers, taken)
         }
         Step::Test(condition) => {
-            let Some(known) = known_at(context.dots, nonterminal, taken.item) else {
-                unreachable!()
-            };
+            before_tests();
+            let known = known_before(context, nonterminal, taken.item, step);
             take_test(context, found, trail, &known, condition, taken)
         }
         Step::Bind(_, expression) => {
-            let Some(known) = known_at(context.dots, nonterminal, taken.item) else {
-                unreachable!()
-            };
+            before_binds();
+            let known = known_before(context, nonterminal, taken.item, step);
             take_bind(context, found, trail, &known, expression, taken)
         }
         Step::Call {
@@ -315,9 +288,7 @@ fn take_step(
             label,
             not,
         } => {
-            let Some(known) = known_at(context.dots, nonterminal, taken.item) else {
-                unreachable!()
-            };
+            let known = known_before(context, nonterminal, taken.item, step);
             let args = args.as_slice();
             let not = not.as_slice();
             let qualifiers = Qualifiers { label, not };
@@ -346,7 +317,7 @@ pub(crate) fn take(
     ensures run { RunsIn context.now position (place + 1) run.new result }
     ensures trail { OnOk result (HasTrailIn context.now position (place + 1) run.new) }
 {
-    environments_fit();
+    ends_are_complete();
     keep_well_kinded(context.core);
     let item = item_at(&run.found, place);
     let number = number_of(&run.found, place)?;

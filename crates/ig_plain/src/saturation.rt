@@ -1,7 +1,6 @@
 //! Saturation in rising positions.
 ghost use Rattle.std.specs.Prelude.{◌≡◌, ◌≤◌, ◌<◌, ◌++◌, ℕ, [], List, IfErr, IfOk};
 ghost use Rattle.std.specs.Prelude.{MatchResult, OnOk, length};
-ghost use Rattle.ig_text.specs.Limits.{numbers_end};
 ghost use Rattle.ig_item.specs.Items.{MoreThan};
 ghost use Rattle.ig_item.specs.Recorded.{AreReachable, IsRecorded};
 ghost use Rattle.ig_item.specs.Tables.{items_of, tables_by};
@@ -11,16 +10,17 @@ ghost use Rattle.ig_plain.specs.Run.{IsRun, Refuses};
 ghost use Rattle.ig_plain.specs.Arrival.{ArrivesWith, IsNothing, IsParted, WereThere};
 ghost use Rattle.ig_plain.specs.Trail.{ArrivesOn, HasTrail, IsUntrodden, PartsTrail};
 
-use crate::context::Context;
 use crate::found::Found;
 use crate::run::{Run, add_firsts, keep_well_kinded, take};
 use crate::trail::Trail;
 use ig_calls::{Waiting, add_called};
 use ig_expr::Values;
+use ig_finish::items_of;
 use ig_item::{
-    Core, EnvironmentTable, InstanceKey, Item, Items, Recorded, RunFault, Way, Ways,
-    items_are_in_text, number, reachable_is_closed,
+    Core, InstanceKey, Item, Items, Recorded, RunFault, Way, Ways, items_are_in_text,
+    reachable_is_closed,
 };
+use ig_moves::Context;
 use ig_steps::dots_of_core;
 use ig_tables::enter_values;
 use ig_text::Text;
@@ -170,45 +170,32 @@ fn completed(alloc: Global, core: &Core, text: &Text, budget: u32) -> Result<Run
     Ok(run)
 }
 
-/// The environments, in a table.
-fn table_of(alloc: Global, envs: &[Values]) -> Result<EnvironmentTable, AllocError>
-    ensures { IfOk result (λ t. t ≡ envs.now) }
-{
-    let mut table = EnvironmentTable::new(alloc);
-    for values in envs {
-        table.push(values.as_slice())?;
-    }
-    Ok(table)
-}
-
 /// The items over their tables. Refused where a table has 4,294,967,296 members too, which no
 /// memory holds.
 fn finish(alloc: Global, mut found: Found) -> Result<Items, AllocError>
-    requires few { length (found.done.items ++ found.here.items) < numbers_end }
     ensures { IfOk result (λ t. t ≡ tables_by found.keys found.envs.keys (found.done.items ++
         found.here.items)) }
 {
-    let table = close(alloc, &mut found)?;
-    let Found { done, keys, .. } = found;
-    Ok(Items::of(keys.into_vec(), table, done))
+    close(&mut found)?;
+    let Found {
+        done,
+        envs,
+        keys,
+        ..
+    } = found;
+    items_of(alloc, &envs, keys.into_vec(), done)
 }
 
-/// Puts the items at the position behind those before it, and gives the environments in a table.
-/// Refused where this or the instances have 4,294,967,296 members too.
-fn close(alloc: Global, found: &mut Found) -> Result<EnvironmentTable, AllocError>
+/// Puts the items at the position behind those before it.
+fn close(found: &mut Found) -> Result<(), AllocError>
     ensures items { OnOk result
         (found.new.done.items ≡ found.old.done.items ++ found.old.here.items) }
     ensures keys { found.new.keys ≡ found.old.keys }
-    ensures table { IfOk result (λ t. t ≡ found.old.envs.keys) }
-    ensures few_envs { OnOk result (length found.old.envs.keys < numbers_end) }
-    ensures few_keys { OnOk result (length found.old.keys < numbers_end) }
+    ensures envs { found.new.envs.keys ≡ found.old.envs.keys }
 {
     let here = found.here.as_slice();
     found.done.extend_from_slice(here)?;
-    let envs = found.envs.as_slice();
-    number(envs.len())?;
-    number(found.keys.as_slice().len())?;
-    table_of(alloc, envs)
+    Ok(())
 }
 
 /// The items that are reachable, each once, and how they come about. `Budget` exactly where there

@@ -1,4 +1,5 @@
 pub mod Equality
 pub mod Sets
 pub mod Chains
-pub mod Numbered
+pub mod Items
+pub mod Instances

@@ -1,3 +1,4 @@
+pub mod Chained
 pub mod Extends
 pub mod InstanceSet
 pub mod Returned

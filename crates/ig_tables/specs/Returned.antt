@@ -1,11 +1,12 @@
--- Items with their numbers by hash, chained: each cell names the cell before it in its bucket.
-use Rattle.std.specs.Prelude.{◌≡◌, ℕ, zero, suc, ◌+◌, ◌-◌, ◌*◌, ◌<◌, ◌≤◌, List, map, length, slice_index_or, if◌then◌else◌, bit_and, nat_eq}
+-- Items with their numbers, in chains by their hashes.
+use Rattle.std.specs.Prelude.{ℕ, ◌+◌, ◌*◌, List, map, slice_index_or, bit_and}
 use Rattle.ig_item.specs.declared.items.Item.{Item}
+use Rattle.ig_tables.specs.Chained as chained
 use Rattle.ig_tables.specs.declared.returned.Cell.{Cell}
 
 -- the number by which an item is put into a bucket; why these factors, `src/returned.rt` says
 unfoldable pub hash_of : Item → ℕ
-hash_of x = x.instance + x.alternative * 0x33333333 + x.dot * 0x55555555 + x.env * 0x1e1e1e1e
+hash_of x = x.position + x.instance * 0x2d933659 + x.alternative * 0x33333333 + x.dot * 0x55555555 + x.env * 0x1e1e1e1e
 
 abbrev pub bucket_of : ℕ → Item → ℕ
 bucket_of mask x = bit_and (hash_of x) mask
@@ -24,22 +25,15 @@ entries_of = map (λ c. entry c.item c.number)
 abbrev pub nothing : Cell
 nothing = record { item = record { instance = 0; alternative = 0; dot = 0; env = 0; position = 0 }; number = 0; next = 0 }
 
--- the place + 1 of the last of the first n cells that is in that bucket; 0 where there is none
-abbrev pub last : ℕ → List Cell → ℕ → ℕ → ℕ
-last mask cells bucket zero = 0
-last mask cells bucket (suc n) =
-    if nat_eq (bucket_of mask (slice_index_or cells n nothing).item) bucket then suc n else last mask cells bucket n
+abbrev pub home_of : ℕ → Cell → ℕ
+home_of mask c = bucket_of mask c.item
 
--- heads and nexts are places + 1, counted on from `base`; what is at most `base` is none, since `-` stops at 0
-pub record AreChained (mask base : ℕ) (heads : List ℕ) (cells : List Cell) : Type 0 where
-  pub head : (bucket : ℕ) → bucket ≤ mask → slice_index_or heads bucket 0 - base ≡ last mask cells bucket (length cells)
-  pub next : (k : ℕ) → k < length cells →
-      (slice_index_or cells k nothing).next - base ≡ last mask cells (bucket_of mask (slice_index_or cells k nothing).item) k
-  pub within : (bucket : ℕ) → bucket ≤ mask → slice_index_or heads bucket 0 ≤ base + length cells
-  pub all : length heads ≡ mask + 1
+abbrev pub next_of : List Cell → ℕ → ℕ
+next_of cells k = (slice_index_or cells k nothing).next
 
--- how far a walk has come that looks for the item: it stands before the place `at`
-pub record Walks (mask base : ℕ) (cells : List Cell) (item : Item) (at : ℕ) : Type 0 where
-  pub passed : (m : ℕ) → at - base ≤ m → m < length cells → (slice_index_or cells m nothing).item ≡ item → ⊥
-  pub within : at - base ≤ length cells
-  pub bucket : (k : ℕ) → at - base ≡ suc k → bucket_of mask (slice_index_or cells k nothing).item ≡ bucket_of mask item
+abbrev pub AreChained : ℕ → ℕ → List ℕ → List Cell → Type 0
+AreChained mask base heads cells = chained.AreChained (home_of mask) nothing (next_of cells) mask base heads cells
+
+-- how far a walk has come that looks for the item
+abbrev pub Walks : ℕ → ℕ → List Cell → Item → ℕ → Type 0
+Walks mask base cells item at = chained.Walks (home_of mask) nothing (λ c. c.item) base cells item (bucket_of mask item) at

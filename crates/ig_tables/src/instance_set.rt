@@ -1,30 +1,20 @@
-//! The instances of a run by number, and which of those at the position are there.
-ghost use Rattle.std.specs.Prelude.{◌≡◌, ◌⊎◌, ◌<◌, ◌≤◌, ℕ, [], ◌∷◌, ◌++◌, drop, length, take};
-ghost use Rattle.std.specs.Prelude.{Contains, IfNone, IfOk, IfSome, IsTrue, OnErr, OnOk, Some};
+//! The instances of a run by number.
+ghost use Rattle.std.specs.Prelude.{◌≡◌, [], ◌∷◌, ◌++◌};
+ghost use Rattle.std.specs.Prelude.{Contains, IfNone, IfOk, IfSome, OnErr, OnOk, Some};
 ghost use Rattle.std.specs.Prelude.{false, true, slice_get};
 ghost use Rattle.ig_item.specs.WellKinded.{NoneTwice};
-ghost use Rattle.ig_item.specs.declared.items.InstanceKey as stored;
-ghost use Rattle.ig_tables.specs.InstanceSet.{AreInstances};
 ghost use Rattle.ig_tables.specs.Extends.{Enters, IsNew};
 
+use crate::buckets::{Buckets, make_room};
 use ig_item::{InstanceKey, number};
-use indexmap::IndexSet;
 use std::alloc::{AllocError, Global};
 use std::marker::Model;
-
-/// So many instances of one position are compared one by one; more are hashed.
-const FEW: usize = 16;
 
 /// Instances by number, each once.
 #[derive(Drop)]
 pub struct InstanceSet {
     keys: Vec<InstanceKey>,
-    /// None starts behind this position.
-    position: u32,
-    /// All before this number start before the position.
-    first: usize,
-    /// Those from there on, where they are many; else nothing.
-    many: IndexSet<InstanceKey>,
+    buckets: Buckets,
 }
 
 impl Model for InstanceSet {
@@ -36,7 +26,8 @@ impl Model for InstanceSet {
 
     ghost view = { λ s. s.keys.items };
 
-    ghost invariant = { λ s. AreInstances s.keys.items s.position s.first s.many.keys };
+    ghost invariant = { λ s. AreInstances s.keys.items s.buckets.heads.items
+        s.buckets.earlier.items s.buckets.mask };
 }
 
 impl InstanceSet {
@@ -46,13 +37,12 @@ impl InstanceSet {
     {
         InstanceSet {
             keys: Vec::new(alloc),
-            position: 0,
-            first: 0,
-            many: IndexSet::new(alloc),
+            buckets: Buckets::none(alloc),
         }
     }
 
-    /// The instances by number.
+    /// The instances by number. Takes no memory.
+    #[inline(always)]
     pub fn as_slice(&self) -> &[InstanceKey]
         ensures { result.now ≡ self.now }
     {
@@ -69,6 +59,7 @@ impl InstanceSet {
     /// The number of the instance, from 0, which is added at the end if it isn't there; and whether
     /// it was added. Refused where memory lacks, or 32 bits don't hold the number: then they are as
     /// they were.
+    #[inline]
     pub fn enter(&mut self, key: InstanceKey) -> Result<(u32, bool), AllocError>
         ensures once { NoneTwice self.new }
         ensures enters { IfOk result (λ r. Enters self.old self.new key r.0) }
@@ -85,30 +76,20 @@ impl InstanceSet {
     }
 
     /// The place of the instance; `None` exactly where it isn't there.
+    #[inline(always)]
     fn place_of(&self, key: InstanceKey) -> Option<usize>
         ensures some { IfSome result (λ k. slice_get self.now k ≡ Some key) }
         ensures none { IfNone result (Contains self.now key → ⊥) }
     {
-        if key.start != self.position || self.many.is_empty() {
-            return place_from(self.keys.as_slice(), key, self.place_at(key.start));
+        let mut at = self.buckets.last(key);
+        while at > 0 {
+            let place = at as usize - 1;
+            if self.keys[place] == key {
+                return Some(place);
+            }
+            at = self.buckets.earlier[place];
         }
-        let place = self.many.get_index_of(&key)?;
-        Some(self.first + place)
-    }
-
-    /// A place before which no instance starts there.
-    fn place_at(&self, start: u32) -> usize
-        ensures within { result ≤ length self.now }
-        ensures none { (k : ℕ) (x : stored.InstanceKey) → slice_get self.now k ≡ Some x →
-            k < result → x.start ≡ start → ⊥ }
-    {
-        if start > self.position {
-            self.keys.len()
-        } else if start == self.position {
-            self.first
-        } else {
-            0
-        }
+        None
     }
 
     /// Adds an instance that isn't there. Refused, it leaves them as they were.
@@ -117,84 +98,11 @@ impl InstanceSet {
         ensures ok { OnOk result (self.new ≡ self.old ++ key ∷ []) }
         ensures err { OnErr result (self.new ≡ self.old) }
     {
-        let keys = self.keys.as_slice();
-        arrive(
-            keys,
-            &mut self.position,
-            &mut self.first,
-            &mut self.many,
-            key.start,
-        );
+        self.keys.reserve(1)?;
+        let alloc = *self.keys.allocator();
+        make_room(alloc, self.keys.as_slice(), &mut self.buckets)?;
+        self.buckets.push(key)?;
         self.keys.push(key)?;
-        let here = behind(self.keys.as_slice(), self.first);
-        if are_few(&self.many, here) {
-            return Ok(());
-        }
-        hash_all(&mut self.many, here);
         Ok(())
-    }
-}
-
-/// Moves on to the position `start`, where it is a later one.
-fn arrive(
-    keys: &[InstanceKey],
-    position: &mut u32,
-    first: &mut usize,
-    many: &mut IndexSet<InstanceKey>,
-    start: u32,
-)
-    requires { AreInstances keys.now position.old first.old many.old.keys }
-    ensures are { AreInstances keys.now position.new first.new many.new.keys }
-    ensures late { start ≤ position.new }
-{
-    if start <= *position {
-        return;
-    }
-    *position = start;
-    *first = keys.len();
-    many.clear();
-}
-
-/// The instances from that number on.
-fn behind(keys: &[InstanceKey], first: usize) -> &[InstanceKey]
-    requires { first ≤ length keys.now }
-    ensures { result.now ≡ drop first keys.now }
-{
-    &keys[first..]
-}
-
-/// Whether so few instances are compared one by one, as those before were.
-fn are_few(many: &IndexSet<InstanceKey>, here: &[InstanceKey]) -> bool
-    ensures { IsTrue result → many.now.keys ≡ [] }
-{
-    here.len() <= FEW && many.is_empty()
-}
-
-/// The place of the instance from `from` on; `None` exactly where it isn't there.
-fn place_from(keys: &[InstanceKey], key: InstanceKey, from: usize) -> Option<usize>
-    requires { from ≤ length keys.now }
-    ensures some { IfSome result (λ k. slice_get keys.now k ≡ Some key) }
-    ensures none { IfNone result ((k : ℕ) → from ≤ k → slice_get keys.now k ≡ Some key → ⊥) }
-{
-    for place in from..keys.len() {
-        if keys[place] == key {
-            return Some(place);
-        }
-    }
-    None
-}
-
-/// Makes the set hold all of the instances, where it holds the first of them; or nothing, where
-/// memory is short.
-fn hash_all(many: &mut IndexSet<InstanceKey>, here: &[InstanceKey])
-    requires once { NoneTwice here.now }
-    requires begun { many.old.keys ≡ take (length many.old.keys) here.now }
-    ensures { (many.new.keys ≡ []) ⊎ (many.new.keys ≡ here.now) }
-{
-    for place in many.len()..here.len() {
-        let Ok(_) = many.insert(here[place]) else {
-            many.clear();
-            return;
-        };
     }
 }

@@ -1,5 +1,5 @@
-//! The items at the position of a run that stand behind calls, by a table of hashes that is emptied
-//! without a cost. Only these can be found once more.
+//! Items of a run that stand behind calls, by a table of hashes that is emptied without a cost.
+//! Only these can be found once more.
 ghost use Rattle.std.specs.Prelude.{◌≡◌, ◌≤◌, ◌+◌, [], ◌∷◌, ◌++◌};
 ghost use Rattle.std.specs.Prelude.{ℕ, IfNone, IfOk, IfSome, OnErr, OnOk, Contains};
 ghost use Rattle.ig_text.specs.Limits.{numbers_end};
@@ -12,8 +12,12 @@ use std::marker::Model;
 /// One less than the number of buckets at the beginning.
 const FIRST_MASK: u32 = 63;
 
+/// Whatever the number of buckets, small multiples of this number lie far from small numbers. So
+/// those of an instance lie side by side by their positions, and near instances don't meet there.
+const FAR: u64 = 0x2d93_3659;
+
 /// In base 2 `0101..`: whatever the number of buckets, each multiple lies a third or two thirds of
-/// them behind the one before. Instances are numbered side by side, so two dots of many don't meet.
+/// them behind the one before. So two dots of an instance don't meet.
 const THIRDS: u64 = 0x5555_5555;
 
 /// In base 2 `0011..`: each multiple lies some fifths of the buckets behind the one before.
@@ -181,12 +185,13 @@ impl Returned {
     }
 }
 
-/// The bucket of an item. Items of one position are told apart by the other numbers.
+/// The bucket of an item.
 #[tactic(auto, unfolding(crate::specs::Returned::hash_of))]
 fn bucket_of(item: Item, mask: u32) -> usize
     ensures { result ≡ bucket_of mask item }
 {
-    let hash = u64::from(item.instance)
+    let hash = u64::from(item.position)
+        + u64::from(item.instance) * FAR
         + u64::from(item.alternative) * FIFTHS
         + u64::from(item.dot) * THIRDS
         + u64::from(item.env) * SEVENTEENTHS;

@@ -3,6 +3,7 @@ use crate::letters::letter_core;
 use ig_forest::Forest;
 use ig_forest_text::show_forest;
 use ig_item::{Core, RunFault};
+use ig_parse::forest_of_items;
 use ig_plain::saturate;
 use ig_text::Text;
 use std::alloc::Global;
@@ -34,7 +35,7 @@ fn saturates(rt: HostRuntime) -> Result<(), Fail> {
 /// The forest of the core grammar and the text.
 fn forest_of(alloc: Global, core: &Core, text: &Text) -> Result<Option<Forest>, Fail> {
     let items = saturate(alloc, core, text, BUDGET)?;
-    let forest = Forest::build(alloc, &items, core, text);
+    let forest = forest_of_items(alloc, &items, core, text);
     drop(items);
     Ok(forest?)
 }

@@ -1,6 +1,7 @@
 //! A load, its input and its line.
 use ig_load::load;
 use ig_load_texts::{Summary, load_input, show_summary};
+use ig_queue::Order;
 use std::test::Fail;
 
 /// What a load of one operand says, by hand: of its items the root has two, and the instances of
@@ -14,7 +15,7 @@ const ONE: Summary = Summary {
 
 #[test]
 fn loads(rt: HostRuntime) -> Result<(), Fail> {
-    let summary = load(rt.alloc(), 1, 7, 64)?;
+    let summary = load(rt.alloc(), 1, 7, 64, Order::Fifo)?;
     assert_eq!(rt; summary, ONE);
     Ok(())
 }

@@ -17,6 +17,7 @@ use ig_jobs::{
 };
 use ig_outside::{Shelf, Sink};
 use ig_parse::Parser;
+use ig_queue::Order;
 use ig_sources::{
     load_forest, load_grammar, load_input, one_reading, read_grammars_are_buildable,
     read_grammars_have_readings, texts_are_read_or_refused,
@@ -53,6 +54,10 @@ use std::alloc::Global;
 /// The option `--notation` of each of these but `load` says in which notation the grammar text is:
 /// `own`, which is meant without it, or `w3c`, that of section 6 of the XML recommendation; `show`
 /// puts the text in the same notation.
+///
+/// The option `--order` of `forest`, `trees`, `query` and `load` says in which order the items are
+/// taken: `fifo`, which is meant without it, `lifo`, `lowest` or `plain`. It changes no byte of the
+/// output.
 ///
 /// The words come without the program's name. All memory is taken before the first put.
 pub fn iguana<F: Shelf, O: Sink, N: Sink>(
@@ -109,13 +114,16 @@ fn decide<F: Shelf>(alloc: Global, words: &[String], shelf: &mut F) -> Result<Ve
     };
     match work_of(command) {
         Work::OnGrammar(grammar, task) => on_grammar(alloc, shelf, grammar, task),
-        Work::OnInput(files, budget, job) => on_input(alloc, shelf, files, budget, job),
+        Work::OnInput(files, budget, order, job) => {
+            on_input(alloc, shelf, files, budget, order, job)
+        }
         Work::OnForest(files, text) => on_forest(alloc, shelf, files, text),
         Work::OfLoad {
             size,
             number,
             budget,
-        } => summary_line(alloc, size, number, budget),
+            order,
+        } => summary_line(alloc, size, number, budget, order),
     }
 }
 
@@ -144,6 +152,7 @@ fn on_input<F: Shelf>(
     shelf: &mut F,
     files: Files<'_>,
     budget: u32,
+    order: Order,
     job: Job<'_>,
 ) -> Result<Vec<u8>, Stop>
     ensures answer { (words : List (List ℕ)) →
@@ -155,7 +164,7 @@ fn on_input<F: Shelf>(
     read_grammars_are_buildable();
     let checked = load_grammar(alloc, shelf, files.grammar.name, files.grammar.notation)?;
     let parser = parser_of(alloc, &checked)?;
-    run(alloc, shelf, &parser, files.input, budget, job)
+    run(alloc, shelf, &parser, files.input, budget, order, job)
 }
 
 /// What comes of a job with the parser's grammar, which no pass has changed, and the input in the
@@ -166,6 +175,7 @@ fn run<F: Shelf>(
     parser: &Parser<'_>,
     name: &str,
     budget: u32,
+    order: Order,
     job: Job<'_>,
 ) -> Result<Vec<u8>, Stop>
     requires as_it_is { parser.now ≡ unchanged parser.now.grammar }
@@ -175,7 +185,7 @@ fn run<F: Shelf>(
     ensures same { (n : List ℕ) → (F.state shelf.new).holds n ≡ (F.state shelf.old).holds n }
 {
     let input = load_input(alloc, shelf, name)?;
-    parse(alloc, parser, &input, budget, job)
+    parse(alloc, parser, &input, budget, order, job)
 }
 
 /// What comes of a check of the forest whose text has that name, with the grammar and the input in

@@ -7,7 +7,7 @@ use Rattle.ig_command.proofs.rows.forest.Goals as goal
 
 pub returns : goal.returns
 returns c =
-    IfOk-weaker c.with_option-2.result _ _
-    (λ r h. h ∙ ap (λ (a : App). with_rule a (option (codes "budget"))) (c.in_ok-with_notation.ensures ∙
-    ap (λ (a : App). with_rule a (option (codes "notation"))) c.in_ok-both.ensures))
-    c.with_option-2.ensures
+    IfOk-weaker c.with_run.result _ _
+    (λ r h. h ∙ ap (λ (a : App). with_rule (with_rule a (option (codes "budget"))) (option (codes "order")))
+    (c.in_ok-with_notation.ensures ∙ ap (λ (a : App). with_rule a (option (codes "notation"))) c.in_ok-both.ensures))
+    c.with_run.ensures

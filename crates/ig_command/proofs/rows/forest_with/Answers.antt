@@ -8,5 +8,5 @@ pub returns : goal.returns
 returns c =
     IfOk-weaker c.with_option-2.result _ _
     (λ r h. h ∙ ap (λ (a : App). with_rule a (option c.args.second.now)) (c.in_ok-with_first.ensures ∙
-    ap (λ (a : App). with_rule a (option c.args.first.now)) c.in_ok-with_budget.ensures))
+    ap (λ (a : App). with_rule a (option c.args.first.now)) c.in_ok-of_forest.ensures))
     c.with_option-2.ensures

@@ -1,4 +1,4 @@
-use Rattle.std.proofs.Common.{refl, subst, sym}
+use Rattle.std.proofs.Common.{subst, sym}
 use Rattle.ig_engine.specs.Adding.{AddsBehind}
 use Rattle.ig_engine.proofs.Adding.{pushes_of}
 use Rattle.ig_engine.proofs.events.add_behind.Goals as goal

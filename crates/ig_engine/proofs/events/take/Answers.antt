@@ -1,5 +1,5 @@
-use Rattle.std.proofs.Common.{refl, sym}
-use Rattle.ig_engine.specs.Reached.{means, reached}
+use Rattle.std.proofs.Common.{sym}
+use Rattle.ig_engine.specs.Reached.{reached}
 use Rattle.ig_engine.proofs.Event.{completes, item_named}
 use Rattle.ig_engine.proofs.events.take.Goals as goal
 

@@ -1,5 +1,4 @@
-use Rattle.std.proofs.Common.{refl, map, ap, sym}
-use Rattle.std.specs.Prelude.{Ok, Err}
+use Rattle.std.proofs.Common.{refl, map, ap}
 use Rattle.ig_expr.specs.View.{expression_of}
 use Rattle.ig_engine.specs.Reached.{reached}
 use Rattle.ig_engine.proofs.Calls.{uncalled, made_tables, made_firsts, made_call_in, made_within, made_stopped, made_unmarked, found_tables, there_nodes, found_edge, found_within, found_call, found_stopped, found_unmarked}

@@ -1,5 +1,5 @@
-use Rattle.std.proofs.Common.{refl, subst, sym}
-use Rattle.std.specs.Prelude.{Contains, Ok, Err}
+use Rattle.std.proofs.Common.{subst, sym}
+use Rattle.std.specs.Prelude.{Contains, Ok}
 use Rattle.ig_gss.specs.Nodes.{ended, ends_at, pops_at}
 use Rattle.ig_item.specs.Items.{IsComplete}
 use Rattle.ig_engine.specs.Adding.{Events}

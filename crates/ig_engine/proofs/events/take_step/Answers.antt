@@ -1,9 +1,8 @@
-use Rattle.std.proofs.Common.{◌∙◌, inl, inr, refl, ap, map, sym, subst}
+use Rattle.std.proofs.Common.{inl, inr, refl, ap, sym, subst}
 use Rattle.ig_expr.specs.View.{expression_of}
 use Rattle.ig_gss.specs.Nodes.{keys_of}
 use Rattle.ig_item.specs.Items.{StandsBefore}
-use Rattle.ig_steps.specs.Compiled.{expressions_of, form_of}
-use Rattle.ig_item.specs.Step.{Test, Bind, Term, Call}
+use Rattle.ig_item.specs.Step.{Term}
 use Rattle.ig_item.specs.View.{step_of}
 use Rattle.ig_item.specs.declared.ways.Way.TheVariants.{Leaf, Pass}
 use Rattle.ig_moves.specs.Rules.{IsBehind, IsBehindBind, IsBehindTest}

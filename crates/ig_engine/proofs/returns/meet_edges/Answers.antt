@@ -1,6 +1,5 @@
 use Rattle.std.proofs.lemmas.Grind.{common_steps}
-use Rattle.std.proofs.Common.{◌≡◌, arith, rules, Some, refl, sym, subst, reverse}
-use Rattle.std.specs.Prelude.{Ok, Err}
+use Rattle.std.proofs.Common.{◌≡◌, arith, rules, sym, subst, reverse}
 use Rattle.ig_text.proofs.Lists.{mapped_at}
 use Rattle.ig_gss.specs.Nodes.{edges_at}
 use Rattle.ig_gss.specs.declared.marks.Edge.{Edge}

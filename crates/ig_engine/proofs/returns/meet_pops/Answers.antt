@@ -1,12 +1,11 @@
 use Rattle.std.proofs.lemmas.Grind.{common_steps}
-use Rattle.std.proofs.Common.{◌≡◌, arith, rules, Some, refl, sym, subst, reverse}
-use Rattle.std.specs.Prelude.{Ok, Err}
+use Rattle.std.proofs.Common.{◌≡◌, arith, rules, sym, subst, reverse}
 use Rattle.ig_text.proofs.Lists.{mapped_at}
 use Rattle.ig_gss.specs.Nodes.{pops_at}
 use Rattle.ig_gss.specs.declared.marks.Pop.{Pop}
 use Rattle.ig_engine.specs.Reached.{means, reached}
 use Rattle.ig_engine.proofs.Adding.{adds_stops}
-use Rattle.ig_engine.proofs.Returning.{Walks, edge_on, in_reverse, in_whole, nodes_reversed, walk_ends, walk_goes, walk_nodes, walk_starts, walk_stopped, walk_stops}
+use Rattle.ig_engine.proofs.Returning.{Walks, edge_on, nodes_reversed, walk_ends, walk_goes, walk_nodes, walk_starts, walk_stopped, walk_stops}
 use Rattle.ig_engine.proofs.returns.meet_pops.Goals as goal
 
 pub loop-pop-init : goal.loop-pop-init

@@ -1,6 +1,3 @@
-use Rattle.std.proofs.Common.{[], Some, refl, sym, ap, ◌∙◌}
-use Rattle.std.specs.Prelude.{None, Ok, Err}
-use Rattle.std.proofs.lemmas.Option.{slice_get_within}
 use Rattle.ig_text.proofs.Lists.{contains_from_at}
 use Rattle.ig_engine.specs.Reached.{means, reached}
 use Rattle.ig_engine.proofs.Adding.{adds_exit, returns_of}

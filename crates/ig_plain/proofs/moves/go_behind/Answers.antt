@@ -1,42 +1,63 @@
-use Rattle.std.proofs.Common.{◌≡◌, subst, ◌∙◌, ap}
-use Rattle.std.proofs.lemmas.Result.{on_ok_weaker}
-use Rattle.ig_text.proofs.Booleans.{refuted}
-use Rattle.ig_item.specs.Items.{past}
+use Rattle.std.proofs.Common.{refl, ap}
+use Rattle.ig_item.specs.Items.{Item}
 use Rattle.ig_item.specs.declared.ways.Way.TheVariants.{Node}
-use Rattle.ig_plain.specs.Found.{Adds, means}
-use Rattle.ig_plain.specs.Trail.{By, Records}
-use Rattle.ig_plain.proofs.Recording.{records_where, records_nowhere}
+use Rattle.ig_moves.specs.Rules.{IsPastCall}
+use Rattle.ig_plain.proofs.Additions.{adds_exit}
+use Rattle.ig_plain.proofs.Behind.{named_behind, node_behind, it_is_behind, adds_none_behind, records_none_behind, adds_behind, records_behind}
+use Rattle.ig_plain.proofs.Growth.{grows_not}
+use Rattle.ig_plain.proofs.Naming.{wider}
 use Rattle.ig_plain.proofs.moves.go_behind.Goals as goal
-use Rattle.ig_plain.proofs.Additions.{adds_where, adds_nowhere, true_at}
 
-pub returns-then-not-matches_none-clause-adds : goal.returns-then-not-matches_none-clause-adds
-returns-then-not-matches_none-clause-adds c =
-    adds_nowhere c.args.end _ _ c.args.context.now.budget c.args.found.now (refuted c.matches_none.result c.matches_none.ensures c.if-not-matches_none.true)
+pub invariant_of-found : goal.invariant_of-found
+invariant_of-found c = record { named = wider c.args.found.now.named _ c.behind_call.ensures.extends }
 
-pub returns-then-not-matches_none-clause-ways : goal.returns-then-not-matches_none-clause-ways
-returns-then-not-matches_none-clause-ways c =
-    records_nowhere _ (Node c.args.from.number c.args.done) _ c.args.found.now c.args.trail.now
-    (refuted c.matches_none.result c.matches_none.ensures c.if-not-matches_none.true)
+pub behind_call-requires : goal.behind_call-requires
+behind_call-requires c = record { there = c.requires.named.env }
 
-pub go_behind_call-requires-clause-by_nodes : goal.go_behind_call-requires-clause-by_nodes
-go_behind_call-requires-clause-by_nodes c x e =
-    c.requires.by_nodes x (
-      true_at c.matches_none.result _ c.matches_none.ensures c.if-not-matches_none.false,
-      e ∙ ap (λ z. past (means c.args.found.now c.args.from.item) z c.args.end) c.span_bound-bound.ensures,
-    )
+pub returns-in_err-behind-clause-adds : goal.returns-in_err-behind-clause-adds
+returns-in_err-behind-clause-adds c =
+    adds_exit c.args.end _ c.args.context.now.budget c.args.found.now _ c.from_residual.result c.from_residual.ensures.1
+    (grows_not c.args.end _ c.args.found.now _ c.in_err-behind.ensures.extends c.in_err-behind.ensures.once refl refl refl refl)
+
+pub returns-in_default-clause-adds : goal.returns-in_default-clause-adds
+returns-in_default-clause-adds c =
+    adds_none_behind (IsPastCall c.args.context.now.text.now c.args.qualifiers.now.label.now c.args.qualifiers.now.not.now c.args.end) c.args.found.now _
+    c.args.from.item _ c.requires.named c.in_ok-behind.ensures.moves c.in_ok-behind.ensures.extends c.in_ok-behind.ensures.once
+    refl refl refl refl c.args.end c.args.context.now.budget c.in_default.is
+
+pub returns-in_default-clause-ways : goal.returns-in_default-clause-ways
+returns-in_default-clause-ways c =
+    records_none_behind (IsPastCall c.args.context.now.text.now c.args.qualifiers.now.label.now c.args.qualifiers.now.not.now c.args.end) c.args.found.now _
+    c.args.from.item _ c.requires.named c.in_ok-behind.ensures.moves c.in_ok-behind.ensures.extends c.in_ok-behind.ensures.once
+    refl refl refl refl (Node c.args.from.number c.args.done) c.args.trail.now c.in_default.is
+
+pub add_returned-requires-clause-named : goal.add_returned-requires-clause-named
+add_returned-requires-clause-named c =
+    named_behind (IsPastCall c.args.context.now.text.now c.args.qualifiers.now.label.now c.args.qualifiers.now.not.now c.args.end) c.args.found.now _
+    c.args.from.item _ c.in_ok-behind.ensures.extends c.requires.named c.in_ok-behind.ensures.moves c.in-Some.behind c.in-Some.is
+
+pub add_returned-requires-clause-indexed : goal.add_returned-requires-clause-indexed
+add_returned-requires-clause-indexed c = c.requires.indexed
+
+pub add_returned-requires-clause-by_node : goal.add_returned-requires-clause-by_node
+add_returned-requires-clause-by_node c =
+    node_behind (IsPastCall c.args.context.now.text.now c.args.qualifiers.now.label.now c.args.qualifiers.now.not.now c.args.end) c.args.found.now _
+    c.args.from.item _ c.in_ok-behind.ensures.extends c.requires.named c.in_ok-behind.ensures.moves c.in-Some.behind c.in-Some.is
+    c.args.trail.now c.requires.by_nodes
 
 pub returns-clause-adds : goal.returns-clause-adds
 returns-clause-adds c =
-    adds_where c.args.end _ _ c.args.context.now.budget c.args.found.now c.go_behind_call.new.found c.go_behind_call.result
-    (true_at c.matches_none.result _ c.matches_none.ensures c.if-not-matches_none.false)
-    (subst (λ z. Adds c.args.end (λ x. x ≡ past (means c.args.found.now c.args.from.item) z c.args.end) c.args.context.now.budget c.args.found.now c.go_behind_call.new.found c.go_behind_call.result)
-    c.span_bound-bound.ensures c.go_behind_call.ensures.adds)
+    adds_behind (IsPastCall c.args.context.now.text.now c.args.qualifiers.now.label.now c.args.qualifiers.now.not.now c.args.end) c.args.found.now _
+    c.args.from.item _ c.requires.named c.in_ok-behind.ensures.moves c.in_ok-behind.ensures.extends c.in_ok-behind.ensures.once
+    refl refl refl refl c.in-Some.behind c.in-Some.is c.add_returned.new.found c.args.end c.args.context.now.budget c.add_returned.result
+    (ap (λ (z : Item). z.position)
+    (it_is_behind (IsPastCall c.args.context.now.text.now c.args.qualifiers.now.label.now c.args.qualifiers.now.not.now c.args.end) c.args.found.now _
+    c.args.from.item _ c.in_ok-behind.ensures.extends c.requires.named c.in_ok-behind.ensures.moves c.in-Some.behind c.in-Some.is).1)
+    c.add_returned.ensures.adds
 
 pub returns-clause-ways : goal.returns-clause-ways
 returns-clause-ways c =
-    let way = Node c.args.from.number c.args.done in
-    on_ok_weaker c.go_behind_call.result
-    (λ r. records_where _ way _ c.args.found.now c.go_behind_call.new.found c.args.trail.now c.go_behind_call.new.trail
-    (true_at c.matches_none.result _ c.matches_none.ensures c.if-not-matches_none.false)
-    (subst (λ z. Records (By way (λ x. x ≡ past (means c.args.found.now c.args.from.item) z c.args.end)) c.args.found.now c.go_behind_call.new.found c.args.trail.now c.go_behind_call.new.trail)
-    c.span_bound-bound.ensures r)) c.go_behind_call.ensures.ways
+    records_behind (IsPastCall c.args.context.now.text.now c.args.qualifiers.now.label.now c.args.qualifiers.now.not.now c.args.end) c.args.found.now _
+    c.args.from.item _ c.requires.named c.in_ok-behind.ensures.moves c.in_ok-behind.ensures.extends c.in_ok-behind.ensures.once
+    refl refl refl refl c.in-Some.behind c.in-Some.is c.add_returned.new.found (Node c.args.from.number c.args.done) c.args.trail.now
+    c.add_returned.new.trail c.add_returned.result c.add_returned.ensures.ways

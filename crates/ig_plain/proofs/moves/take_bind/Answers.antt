@@ -1,48 +1,61 @@
-use Rattle.std.proofs.lemmas.Result.{on_ok_weaker}
-use Rattle.ig_text.proofs.Options.{not_none}
+use Rattle.std.proofs.Common.{refl, ap}
 use Rattle.ig_expr.specs.View.{expression_of}
+use Rattle.ig_item.specs.Items.{Item}
 use Rattle.ig_item.specs.declared.ways.Way.TheVariants.{Pass}
-use Rattle.ig_plain.proofs.Additions.{adds_with, adds_without, value_at, value_only}
-use Rattle.ig_plain.proofs.Recording.{records_with, records_without}
-use Rattle.ig_steps.specs.Compiled.{form_of}
-use Rattle.ig_plain.proofs.Forms.{form_of_one}
+use Rattle.ig_moves.specs.Rules.{IsBehindBind}
+use Rattle.ig_plain.proofs.Additions.{adds_exit}
+use Rattle.ig_plain.proofs.Behind.{named_behind, new_behind, it_is_behind, adds_none_behind, records_none_behind, adds_behind, records_behind}
+use Rattle.ig_plain.proofs.Growth.{grows_not}
+use Rattle.ig_plain.proofs.Naming.{wider}
 use Rattle.ig_plain.proofs.moves.take_bind.Goals as goal
 
-pub only-form-requires : goal.only-form-requires
-only-form-requires c = (form_of c.args.known.now.names.now (expression_of c.args.expression.now), c.requires.compiled)
+pub invariant_of-found : goal.invariant_of-found
+invariant_of-found c = record { named = wider c.args.found.now.named _ c.behind_bind.ensures.extends }
 
-pub value-requires : goal.value-requires
-value-requires c =
-    form_of_one c.args.known.now.names.now (expression_of c.args.expression.now) c.args.known.now.forms.now c.only-form.result.now c.only-form.ensures
-    c.requires.compiled
+pub behind_bind-requires : goal.behind_bind-requires
+behind_bind-requires c = record { there = c.requires.named.env; compiled = c.requires.compiled }
 
-pub go_on-requires-clause-new : goal.go_on-requires-clause-new
-go_on-requires-clause-new c x e =
-    c.requires.new x (
-      c.in-Some.value,
-      value_at c.args.context.now.text.now c.args.known.now.names.now c.args.from.item.position _ _ (expression_of c.args.expression.now) _ _ c.values_at-values.ensures c.value.ensures c.in-Some.is,
-      e,
-    )
-
-pub returns-clause-adds : goal.returns-clause-adds
-returns-clause-adds c =
-    adds_with c.args.from.item.position _ _ c.in-Some.value c.args.context.now.budget c.args.found.now c.go_on.new.found c.go_on.result
-    (value_at c.args.context.now.text.now c.args.known.now.names.now c.args.from.item.position _ _ (expression_of c.args.expression.now) _ _ c.values_at-values.ensures c.value.ensures c.in-Some.is)
-    (λ w h. value_only _ c.in-Some.value w (value_at c.args.context.now.text.now c.args.known.now.names.now c.args.from.item.position _ _ (expression_of c.args.expression.now) _ _ c.values_at-values.ensures c.value.ensures c.in-Some.is) h)
-    c.go_on.ensures.adds
-
-pub returns-clause-ways : goal.returns-clause-ways
-returns-clause-ways c =
-    on_ok_weaker c.go_on.result
-    (records_with _ (Pass c.args.from.number) _ c.in-Some.value c.args.found.now c.go_on.new.found c.args.trail.now c.go_on.new.trail
-    (value_at c.args.context.now.text.now c.args.known.now.names.now c.args.from.item.position _ _ (expression_of c.args.expression.now) _ _ c.values_at-values.ensures c.value.ensures c.in-Some.is)
-    (λ w h. value_only _ c.in-Some.value w (value_at c.args.context.now.text.now c.args.known.now.names.now c.args.from.item.position _ _ (expression_of c.args.expression.now) _ _ c.values_at-values.ensures c.value.ensures c.in-Some.is) h))
-    c.go_on.ensures.ways
+pub returns-in_err-behind-clause-adds : goal.returns-in_err-behind-clause-adds
+returns-in_err-behind-clause-adds c =
+    adds_exit c.args.from.item.position _ c.args.context.now.budget c.args.found.now _ c.from_residual.result c.from_residual.ensures.1
+    (grows_not c.args.from.item.position _ c.args.found.now _ c.in_err-behind.ensures.extends c.in_err-behind.ensures.once refl refl refl refl)
 
 pub returns-in_default-clause-adds : goal.returns-in_default-clause-adds
 returns-in_default-clause-adds c =
-    adds_without c.args.from.item.position _ _ c.args.context.now.budget c.args.found.now (λ w h. not_none _ w (value_at c.args.context.now.text.now c.args.known.now.names.now c.args.from.item.position _ _ (expression_of c.args.expression.now) _ _ c.values_at-values.ensures c.value.ensures c.in_default.is) h)
+    adds_none_behind (IsBehindBind c.args.context.now.text.now c.args.known.now.names.now (expression_of c.args.expression.now)) c.args.found.now _
+    c.args.from.item _ c.requires.named c.in_ok-behind.ensures.moves c.in_ok-behind.ensures.extends c.in_ok-behind.ensures.once
+    refl refl refl refl c.args.from.item.position c.args.context.now.budget c.in_default.is
 
 pub returns-in_default-clause-ways : goal.returns-in_default-clause-ways
 returns-in_default-clause-ways c =
-    records_without _ (Pass c.args.from.number) _ c.args.found.now c.args.trail.now (λ w h. not_none _ w (value_at c.args.context.now.text.now c.args.known.now.names.now c.args.from.item.position _ _ (expression_of c.args.expression.now) _ _ c.values_at-values.ensures c.value.ensures c.in_default.is) h)
+    records_none_behind (IsBehindBind c.args.context.now.text.now c.args.known.now.names.now (expression_of c.args.expression.now)) c.args.found.now _
+    c.args.from.item _ c.requires.named c.in_ok-behind.ensures.moves c.in_ok-behind.ensures.extends c.in_ok-behind.ensures.once
+    refl refl refl refl (Pass c.args.from.number) c.args.trail.now c.in_default.is
+
+pub add_new-requires-clause-named : goal.add_new-requires-clause-named
+add_new-requires-clause-named c =
+    named_behind (IsBehindBind c.args.context.now.text.now c.args.known.now.names.now (expression_of c.args.expression.now)) c.args.found.now _
+    c.args.from.item _ c.in_ok-behind.ensures.extends c.requires.named c.in_ok-behind.ensures.moves c.in-Some.behind c.in-Some.is
+
+pub add_new-requires-clause-new : goal.add_new-requires-clause-new
+add_new-requires-clause-new c =
+    new_behind (IsBehindBind c.args.context.now.text.now c.args.known.now.names.now (expression_of c.args.expression.now)) c.args.found.now _
+    c.args.from.item _ c.in_ok-behind.ensures.extends c.requires.named c.in_ok-behind.ensures.moves c.in-Some.behind c.in-Some.is
+    c.requires.new
+
+pub returns-clause-adds : goal.returns-clause-adds
+returns-clause-adds c =
+    adds_behind (IsBehindBind c.args.context.now.text.now c.args.known.now.names.now (expression_of c.args.expression.now)) c.args.found.now _
+    c.args.from.item _ c.requires.named c.in_ok-behind.ensures.moves c.in_ok-behind.ensures.extends c.in_ok-behind.ensures.once
+    refl refl refl refl c.in-Some.behind c.in-Some.is c.add_new.new.found c.args.from.item.position c.args.context.now.budget c.add_new.result
+    (ap (λ (z : Item). z.position)
+    (it_is_behind (IsBehindBind c.args.context.now.text.now c.args.known.now.names.now (expression_of c.args.expression.now)) c.args.found.now _
+    c.args.from.item _ c.in_ok-behind.ensures.extends c.requires.named c.in_ok-behind.ensures.moves c.in-Some.behind c.in-Some.is).2)
+    c.add_new.ensures.adds
+
+pub returns-clause-ways : goal.returns-clause-ways
+returns-clause-ways c =
+    records_behind (IsBehindBind c.args.context.now.text.now c.args.known.now.names.now (expression_of c.args.expression.now)) c.args.found.now _
+    c.args.from.item _ c.requires.named c.in_ok-behind.ensures.moves c.in_ok-behind.ensures.extends c.in_ok-behind.ensures.once
+    refl refl refl refl c.in-Some.behind c.in-Some.is c.add_new.new.found (Pass c.args.from.number) c.args.trail.now c.add_new.new.trail
+    c.add_new.result c.add_new.ensures.ways

@@ -1,46 +1,61 @@
-use Rattle.std.proofs.lemmas.Result.{on_ok_weaker}
+use Rattle.std.proofs.Common.{refl, ap}
 use Rattle.ig_expr.specs.View.{expression_of}
+use Rattle.ig_item.specs.Items.{Item}
 use Rattle.ig_item.specs.declared.ways.Way.TheVariants.{Pass}
-use Rattle.ig_plain.proofs.Additions.{adds_where, adds_nowhere, holds_at, fails_at}
-use Rattle.ig_plain.proofs.Recording.{records_where, records_nowhere}
-use Rattle.ig_steps.specs.Compiled.{form_of}
-use Rattle.ig_plain.proofs.Forms.{form_of_one}
+use Rattle.ig_moves.specs.Rules.{IsBehindTest}
+use Rattle.ig_plain.proofs.Additions.{adds_exit}
+use Rattle.ig_plain.proofs.Behind.{named_behind, new_behind, it_is_behind, adds_none_behind, records_none_behind, adds_behind, records_behind}
+use Rattle.ig_plain.proofs.Growth.{grows_not}
+use Rattle.ig_plain.proofs.Naming.{wider}
 use Rattle.ig_plain.proofs.moves.take_test.Goals as goal
 
-pub only-form-requires : goal.only-form-requires
-only-form-requires c = (form_of c.args.known.now.names.now (expression_of c.args.condition.now), c.requires.compiled)
+pub invariant_of-found : goal.invariant_of-found
+invariant_of-found c = record { named = wider c.args.found.now.named _ c.behind_test.ensures.extends }
 
-pub is_true-requires : goal.is_true-requires
-is_true-requires c =
-    form_of_one c.args.known.now.names.now (expression_of c.args.condition.now) c.args.known.now.forms.now c.only-form.result.now c.only-form.ensures
-    c.requires.compiled
+pub behind_test-requires : goal.behind_test-requires
+behind_test-requires c = record { there = c.requires.named.env; compiled = c.requires.compiled }
 
-pub returns-then-not-is_true-clause-adds : goal.returns-then-not-is_true-clause-adds
-returns-then-not-is_true-clause-adds c =
-    adds_nowhere c.args.from.item.position _ _ c.args.context.now.budget _
-    (fails_at c.args.context.now.text.now c.args.known.now.names.now c.args.from.item.position _ _ (expression_of c.args.condition.now) c.is_true.result c.values_at-values.ensures c.is_true.ensures c.if-not-is_true.true)
+pub returns-in_err-behind-clause-adds : goal.returns-in_err-behind-clause-adds
+returns-in_err-behind-clause-adds c =
+    adds_exit c.args.from.item.position _ c.args.context.now.budget c.args.found.now _ c.from_residual.result c.from_residual.ensures.1
+    (grows_not c.args.from.item.position _ c.args.found.now _ c.in_err-behind.ensures.extends c.in_err-behind.ensures.once refl refl refl refl)
 
-pub returns-then-not-is_true-clause-ways : goal.returns-then-not-is_true-clause-ways
-returns-then-not-is_true-clause-ways c =
-    records_nowhere _ (Pass c.args.from.number) _ c.args.found.now c.args.trail.now
-    (fails_at c.args.context.now.text.now c.args.known.now.names.now c.args.from.item.position _ _ (expression_of c.args.condition.now) c.is_true.result c.values_at-values.ensures c.is_true.ensures c.if-not-is_true.true)
+pub returns-in_default-clause-adds : goal.returns-in_default-clause-adds
+returns-in_default-clause-adds c =
+    adds_none_behind (IsBehindTest c.args.context.now.text.now c.args.known.now.names.now (expression_of c.args.condition.now)) c.args.found.now _
+    c.args.from.item _ c.requires.named c.in_ok-behind.ensures.moves c.in_ok-behind.ensures.extends c.in_ok-behind.ensures.once
+    refl refl refl refl c.args.from.item.position c.args.context.now.budget c.in_default.is
 
-pub go_on-requires-clause-new : goal.go_on-requires-clause-new
-go_on-requires-clause-new c x e =
-    c.requires.new x (
-      holds_at c.args.context.now.text.now c.args.known.now.names.now c.args.from.item.position _ _ (expression_of c.args.condition.now) c.is_true.result c.values_at-values.ensures c.is_true.ensures c.if-not-is_true.false,
-      e,
-    )
+pub returns-in_default-clause-ways : goal.returns-in_default-clause-ways
+returns-in_default-clause-ways c =
+    records_none_behind (IsBehindTest c.args.context.now.text.now c.args.known.now.names.now (expression_of c.args.condition.now)) c.args.found.now _
+    c.args.from.item _ c.requires.named c.in_ok-behind.ensures.moves c.in_ok-behind.ensures.extends c.in_ok-behind.ensures.once
+    refl refl refl refl (Pass c.args.from.number) c.args.trail.now c.in_default.is
+
+pub add_new-requires-clause-named : goal.add_new-requires-clause-named
+add_new-requires-clause-named c =
+    named_behind (IsBehindTest c.args.context.now.text.now c.args.known.now.names.now (expression_of c.args.condition.now)) c.args.found.now _
+    c.args.from.item _ c.in_ok-behind.ensures.extends c.requires.named c.in_ok-behind.ensures.moves c.in-Some.behind c.in-Some.is
+
+pub add_new-requires-clause-new : goal.add_new-requires-clause-new
+add_new-requires-clause-new c =
+    new_behind (IsBehindTest c.args.context.now.text.now c.args.known.now.names.now (expression_of c.args.condition.now)) c.args.found.now _
+    c.args.from.item _ c.in_ok-behind.ensures.extends c.requires.named c.in_ok-behind.ensures.moves c.in-Some.behind c.in-Some.is
+    c.requires.new
 
 pub returns-clause-adds : goal.returns-clause-adds
 returns-clause-adds c =
-    adds_where c.args.from.item.position _ _ c.args.context.now.budget c.args.found.now c.go_on.new.found c.go_on.result
-    (holds_at c.args.context.now.text.now c.args.known.now.names.now c.args.from.item.position _ _ (expression_of c.args.condition.now) c.is_true.result c.values_at-values.ensures c.is_true.ensures c.if-not-is_true.false)
-    c.go_on.ensures.adds
+    adds_behind (IsBehindTest c.args.context.now.text.now c.args.known.now.names.now (expression_of c.args.condition.now)) c.args.found.now _
+    c.args.from.item _ c.requires.named c.in_ok-behind.ensures.moves c.in_ok-behind.ensures.extends c.in_ok-behind.ensures.once
+    refl refl refl refl c.in-Some.behind c.in-Some.is c.add_new.new.found c.args.from.item.position c.args.context.now.budget c.add_new.result
+    (ap (λ (z : Item). z.position)
+    (it_is_behind (IsBehindTest c.args.context.now.text.now c.args.known.now.names.now (expression_of c.args.condition.now)) c.args.found.now _
+    c.args.from.item _ c.in_ok-behind.ensures.extends c.requires.named c.in_ok-behind.ensures.moves c.in-Some.behind c.in-Some.is).1)
+    c.add_new.ensures.adds
 
 pub returns-clause-ways : goal.returns-clause-ways
 returns-clause-ways c =
-    on_ok_weaker c.go_on.result
-    (records_where _ (Pass c.args.from.number) _ c.args.found.now c.go_on.new.found c.args.trail.now c.go_on.new.trail
-    (holds_at c.args.context.now.text.now c.args.known.now.names.now c.args.from.item.position _ _ (expression_of c.args.condition.now) c.is_true.result c.values_at-values.ensures c.is_true.ensures c.if-not-is_true.false))
-    c.go_on.ensures.ways
+    records_behind (IsBehindTest c.args.context.now.text.now c.args.known.now.names.now (expression_of c.args.condition.now)) c.args.found.now _
+    c.args.from.item _ c.requires.named c.in_ok-behind.ensures.moves c.in_ok-behind.ensures.extends c.in_ok-behind.ensures.once
+    refl refl refl refl c.in-Some.behind c.in-Some.is c.add_new.new.found (Pass c.args.from.number) c.args.trail.now c.add_new.new.trail
+    c.add_new.result c.add_new.ensures.ways

@@ -1,14 +1,15 @@
-use Rattle.std.proofs.Common.{ap, ◌∙◌, subst}
+use Rattle.std.proofs.Common.{[], ap, ◌∙◌, subst}
+use Rattle.std.specs.Prelude.{None}
 use Rattle.std.proofs.lemmas.Result.{on_ok_weaker}
 use Rattle.ig_item.specs.Step.{Call}
 use Rattle.ig_item.specs.View.{step_of}
 use Rattle.ig_item.specs.Items.{MatchesNone, StandsBefore}
 use Rattle.ig_item.specs.declared.ways.Way.TheVariants.{Node}
 use Rattle.ig_plain.specs.Found.{Adds, means}
-use Rattle.ig_plain.specs.Rules.{IsPastCall}
+use Rattle.ig_moves.specs.Rules.{IsPastCall}
 use Rattle.ig_plain.specs.Trail.{By, Records}
 use Rattle.ig_plain.proofs.Additions.{adds_stops}
-use Rattle.ig_plain.proofs.Returns.{into_return, return_alike, records_return, into_bare, bare_alike, records_bare, step_is}
+use Rattle.ig_plain.proofs.Returns.{into_return, return_alike, records_return, step_is}
 use Rattle.ig_plain.proofs.run.return_to.Goals as goal
 
 pub go_behind-requires-clause-by_nodes : goal.go_behind-requires-clause-by_nodes
@@ -51,24 +52,27 @@ returns-in-Call-clause-ways c =
     (subst (λ z. Records (By way (IsPastCall c.args.context.now.text.now c.in-Call.label z c.args.end it))
     c.args.found.now c.go_behind.new.found c.args.trail.now c.go_behind.new.trail) c.as_slice-not.ensures r)) c.go_behind.ensures.ways
 
-pub go_behind_bare_call-requires-clause-by_nodes : goal.go_behind_bare_call-requires-clause-by_nodes
-go_behind_bare_call-requires-clause-by_nodes c x e =
-    c.requires.by_nodes x
-    (into_bare c.args.context.now.core.now c.args.context.now.text.now (means c.args.found.now c.args.caller.item) c.args.end (c.requires.bare c.if-caller.true) x e)
+pub go_behind_bare-requires-clause-by_nodes : goal.go_behind_bare-requires-clause-by_nodes
+go_behind_bare-requires-clause-by_nodes c x m =
+    let bare = c.requires.bare c.if-caller.true in
+    c.requires.by_nodes x (into_return c.args.context.now.core.now c.args.context.now.text.now (means c.args.found.now c.args.caller.item) c.args.end bare.callee bare.arguments None [] bare.names bare.before x m)
 
 pub returns-then-caller-clause-adds : goal.returns-then-caller-clause-adds
 returns-then-caller-clause-adds c =
-    bare_alike c.args.context.now.core.now c.args.context.now.text.now (means c.args.found.now c.args.caller.item) c.args.end (c.requires.bare c.if-caller.true)
-    c.args.context.now.budget c.args.found.now c.go_behind_bare_call.new.found _ c.in_ok-go_behind_bare_call.ensures.adds
+    let bare = c.requires.bare c.if-caller.true in
+    return_alike c.args.context.now.core.now c.args.context.now.text.now (means c.args.found.now c.args.caller.item) c.args.end bare.callee bare.arguments None [] bare.names bare.before
+    c.args.context.now.budget c.args.found.now c.go_behind_bare.new.found _ c.in_ok-go_behind_bare.ensures.adds
 
 pub returns-then-caller-clause-ways : goal.returns-then-caller-clause-ways
 returns-then-caller-clause-ways c =
-    records_bare c.args.context.now.core.now c.args.context.now.text.now (means c.args.found.now c.args.caller.item) c.args.end (c.requires.bare c.if-caller.true)
-    (Node c.args.caller.number c.args.done) c.args.found.now c.go_behind_bare_call.new.found c.args.trail.now c.go_behind_bare_call.new.trail
-    c.in_ok-go_behind_bare_call.ensures.ways
+    let bare = c.requires.bare c.if-caller.true in
+    records_return c.args.context.now.core.now c.args.context.now.text.now (means c.args.found.now c.args.caller.item) c.args.end bare.callee bare.arguments None [] bare.names bare.before
+    (Node c.args.caller.number c.args.done) c.args.found.now c.go_behind_bare.new.found c.args.trail.now c.go_behind_bare.new.trail
+    c.in_ok-go_behind_bare.ensures.ways
 
-pub returns-in_err-go_behind_bare_call-clause-adds : goal.returns-in_err-go_behind_bare_call-clause-adds
-returns-in_err-go_behind_bare_call-clause-adds c =
-    adds_stops c.args.end _ c.args.context.now.budget c.args.found.now c.go_behind_bare_call.new.found c.from_residual.result c.in_err-go_behind_bare_call.field-0.0 c.from_residual.ensures.1
-    (bare_alike c.args.context.now.core.now c.args.context.now.text.now (means c.args.found.now c.args.caller.item) c.args.end (c.requires.bare c.if-caller.true)
-    c.args.context.now.budget c.args.found.now c.go_behind_bare_call.new.found _ c.in_err-go_behind_bare_call.ensures.adds)
+pub returns-in_err-go_behind_bare-clause-adds : goal.returns-in_err-go_behind_bare-clause-adds
+returns-in_err-go_behind_bare-clause-adds c =
+    let bare = c.requires.bare c.if-caller.true in
+    adds_stops c.args.end _ c.args.context.now.budget c.args.found.now c.go_behind_bare.new.found c.from_residual.result c.in_err-go_behind_bare.field-0.0 c.from_residual.ensures.1
+    (return_alike c.args.context.now.core.now c.args.context.now.text.now (means c.args.found.now c.args.caller.item) c.args.end bare.callee bare.arguments None [] bare.names bare.before
+    c.args.context.now.budget c.args.found.now c.go_behind_bare.new.found _ c.in_err-go_behind_bare.ensures.adds)

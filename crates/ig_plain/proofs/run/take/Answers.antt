@@ -1,9 +1,11 @@
-use Rattle.std.proofs.Common.{sym, subst}
+use Rattle.std.proofs.Common.{sym, subst, ap, ◌∙◌}
 use Rattle.ig_text.proofs.Lists.{contains_from_at}
+use Rattle.ig_moves.specs.Rules.{step_at}
+use Rattle.ig_plain.specs.Found.{means}
 use Rattle.ig_plain.specs.Run.{IsRun}
 use Rattle.ig_plain.specs.Trail.{HasTrail}
 use Rattle.ig_plain.proofs.Onward.{trail_next}
-use Rattle.ig_plain.proofs.Alone.{fits, stands_at, complete_at, taken_next}
+use Rattle.ig_plain.proofs.Alone.{next_reachable, taken_next}
 use Rattle.ig_plain.proofs.run.take.Goals as goal
 
 pub nonterminal_of-nonterminal-requires : goal.nonterminal_of-nonterminal-requires
@@ -32,12 +34,8 @@ take_step-requires-clause-next c =
           (contains_from_at c.args.run.now.found.here.items c.args.place c.item_at-item.result c.item_at-item.ensures))) c.requires.trail;
     }
 
-pub take_step-requires-clause-stands : goal.take_step-requires-clause-stands
-take_step-requires-clause-stands c =
-    stands_at c.args.context.now.core.now _ c.nonterminal_of-nonterminal.result _
-    (fits c.args.context.now.core.now c.args.context.now.text.now c.args.context.now.budget c.args.position c.args.place c.args.run.now.found c.args.run.now.waiting c.item_at-item.result
-    c.requires.run c.item_at-item.ensures c.environments_fit.ensures c.keep_well_kinded.ensures)
-    c.nonterminal_of-nonterminal.ensures c.in-Some.ensures
+pub take_step-requires-clause-there : goal.take_step-requires-clause-there
+take_step-requires-clause-there c = sym c.in-Some.ensures
 
 pub take_complete-requires-clause-taking : goal.take_complete-requires-clause-taking
 take_complete-requires-clause-taking c =
@@ -62,10 +60,11 @@ take_complete-requires-clause-next c =
 
 pub take_complete-requires-clause-complete : goal.take_complete-requires-clause-complete
 take_complete-requires-clause-complete c =
-    complete_at c.args.context.now.core.now _ c.nonterminal_of-nonterminal.result
-    (fits c.args.context.now.core.now c.args.context.now.text.now c.args.context.now.budget c.args.position c.args.place c.args.run.now.found c.args.run.now.waiting c.item_at-item.result
-    c.requires.run c.item_at-item.ensures c.environments_fit.ensures c.keep_well_kinded.ensures)
-    c.nonterminal_of-nonterminal.ensures c.in-None.ensures
+    let item = c.item_at-item.result in
+    (c.ends_are_complete.ensures c.args.context.now.core.now c.args.context.now.text.now (means c.args.run.now.found item) c.keep_well_kinded.ensures
+    (next_reachable c.args.context.now.core.now c.args.context.now.text.now c.args.context.now.budget c.args.position c.args.place c.args.run.now.found
+    c.args.run.now.waiting item c.requires.run c.item_at-item.ensures)).1
+    (ap (λ n. step_at c.args.context.now.core.now n item.alternative item.dot) (sym c.nonterminal_of-nonterminal.ensures) ∙ sym c.in-None.ensures)
 
 pub returns-in-Some-clause-run : goal.returns-in-Some-clause-run
 returns-in-Some-clause-run c =

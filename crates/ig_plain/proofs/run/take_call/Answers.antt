@@ -1,8 +1,5 @@
 use Rattle.std.proofs.Common.{refl}
-use Rattle.std.proofs.lemmas.Option.{slice_get_within}
 use Rattle.ig_text.proofs.Lists.{contains_from_at}
-use Rattle.ig_steps.specs.Compiled.{values_in}
-use Rattle.ig_plain.proofs.Forms.{there_with}
 use Rattle.ig_plain.proofs.Instances.{at_exit}
 use Rattle.ig_plain.proofs.Completes.{run_at}
 use Rattle.ig_plain.proofs.Calling.{no_call, stops, callee_there, last_2, still_there, named_2, only_waits, goes_past}
@@ -12,16 +9,13 @@ use Rattle.ig_plain.proofs.Naming.{wider}
 use Rattle.ig_plain.proofs.run.take_call.Goals as goal
 
 pub invariant_of-run : goal.invariant_of-run
-invariant_of-run c = record { named = wider c.args.run.now.found.named _ c.enter_arguments.ensures.extends }
+invariant_of-run c = record { named = wider c.args.run.now.found.named _ c.callee_of.ensures.extends }
 
-pub values_at-values-requires : goal.values_at-values-requires
-values_at-values-requires c = (c.args.run.now.found.named.here c.args.taken.item
-    (contains_from_at c.args.run.now.found.here.items c.requires.taking.number c.args.taken.item c.requires.taking.at)).env
-
-pub enter_arguments-requires : goal.enter_arguments-requires
-enter_arguments-requires c = record {
+pub callee_of-requires : goal.callee_of-requires
+callee_of-requires c = record {
   there = (c.args.run.now.found.named.here c.args.taken.item
       (contains_from_at c.args.run.now.found.here.items c.requires.taking.number c.args.taken.item c.requires.taking.at)).env;
+  compiled = c.requires.compiled;
 }
 
 pub returns-in_default-clause-takes : goal.returns-in_default-clause-takes
@@ -30,8 +24,9 @@ returns-in_default-clause-takes c =
     no_call c.args.context.now.core.now c.args.context.now.text.now c.reachable_is_closed.ensures c.items_are_in_text.ensures c.args.context.now.budget c.args.taken.item.position k
     c.args.run.now.found c.args.run.now.waiting c.args.taken.item refl
     (run_at c.args.context.now.core.now c.args.context.now.text.now c.args.context.now.budget c.args.taken.item c.args.run.now.found c.args.run.now.waiting c.requires.taking k e) e
-    c.args.known.now.names.now c.args.nonterminal _ c.args.qualifiers.now.label.now c.args.qualifiers.now.not.now c.requires.before
-    c.values_at-values.result.now c.values_at-values.ensures (c.in_ok-arguments.ensures.none c.in_default.is)
+    c.args.known.now.names.now c.args.nonterminal _ c.args.qualifiers.now.label.now c.args.qualifiers.now.not.now c.requires.before c.before_calls.ensures
+    _ c.in_ok-key.ensures.extends (c.in_ok-key.ensures.once c.requires.taking.run.taking.stored.tables.environments)
+    refl refl refl refl _ c.in_ok-key.ensures.callee c.in_default.is
 
 pub returns-in_default-clause-trail : goal.returns-in_default-clause-trail
 returns-in_default-clause-trail c =
@@ -42,12 +37,12 @@ returns-in_default-clause-trail c =
     no_call_on c.args.context.now.core.now c.args.context.now.text.now c.reachable_is_closed.ensures c.items_are_in_text.ensures c.args.context.now.budget k c.args.run.now.found
     c.args.run.now.waiting c.args.taken.item
     (run_at c.args.context.now.core.now c.args.context.now.text.now c.args.context.now.budget c.args.taken.item c.args.run.now.found c.args.run.now.waiting c.requires.taking k e) e
-    c.args.known.now.names.now c.args.nonterminal _ c.args.qualifiers.now.label.now c.args.qualifiers.now.not.now c.requires.before c.args.run.now.trail c.args.taken.number h.1 h.0
-    c.values_at-values.result.now c.values_at-values.ensures (c.in_ok-arguments.ensures.none c.in_default.is)
+    c.args.known.now.names.now c.args.nonterminal _ c.args.qualifiers.now.label.now c.args.qualifiers.now.not.now c.requires.before c.before_calls.ensures c.args.run.now.trail c.args.taken.number h.1 h.0
+    _ c.in_ok-key.ensures.extends (c.in_ok-key.ensures.once c.requires.taking.run.taking.stored.tables.environments)
+    refl refl refl refl _ c.in_ok-key.ensures.callee c.in_default.is
 
 pub call_instance-requires-clause-env : goal.call_instance-requires-clause-env
-call_instance-requires-clause-env c = slice_get_within c.enter_arguments.new.envs.keys c.in_ok-env.env _
-    c.in_ok-env.ensures.enters.there
+call_instance-requires-clause-env c = c.in_ok-key.ensures.callee.there c.in-Some.key c.in-Some.is
 
 pub returns-in_err-callee-clause-takes : goal.returns-in_err-callee-clause-takes
 returns-in_err-callee-clause-takes c =
@@ -56,35 +51,26 @@ returns-in_err-callee-clause-takes c =
     (stops c.args.context.now.core.now c.args.context.now.text.now c.reachable_is_closed.ensures c.items_are_in_text.ensures c.args.context.now.budget c.args.taken.item.position k
     c.args.run.now.found c.args.run.now.waiting c.args.taken.item refl
     (run_at c.args.context.now.core.now c.args.context.now.text.now c.args.context.now.budget c.args.taken.item c.args.run.now.found c.args.run.now.waiting c.requires.taking k e) e
-    c.args.known.now.names.now c.args.nonterminal _ c.args.qualifiers.now.label.now c.args.qualifiers.now.not.now c.requires.before
-    _ c.in_ok-env.env c.values_at-values.result.now (values_in c.values_at-values.result.now c.in-Some.arguments) c.values_at-values.ensures
-    c.in_ok-env.ensures.extends (c.in_ok-env.ensures.once c.requires.taking.run.taking.stored.tables.environments)
-    (there_with c.enter_arguments.new.envs.keys c.in_ok-env.env _ c.values_at-values.result.now c.in-Some.arguments c.values_at-values.ensures
-    c.in_ok-env.ensures.enters.there)
-    refl refl refl refl (c.in_ok-arguments.ensures.some c.in-Some.arguments c.in-Some.is)
-    c.call_instance.new.run.found c.call_instance.new.run.waiting c.in_err-callee.field-0.0 refl c.in_err-callee.ensures.enters)
+    c.args.known.now.names.now c.args.nonterminal _ c.args.qualifiers.now.label.now c.args.qualifiers.now.not.now c.requires.before c.before_calls.ensures
+    _ c.in_ok-key.ensures.extends (c.in_ok-key.ensures.once c.requires.taking.run.taking.stored.tables.environments)
+    refl refl refl refl _ c.in_ok-key.ensures.callee c.in-Some.key c.in-Some.is
+    c.call_instance.new.run.found c.call_instance.new.run.waiting c.in_err-callee.field-0.0 c.in_err-callee.ensures.enters)
 
 pub add_caller-requires : goal.add_caller-requires
 add_caller-requires c =
     record {
       there = callee_there c.args.context.now.core.now c.args.context.now.text.now c.reachable_is_closed.ensures c.items_are_in_text.ensures c.args.context.now.budget
           c.args.taken.item.position c.requires.taking.number c.args.run.now.found c.args.run.now.waiting c.args.taken.item refl
-          c.requires.taking.run c.requires.taking.at c.args.known.now.names.now c.args.nonterminal _ c.args.qualifiers.now.label.now c.args.qualifiers.now.not.now c.requires.before
-          _ c.in_ok-env.env c.values_at-values.result.now (values_in c.values_at-values.result.now c.in-Some.arguments) c.values_at-values.ensures
-          c.in_ok-env.ensures.extends (c.in_ok-env.ensures.once c.requires.taking.run.taking.stored.tables.environments)
-          (there_with c.enter_arguments.new.envs.keys c.in_ok-env.env _ c.values_at-values.result.now c.in-Some.arguments c.values_at-values.ensures
-          c.in_ok-env.ensures.enters.there)
-          refl refl refl refl (c.in_ok-arguments.ensures.some c.in-Some.arguments c.in-Some.is)
-          c.call_instance.new.run.found c.call_instance.new.run.waiting c.in_ok-callee.callee refl c.in_ok-callee.ensures.enters;
+          c.requires.taking.run c.requires.taking.at c.args.known.now.names.now c.args.nonterminal _ c.args.qualifiers.now.label.now c.args.qualifiers.now.not.now c.requires.before c.before_calls.ensures
+          _ c.in_ok-key.ensures.extends (c.in_ok-key.ensures.once c.requires.taking.run.taking.stored.tables.environments)
+          refl refl refl refl _ c.in_ok-key.ensures.callee c.in-Some.key c.in-Some.is
+          c.call_instance.new.run.found c.call_instance.new.run.waiting c.in_ok-callee.callee c.in_ok-callee.ensures.enters;
       last = last_2 c.args.context.now.core.now c.args.context.now.text.now c.reachable_is_closed.ensures c.items_are_in_text.ensures c.args.context.now.budget c.args.taken.item.position
           c.requires.taking.number c.args.run.now.found c.args.run.now.waiting c.args.taken.item refl
-          c.requires.taking.run c.requires.taking.at c.args.known.now.names.now c.args.nonterminal _ c.args.qualifiers.now.label.now c.args.qualifiers.now.not.now c.requires.before
-          _ c.in_ok-env.env c.values_at-values.result.now (values_in c.values_at-values.result.now c.in-Some.arguments) c.values_at-values.ensures
-          c.in_ok-env.ensures.extends (c.in_ok-env.ensures.once c.requires.taking.run.taking.stored.tables.environments)
-          (there_with c.enter_arguments.new.envs.keys c.in_ok-env.env _ c.values_at-values.result.now c.in-Some.arguments c.values_at-values.ensures
-          c.in_ok-env.ensures.enters.there)
-          refl refl refl refl (c.in_ok-arguments.ensures.some c.in-Some.arguments c.in-Some.is)
-          c.call_instance.new.run.found c.call_instance.new.run.waiting c.in_ok-callee.callee refl c.in_ok-callee.ensures.enters;
+          c.requires.taking.run c.requires.taking.at c.args.known.now.names.now c.args.nonterminal _ c.args.qualifiers.now.label.now c.args.qualifiers.now.not.now c.requires.before c.before_calls.ensures
+          _ c.in_ok-key.ensures.extends (c.in_ok-key.ensures.once c.requires.taking.run.taking.stored.tables.environments)
+          refl refl refl refl _ c.in_ok-key.ensures.callee c.in-Some.key c.in-Some.is
+          c.call_instance.new.run.found c.call_instance.new.run.waiting c.in_ok-callee.callee c.in_ok-callee.ensures.enters;
     }
 
 pub end_at-requires : goal.end_at-requires
@@ -92,13 +78,10 @@ end_at-requires c =
     record {
       there = still_there c.args.context.now.core.now c.args.context.now.text.now c.reachable_is_closed.ensures c.items_are_in_text.ensures c.args.context.now.budget
           c.args.taken.item.position c.requires.taking.number c.args.run.now.found c.args.run.now.waiting c.args.taken.item refl
-          c.requires.taking.run c.requires.taking.at c.args.known.now.names.now c.args.nonterminal _ c.args.qualifiers.now.label.now c.args.qualifiers.now.not.now c.requires.before
-          _ c.in_ok-env.env c.values_at-values.result.now (values_in c.values_at-values.result.now c.in-Some.arguments) c.values_at-values.ensures
-          c.in_ok-env.ensures.extends (c.in_ok-env.ensures.once c.requires.taking.run.taking.stored.tables.environments)
-          (there_with c.enter_arguments.new.envs.keys c.in_ok-env.env _ c.values_at-values.result.now c.in-Some.arguments c.values_at-values.ensures
-          c.in_ok-env.ensures.enters.there)
-          refl refl refl refl (c.in_ok-arguments.ensures.some c.in-Some.arguments c.in-Some.is)
-          c.call_instance.new.run.found c.call_instance.new.run.waiting c.in_ok-callee.callee refl c.in_ok-callee.ensures.enters
+          c.requires.taking.run c.requires.taking.at c.args.known.now.names.now c.args.nonterminal _ c.args.qualifiers.now.label.now c.args.qualifiers.now.not.now c.requires.before c.before_calls.ensures
+          _ c.in_ok-key.ensures.extends (c.in_ok-key.ensures.once c.requires.taking.run.taking.stored.tables.environments)
+          refl refl refl refl _ c.in_ok-key.ensures.callee c.in-Some.key c.in-Some.is
+          c.call_instance.new.run.found c.call_instance.new.run.waiting c.in_ok-callee.callee c.in_ok-callee.ensures.enters
           c.add_caller.new.waiting c.args.taken.number c.is_bare.result c.in_ok-add_caller.ensures.callers c.in_ok-add_caller.ensures.called;
     }
 
@@ -108,13 +91,10 @@ returns-in_default-end_at-clause-takes c =
     only_waits c.args.context.now.core.now c.args.context.now.text.now c.reachable_is_closed.ensures c.items_are_in_text.ensures c.args.context.now.budget c.args.taken.item.position k
     c.args.run.now.found c.args.run.now.waiting c.args.taken.item refl
     (run_at c.args.context.now.core.now c.args.context.now.text.now c.args.context.now.budget c.args.taken.item c.args.run.now.found c.args.run.now.waiting c.requires.taking k e) e
-    c.args.known.now.names.now c.args.nonterminal _ c.args.qualifiers.now.label.now c.args.qualifiers.now.not.now c.requires.before
-    _ c.in_ok-env.env c.values_at-values.result.now (values_in c.values_at-values.result.now c.in-Some.arguments) c.values_at-values.ensures
-    c.in_ok-env.ensures.extends (c.in_ok-env.ensures.once c.requires.taking.run.taking.stored.tables.environments)
-    (there_with c.enter_arguments.new.envs.keys c.in_ok-env.env _ c.values_at-values.result.now c.in-Some.arguments c.values_at-values.ensures
-    c.in_ok-env.ensures.enters.there)
-    refl refl refl refl (c.in_ok-arguments.ensures.some c.in-Some.arguments c.in-Some.is)
-    c.call_instance.new.run.found c.call_instance.new.run.waiting c.in_ok-callee.callee refl c.in_ok-callee.ensures.enters
+    c.args.known.now.names.now c.args.nonterminal _ c.args.qualifiers.now.label.now c.args.qualifiers.now.not.now c.requires.before c.before_calls.ensures
+    _ c.in_ok-key.ensures.extends (c.in_ok-key.ensures.once c.requires.taking.run.taking.stored.tables.environments)
+    refl refl refl refl _ c.in_ok-key.ensures.callee c.in-Some.key c.in-Some.is
+    c.call_instance.new.run.found c.call_instance.new.run.waiting c.in_ok-callee.callee c.in_ok-callee.ensures.enters
     c.add_caller.new.waiting c.args.taken.number c.is_bare.result c.in_ok-add_caller.ensures.callers c.in_ok-add_caller.ensures.called c.in_default-end_at.ensures.none
 
 pub returns-in_default-end_at-clause-trail : goal.returns-in_default-end_at-clause-trail
@@ -126,12 +106,9 @@ returns-in_default-end_at-clause-trail c =
     only_waits_on c.args.context.now.core.now c.args.context.now.text.now c.reachable_is_closed.ensures c.items_are_in_text.ensures c.args.context.now.budget k c.args.run.now.found
     c.args.run.now.waiting c.args.taken.item
     (run_at c.args.context.now.core.now c.args.context.now.text.now c.args.context.now.budget c.args.taken.item c.args.run.now.found c.args.run.now.waiting c.requires.taking k e) e
-    c.args.known.now.names.now c.args.nonterminal _ c.args.qualifiers.now.label.now c.args.qualifiers.now.not.now c.requires.before c.args.run.now.trail c.args.taken.number h.1 h.0
-    _ c.in_ok-env.env c.values_at-values.result.now (values_in c.values_at-values.result.now c.in-Some.arguments) c.values_at-values.ensures
-    c.in_ok-env.ensures.extends (c.in_ok-env.ensures.once c.requires.taking.run.taking.stored.tables.environments)
-    (there_with c.enter_arguments.new.envs.keys c.in_ok-env.env _ c.values_at-values.result.now c.in-Some.arguments c.values_at-values.ensures
-    c.in_ok-env.ensures.enters.there)
-    refl refl refl refl (c.in_ok-arguments.ensures.some c.in-Some.arguments c.in-Some.is)
+    c.args.known.now.names.now c.args.nonterminal _ c.args.qualifiers.now.label.now c.args.qualifiers.now.not.now c.requires.before c.before_calls.ensures c.args.run.now.trail c.args.taken.number h.1 h.0
+    _ c.in_ok-key.ensures.extends (c.in_ok-key.ensures.once c.requires.taking.run.taking.stored.tables.environments)
+    refl refl refl refl _ c.in_ok-key.ensures.callee c.in-Some.key c.in-Some.is
     c.call_instance.new.run.found c.call_instance.new.run.waiting c.in_ok-callee.callee c.in_ok-callee.ensures.enters
     c.call_instance.new.run.trail c.in_ok-callee.ensures.trail
     c.add_caller.new.waiting c.is_bare.result c.is_bare.ensures.0 c.in_ok-add_caller.ensures.callers c.in_ok-add_caller.ensures.called c.in_default-end_at.ensures.none
@@ -140,13 +117,10 @@ pub go_behind-requires-clause-named : goal.go_behind-requires-clause-named
 go_behind-requires-clause-named c =
     named_2 c.args.context.now.core.now c.args.context.now.text.now c.reachable_is_closed.ensures c.items_are_in_text.ensures c.args.context.now.budget c.args.taken.item.position
     c.requires.taking.number c.args.run.now.found c.args.run.now.waiting c.args.taken.item refl
-    c.requires.taking.run c.requires.taking.at c.args.known.now.names.now c.args.nonterminal _ c.args.qualifiers.now.label.now c.args.qualifiers.now.not.now c.requires.before
-    _ c.in_ok-env.env c.values_at-values.result.now (values_in c.values_at-values.result.now c.in-Some.arguments) c.values_at-values.ensures
-    c.in_ok-env.ensures.extends (c.in_ok-env.ensures.once c.requires.taking.run.taking.stored.tables.environments)
-    (there_with c.enter_arguments.new.envs.keys c.in_ok-env.env _ c.values_at-values.result.now c.in-Some.arguments c.values_at-values.ensures
-    c.in_ok-env.ensures.enters.there)
-    refl refl refl refl (c.in_ok-arguments.ensures.some c.in-Some.arguments c.in-Some.is)
-    c.call_instance.new.run.found c.call_instance.new.run.waiting c.in_ok-callee.callee refl c.in_ok-callee.ensures.enters
+    c.requires.taking.run c.requires.taking.at c.args.known.now.names.now c.args.nonterminal _ c.args.qualifiers.now.label.now c.args.qualifiers.now.not.now c.requires.before c.before_calls.ensures
+    _ c.in_ok-key.ensures.extends (c.in_ok-key.ensures.once c.requires.taking.run.taking.stored.tables.environments)
+    refl refl refl refl _ c.in_ok-key.ensures.callee c.in-Some.key c.in-Some.is
+    c.call_instance.new.run.found c.call_instance.new.run.waiting c.in_ok-callee.callee c.in_ok-callee.ensures.enters
 
 pub go_behind-requires-clause-indexed : goal.go_behind-requires-clause-indexed
 go_behind-requires-clause-indexed c =
@@ -156,12 +130,9 @@ go_behind-requires-clause-indexed c =
     (trail_2
     c.args.context.now.core.now c.args.context.now.text.now c.reachable_is_closed.ensures c.items_are_in_text.ensures c.args.context.now.budget c.requires.taking.number c.args.run.now.found
     c.args.run.now.waiting c.args.taken.item c.requires.taking.run c.requires.taking.at
-    c.args.known.now.names.now c.args.nonterminal _ c.args.qualifiers.now.label.now c.args.qualifiers.now.not.now c.requires.before c.args.run.now.trail c.args.taken.number h.1 h.0
-    _ c.in_ok-env.env c.values_at-values.result.now (values_in c.values_at-values.result.now c.in-Some.arguments) c.values_at-values.ensures
-    c.in_ok-env.ensures.extends (c.in_ok-env.ensures.once c.requires.taking.run.taking.stored.tables.environments)
-    (there_with c.enter_arguments.new.envs.keys c.in_ok-env.env _ c.values_at-values.result.now c.in-Some.arguments c.values_at-values.ensures
-    c.in_ok-env.ensures.enters.there)
-    refl refl refl refl (c.in_ok-arguments.ensures.some c.in-Some.arguments c.in-Some.is)
+    c.args.known.now.names.now c.args.nonterminal _ c.args.qualifiers.now.label.now c.args.qualifiers.now.not.now c.requires.before c.before_calls.ensures c.args.run.now.trail c.args.taken.number h.1 h.0
+    _ c.in_ok-key.ensures.extends (c.in_ok-key.ensures.once c.requires.taking.run.taking.stored.tables.environments)
+    refl refl refl refl _ c.in_ok-key.ensures.callee c.in-Some.key c.in-Some.is
     c.call_instance.new.run.found c.call_instance.new.run.waiting c.in_ok-callee.callee c.in_ok-callee.ensures.enters
     c.call_instance.new.run.trail c.in_ok-callee.ensures.trail).indexed
 
@@ -173,12 +144,9 @@ go_behind-requires-clause-by_nodes c =
     by_nodes_2
     c.args.context.now.core.now c.args.context.now.text.now c.reachable_is_closed.ensures c.items_are_in_text.ensures c.args.context.now.budget c.requires.taking.number c.args.run.now.found
     c.args.run.now.waiting c.args.taken.item c.requires.taking.run c.requires.taking.at
-    c.args.known.now.names.now c.args.nonterminal _ c.args.qualifiers.now.label.now c.args.qualifiers.now.not.now c.requires.before c.args.run.now.trail c.args.taken.number h.1 h.0
-    _ c.in_ok-env.env c.values_at-values.result.now (values_in c.values_at-values.result.now c.in-Some.arguments) c.values_at-values.ensures
-    c.in_ok-env.ensures.extends (c.in_ok-env.ensures.once c.requires.taking.run.taking.stored.tables.environments)
-    (there_with c.enter_arguments.new.envs.keys c.in_ok-env.env _ c.values_at-values.result.now c.in-Some.arguments c.values_at-values.ensures
-    c.in_ok-env.ensures.enters.there)
-    refl refl refl refl (c.in_ok-arguments.ensures.some c.in-Some.arguments c.in-Some.is)
+    c.args.known.now.names.now c.args.nonterminal _ c.args.qualifiers.now.label.now c.args.qualifiers.now.not.now c.requires.before c.before_calls.ensures c.args.run.now.trail c.args.taken.number h.1 h.0
+    _ c.in_ok-key.ensures.extends (c.in_ok-key.ensures.once c.requires.taking.run.taking.stored.tables.environments)
+    refl refl refl refl _ c.in_ok-key.ensures.callee c.in-Some.key c.in-Some.is
     c.call_instance.new.run.found c.call_instance.new.run.waiting c.in_ok-callee.callee c.in_ok-callee.ensures.enters
     c.call_instance.new.run.trail c.in_ok-callee.ensures.trail
 
@@ -188,13 +156,10 @@ returns-clause-takes c =
     goes_past c.args.context.now.core.now c.args.context.now.text.now c.reachable_is_closed.ensures c.items_are_in_text.ensures c.args.context.now.budget c.args.taken.item.position k
     c.args.run.now.found c.args.run.now.waiting c.args.taken.item refl
     (run_at c.args.context.now.core.now c.args.context.now.text.now c.args.context.now.budget c.args.taken.item c.args.run.now.found c.args.run.now.waiting c.requires.taking k e) e
-    c.args.known.now.names.now c.args.nonterminal _ c.args.qualifiers.now.label.now c.args.qualifiers.now.not.now c.requires.before
-    _ c.in_ok-env.env c.values_at-values.result.now (values_in c.values_at-values.result.now c.in-Some.arguments) c.values_at-values.ensures
-    c.in_ok-env.ensures.extends (c.in_ok-env.ensures.once c.requires.taking.run.taking.stored.tables.environments)
-    (there_with c.enter_arguments.new.envs.keys c.in_ok-env.env _ c.values_at-values.result.now c.in-Some.arguments c.values_at-values.ensures
-    c.in_ok-env.ensures.enters.there)
-    refl refl refl refl (c.in_ok-arguments.ensures.some c.in-Some.arguments c.in-Some.is)
-    c.call_instance.new.run.found c.call_instance.new.run.waiting c.in_ok-callee.callee refl c.in_ok-callee.ensures.enters
+    c.args.known.now.names.now c.args.nonterminal _ c.args.qualifiers.now.label.now c.args.qualifiers.now.not.now c.requires.before c.before_calls.ensures
+    _ c.in_ok-key.ensures.extends (c.in_ok-key.ensures.once c.requires.taking.run.taking.stored.tables.environments)
+    refl refl refl refl _ c.in_ok-key.ensures.callee c.in-Some.key c.in-Some.is
+    c.call_instance.new.run.found c.call_instance.new.run.waiting c.in_ok-callee.callee c.in_ok-callee.ensures.enters
     c.add_caller.new.waiting c.args.taken.number c.is_bare.result c.in_ok-add_caller.ensures.callers c.in_ok-add_caller.ensures.called c.in-Some-end_at.ensures.some
     c.go_behind.new.found c.go_behind.result c.go_behind.ensures.adds
 
@@ -207,12 +172,9 @@ returns-clause-trail c =
     goes_past_on c.args.context.now.core.now c.args.context.now.text.now c.reachable_is_closed.ensures c.items_are_in_text.ensures c.args.context.now.budget k c.args.run.now.found
     c.args.run.now.waiting c.args.taken.item
     (run_at c.args.context.now.core.now c.args.context.now.text.now c.args.context.now.budget c.args.taken.item c.args.run.now.found c.args.run.now.waiting c.requires.taking k e) e
-    c.args.known.now.names.now c.args.nonterminal _ c.args.qualifiers.now.label.now c.args.qualifiers.now.not.now c.requires.before c.args.run.now.trail c.args.taken.number h.1 h.0
-    _ c.in_ok-env.env c.values_at-values.result.now (values_in c.values_at-values.result.now c.in-Some.arguments) c.values_at-values.ensures
-    c.in_ok-env.ensures.extends (c.in_ok-env.ensures.once c.requires.taking.run.taking.stored.tables.environments)
-    (there_with c.enter_arguments.new.envs.keys c.in_ok-env.env _ c.values_at-values.result.now c.in-Some.arguments c.values_at-values.ensures
-    c.in_ok-env.ensures.enters.there)
-    refl refl refl refl (c.in_ok-arguments.ensures.some c.in-Some.arguments c.in-Some.is)
+    c.args.known.now.names.now c.args.nonterminal _ c.args.qualifiers.now.label.now c.args.qualifiers.now.not.now c.requires.before c.before_calls.ensures c.args.run.now.trail c.args.taken.number h.1 h.0
+    _ c.in_ok-key.ensures.extends (c.in_ok-key.ensures.once c.requires.taking.run.taking.stored.tables.environments)
+    refl refl refl refl _ c.in_ok-key.ensures.callee c.in-Some.key c.in-Some.is
     c.call_instance.new.run.found c.call_instance.new.run.waiting c.in_ok-callee.callee c.in_ok-callee.ensures.enters
     c.call_instance.new.run.trail c.in_ok-callee.ensures.trail
     c.add_caller.new.waiting c.is_bare.result c.is_bare.ensures.0 c.in_ok-add_caller.ensures.callers c.in_ok-add_caller.ensures.called c.in-Some-end_at.done

@@ -1,12 +1,6 @@
-use Rattle.std.proofs.Common.{arith}
-use Rattle.ig_plain.proofs.Ends.{items_few, no_more}
+use Rattle.ig_plain.proofs.Ends.{no_more}
 use Rattle.ig_plain.proofs.Ending.{is_recorded}
 use Rattle.ig_plain.proofs.saturation.saturate_with_ways.Goals as goal
-
-pub finish-requires : goal.finish-requires
-finish-requires c =
-    let l = items_few c.args.core.now c.args.text.now c.items_are_in_text.ensures c.args.budget c.in_ok-whole.whole.found c.in_ok-whole.whole.waiting
-    c.in_ok-whole.ensures.run in record { few = omega (arith, l, c.ranges.budget.fits) }
 
 pub of-requires : goal.of-requires
 of-requires c =

@@ -6,39 +6,39 @@ use Rattle.ig_tool.proofs.top_call.decide.Goals as goal
 
 pub returns-in_default-clause-answer : goal.returns-in_default-clause-answer
 returns-in_default-clause-answer g c =
-    decides_usage _ _ c.usage.result (rw c.in_default.is at c.in_ok-command.ensures) c.usage.ensures
+    decides_usage _ _ c.usage.result (rw c.in_default.is at c.in_ok-command.ensures.reads) c.usage.ensures
 
 pub returns-in_err-command-clause-answer : goal.returns-in_err-command-clause-answer
 returns-in_err-command-clause-answer g c = decides_memory _ _ c.from_residual.result c.from_residual.ensures.1
 
 pub returns-in-OnGrammar-clause-answer : goal.returns-in-OnGrammar-clause-answer
 returns-in-OnGrammar-clause-answer g c =
-    let read = rw c.in-Some.is at c.in_ok-command.ensures in
-    let asked = rw c.in-OnGrammar.is at c.work_of.ensures in
+    let read = rw c.in-Some.is at c.in_ok-command.ensures.reads in
+    let asked = rw c.in-OnGrammar.is at c.work_of.ensures.request in
     c.on_grammar.ensures.answer _ (subst (IsCommand (map string_bytes c.args.words.now)) (sym asked) read)
 
 pub returns-in-OnInput-clause-answer : goal.returns-in-OnInput-clause-answer
 returns-in-OnInput-clause-answer g c =
-    let read = rw c.in-Some.is at c.in_ok-command.ensures in
-    let asked = rw c.in-OnInput.is at c.work_of.ensures in
+    let read = rw c.in-Some.is at c.in_ok-command.ensures.reads in
+    let asked = rw c.in-OnInput.is at c.work_of.ensures.request in
     c.on_input.ensures.answer _ (subst (IsCommand (map string_bytes c.args.words.now)) (sym asked) read)
 
 pub returns-in-OnForest-clause-answer : goal.returns-in-OnForest-clause-answer
 returns-in-OnForest-clause-answer g c =
-    let read = rw c.in-Some.is at c.in_ok-command.ensures in
-    let asked = rw c.in-OnForest.is at c.work_of.ensures in
+    let read = rw c.in-Some.is at c.in_ok-command.ensures.reads in
+    let asked = rw c.in-OnForest.is at c.work_of.ensures.request in
     c.on_forest.ensures.answer _ (subst (IsCommand (map string_bytes c.args.words.now)) (sym asked) read)
 
 pub summary_line-requires : goal.summary_line-requires
 summary_line-requires g c =
-    let read = rw c.in-Some.is at c.in_ok-command.ensures in
-    let asked = rw c.in-OfLoad.is at c.work_of.ensures in
+    let read = rw c.in-Some.is at c.in_ok-command.ensures.reads in
+    let asked = rw c.in-OfLoad.is at c.work_of.ensures.request in
     c.load_sizes_are_few.ensures (map string_bytes c.args.words.now) c.in-OfLoad.size c.in-OfLoad.number c.in-OfLoad.budget
     (subst (IsCommand (map string_bytes c.args.words.now)) (sym asked) read)
 
 pub returns-in-OfLoad-clause-answer : goal.returns-in-OfLoad-clause-answer
 returns-in-OfLoad-clause-answer g c =
-    let read = rw c.in-Some.is at c.in_ok-command.ensures in
-    let asked = rw c.in-OfLoad.is at c.work_of.ensures in
+    let read = rw c.in-Some.is at c.in_ok-command.ensures.reads in
+    let asked = rw c.in-OfLoad.is at c.work_of.ensures.request in
     decides_load _ _ c.in-OfLoad.size c.in-OfLoad.number c.in-OfLoad.budget c.summary_line.result
     (subst (IsCommand (map string_bytes c.args.words.now)) (sym asked) read) c.summary_line.ensures

@@ -46,7 +46,7 @@ invariant_of-self-in_err-make_ready c = called.ends_keep _ _ _ _ _ c.self.invari
 
 pub invariant_of-self-in_err-place : goal.invariant_of-self-in_err-place
 invariant_of-self-in_err-place c =
-    subst (λ z. AreStacks c.self.inside.keys.keys c.self.inside.tops.items c.self.inside.edges z c.make_ready.new.ends.entries) (sym c.in_err-place.ensures.refused)
+    subst (λ z. AreStacks c.self.inside.keys c.self.inside.tops.items c.self.inside.edges z c.make_ready.new.ends.entries) (sym c.in_err-place.ensures.refused)
     (called.ends_keep _ _ _ _ _ c.self.invariant _ c.self.view_is _ c.requires.node _ c.index-tops.ensures _ _ c.walk-pops.ensures c.in_ok-make_ready.ensures.grows)
 
 pub invariant_of-self-2 : goal.invariant_of-self-2

@@ -5,5 +5,5 @@ use Rattle.ig_gss.proofs.stacks.Stacks.keys.Goals as goal
 
 pub returns : goal.returns
 returns c =
-    c.as_slice.ensures.keys ∙ sym (shown.shown_keys c.self.inside.edges c.self.inside.pops c.self.inside.keys.keys c.self.inside.tops.items) ∙
+    c.as_slice.ensures ∙ sym (shown.shown_keys c.self.inside.edges c.self.inside.pops c.self.inside.keys c.self.inside.tops.items) ∙
     ap keys_of c.self.view_is

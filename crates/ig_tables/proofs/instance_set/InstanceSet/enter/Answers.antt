@@ -1,6 +1,6 @@
 use Rattle.std.proofs.Common.{◌≡◌, inr, sym, subst, slice_get, Some, length, ap, [], ◌∷◌, refl, arith}
 use Rattle.ig_text.proofs.Lists.{right_at}
-use Rattle.ig_tables.proofs.Numbered.{once_more}
+use Rattle.ig_tables.proofs.Instances.{once_more}
 use Rattle.ig_item.specs.WellKinded.{NoneTwice}
 use Rattle.ig_tables.proofs.instance_set.InstanceSet.enter.Goals as goal
 

@@ -1,7 +1,7 @@
 use Rattle.std.proofs.Common.{◌≡◌, ◌-◌, sym, ◌∙◌, subst, arith, Contains, true, false, slice_index_or}
 use Rattle.ig_tables.specs.Returned.{Walks, entry}
 use Rattle.ig_tables.proofs.Equality.{item_eq-decides}
-use Rattle.ig_tables.proofs.Chains.{walk_starts, walk_smaller, walk_goes, walk_finds, walk_ends}
+use Rattle.ig_tables.proofs.Items.{walk_starts, walk_smaller, walk_goes, walk_finds, walk_ends}
 use Rattle.ig_tables.proofs.returned.Returned.number_of.Goals as goal
 
 pub loop-at-init : goal.loop-at-init

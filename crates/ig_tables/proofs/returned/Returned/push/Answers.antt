@@ -1,6 +1,6 @@
 use Rattle.std.proofs.Common.{◌≡◌, sym, subst, arith, set, slice_index_or}
 use Rattle.ig_tables.specs.Returned.{AreChained}
-use Rattle.ig_tables.proofs.Chains.{added_by}
+use Rattle.ig_tables.proofs.Items.{added_by}
 use Rattle.ig_tables.proofs.returned.Returned.push.Goals as goal
 
 pub invariant_of-self-2 : goal.invariant_of-self-2
