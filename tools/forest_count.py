@@ -1,10 +1,11 @@
 """Counts the trees of a forest, without unfolding them."""
 
-from itertools import compress
+from itertools import compress, repeat
 from math import prod
-from operator import eq
+from operator import eq, ne
 
-from forest_text import NO_NODE, picked
+from forest_columns import pick_at
+from forest_text import NO_NODE
 
 
 def is_ambiguous(forest):
@@ -65,25 +66,28 @@ def has_cycle(forest):
 
     Mostly names say that it can't be: none leads back to itself by nodes with one span.
     """
-    edges = same_spans(forest)
-    keys = forest.node_keys
-    names = set(zip(picked(keys, [node for node, _ in edges]), picked(keys, [child for _, child in edges])))
-    return leads_back(names) and leads_back(edges)
+    nodes, children = same_spans(forest)
+    names = set(zip(pick_at(nodes)(forest.node_keys), pick_at(children)(forest.node_keys)))
+    return leads_back(names) and leads_back(zip(nodes, children))
 
 
 def same_spans(forest):
-    """Pairs of a node and a node that it took with its own span, in a forest without a choice."""
-    spans, nodes, items, found = forest.node_spans, range(forest.node_count), forest.complete, []
+    """Nodes that took a node with their own span, and these, in a forest without a choice."""
+    above, below = [], []
+    nodes, items, begins, ends = range(forest.node_count), forest.complete, forest.node_begins, forest.node_ends
     while items:
-        children = picked(forest.child, items)
-        same = map(eq, picked(spans, children), picked(spans, nodes))  # where there is no child, it is asked of the last node
-        found += [(node, child) for node, child in compress(zip(nodes, children), same) if child != NO_NODE]
-        # What an item took is empty where the item before has its span.
-        before = picked(forest.before, items)
-        empty = list(map(eq, picked(forest.item_spans, before), picked(spans, nodes)))
-        places = [(node, one) for node, one, item in compress(zip(nodes, before, items), empty) if one != item]
-        nodes, items = [node for node, _ in places], [item for _, item in places]
-    return found
+        # All that was taken behind these items is empty. What they took themselves goes from one of these places on.
+        before = pick_at(items)(forest.before)
+        places = pick_at(before)(forest.item_ends)
+        same = list(map(eq, places, begins))
+        above += compress(nodes, same)
+        below += pick_at(list(compress(items, same)))(forest.child)
+        empty = map(eq, places, ends)
+        left = [(node, one) for node, one, item in compress(zip(nodes, before, items), empty) if one != item]
+        nodes, items = zip(*left) if left else ((), ())
+        begins, ends = pick_at(nodes)(forest.node_begins), pick_at(nodes)(forest.node_ends)
+    is_node = list(map(ne, below, repeat(NO_NODE)))
+    return list(compress(above, is_node)), list(compress(below, is_node))
 
 
 def leads_back(pairs):

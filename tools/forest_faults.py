@@ -28,11 +28,12 @@ class Forest:
         self.root = None
 
 
-NUMBER = r"(0|[1-9][0-9]*)"
+NUMBER = r"(0|[1-9][0-9]{0,18})"
 FIRST = re.compile(rf"forest {NUMBER} {NUMBER}")
-NODE = re.compile(rf"node {NUMBER} (\S+) (\(\S*\)) {NUMBER}\.\.{NUMBER}")
+NAME = r"([^\s(]+) (\([^\s)]*\))"
+NODE = re.compile(rf"node {NUMBER} {NAME} {NUMBER}\.\.{NUMBER}")
 ALT = re.compile(rf"alt (\S+) {NUMBER}")
-ITEM = re.compile(rf"item {NUMBER} (\S+) (\(\S*\)) {NUMBER} {NUMBER} (\[\S*\]) {NUMBER}\.\.{NUMBER}")
+ITEM = re.compile(rf"item {NUMBER} {NAME} {NUMBER} {NUMBER} (\[[^\s\]]*\]) {NUMBER}\.\.{NUMBER}")
 PASS = re.compile(rf"pass {NUMBER}")
 TAKE_NODE = re.compile(rf"take {NUMBER} node {NUMBER}")
 TAKE_LEAF = re.compile(rf"take {NUMBER} leaf {NUMBER}\.\.{NUMBER}")

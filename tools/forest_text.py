@@ -1,169 +1,92 @@
-"""Reads the text of a forest.
-
-A forest has millions of lines where its input is long. So its text is read in pieces, each of which is cut into words at
-once, and the words into columns, which are turned into numbers, compared and kept whole. Where something is wrong,
-`forest_faults` looks for it line by line.
-"""
+"""Reads the text of a forest."""
 
 import re
 import sys
-from collections import defaultdict, namedtuple
-from itertools import accumulate, compress, count, repeat
-from operator import add, eq, itemgetter
+from collections import namedtuple
+from functools import cached_property
+from itertools import accumulate, chain, repeat
+from operator import add
 
+from forest_columns import DOTS, Ids, Unread, demand, pick_at, read_parts, repeated
 from forest_faults import NotAForest, find_fault
+from side_by_side import side_by_side
 
 Node = namedtuple("Node", "name values begin end")
 Item = namedtuple("Item", "name values alternative dot begin end")
 
-NUMBER = r"(?:0|[1-9][0-9]*)"
-FIRST = re.compile(rf"forest ({NUMBER}) ({NUMBER})")
-# Where words belong together, a tab stands between them while those of a line are parted.
-NODE_KEY = re.compile(r"\S+\t\(\S*\)")
-ITEM_KEY = re.compile(rf"\S+\t\(\S*\)\t{NUMBER}")
-DOT = re.compile(rf"({NUMBER})\t\[\S*\]")  # with the values that are bound
-VALUES, ALTERNATIVE, BOUND = (" (", "\t("), (") ", ")\t"), (" [", "\t[")
-TAG = re.compile(r"\S+")
-# Lines below items, made as long as those with `take` are.
-BEGIN, PASS = ("\nbegin", "\nbegin 0 - -"), ("\npass ", "\npass - - ")
-NODE, LEAF, NEITHER = range(3)
-KINDS = {"node": NODE, "leaf": LEAF, "-": NEITHER}
-ONLY = [bytes.maketrans(bytes(range(3)), bytes(one == kind for one in range(3))) for kind in range(3)]
-PIECE = 1 << 15  # characters that are read at once: what is made of them is used up while it is near
+NUMBER = r"(0|[1-9][0-9]{0,18})"
+FIRST = re.compile(rf"forest {NUMBER} {NUMBER}")
 NO_NODE = -1
-THOUSAND = [f"{number:03}" for number in range(1000)]
+LEAST_SHARE = 1 << 20  # characters for which a process is worth while
 
 
-class Unread(Exception):
-    """The text isn't as a forest is written."""
-
-
-class Ids(defaultdict):
-    """Numbers for words, from 0 on."""
-
-    def __init__(self):
-        super().__init__(count().__next__)
+def column_of_ways(name):
+    """What puts a column of numbers of ways together where it is asked for."""
+    return cached_property(lambda forest: moved_ways(forest.parts_of_items, name))
 
 
 class Forest:
     """Nodes and items by their numbers, in columns; ways, which are the lines below items, by theirs.
 
-    Keys are numbers of names with values, of items with their alternatives too. Spans are numbers of pairs of positions.
+    Keys are numbers of names with values; a code is the number of an alternative of those times DOTS, and a dot. What
+    begins has its own item before it.
     """
 
-    def __init__(self, text):
-        end = text.find("\nitem ")
-        demand(end >= 0, "\t" not in text)
-        spans = Ids()
-        self.read_nodes(text, text.find("\n") + 1, end, spans)
-        self.read_items(text, end + 1, spans)
-        self.span_begins, self.span_ends = read_spans(spans)
-        self.owners = self.owners_of_ways()
-        for way in self.begun:
-            self.before[way] = self.owners[way]
-        self.child = [NO_NODE] * len(self.before)
-        for way, node in zip(self.nodes, self.taken):
-            self.child[way] = node
-        self.check_nodes()
-        self.check_items()
-
-    def read_nodes(self, text, at, end, spans):
-        keys, tags = Ids(), Ids()
-        self.node_keys, self.node_spans, self.first_line, self.tags, self.complete = [], [], [], [], []
-        for heads, lines, starts in pieces(text, "node", at, end):
-            self.first_line += moved(starts, len(self.complete))
-            words, ordinals, key, span = columns(heads, 4, VALUES)
-            check_heads(words, "\nnode", ordinals, len(self.node_keys))
-            self.node_keys += map(keys.__getitem__, key)
-            self.node_spans += map(spans.__getitem__, span)
-            words, tag, item = columns(lines, 3)
-            demand(words.count("\nalt") == len(lines))
-            self.tags += map(tags.__getitem__, tag)
-            self.complete += integers(item)
-        demand(*map(NODE_KEY.fullmatch, keys), *map(TAG.fullmatch, tags))
-        self.node_names = [key.split("\t") for key in keys]
-        self.tag_names = list(tags)
-        self.first_line.append(len(self.complete))
-
-    def read_items(self, text, at, spans):
-        keys, dots = Ids(), Ids()
-        self.item_keys, self.dots, self.item_spans, self.first_way = [], [], [], []
-        self.before, self.begun, self.passed, self.nodes, self.taken = [], [], [], [], []
-        self.leaves, self.leaf_spans = [], []
-        for heads, lines, starts in pieces(text, "item", at, len(text) - 1):
-            self.first_way += moved(starts, len(self.before))
-            words, ordinals, key, dot, span = columns(heads, 5, VALUES, ALTERNATIVE, BOUND)
-            check_heads(words, "\nitem", ordinals, len(self.dots))
-            self.item_keys += map(keys.__getitem__, key)
-            self.dots += map(dots.__getitem__, dot)
-            self.item_spans += map(spans.__getitem__, span)
-            self.read_ways(lines, spans)
-        found = list(map(DOT.fullmatch, dots))
-        demand(*map(ITEM_KEY.fullmatch, keys), *found)
-        self.item_names = [key.split("\t") for key in keys]
-        self.dots = picked([int(dot[1]) for dot in found], self.dots)
-        self.first_way.append(len(self.before))
-
-    def read_ways(self, lines, spans):
-        """Reads lines below items. What begins is before itself; until all items are read it has 0 there."""
-        first = len(self.before)
-        words, before, kinds, children = columns(lines, 4, BEGIN, PASS)
-        kinds = bytes(map(KINDS.__getitem__, kinds))
-        others = kinds.count(NEITHER)
-        demand(words.count("\ntake") == len(lines) - others)
-        if others:
-            self.begun += compress(count(first), map(eq, words, repeat("\nbegin")))
-            for way in [way for way in compress(count(), kinds.translate(ONLY[NEITHER])) if words[way] == "\npass"]:
-                self.passed.append(first + way)
-                before[way], children[way] = children[way], before[way]
-            demand(words.count("\nbegin") + words.count("\npass") == children.count("-") == others)
-        self.before += integers(before)
-        is_node, is_leaf = kinds.translate(ONLY[NODE]), kinds.translate(ONLY[LEAF])
-        self.nodes += compress(count(first), is_node)
-        self.taken += integers(list(compress(children, is_node)))
-        self.leaves += compress(count(first), is_leaf)
-        self.leaf_spans += map(spans.__getitem__, compress(children, is_leaf))
-
-    def owners_of_ways(self):
-        """For each way the item above it."""
-        if not self.has_choices:
-            return range(self.item_count)
-        starts = bytearray(len(self.before))
-        for way in self.first_way[1:-1]:
-            starts[way] = 1
-        return list(accumulate(starts))
-
-    def check_nodes(self):
-        """Each line `alt` names an item of its node."""
-        demand(max(self.complete) < self.item_count)
-        ids = {tuple(name): k for k, name in enumerate(self.node_names)}
-        of_item = [ids.get((name, values), NO_NODE) for name, values, _ in self.item_names]
-        owners = range(self.node_count)
-        if len(self.complete) > self.node_count:
-            owners = [k for k in owners for _ in self.lines(k)]
-        demand(picked(self.node_keys, owners) == picked(of_item, picked(self.item_keys, self.complete)),
-               picked(self.node_spans, owners) == picked(self.item_spans, self.complete))
+    def __init__(self, text, processes):
+        nodes, items = zip(*read_parts(text, processes))
+        self.read_nodes(nodes)
+        self.read_items(items)
+        checks = (self.codes_fit, self.begins_fit, self.ends_fit, self.nodes_fit)
+        demand(all(side_by_side(lambda fit: fit(), checks, processes)))
         roots = [key for key, (name, _) in enumerate(self.node_names) if name == "$root"]
         demand(len(roots) == 1, self.node_keys.count(*roots[:1] or [NO_NODE]) == 1)
         self.root = self.node_keys.index(roots[0])
 
-    def check_items(self):
-        """Each item is reached from the item before by what it took, or begins, and then it is the item before itself."""
-        demand(max(self.before) < self.item_count, max(self.taken, default=0) < self.node_count)
-        begins, ends = (picked(column, self.item_spans) for column in (self.span_begins, self.span_ends))
-        dots = list(map(add, picked(self.dots, self.before), repeat(1)))
+    def read_nodes(self, parts):
+        self.node_keys, names = renumbered(parts, "keys", "names")
+        self.tags, self.tag_names = renumbered(parts, "tags", "tag_names")
+        self.node_begins, self.node_ends, self.complete = (together(parts, name) for name in ("begins", "ends", "complete"))
+        self.first_line = starts_of(parts)
+        self.node_names = [name.split(" ") for name in names]
+
+    def read_items(self, parts):
+        self.codes, names = renumbered(parts, "codes", "names", DOTS)
+        self.item_begins, self.item_ends, self.before, self.taken = (
+            together(parts, name) for name in ("begins", "ends", "before", "taken"))
+        self.first_way = starts_of(parts)
+        self.item_names = [name.split(" ") for name in names]
+        self.parts_of_items = parts
+
+    begun, passed, nodes, leaves = map(column_of_ways, ("begun", "passed", "nodes", "leaves"))
+
+    def nodes_fit(self):
+        """Whether each line `alt` names an item of its node."""
+        ids = {tuple(name): key for key, name in enumerate(self.node_names)}
+        of_item = [ids.get((name, values), NO_NODE) for name, values, _ in self.item_names]
+        item = pick_at(self.complete)
+        key_of = {code: of_item[code // DOTS] for code in set(item(self.codes))}
+        return (repeated(self.node_keys, self.first_line) == tuple(map(key_of.__getitem__, item(self.codes)))
+                and repeated(self.node_begins, self.first_line) == item(self.item_begins)
+                and repeated(self.node_ends, self.first_line) == item(self.item_ends))
+
+    def codes_fit(self):
+        """Whether each item is that before it, a step on, where it doesn't begin."""
+        code_before = {code: code - 1 for code in set(self.codes)}
+        wanted = list(map(code_before.__getitem__, repeated(self.codes, self.first_way)))
         for way in self.begun:
-            dots[way] = 0
-        for column, wanted in ((self.item_keys, picked(self.item_keys, self.before)),
-                               (begins, picked(begins, self.before)), (self.dots, tuple(dots))):
-            demand((picked(column, self.owners) if self.has_choices else tuple(column)) == wanted)
-        of_before = picked(ends, self.before)
-        of_owners = picked(ends, self.owners) if self.has_choices else ends
-        demand(picked(begins, picked(self.owners, self.begun)) == picked(of_owners, self.begun),
-               picked(of_before, self.passed) == picked(of_owners, self.passed))
-        for ways, spans in ((self.nodes, picked(self.node_spans, self.taken)), (self.leaves, self.leaf_spans)):
-            demand(picked(self.span_begins, spans) == picked(of_before, ways),
-                   picked(self.span_ends, spans) == picked(of_owners, ways))
+            wanted[way] += 1
+        return pick_at(self.before)(self.codes) == tuple(wanted)
+
+    def begins_fit(self):
+        """Whether each item begins where that before it does."""
+        return repeated(self.item_begins, self.first_way) == pick_at(self.before)(self.item_begins)
+
+    def ends_fit(self):
+        """Whether what each item took lies between the end of the item before and its own."""
+        passed, leaves, nodes, taken = map(pick_at, (self.passed, self.leaves, self.nodes, self.taken))
+        ends, of_before = repeated(self.item_ends, self.first_way), pick_at(self.before)(self.item_ends)
+        return (passed(of_before) == passed(ends) and leaves(of_before) == tuple(together(self.parts_of_items, "leaf_begins"))
+                and nodes(of_before) == taken(self.node_begins) and nodes(ends) == taken(self.node_ends))
 
     @property
     def node_count(self):
@@ -171,21 +94,32 @@ class Forest:
 
     @property
     def item_count(self):
-        return len(self.item_keys)
+        return len(self.codes)
 
     @property
     def has_choices(self):
         """Whether a node has several alternatives, or an item several ways."""
         return len(self.complete) > self.node_count or len(self.before) > self.item_count
 
+    @cached_property
+    def dots(self):
+        """For each item its dot."""
+        return [code % DOTS for code in self.codes]
+
+    @cached_property
+    def child(self):
+        """For each way the node that it took, or NO_NODE."""
+        child = [NO_NODE] * len(self.before)
+        for way, node in zip(self.nodes, self.taken):
+            child[way] = node
+        return child
+
     def node(self, k):
-        span = self.node_spans[k]
-        return Node(*self.node_names[self.node_keys[k]], self.span_begins[span], self.span_ends[span])
+        return Node(*self.node_names[self.node_keys[k]], self.node_begins[k], self.node_ends[k])
 
     def item(self, k):
-        name, values, alternative = self.item_names[self.item_keys[k]]
-        span = self.item_spans[k]
-        return Item(name, values, int(alternative), self.dots[k], self.span_begins[span], self.span_ends[span])
+        name, values, alternative = self.item_names[self.codes[k] // DOTS]
+        return Item(name, values, int(alternative), self.codes[k] % DOTS, self.item_begins[k], self.item_ends[k])
 
     def lines(self, k):
         """The numbers of the lines below a node."""
@@ -206,12 +140,12 @@ class Forest:
     def took(self, way, k):
         if self.child[way] != NO_NODE:
             return self.child[way]
-        begin, end = (self.span_ends[self.item_spans[item]] for item in (self.before[way], k))
+        begin, end = self.item_ends[self.before[way]], self.item_ends[k]
         return (begin, end) if begin < end else None
 
 
-def read_forest(data):
-    """The forest whose text the bytes are; `NotAForest` where they are none."""
+def read_forest(data, processes=1):
+    """The forest whose text the bytes are, read by so many processes at most; `NotAForest` where they are none."""
     try:
         text = data.decode("utf-8")
     except UnicodeDecodeError as fault:
@@ -223,10 +157,10 @@ def read_forest(data):
     try:
         first = FIRST.fullmatch(text, 0, text.find("\n"))
         demand(first)
-        forest = Forest(text)
+        forest = Forest(text, max(1, min(processes, len(text) // LEAST_SHARE)))
         demand((forest.node_count, forest.item_count) == (int(first[1]), int(first[2])))
         return forest
-    except (Unread, KeyError, ValueError):
+    except (Unread, IndexError, ValueError):
         find_fault(text[:-1].split("\n"))
         raise NotAForest("not as a forest is written") from None
 
@@ -237,97 +171,42 @@ def told_size(data):
     return int(first[1]) + int(first[2]) if first else 0
 
 
-def demand(*facts):
-    """Raises `Unread` where one of the facts isn't so."""
-    if not all(facts):
-        raise Unread
+def together(parts, name):
+    """A column of all parts."""
+    return parts[0][name] if len(parts) == 1 else list(chain.from_iterable(part[name] for part in parts))
 
 
-def pieces(text, word, at, end):
-    """The lines piece by piece: the heads, which begin with the word, those below them, and where these begin for each head."""
-    head = f"{word} "
-    while at < end:
-        stop = text.find(f"\n{head}", at + PIECE, end)
-        stop = end if stop < 0 else stop
-        lines = text[at:stop].split("\n")
-        if text.count(f"\n{head}", at, stop) * 2 + 2 == len(lines):  # mostly there is one below each head
-            yield lines[::2], lines[1::2], range(len(lines) // 2)
+def renumbered(parts, name, names, step=1):
+    """A column of all parts whose numbers, in steps, stand for names that each part has for itself; and all names."""
+    ids, column = Ids(step), []
+    for part in parts:
+        new = [ids[word] for word in part[names]]
+        if new == list(range(0, step * len(new), step)):
+            column += part[name]
         else:
-            yield parted(lines, head)
-        at = stop + 1
+            number_of = {number: new[number // step] + number % step for number in set(part[name])}
+            column += map(number_of.__getitem__, part[name])
+    return column, list(ids)
 
 
-def parted(lines, head):
-    """Heads, the lines below them, and where these begin for each head."""
-    heads, below, starts = [], [], []
-    for line in lines:
-        if line.startswith(head):
-            demand(len(below) > (starts[-1] if starts else -1))
-            starts.append(len(below))
-            heads.append(line)
-        else:
-            below.append(line)
-    demand(starts[:1] == [0])
-    demand(len(below) > starts[-1])
-    return heads, below, starts
+def lines_before(parts):
+    """For each part the lines of those before it."""
+    return accumulate((part["lines"] for part in parts[:-1]), initial=0)
 
 
-def columns(lines, width, *changes):
-    """The words of the lines as columns, where each line has as many words once it is changed. The first one has a `\\n` before it.
-
-    No other word has one, so where the first column is as it should be, all lines are as long as they should be.
-    """
-    text = "\n" + " \n".join(lines)
-    for old, new in changes:
-        text = text.replace(old, new)
-    words = text.split(" ")
-    demand(len(words) == width * len(lines))
-    return [words[k::width] for k in range(width)]
+def moved_ways(parts, name):
+    """A column of numbers of ways, counted over all parts."""
+    moved = (map(add, part[name], repeat(first)) if first else part[name] for part, first in zip(parts, lines_before(parts)))
+    return list(chain.from_iterable(moved))
 
 
-def check_heads(words, wanted, ordinals, first):
-    """Each line begins with the wanted word, and the ordinals go on from the first one."""
-    demand(words.count(wanted) == len(words), " ".join(ordinals) == said_range(first, first + len(ordinals)))
-
-
-def said_range(first, end):
-    """The numbers from the first one to before the end, with blanks between; those of a thousand are written at once."""
-    said = []
-    while first < end:
-        thousands, rest = divmod(first, 1000)
-        some = min(end - first, 1000 - rest)
-        if thousands:
-            said.append(f" {thousands}".join(["", *THOUSAND[rest : rest + some]])[1:])
-        else:
-            said += map(str, range(first, first + some))
-        first += some
-    return " ".join(said)
-
-
-def integers(words):
-    """The numbers that words are, without zeros in front of them."""
-    text = " " + " ".join(words)
-    digits = text.replace(" ", "")
-    demand(digits.isdecimal() and digits.isascii() or not words, text.count(" 0") == words.count("0"))
-    return list(map(int, words))
-
-
-def read_spans(spans):
-    """The begins and the ends of spans, each of which is two numbers with two points between."""
-    begins, ends = columns(spans, 2, ("..", " "))
-    begins = "".join(begins)[1:].split("\n")
-    demand(len(begins) == len(ends))
-    return integers(begins), integers(ends)
-
-
-def moved(starts, by):
-    """Places, moved on by a number."""
-    return range(by, by + len(starts)) if isinstance(starts, range) else map(add, starts, repeat(by))
-
-
-def picked(column, places):
-    """What a column has at the places."""
-    return itemgetter(*places)(column) if len(places) > 1 else tuple(column[place] for place in places)
+def starts_of(parts):
+    """For each node or item where the lines below it begin, counted over all parts; and how many lines there are."""
+    lines = sum(part["lines"] for part in parts)
+    if all(part["starts"] is None for part in parts):
+        return range(lines + 1)
+    starts = (map(add, part["starts"] or range(part["lines"]), repeat(first)) for part, first in zip(parts, lines_before(parts)))
+    return [*chain.from_iterable(starts), lines]
 
 
 def fetch(name):

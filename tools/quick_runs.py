@@ -3,9 +3,11 @@
 import os
 import resource
 import shutil
+import subprocess
 import tempfile
 
 MEMORY = 4 << 30  # bytes that a run may have at most
+MOST_SHOWN = 4_000  # characters of a text
 
 
 class Said:
@@ -56,3 +58,27 @@ class Bench:
             pass  # it has ended already
         status = os.waitstatus_to_exitcode(os.waitpid(process, 0)[1])
         return Said(status, *(os.pread(stream, os.fstat(stream).st_size, 0) for stream in self.streams))
+
+
+def built(program):
+    """The program itself, where the script of this repository was named, which looks each time whether to build."""
+    if os.path.basename(os.path.dirname(program)) != "out" and os.path.exists(os.path.join(os.path.dirname(program), "crates.txt")):
+        subprocess.run([program, "check", ""], capture_output=True, check=False)
+        return os.path.join(os.path.dirname(program), "crates", "iguana", "out", "iguana")
+    return program
+
+
+def told(data):
+    """A text as it is shown."""
+    try:
+        text = data.decode("utf-8")
+    except UnicodeDecodeError:
+        text = repr(data)
+    return text if len(text) <= MOST_SHOWN else f"{text[:MOST_SHOWN]}\n.. {len(data)} bytes; --keep writes all"
+
+
+def keep(folder, name, grammar, text):
+    os.makedirs(folder, exist_ok=True)
+    for ending, data in (("ig", grammar), ("txt", text)):
+        with open(os.path.join(folder, f"{name}.{ending}"), "wb") as file:
+            file.write(data)

@@ -12,17 +12,21 @@ OPTIONS = {
     "count": ("count", 1, 100_000, "20"),
     "depth": ("depth", 0, 1_000_000, "no bound"),
 }
-QUESTIONS = ("ambiguous", "cyclic", "spans", "report")
+CHOICES = {
+    "what": ("question", ("ambiguous", "cyclic", "spans", "report")),
+    "order": ("order", ("fifo", "lifo", "lowest", "plain")),
+    "notation": ("notation", ("own", "w3c")),
+}
 COMMANDS = {
-    "check": (("G",), ()),
-    "show": (("G",), ()),
-    "core": (("G",), ()),
-    "analyse": (("G",), ()),
-    "forest": (("G", "I"), ("budget",)),
-    "trees": (("G", "I"), ("budget", "depth", "count", "after")),
-    "query": (("G", "I"), ("budget", "what", "name")),
-    "load": (("SIZE", "NUMBER"), ("budget",)),
-    "verify": (("G", "I", "F"), ()),
+    "check": (("G",), ("notation",)),
+    "show": (("G",), ("notation",)),
+    "core": (("G",), ("notation",)),
+    "analyse": (("G",), ("notation",)),
+    "forest": (("G", "I"), ("notation", "budget", "order")),
+    "trees": (("G", "I"), ("notation", "budget", "order", "depth", "count", "after")),
+    "query": (("G", "I"), ("notation", "budget", "order", "what", "name")),
+    "load": (("SIZE", "NUMBER"), ("budget", "order")),
+    "verify": (("G", "I", "F"), ("notation",)),
 }
 MOST_SIZE, MOST_NUMBER = 4000, (1 << 64) - 1
 PLACES = {"G": "a grammar", "I": "an input", "F": "a forest", "SIZE": "a number of operands", "NUMBER": "a number that decides which"}
@@ -100,10 +104,11 @@ def option_fault(command, name, value, options):
     if name in OPTIONS:
         _, least, most, usual = OPTIONS[name]
         return number_fault(f"`--{name}`", value, least, most, usual)
-    if name == "what" and value not in QUESTIONS:
-        near = difflib.get_close_matches(value, QUESTIONS, 1, 0.4)
+    if name in CHOICES and value not in CHOICES[name][1]:
+        what, choices = CHOICES[name]
+        near = difflib.get_close_matches(value, choices, 1, 0.4)
         hint = f" `{near[0]}` was meant, perhaps." if near else ""
-        return f"`{value}` is no question; `--what` has {listed(QUESTIONS, 'or')}.{hint}"
+        return f"`{value}` is no {what}; `--{name}` has {listed(choices, 'or')}.{hint}"
     return None
 
 
