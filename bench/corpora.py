@@ -7,7 +7,10 @@ a text; tabs of Haskell are expanded to columns of 8, since that is what they me
 `query` are run. Prints a table in Markdown: files, characters, items of the forest a character, processor seconds and
 megabytes of memory a million characters, and how many files have one tree, more, none, or more reachable items than
 the budget. What has none or more is listed with the note, or the first ambiguous node. `--quick` takes the smaller
-files alone, for two minutes in all; `--plot FILE` draws time over size, a point for each file.
+files alone, for two minutes in all; `--plot FILE` draws time over size, a point for each file. `--peers` runs other
+parsers on the same files, as far as they are installed, and prints a second table: how many files each permits, its
+processor seconds for a million characters without its start, the seconds of its start, and its peak memory over all
+files in one run.
 """
 
 import argparse
@@ -21,6 +24,8 @@ import tarfile
 import tempfile
 import time
 import zipfile
+
+from corpora_peers import rows_of_peers
 
 HERE = os.path.dirname(os.path.dirname(os.path.abspath(__file__)))
 CACHE = os.path.join(os.environ.get("XDG_CACHE_HOME", os.path.expanduser("~/.cache")), "iguana-corpora")
@@ -272,19 +277,26 @@ def main():
     parser.add_argument("--program", default=os.path.join(HERE, "iguana"), help="the program, that of this repository by default")
     parser.add_argument("--language", action="append", choices=sorted(LANGUAGES), help="one of these alone; may be repeated")
     parser.add_argument("--quick", action="store_true", help="some of the smaller files alone")
+    parser.add_argument("--peers", action="store_true", help="other parsers on the same files")
     parser.add_argument("--plot", metavar="FILE", help="an SVG of time over size")
     given = parser.parse_args()
     os.makedirs(CACHE, exist_ok=True)
     print("| | Files | Characters | Items a character | Seconds a million | MB a million | One tree | More | None | Budget |")
     print("|---|---|---|---|---|---|---|---|---|---|")
-    all_results, others = {}, []
+    all_results, others, beside = {}, [], []
     with tempfile.TemporaryDirectory() as room:
         for language in given.language or LANGUAGES:
             grammar, files = LANGUAGES[language]
-            results = [measure(given.program, grammar, found, room) for found in chosen(files(), given.quick)]
+            found_files = chosen(files(), given.quick)
+            results = [measure(given.program, grammar, found, room) for found in found_files]
             print(row(language, results), flush=True)
             all_results[language] = results
             others += [(language, result) for result in results if result.trees != "one"]
+            if given.peers:
+                beside += rows_of_peers(language, found_files, run, room)
+    if given.peers:
+        print("\n| | Parser | Files | Permitted | Seconds a million | Start, seconds | MB |\n|---|---|---|---|---|---|---|")
+        print("\n".join(beside), flush=True)
     for language, result in others:
         print(f"\n{language}: {result.name}, {result.characters:,} characters: {result.trees} {result.note}".rstrip(), end="")
     print()

@@ -120,5 +120,5 @@ def bison(rules):
     for key, (name, _) in named.items():
         if len(members[key]) > 1:
             out.append(f"{name}: {' | '.join(f'C{k} {{ $$ = $1; }}' for k in members[key])} ;")
-    table = ", ".join(str(300 + of_code[code]) if code in of_code else "1" for code in range(128))
-    return "\n".join([*out, "%%", f"const int classes[128] = {{{table}}};"]) + "\n"
+    table = ", ".join(str(300 + of_code[code]) if code in of_code else "1" for code in range(256))
+    return "\n".join([*out, "%%", f"const int classes[256] = {{{table}}};"]) + "\n"

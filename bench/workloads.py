@@ -6,7 +6,7 @@ A grammar is a list of rules: a left side and the symbols of the right side. A s
 
 import string
 
-CODES = [9, 10, 13, *range(32, 127)]  # the characters that inputs have
+CODES = [9, 10, 13, *range(32, 256)]  # the bytes that inputs have
 
 
 class Chars:
@@ -40,6 +40,7 @@ def rules(text, **classes):
 
 LETTER = Chars(string.ascii_lowercase)
 DIGIT = Chars(string.digits)
+BLANK = Chars(" \t\n\r")
 
 JSON = r"""
 J = W V W
@@ -60,14 +61,40 @@ Exponent = EMPTY | e Sign Digits
 Sign = EMPTY | sign
 """
 
+# examples/json/grammar.ig as plain rules: layout stands before the first token and behind each one.
+JSON_OF_THE_RFC = r"""
+J = W Value
+W = EMPTY | W blank
+Value = Object | Array | String W | Number W | 'true' W | 'false' W | 'null' W
+Object = '{' W '}' W | '{' W Members '}' W
+Members = Member | Members ',' W Member
+Member = String W ':' W Value
+Array = '[' W ']' W | '[' W Elements ']' W
+Elements = Value | Elements ',' W Value
+String = '"' Chars '"'
+Chars = EMPTY | Chars Char
+Char = plain | '\' Escape
+Escape = escape | 'u' hex hex hex hex
+Number = Minus Whole Fraction Exponent
+Minus = EMPTY | '-'
+Whole = '0' | nonzero | nonzero Digits
+Digits = digit | Digits digit
+Fraction = EMPTY | '.' Digits
+Exponent = EMPTY | e Sign Digits
+Sign = EMPTY | sign
+"""
+
 GRAMMARS = {
     "ambiguous": rules("S = S S | 'a'"),
     "left": rules("S = S 'a' | 'a'"),
     "right": rules("S = 'a' S | 'a'"),
     "strata": rules("E = E '+' T | E '-' T | T\nT = T '*' P | P\nP = A '^' P | A\nA = letter", letter=LETTER),
-    "json": rules(JSON, blank=Chars(" \t\n\r"), plain=Chars('"\\', True), escape=Chars('"\\/bfnrt'), digit=DIGIT,
+    "json": rules(JSON, blank=BLANK, plain=Chars('"\\', True), escape=Chars('"\\/bfnrt'), digit=DIGIT,
                   e=Chars("Ee"), sign=Chars("+-")),
 }
+
+RFC_JSON = rules(JSON_OF_THE_RFC, blank=BLANK, plain=Chars('"\\\t\n\r', True), escape=Chars('"\\/bfnrt'), digit=DIGIT,
+                 nonzero=Chars("123456789"), hex=Chars(string.hexdigits), e=Chars("Ee"), sign=Chars("+-"))
 
 # By hand: Iguana's notation and drivers/blocks.pl. No other of the programs takes it.
 BLOCKS = r"""start P;

@@ -1,4 +1,4 @@
-/* Bison's GLR: reads a file and parses it by characters. Ends with status 0 where it is permitted. */
+/* Bison's GLR: reads files and parses them by characters. Ends with status 0 where all are permitted. */
 #include <stdlib.h>
 #include "grammar.c"
 
@@ -33,16 +33,26 @@ void yyerror(const char *text) { fprintf(stderr, "%s at %zu\n", text, at); }
 int yylex(void) {
     if (at >= length) return 0;
     yylval = NULL;
-    return classes[text[at++] & 127];
+    return classes[text[at++]];
 }
 
-int main(int argc, char **argv) {
-    FILE *f = argc == 2 ? fopen(argv[1], "rb") : NULL;
+static int parse(const char *name) {
+    FILE *f = fopen(name, "rb");
     if (!f) return 2;
     fseek(f, 0, SEEK_END);
     length = ftell(f);
     rewind(f);
     text = malloc(length + 1);
+    at = 0;
     if (fread(text, 1, length, f) != length) return 2;
+    fclose(f);
     return yyparse();
+}
+
+int main(int argc, char **argv) {
+    for (int k = 1; k < argc; k++) {
+        int status = parse(argv[k]);
+        if (status) return status;
+    }
+    return 0;
 }

@@ -10,7 +10,7 @@ struct node {
 };
 
 extern struct node *result;
-extern const int classes[128];
+extern const int classes[256];
 struct node *make(int tag, int count, ...);
 static struct node *merge(struct node *a, struct node *b);
 void yyerror(const char *text);
