@@ -46,7 +46,11 @@ Result = collections.namedtuple("Result", "name characters trees items seconds m
 
 
 def quietly(words, folder):
-    subprocess.run(words, cwd=folder, check=True, stdout=subprocess.DEVNULL, stderr=subprocess.PIPE)
+    """Runs a command of the machine; where it fails, the script ends with what it said."""
+    ran = subprocess.run(words, cwd=folder, stdout=subprocess.DEVNULL, stderr=subprocess.PIPE, text=True, errors="replace")
+    if ran.returncode:
+        hint = ", perhaps since `apt-get update` never ran" if words[0] == "apt-get" else ""
+        sys.exit(f"corpora: {' '.join(words)} failed{hint}: {ran.stderr.strip()}")
 
 
 def binary_package(name):
