@@ -5,28 +5,14 @@ columns of words, which are turned into numbers and compared whole. What isn't w
 """
 
 import re
-from collections import defaultdict, namedtuple
+from collections import defaultdict
 from itertools import accumulate, chain, compress, count, repeat
-from operator import add, is_, is_not, itemgetter, lt, not_, sub
+from operator import itemgetter, sub
 
 from side_by_side import side_by_side
 
-NUMBER = "([0-9]+)"  # one whose form is looked at later, once for each number
-WRITTEN = "((?!0[0-9])[0-9]+)"  # one without a zero in front of it
-HEAD_OF_NODE = rf"\nnode {NUMBER} ([^(]+\([^)]*\)) {NUMBER}\.\.{NUMBER}"
-BELOW_NODE = rf"\nalt (\S+) {WRITTEN}"
-HEAD_OF_ITEM = rf"\nitem {NUMBER} ([^(]+\([^]]+\]) {NUMBER}\.\.{NUMBER}"
-BELOW_ITEM = rf"\n(?:begin|pass {WRITTEN}|take {WRITTEN} (?:node {WRITTEN}|leaf {NUMBER}\.\.{NUMBER}))"
-NAME_OF_NODE = re.compile(r"[^\s(]+ \([^\s)]*\)")
-NAME_OF_ITEM = re.compile(r"([^\s(]+ \([^\s)]*\) (?:0|[1-9][0-9]*)) (0|[1-9][0-9]{0,5}) \[[^\s\]]*\]")  # an alternative, a dot
-
-# Lines of a kind: how heads begin; expressions for a head and one line below it, and for one line; words in a head.
-Form = namedtuple("Form", "head pair line words")
-NODES = Form("\nnode ", re.compile(f"{HEAD_OF_NODE}{BELOW_NODE}$", re.M), re.compile(f"(?:{HEAD_OF_NODE}|{BELOW_NODE})$", re.M), 4)
-ITEMS = Form("\nitem ", re.compile(f"{HEAD_OF_ITEM}{BELOW_ITEM}$", re.M), re.compile(f"(?:{HEAD_OF_ITEM}|{BELOW_ITEM})$", re.M), 4)
-
-DOTS = 1 << 20  # the code of an item is the number of its alternative times this, and its dot
-PIECE = 1 << 15  # characters that are read at once: what is made of them is used up while it is near
+NUMBER = "((?!0[0-9])[0-9]+)"
+PIECE = 1 << 14  # characters that are read at once: what is made of them is used up while it is near
 THOUSAND = [f"{number:03}" for number in range(1000)]
 
 
@@ -34,34 +20,25 @@ class Unread(Exception):
     """The text isn't as a forest is written."""
 
 
-class Ids(defaultdict):
-    """Numbers for words, from 0 on in steps."""
-
-    def __init__(self, step=1):
-        super().__init__(count(0, step).__next__)
-
-
 class Numbers(dict):
-    """The numbers that words are, each of them read once."""
+    """The numbers that words are, each of them made once."""
 
     def __missing__(self, word):
-        if word[0] == "0" != word:
-            raise Unread
         number = self[word] = int(word)
         return number
 
 
-class Codes(dict):
-    """Codes of items by what stands between their ordinals and their spans."""
+class Keys(dict):
+    """Numbers from 0 on for what stands between the ordinals and the spans of heads; equal ones for equal names."""
 
-    def __init__(self):
+    def __init__(self, form):
         super().__init__()
-        self.names = Ids(DOTS)
+        self.form, self.names = form, defaultdict(count().__next__)
 
     def __missing__(self, words):
-        found = NAME_OF_ITEM.fullmatch(words)
+        found = self.form.fullmatch(words)
         demand(found)
-        return self.setdefault(words, self.names[found[1]] + int(found[2]))
+        return self.setdefault(words, self.names[found.groups()])
 
 
 def demand(*facts):
@@ -74,12 +51,12 @@ def read_parts(text, processes):
     """The columns of nodes and those of items, for each part of the text: there are as many parts as processes."""
     end = text.find("\nitem ")
     demand(end >= 0)
-    nodes = places_of(text, NODES.head, text.find("\n"), end, processes)
-    items = places_of(text, ITEMS.head, end, len(text) - 1, processes)
+    nodes = places_of(text, Nodes.head, text.find("\n"), end, processes)
+    items = places_of(text, Items.head, end, len(text) - 1, processes)
     found = side_by_side(lambda places: read_part(text, *places), list(zip(nodes, items)), processes)
     demand(all(found))
     for parts in zip(*found):
-        heads = accumulate((len(part["begins"]) for part in parts), initial=0)
+        heads = accumulate((len(part["keys"]) for part in parts), initial=0)
         demand(all(part["first"] in (None, first) for part, first in zip(parts, heads)))
     return found
 
@@ -93,127 +70,113 @@ def places_of(text, head, at, end, shares):
 
 def read_part(text, node_lines, item_lines):
     """The columns of the nodes and of the items whose lines are from one place in the text to another."""
-    positions = Numbers()
-    nodes, items = Nodes(positions), Items(positions)
-    for columns, places in ((nodes, node_lines), (items, item_lines)):
-        for piece in pieces(text, columns.form.head, *places):
-            columns.add(piece)
+    position = Numbers().__getitem__
+    nodes, items = Nodes(position), Items(position)
+    nodes.read(text, *node_lines)
+    items.read(text, *item_lines)
     return nodes.told(), items.told()
 
 
-class Columns:
-    """What nodes and items have: the first ordinal, their spans, how many lines stand below them, and where those below
-    each of them begin, or None where there is one below each."""
+def forms(head, below):
+    """Expressions for a head with one line below it, and for one line with a head above it or without."""
+    return [re.compile(form + below + "$", re.M) for form in (head, f"(?:{head})?")]
 
-    def __init__(self, form, positions):
-        self.form, self.position = form, positions.__getitem__
-        self.first, self.begins, self.ends, self.starts, self.lines = None, [], [], [], 0
 
-    def add_heads(self, ordinals, begins, ends):
-        self.first = int(ordinals[0]) if self.first is None else self.first
-        first = self.first + len(self.begins)
-        demand(" ".join(ordinals) == said_range(first, first + len(ordinals)))
-        self.begins += map(self.position, begins)
-        self.ends += map(self.position, ends)
+class Heads:
+    """The heads of nodes or of items, with the lines below them: keys, spans, and the ordinal of the first head.
 
-    def add_lines(self, starts, lines):
-        self.starts.append(map(add, starts[:-1], repeat(self.lines)))
-        self.lines += lines
+    `several` has pairs for the heads with several lines below them: the place of the head, and how many lines these are.
+    """
+
+    def __init__(self, position):
+        self.position, self.key_of = position, Keys(self.name)
+        self.first, self.several, self.keys, self.begins, self.ends = None, [], [], [], []
+
+    def read(self, text, at, end):
+        """Reads the text from one place to another."""
+        while at < end:
+            stop = text.find(self.head, at + PIECE, end)
+            stop = end if stop < 0 else stop
+            (ordinals, names, begins, ends), lines, starts = self.cut(text[at:stop])
+            self.first = int(ordinals[0]) if self.first is None else self.first
+            first = self.first + len(self.keys)
+            demand(" ".join(ordinals) == said_range(first, first + len(ordinals)))
+            keys = list(map(self.key_of.__getitem__, names))
+            begins, ends = list(map(self.position, begins)), list(map(self.position, ends))
+            self.add(*(repeated(column, starts) for column in (ordinals, keys, begins, ends)), *lines)
+            self.keys += keys
+            self.begins += begins
+            self.ends += ends
+            at = stop
+
+    def cut(self, piece):
+        """The columns of words of the heads of a piece, those of the lines below, and where these begin for each head."""
+        heads = piece.count(self.head)
+        single = piece.count("\n") == 2 * heads  # mostly there is one line below each head
+        form = self.pair if single else self.line
+        words = form.split(piece)
+        width = form.groups + 1
+        columns = [words[k::width] for k in range(1, width)]
+        demand(not any(words[::width]), columns[0][0])
+        if single:
+            return columns[:4], columns[4:], range(heads + 1)
+        starts = [*compress(count(), columns[0]), len(columns[0])]
+        known = count(len(self.keys))
+        self.several += ((head, stop - start) for head, start, stop in zip(known, starts, starts[1:]) if stop > start + 1)
+        return [list(filter(None, column)) for column in columns[:4]], columns[4:], starts
 
     def told(self):
-        starts = None if self.lines == len(self.begins) else list(chain.from_iterable(self.starts))
-        return {"first": self.first, "begins": self.begins, "ends": self.ends, "starts": starts, "lines": self.lines}
+        """What was read, in plain things."""
+        return {"first": self.first, "names": list(self.key_of.names), **{name: getattr(self, name) for name in self.columns}}
 
 
-class Nodes(Columns):
-    """Nodes with their keys, which are numbers of names with values; for each line a number of a tag, and an item."""
+class Nodes(Heads):
+    """Nodes with keys for names with values. Each line below has an item."""
 
-    def __init__(self, positions):
-        super().__init__(NODES, positions)
-        self.names, self.tag_names, self.keys, self.tags, self.complete = Ids(), Ids(), [], [], []
+    head = "\nnode "
+    name = re.compile(r"([^\s(]+) (\([^\s)]*\))")
+    pair, line = forms(rf"\nnode {NUMBER} ([^(]+\([^)]*\)) {NUMBER}\.\.{NUMBER}", rf"\nalt \S+ {NUMBER}")
+    columns = ("several", "keys", "begins", "ends", "complete")
 
-    def add(self, piece):
-        (ordinals, names, begins, ends), (tags, items), starts = cut(piece, self.form)
-        self.add_heads(ordinals, begins, ends)
-        self.add_lines(starts, len(tags))
-        self.keys += map(self.names.__getitem__, names)
-        self.tags += map(self.tag_names.__getitem__, tags)
+    def __init__(self, position):
+        super().__init__(position)
+        self.complete = []
+
+    def add(self, _ordinals, _keys, _begins, _ends, items):
         self.complete += map(int, items)
 
-    def told(self):
-        demand(*map(NAME_OF_NODE.fullmatch, self.names))
-        return {**super().told(), "names": list(self.names), "keys": self.keys, "tag_names": list(self.tag_names),
-                "tags": self.tags, "complete": self.complete}
 
+class Items(Heads):
+    """Items with keys for names, values, alternatives and dots. Lines below are ways: each has the item before, which is
+    its own item where the way begins, and where begins what it took. Some took nodes: which ones, and which nodes."""
 
-class Items(Columns):
-    """Items with their codes. Lines below them are ways: for each the item before, which is its own item where the way
-    begins; which ways begin, pass, take nodes and take leaves; the nodes, and where the leaves begin."""
+    head = "\nitem "
+    name = re.compile(r"([^\s(]+) (\([^\s)]*\)) (0|[1-9][0-9]*) (0|[1-9][0-9]*) \[[^\s\]]*\]")
+    pair, line = forms(  # a leaf has the end that stands in the head above it; where none does, the end is compared later
+        rf"\nitem {NUMBER} ([^(]+\([^]]+\]) {NUMBER}\.\.{NUMBER}",
+        rf"\n(?:begin|pass {NUMBER}|take {NUMBER} (?:node {NUMBER}|leaf {NUMBER}\.\.(?(1)\4|{NUMBER})))")
+    columns = ("several", "keys", "begins", "ends", "before", "middles", "takers", "taken")
 
-    def __init__(self, positions):
-        super().__init__(ITEMS, positions)
-        self.code_of, self.codes, self.before = Codes(), [], []
-        self.begun, self.passed, self.nodes, self.taken, self.leaves, self.leaf_begins = [], [], [], [], [], []
+    def __init__(self, position):
+        super().__init__(position)
+        self.before, self.middles, self.takers, self.taken, self.going_on = [], [], [], [], set()
 
-    def add(self, piece):
-        (ordinals, words, begins, ends), (passed, before, nodes, leaf_begins, leaf_ends), starts = cut(piece, self.form)
-        self.add_heads(ordinals, begins, ends)
-        codes, ways = list(map(self.code_of.__getitem__, words)), count(self.lines)
-        self.codes += codes
-        ordinals, begins, ends, codes = (repeated(column, starts) for column in (ordinals, begins, ends, codes))
-        if any(passed):
-            before = [one or other for one, other in zip(before, passed)]
-        is_begun = list(map(is_, before, repeat(None)))
-        begun = list(compress(count(), is_begun))
-        for way in begun:
-            before[way] = ordinals[way]
-        demand(list(compress(begins, is_begun)) == list(compress(ends, is_begun)),
-               not any(code % DOTS for code in set(compress(codes, is_begun))),
-               list(compress(ends, leaf_ends)) == list(filter(None, leaf_ends)))
-        self.before += map(int, before)
-        self.begun += map(add, begun, repeat(self.lines))
-        self.passed += compress(count(self.lines), passed)
-        self.nodes += compress(count(self.lines), nodes)
+    def add(self, ordinals, keys, begins, ends, passed, before, nodes, leaf_begins, leaf_ends):
+        demand(list(compress(ends, leaf_ends)) == list(map(int, filter(None, leaf_ends))))
+        position = self.position
+        middles = [position(one) if one else own for one, own in zip(leaf_begins, begins)]
+        for way in compress(count(), passed):
+            before[way], middles[way] = passed[way], ends[way]
+        self.going_on.update(compress(keys, before))
+        self.takers += compress(count(len(self.before)), nodes)
+        self.before += map(int, [one or own for one, own in zip(before, ordinals)])
+        self.middles += middles
         self.taken += map(int, filter(None, nodes))
-        self.leaves += compress(count(self.lines), leaf_begins)
-        self.leaf_begins += map(self.position, filter(None, leaf_begins))
-        self.add_lines(starts, len(before))
 
     def told(self):
-        names = ("codes", "before", "begun", "passed", "nodes", "taken", "leaves", "leaf_begins")
-        return {**super().told(), "names": list(self.code_of.names), **{name: getattr(self, name) for name in names}}
-
-
-def pieces(text, head, at, end):
-    """The text from one place to another in pieces, each of which begins with a head."""
-    while at < end:
-        stop = text.find(head, at + PIECE, end)
-        stop = end if stop < 0 else stop
-        yield text[at:stop]
-        at = stop
-
-
-def cut(piece, form):
-    """The columns of words of the heads, those of the lines below, and where these begin for each head, with their end."""
-    heads = piece.count(form.head)
-    if piece.count("\n") == 2 * heads:  # mostly there is one line below each head
-        columns = columns_of(piece, form.pair)
-        return columns[: form.words], columns[form.words :], range(heads + 1)
-    columns = columns_of(piece, form.line)
-    is_head = list(map(is_not, columns[0], repeat(None)))
-    is_below = list(map(not_, is_head))
-    starts = [*map(sub, compress(count(), is_head), count()), len(is_head) - heads]
-    demand(is_head[0], all(map(lt, starts, starts[1:])))
-    heads = [list(compress(column, is_head)) for column in columns[: form.words]]
-    return heads, [list(compress(column, is_below)) for column in columns[form.words :]], starts
-
-
-def columns_of(piece, expression):
-    """The groups of an expression as columns, where a piece is what it matches, again and again."""
-    words = expression.split(piece)
-    width = expression.groups + 1
-    demand(not any(words[::width]))
-    return [words[k::width] for k in range(1, width)]
+        """What was read, where ways begin at the dot 0 alone."""
+        demand(*(dot != "0" or key not in self.going_on for (*_, dot), key in self.key_of.names.items()))
+        return super().told()
 
 
 def said_range(first, end):
@@ -236,7 +199,7 @@ def pick_at(places):
 
 
 def repeated(column, starts):
-    """A column of what has lines below it, for each of these lines."""
+    """A column of what has lines below it, for each of these lines, which begin there for each."""
     if isinstance(starts, range):
-        return tuple(column)
-    return tuple(chain.from_iterable(map(repeat, column, map(sub, starts[1:], starts))))
+        return column
+    return list(chain.from_iterable(map(repeat, column, map(sub, starts[1:], starts))))

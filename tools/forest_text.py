@@ -2,12 +2,12 @@
 
 import re
 import sys
-from collections import namedtuple
+from collections import defaultdict, namedtuple
 from functools import cached_property
-from itertools import accumulate, chain, repeat
+from itertools import accumulate, chain, compress, count, repeat
 from operator import add
 
-from forest_columns import DOTS, Ids, Unread, demand, pick_at, read_parts, repeated
+from forest_columns import Unread, demand, pick_at, read_parts, repeated
 from forest_faults import NotAForest, find_fault
 from side_by_side import side_by_side
 
@@ -20,73 +20,62 @@ NO_NODE = -1
 LEAST_SHARE = 1 << 20  # characters for which a process is worth while
 
 
-def column_of_ways(name):
-    """What puts a column of numbers of ways together where it is asked for."""
-    return cached_property(lambda forest: moved_ways(forest.parts_of_items, name))
-
-
 class Forest:
-    """Nodes and items by their numbers, in columns; ways, which are the lines below items, by theirs.
+    """Nodes and items by their numbers; lines, which are those below nodes, and ways, which are those below items, by theirs.
 
-    Keys are numbers of names with values; a code is the number of an alternative of those times DOTS, and a dot. What
-    begins has its own item before it.
+    Keys are numbers of what stands before spans: of nodes name and values; of items these, an alternative and a dot. A way
+    has an item before it, its own one where it begins, and a middle, where what it took begins. Takers took nodes.
     """
 
     def __init__(self, text, processes):
+        self.text = text
         nodes, items = zip(*read_parts(text, processes))
-        self.read_nodes(nodes)
-        self.read_items(items)
-        checks = (self.codes_fit, self.begins_fit, self.ends_fit, self.nodes_fit)
+        self.node_names, self.node_keys = renumbered(nodes)
+        self.item_names, self.item_keys = renumbered(items)
+        self.first_line, self.first_way = starts_of(nodes), starts_of(items)
+        self.node_begins, self.node_ends, self.complete = (together(nodes, name) for name in ("begins", "ends", "complete"))
+        self.item_begins, self.item_ends, self.before, self.middles, self.taken = (
+            together(items, name) for name in ("begins", "ends", "before", "middles", "taken"))
+        self.takers = takers_of(items)
+        for way, begin in zip(self.takers, pick_at(self.taken)(self.node_begins)):
+            self.middles[way] = begin
+        checks = (self.keys_fit, self.begins_fit, self.ends_fit, self.lines_fit)
         demand(all(side_by_side(lambda fit: fit(), checks, processes)))
         roots = [key for key, (name, _) in enumerate(self.node_names) if name == "$root"]
         demand(len(roots) == 1, self.node_keys.count(*roots[:1] or [NO_NODE]) == 1)
         self.root = self.node_keys.index(roots[0])
 
-    def read_nodes(self, parts):
-        self.node_keys, names = renumbered(parts, "keys", "names")
-        self.tags, self.tag_names = renumbered(parts, "tags", "tag_names")
-        self.node_begins, self.node_ends, self.complete = (together(parts, name) for name in ("begins", "ends", "complete"))
-        self.first_line = starts_of(parts)
-        self.node_names = [name.split(" ") for name in names]
+    @cached_property
+    def keys_before(self):
+        """For each key of items that of the item before; where there is none, it is the same one."""
+        keys = {names: key for key, names in enumerate(self.item_names)}
+        return [key if dot == "0" else keys.get((*names, str(int(dot) - 1)), NO_NODE) for (*names, dot), key in keys.items()]
 
-    def read_items(self, parts):
-        self.codes, names = renumbered(parts, "codes", "names", DOTS)
-        self.item_begins, self.item_ends, self.before, self.taken = (
-            together(parts, name) for name in ("begins", "ends", "before", "taken"))
-        self.first_way = starts_of(parts)
-        self.item_names = [name.split(" ") for name in names]
-        self.parts_of_items = parts
-
-    begun, passed, nodes, leaves = map(column_of_ways, ("begun", "passed", "nodes", "leaves"))
-
-    def nodes_fit(self):
-        """Whether each line `alt` names an item of its node."""
-        ids = {tuple(name): key for key, name in enumerate(self.node_names)}
-        of_item = [ids.get((name, values), NO_NODE) for name, values, _ in self.item_names]
-        item = pick_at(self.complete)
-        key_of = {code: of_item[code // DOTS] for code in set(item(self.codes))}
-        return (repeated(self.node_keys, self.first_line) == tuple(map(key_of.__getitem__, item(self.codes)))
-                and repeated(self.node_begins, self.first_line) == item(self.item_begins)
-                and repeated(self.node_ends, self.first_line) == item(self.item_ends))
-
-    def codes_fit(self):
+    def keys_fit(self):
         """Whether each item is that before it, a step on, where it doesn't begin."""
-        code_before = {code: code - 1 for code in set(self.codes)}
-        wanted = list(map(code_before.__getitem__, repeated(self.codes, self.first_way)))
-        for way in self.begun:
-            wanted[way] += 1
-        return pick_at(self.before)(self.codes) == tuple(wanted)
+        wanted = list(map(self.keys_before.__getitem__, self.item_keys))
+        return pick_at(self.before)(self.item_keys) == tuple(self.for_ways(wanted))
 
     def begins_fit(self):
         """Whether each item begins where that before it does."""
-        return repeated(self.item_begins, self.first_way) == pick_at(self.before)(self.item_begins)
+        return pick_at(self.before)(self.item_begins) == tuple(self.for_ways(self.item_begins))
 
     def ends_fit(self):
-        """Whether what each item took lies between the end of the item before and its own."""
-        passed, leaves, nodes, taken = map(pick_at, (self.passed, self.leaves, self.nodes, self.taken))
-        ends, of_before = repeated(self.item_ends, self.first_way), pick_at(self.before)(self.item_ends)
-        return (passed(of_before) == passed(ends) and leaves(of_before) == tuple(together(self.parts_of_items, "leaf_begins"))
-                and nodes(of_before) == taken(self.node_begins) and nodes(ends) == taken(self.node_ends))
+        """Whether what each way took lies between the end of the item before and that of its own."""
+        return (pick_at(self.before)(self.item_ends) == tuple(self.middles)
+                and pick_at(self.takers)(self.for_ways(self.item_ends)) == pick_at(self.taken)(self.node_ends))
+
+    def lines_fit(self):
+        """Whether each line `alt` names an item of its node."""
+        keys, of_items = {names: key for key, names in enumerate(self.node_names)}, pick_at(self.complete)
+        node_of = [keys.get(names[:2], NO_NODE) for names in self.item_names]
+        return (tuple(map(node_of.__getitem__, of_items(self.item_keys))) == tuple(repeated(self.node_keys, self.first_line))
+                and of_items(self.item_begins) == tuple(repeated(self.node_begins, self.first_line))
+                and of_items(self.item_ends) == tuple(repeated(self.node_ends, self.first_line)))
+
+    def for_ways(self, column):
+        """A column of items, for each of their ways."""
+        return repeated(column, self.first_way)
 
     @property
     def node_count(self):
@@ -94,7 +83,7 @@ class Forest:
 
     @property
     def item_count(self):
-        return len(self.codes)
+        return len(self.item_keys)
 
     @property
     def has_choices(self):
@@ -102,15 +91,24 @@ class Forest:
         return len(self.complete) > self.node_count or len(self.before) > self.item_count
 
     @cached_property
-    def dots(self):
-        """For each item its dot."""
-        return [code % DOTS for code in self.codes]
+    def tags(self):
+        """For each line its tag."""
+        return re.findall(r"^alt (\S+)", self.text[: self.text.find("\nitem ")], re.M)
+
+    def begun(self):
+        """The ways that begin."""
+        begins = [dot == "0" for *_, dot in self.item_names]
+        return compress(count(), self.for_ways(list(map(begins.__getitem__, self.item_keys))))
+
+    def words_of_ways(self):
+        """For each way the word that says what it took, `node` or `leaf`; else nothing."""
+        return re.findall(r"^(?:begin|pass|take \d+ (\w+))", self.text[self.text.find("\nitem ") :], re.M)
 
     @cached_property
     def child(self):
         """For each way the node that it took, or NO_NODE."""
         child = [NO_NODE] * len(self.before)
-        for way, node in zip(self.nodes, self.taken):
+        for way, node in zip(self.takers, self.taken):
             child[way] = node
         return child
 
@@ -118,8 +116,8 @@ class Forest:
         return Node(*self.node_names[self.node_keys[k]], self.node_begins[k], self.node_ends[k])
 
     def item(self, k):
-        name, values, alternative = self.item_names[self.codes[k] // DOTS]
-        return Item(name, values, int(alternative), self.codes[k] % DOTS, self.item_begins[k], self.item_ends[k])
+        name, values, alternative, dot = self.item_names[self.item_keys[k]]
+        return Item(name, values, int(alternative), int(dot), self.item_begins[k], self.item_ends[k])
 
     def lines(self, k):
         """The numbers of the lines below a node."""
@@ -127,7 +125,7 @@ class Forest:
 
     def alternatives(self, k):
         """Pairs of a tag and the number of an item."""
-        return [(self.tag_names[self.tags[line]], self.complete[line]) for line in self.lines(k)]
+        return [(self.tags[line], self.complete[line]) for line in self.lines(k)]
 
     def ways_of(self, k):
         """The numbers of the ways of an item."""
@@ -138,9 +136,10 @@ class Forest:
         return [(None if self.before[way] == k else self.before[way], self.took(way, k)) for way in self.ways_of(k)]
 
     def took(self, way, k):
+        """What a way of an item took: None, the number of a node, or a span."""
         if self.child[way] != NO_NODE:
             return self.child[way]
-        begin, end = self.item_ends[self.before[way]], self.item_ends[k]
+        begin, end = self.middles[way], self.item_ends[k]
         return (begin, end) if begin < end else None
 
 
@@ -176,37 +175,32 @@ def together(parts, name):
     return parts[0][name] if len(parts) == 1 else list(chain.from_iterable(part[name] for part in parts))
 
 
-def renumbered(parts, name, names, step=1):
-    """A column of all parts whose numbers, in steps, stand for names that each part has for itself; and all names."""
-    ids, column = Ids(step), []
+def renumbered(parts):
+    """The names of all parts, and a column of keys, which are their numbers."""
+    ids, column = defaultdict(count().__next__), []
     for part in parts:
-        new = [ids[word] for word in part[names]]
-        if new == list(range(0, step * len(new), step)):
-            column += part[name]
-        else:
-            number_of = {number: new[number // step] + number % step for number in set(part[name])}
-            column += map(number_of.__getitem__, part[name])
-    return column, list(ids)
+        new = [ids[names] for names in part["names"]]
+        column += part["keys"] if new == list(range(len(new))) else map(new.__getitem__, part["keys"])
+    return list(ids), column
 
 
-def lines_before(parts):
-    """For each part the lines of those before it."""
-    return accumulate((part["lines"] for part in parts[:-1]), initial=0)
-
-
-def moved_ways(parts, name):
-    """A column of numbers of ways, counted over all parts."""
-    moved = (map(add, part[name], repeat(first)) if first else part[name] for part, first in zip(parts, lines_before(parts)))
-    return list(chain.from_iterable(moved))
+def takers_of(parts):
+    """The ways that took nodes, counted over all parts."""
+    ways = accumulate((len(part["before"]) for part in parts), initial=0)
+    return list(chain.from_iterable(map(add, part["takers"], repeat(before)) for part, before in zip(parts, ways)))
 
 
 def starts_of(parts):
-    """For each node or item where the lines below it begin, counted over all parts; and how many lines there are."""
-    lines = sum(part["lines"] for part in parts)
-    if all(part["starts"] is None for part in parts):
-        return range(lines + 1)
-    starts = (map(add, part["starts"] or range(part["lines"]), repeat(first)) for part, first in zip(parts, lines_before(parts)))
-    return [*chain.from_iterable(starts), lines]
+    """For each node or item where the lines below it begin, and at the end how many lines there are."""
+    if not any(part["several"] for part in parts):
+        return range(sum(len(part["keys"]) for part in parts) + 1)
+    numbers = []
+    for part in parts:
+        here = [1] * len(part["keys"])
+        for head, number in part["several"]:
+            here[head] = number
+        numbers += here
+    return list(accumulate(numbers, initial=0))
 
 
 def fetch(name):

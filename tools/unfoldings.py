@@ -1,17 +1,26 @@
 """What a forest unfolds to, by its text alone: its trees up to a height, how large they are, and what leads back to itself."""
 
-from forest_count import Below
+from operator import add
+
 from forest_text import NO_NODE
 
 
-class Unfolding(Below):
-    """A forest with its ways, each with the leaf that it has besides what stands below it, or none."""
+class Unfolding:
+    """A forest with its ways, each with the leaf that it has besides what stands below it, or none. Items and nodes are
+    counted together, items first."""
 
     def __init__(self, forest):
-        super().__init__(forest)
-        self.is_leaf = bytearray(len(forest.before))
-        for way in forest.leaves:
-            self.is_leaf[way] = 1
+        self.forest, self.first_node = forest, forest.item_count
+        self.is_leaf = [word == "leaf" for word in forest.words_of_ways()]
+
+    def ways(self, part):
+        """For each way of the part all that it has below it."""
+        forest, k = self.forest, part - self.first_node
+        if k >= 0:
+            return [(forest.complete[line],) for line in forest.lines(k)]
+        befores = [() if forest.before[way] == part else (forest.before[way],) for way in forest.ways_of(part)]
+        nodes = [() if forest.child[way] == NO_NODE else (self.first_node + forest.child[way],) for way in forest.ways_of(part)]
+        return list(map(add, befores, nodes))
 
     def trees_by_height(self, most):
         """For each height from 0 to `most` how many trees of the root are no higher, and the parts of the largest of these.
@@ -19,7 +28,7 @@ class Unfolding(Below):
         A leaf has the height 0, and a node one more than its highest child, or 1 where it has none.
         """
         forest, found = self.forest, []
-        in_order = sorted(range(forest.item_count), key=forest.dots.__getitem__)  # an item follows from one of a lower dot
+        in_order = sorted(range(forest.item_count), key=lambda k: forest.item(k).dot)  # an item follows from one of a lower dot
         nodes, items = [(0, 0)] * forest.node_count, [(0, 0)] * forest.item_count
         for _ in range(most + 1):
             found.append(nodes[forest.root])
@@ -33,7 +42,7 @@ class Unfolding(Below):
         number = largest = 0
         for way in self.forest.ways_of(item):
             child = self.forest.child[way]
-            before = items[self.forest.before[way]] if self.pairs[way] else (1, 0)
+            before = items[self.forest.before[way]] if self.forest.before[way] != item else (1, 0)
             last = (1, self.is_leaf[way]) if child == NO_NODE else nodes[child]
             if before[0] and last[0]:
                 number += before[0] * last[0]
