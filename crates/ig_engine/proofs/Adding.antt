@@ -1,6 +1,6 @@
 -- Functions that add items, one after the other.
 use Rattle.std.proofs.Common.{◌≡◌, ◌⊎◌, ⊎_elim, ℕ, ◌<◌, ◌≤◌, List, [], ◌∷◌, ◌++◌, length, Contains, Some, refl, sym, ap, ◌∙◌, subst, arith, map, slice_get, length-append}
-use Rattle.std.specs.Prelude.{Result, Ok, Err, OnOk, IfErr, Option, None}
+use Rattle.std.specs.Prelude.{Bool, true, false, Result, Ok, Err, OnOk, IfErr, Option, None}
 use Rattle.std.specs.Result.{IsErrAnd}
 use Rattle.std.specs.List.Sorted.{IsPermutation}
 use Rattle.std.proofs.lemmas.Result.{err_from_is_err_and}
@@ -20,7 +20,7 @@ use Rattle.ig_found.specs.Finding.{Pushed, Returns, ticket_of}
 use Rattle.ig_moves.specs.Tables.{Moves}
 use Rattle.ig_run_laws.specs.Finding.{Finding, Finds, Records}
 use Rattle.ig_tables.specs.Extends.{Extends}
-use Rattle.ig_engine.specs.Adding.{Adds, AddsBehind, By, IsAdded, IsOver, Pushes, ReturnsIn}
+use Rattle.ig_engine.specs.Adding.{Adds, AddsBehind, By, ComesBehind, IsAdded, IsOver, Pushes, ReturnsIn, at_once, looked_up}
 use Rattle.ig_engine.specs.Given as laws
 use Rattle.ig_engine.specs.Reached.{Reached, AreTables, Named, keys_in, means, reached, seen}
 use Rattle.ig_engine.proofs.Lists.{extends_itself, extends_by, extends_same, extends_then}
@@ -200,14 +200,23 @@ pushes_of a b item way budget (Ok u) p within over = (p, within)
 pushes_of a b item way budget (Err fault.Budget) p within over = over refl
 pushes_of a b item way budget (Err fault.Memory) p within over = tt
 
--- and `add_returned`
-pub returns_of : (a b : numbered.Finding) (item : stored.Item) (prev done budget : ℕ) (r : Result (Unit {0}) RunFault) →
-    OnOk r (Returns a b item prev done) → OnOk r (length a.items ≤ budget → length b.items ≤ budget) →
+-- and `add_returned`, and `push` of what is behind a first call
+pub returns_of : (a b : numbered.Finding) (item : stored.Item) (prev done : ℕ) (is_first : Bool) (budget : ℕ) (r : Result (Unit {0}) RunFault) →
+    is_first ≡ false → OnOk r (Returns a b item prev done) → OnOk r (length a.items ≤ budget → length b.items ≤ budget) →
     IfErr r (λ f. f ≡ fault.Budget → (Contains a.items item → ⊥) × Pushed a b item (Tree prev done) × (budget < length b.items)) →
-    ReturnsIn a b item prev done budget r
-returns_of a b item prev done budget (Ok u) p within over = (p, within)
-returns_of a b item prev done budget (Err fault.Budget) p within over = over refl
-returns_of a b item prev done budget (Err fault.Memory) p within over = tt
+    ReturnsIn a b item prev done is_first budget r
+returns_of a b item prev done is_first budget (Ok u) other p within over = (looked_up other p, within)
+returns_of a b item prev done is_first budget (Err fault.Budget) other p within over = over refl
+returns_of a b item prev done is_first budget (Err fault.Memory) other p within over = tt
+
+pub firsts_of : (a b : numbered.Finding) (item : stored.Item) (prev done : ℕ) (is_first : Bool) (budget : ℕ) (r : Result (Unit {0}) RunFault) →
+    (Contains a.items item → ⊥) → is_first ≡ true → b.indexed ≡ a.indexed → OnOk r (Pushed a b item (Tree prev done)) →
+    OnOk r (length b.items ≤ budget) →
+    IfErr r (λ f. f ≡ fault.Budget → Pushed a b item (Tree prev done) × (budget < length b.items)) →
+    ReturnsIn a b item prev done is_first budget r
+firsts_of a b item prev done is_first budget (Ok u) none first same p within over = (at_once none p first same, λ h. within)
+firsts_of a b item prev done is_first budget (Err fault.Budget) none first same p within over = (none, (over refl).0, (over refl).1)
+firsts_of a b item prev done is_first budget (Err fault.Memory) none first same p within over = tt
 
 -- an item came about by a call
 module _ (given : laws.Tables) (a : Reached) (t : AreTables a) (f : numbered.Finding) (y : stored.Item) (named : Named a y)
@@ -240,16 +249,23 @@ module _ (given : laws.Tables) (a : Reached) (t : AreTables a) (f : numbered.Fin
 
   returned_adds : (budget : ℕ) → Returns a.found f y prev done → (length a.found.items ≤ budget → length f.items ≤ budget) →
       IsAdded (By (Tree prev done) (λ x. x ≡ means a y)) budget a (reached a.envs a.nodes f)
-  returned_adds budget (numbered.new none p) within =
+  returned_adds budget (numbered.new none p indexed) within =
       pushed_adds given a t f y named (Tree prev done) p (not_seen given a t y named none) budget within
   returned_adds budget (numbered.again number at is) within = again_adds budget number at is
 
-  pub returns_add : (budget : ℕ) (r : Result (Unit {0}) RunFault) → ReturnsIn a.found f y prev done budget r →
+  behind_adds : (is_first : Bool) (budget : ℕ) → ComesBehind a.found f y prev done is_first →
+      (length a.found.items ≤ budget → length f.items ≤ budget) →
+      IsAdded (By (Tree prev done) (λ x. x ≡ means a y)) budget a (reached a.envs a.nodes f)
+  behind_adds is_first budget (at_once none p first same) within =
+      pushed_adds given a t f y named (Tree prev done) p (not_seen given a t y named none) budget within
+  behind_adds is_first budget (looked_up other r) within = returned_adds budget r within
+
+  pub returns_add : (is_first : Bool) (budget : ℕ) (r : Result (Unit {0}) RunFault) → ReturnsIn a.found f y prev done is_first budget r →
       Adds (By (Tree prev done) (λ x. x ≡ means a y)) budget a (reached a.envs a.nodes f) r
-  returns_add budget (Ok u) p = returned_adds budget p.0 p.1
-  returns_add budget (Err fault.Budget) p =
+  returns_add is_first budget (Ok u) p = behind_adds is_first budget p.0 p.1
+  returns_add is_first budget (Err fault.Budget) p =
       pushed_over given a t f y named (Tree prev done) p.1 (not_seen given a t y named p.0) budget p.2
-  returns_add budget (Err fault.Memory) p = tt
+  returns_add is_first budget (Err fault.Memory) p = tt
 
 -- the item behind another one, after environments were added
 module _ (given : laws.Tables) (a : Reached) (t : AreTables a) (envs : List (List Value)) (wider : Extends a.envs envs)

@@ -4,7 +4,7 @@ use Rattle.std.specs.Prelude.{Bool, true, false, IfErr, MatchResult, Result, Ok,
 use Rattle.std.specs.Result.{IsErrAnd}
 use Rattle.std.proofs.lemmas.Result.{err_from_is_err_and}
 use Rattle.std.specs.List.Sorted.{IsPermutation}
-use Rattle.std.proofs.lemmas.List.Sorted.{IsPermutation-sym, Contains-permutation}
+use Rattle.std.proofs.lemmas.List.Sorted.{IsPermutation-sym, Contains-permutation, length_permutation}
 use Rattle.std.proofs.lemmas.List.{length-map}
 use Rattle.std.proofs.lemmas.Option.{get_or_from_slice_get, slice_get_within}
 use Rattle.ig_text.proofs.Lists.{contains_from_at, contains_one, it_is_in, none_in_nil}
@@ -93,18 +93,20 @@ module _ (given : laws.Given) (core : List Nonterminal) (text : List ℕ) (envs 
   nodes_seen : nodes_in s ≡ fresh root_instance ∷ []
   nodes_seen = ap (λ (z : Instance). fresh z ∷ []) root_is
 
-  ticket_is : (u : Ticket) → Contains f.waiting u ↔ (u ≡ ticket_of (first_stored 0 key 1) 0)
-  ticket_is u =
-      let put : IsPermutation (ticket_of (first_stored 0 key 1) 0 ∷ []) f.waiting =
+  put : IsPermutation (ticket_of (first_stored 0 key 1) 0 ∷ []) f.waiting
+  put =
       subst (λ (z : List Ticket). IsPermutation (ticket_of (first_stored 0 key 1) 0 ∷ z) f.waiting) waiting
-      (subst (λ (n : ℕ). IsPermutation (ticket_of (first_stored 0 key 1) n ∷ empty.waiting) f.waiting) (ap length items) p.waiting) in (
-        λ c. contains_one (ticket_of (first_stored 0 key 1) 0) u
-            (Contains-permutation f.waiting (ticket_of (first_stored 0 key 1) 0 ∷ []) u
-            (IsPermutation-sym (ticket_of (first_stored 0 key 1) 0 ∷ []) f.waiting put) c),
-        λ e. subst (Contains f.waiting) (sym e)
-            (Contains-permutation (ticket_of (first_stored 0 key 1) 0 ∷ []) f.waiting (ticket_of (first_stored 0 key 1) 0) put
-            (it_is_in (ticket_of (first_stored 0 key 1) 0))),
-      )
+      (subst (λ (n : ℕ). IsPermutation (ticket_of (first_stored 0 key 1) n ∷ empty.waiting) f.waiting) (ap length items) p.waiting)
+
+  ticket_is : (u : Ticket) → Contains f.waiting u ↔ (u ≡ ticket_of (first_stored 0 key 1) 0)
+  ticket_is u = (
+    λ c. contains_one (ticket_of (first_stored 0 key 1) 0) u
+        (Contains-permutation f.waiting (ticket_of (first_stored 0 key 1) 0 ∷ []) u
+        (IsPermutation-sym (ticket_of (first_stored 0 key 1) 0 ∷ []) f.waiting put) c),
+    λ e. subst (Contains f.waiting) (sym e)
+        (Contains-permutation (ticket_of (first_stored 0 key 1) 0 ∷ []) f.waiting (ticket_of (first_stored 0 key 1) 0) put
+        (it_is_in (ticket_of (first_stored 0 key 1) 0))),
+  )
 
   whole : IsWhole core text (seen s) (nodes_in s)
   whole =
@@ -118,14 +120,18 @@ module _ (given : laws.Given) (core : List Nonterminal) (text : List ℕ) (envs 
         between = record {
           tables = tables;
           whole = whole;
-          bare = record {
+          edges = record {
             each = λ node c e h.
                 absurd (none_in_nil e (subst (λ (z : shared.Node). Contains z.edges e) (contains_one (shared.fresh key) node c) h));
           };
+          indexed = λ x c later.
+              let here = contains_one (first_stored 0 key 1) x (subst (λ (z : List stored.Item). Contains z x) one_item c) in
+              let d = ap (λ (z : stored.Item). z.dot) here in let e = later.call.next in absurd (omega (arith, d, e));
           within = within;
         };
         first = seen_is;
         waits = ticket_is;
+        alone = length_permutation (ticket_of (first_stored 0 key 1) 0 ∷ []) f.waiting put;
       })
 
   -- one item is reachable, so that none is in the budget

@@ -1,6 +1,6 @@
 -- An item before a call is taken.
-use Rattle.std.proofs.Common.{◌≡◌, ◌⊎◌, ⊎_elim, inl, inr, ℕ, ◌<◌, List, [], ◌∷◌, ◌++◌, length, Contains, Some, refl, sym, ap, ◌∙◌, subst, slice_get, map}
-use Rattle.std.specs.Prelude.{Ok, Err, Option, None, IsTrue, true, false}
+use Rattle.std.proofs.Common.{◌≡◌, ◌⊎◌, ⊎_elim, inl, inr, ℕ, ◌<◌, List, [], ◌∷◌, ◌++◌, length, Contains, Some, refl, sym, ap, ◌∙◌, subst, arith, slice_get, map}
+use Rattle.std.specs.Prelude.{◌↔◌, Ok, Err, Option, None, IsTrue}
 use Rattle.std.proofs.lemmas.List.{map-append}
 use Rattle.std.proofs.lemmas.Option.{same_Some, slice_get_within}
 use Rattle.ig_text.proofs.Lists.{contains_from_at, same_map, in_pushed, mapped_at, mapped_in, none_in_nil, place_last, unmapped_in}
@@ -26,14 +26,16 @@ use Rattle.ig_gss.specs.declared.marks.Pop as marks
 use Rattle.ig_moves.specs.Rules.{IsCallee}
 use Rattle.ig_moves.specs.Tables.{GivesCallee}
 use Rattle.ig_run_laws.specs.Finding.{Finding, Finds, IsRecorded, Records}
+use Rattle.ig_run_laws.specs.FirstCalls.{CallsNothing, IsBehindLater}
 use Rattle.ig_run_laws.specs.Rules.{IsCaller, IsFirstOf, IsReturn}
 use Rattle.ig_run_laws.specs.Stacks.{Node, HasPop, Meets, Pop, fresh, keys_of, pop}
 use Rattle.ig_tables.specs.Extends.{Extends}
-use Rattle.ig_engine.specs.Adding.{Adds, By, ComeByNodes, IsAdded, IsOnward, IsReturnAtOne, Refuses}
+use Rattle.ig_engine.specs.Adding.{Adds, AreNew, By, IsAdded, IsOnward, IsReturnAtOne, Refuses}
 use Rattle.ig_engine.specs.Given as laws
-use Rattle.ig_engine.specs.Reached.{Reached, AreBare, AreTables, IsBare, IsEdge, Taking, keys_in, means, node_seen, nodes_in, reached, seen}
+use Rattle.ig_engine.specs.Reached.{Reached, AreIndexed, AreTables, EdgesSay, IsBare, IsEdge, Says, Taking, keys_in, means, node_seen, nodes_in, reached, seen}
 use Rattle.ig_engine.proofs.Adding.{adds_grown, adds_nothing}
 use Rattle.ig_engine.proofs.Event as events
+use Rattle.ig_engine.proofs.Indexing.{behind_first, indexed_still}
 use Rattle.ig_engine.proofs.Lists.{extends_at, extends_by, extends_same, extends_then, none_twice_longer}
 use Rattle.ig_engine.proofs.Nodes.{HaveToo, had, made, meets_call, more_edge, one_node, seen_edge, updated}
 use Rattle.ig_engine.proofs.Recording.{records_known}
@@ -65,10 +67,18 @@ module _ (given : laws.Given) (core : List Nonterminal) (text : List ℕ) (budge
   is_callee : (callee : Instance) → IsCaller core text it callee → IsCallee text names n arguments it callee
   is_callee callee c = (((given.tables.before_calls core text it names n arguments label excluded stands).calling callee c.label c.excluded).0 c.calls).2
 
+  abbrev pub IsFirstHere : Type 0
+  IsFirstHere = CallsNothing core it.instance.nonterminal it.alternative it.dot
+
   bare_here : label ≡ None → excluded ≡ [] → IsBare core text it
   bare_here none nothing callee l e c =
       let q = ((given.tables.before_calls core text it names n arguments label excluded stands).calling callee l e).0 c in
       (q.0 ∙ none, q.1 ∙ nothing)
+
+  -- an edge that says what is so
+  says_here : (edge : Edge) → (IsTrue edge.is_bare → (label ≡ None) × (excluded ≡ [])) → (IsTrue edge.is_first ↔ IsFirstHere) →
+      Says core text edge it
+  says_here edge bare first = record { bare = λ h. let b = bare h in bare_here b.0 b.1; first = first }
 
   -- environments were added for the arguments
   module _ (envs : List (List Value)) (wider : Extends s.envs envs) (once : NoneTwice s.envs → NoneTwice envs) (o : Option InstanceKey)
@@ -84,8 +94,8 @@ module _ (given : laws.Given) (core : List Nonterminal) (text : List ℕ) (budge
     uncalled is =
         events.alone given core text budget item number s taking (λ w x. ⊥) (λ w x h. absurd h)
         (λ w x h. given.runs.none_is_called core text (seen s).items (nodes_in s) it number names n arguments label excluded stands never w x h)
-        never running between (Ok tt)
-        (adds_grown given.tables (λ w x. ⊥) budget s envs between (Ok tt) tables wider (adds_nothing (λ w x. ⊥) budget between between_tables (λ w x h. h)))
+        never running (λ w x h prev done e. h) between (Ok tt)
+        (adds_grown given.tables (λ w x. ⊥) budget s envs between (Ok tt) tables wider (adds_nothing (λ w x. ⊥) budget between between_tables (λ w x h. h))) refl
       where
         never : (i : Instance) → IsCaller core text it i → ⊥
         never i c =
@@ -147,11 +157,16 @@ module _ (given : laws.Given) (core : List Nonterminal) (text : List ℕ) (budge
             ap (λ (z : List Item). finding z s.found.ways s.found.waiting)
             (same_map (means ready) (means s) s.found.items ready_means)
 
+        pub ready_indexed : AreIndexed core (shared.keys_of nodes) s.found
+        ready_indexed x c later =
+            taking.before.indexed x c
+            (subst (λ (z : Item). IsBehindLater core z.instance.nonterminal z.alternative z.dot) (ready_means x c) later)
+
         -- what was added then
         module _ (may : Way → Item → Type 0) (into : (w : Way) (x : Item) → may w x → After w x)
-            (back : (w : Way) (x : Item) → After w x → may w x ⊎ IsRecorded (seen s) w x) (edge : Edge) (edge_item : edge.item ≡ number)
-            (bare : IsTrue edge.is_bare → (label ≡ None) × (excluded ≡ [])) where
-          module _ (c : Reached) (d : IsAdded may budget ready c) (later : List shared.Node) (later_is : later ≡ shared.with_edge c.nodes k edge) where
+            (back : (w : Way) (x : Item) → After w x → may w x ⊎ IsRecorded (seen s) w x) where
+          module _ (edge : Edge) (edge_item : edge.item ≡ number) (says : Says core text edge it) (c : Reached) (d : IsAdded may budget ready c)
+              (indexed : AreIndexed core (keys_in c) c.found) (later : List shared.Node) (later_is : later ≡ shared.with_edge c.nodes k edge) where
             abbrev after : Reached
             after = reached c.envs later c.found
 
@@ -180,22 +195,20 @@ module _ (given : laws.Given) (core : List Nonterminal) (text : List ℕ) (budge
             keys_after =
                 subst (Extends (keys_in s)) (sym (same_keys ∙ ap shared.keys_of d.nodes)) keys
 
-            bare_after : AreBare core text after
-            bare_after =
+            says_after : EdgesSay core text after
+            says_after =
                 record {
-                  each = λ m h e i is_bare y there.
+                  each = λ m h e i y there.
                       ⊎_elim
                       (λ (w : WasThere c.nodes e).
                       let q = old w.node (subst (λ (z : List shared.Node). Contains z w.node) d.nodes w.among) e w.has in
-                      events.old_bare given core text budget item number s taking after all_envs keys_after d.items q.0 q.1 e q.2 is_bare y there)
-                      (λ (w : e ≡ edge). new_bare e w is_bare y there)
+                      events.old_says given core text budget item number s taking after all_envs keys_after d.items q.0 q.1 e q.2 y there)
+                      (λ (w : e ≡ edge). new_says e w y there)
                       (edge_was c.nodes k edge m (subst (λ (z : List shared.Node). Contains z m) later_is h) e i);
                 }
               where
-                new_bare : (e : Edge) → e ≡ edge → IsTrue e.is_bare → (y : stored.Item) → slice_get c.found.items e.item ≡ Some y →
-                    IsBare core text (means after y)
-                new_bare e w is_bare y there =
-                    let b = bare (subst (λ (z : Edge). IsTrue z.is_bare) w is_bare) in
+                new_says : (e : Edge) → e ≡ edge → (y : stored.Item) → slice_get c.found.items e.item ≡ Some y → Says core text e (means after y)
+                new_says e w y there =
                     let at_number : slice_get c.found.items number ≡ Some item =
                     extends_at s.found.items c.found.items number item d.items taking.at in
                     let place : e.item ≡ number = ap (λ (z : Edge). z.item) w ∙ edge_item in
@@ -203,14 +216,16 @@ module _ (given : laws.Given) (core : List Nonterminal) (text : List ℕ) (budge
                     let means_same =
                     (given.tables.names_are_kept s.envs c.envs (keys_in s) (keys_in after) item all_envs keys_after tables.values
                     (tables.items item (contains_from_at s.found.items number item taking.at))).same in
-                    subst (λ (z : stored.Item). IsBare core text (means after z)) same (subst (IsBare core text) (sym means_same) (bare_here b.0 b.1))
+                    subst (λ (z : Edge). Says core text z (means after y)) (sym w)
+                    (subst (λ (z : stored.Item). Says core text edge (means after z)) same (subst (Says core text edge) (sym means_same) says))
 
             pub call_over : IsOnward core text budget s after
             call_over =
                 events.onward given core text budget item number s taking after (same_keys_tables c later same_keys d.tables)
                 (subst (Records After (seen s)) (sym (same_keys_seen c later same_keys))
                 (records_known may After (seen s) (seen c) into back (subst (λ (z : Finding). Records may z (seen c)) ready_seen d.records)))
-                meets (λ h. absurd (running h)) bare_after (d.within taking.before.within)
+                meets (λ h. absurd (running h)) says_after (subst (λ (z : List InstanceKey). AreIndexed core z c.found) (sym same_keys) indexed)
+                (d.within taking.before.within)
 
           pub call_stopped : (c : Reached) (f : RunFault) → Adds may budget ready c (Err f) → Refuses core text budget s f
           call_stopped c f d =
@@ -299,32 +314,40 @@ module _ (given : laws.Given) (core : List Nonterminal) (text : List ℕ) (budge
         pub made_firsts : (x : Item) → IsFirstOf core callee x → Contains (seen made_ready).items x → ⊥
         made_firsts x f c = made_firsts_new x f (subst (λ (z : Finding). Contains z.items x) made_seen c)
 
-        pub made_call : (edge : Edge) → edge.item ≡ number → (IsTrue edge.is_bare → (label ≡ None) × (excluded ≡ [])) → (c : Reached) →
-            IsAdded (By Begin (IsFirstOf core callee)) budget made_ready c → (later : List shared.Node) →
+        -- first items are behind no call
+        no_firsts_later : (w : Way) (x : Item) → By Begin (IsFirstOf core callee) w x →
+            IsBehindLater core x.instance.nonterminal x.alternative x.dot → ⊥
+        no_firsts_later w x h b =
+            let d : x.dot ≡ 0 = ap (λ (z : Item). z.dot) h.1.is in let e = b.call.next in omega (arith, d, e)
+
+        pub made_call : (edge : Edge) → edge.item ≡ number → Says core text edge it → (c : Reached) →
+            IsAdded (By Begin (IsFirstOf core callee)) budget made_ready c → c.found.indexed ≡ s.found.indexed → (later : List shared.Node) →
             later ≡ shared.with_edge c.nodes k edge → IsOnward core text budget s (reached c.envs later c.found)
-        made_call edge edge_item bare c d later later_is =
+        made_call edge edge_item says c d same later later_is =
             call_over nodes made_extends made_once k (shared.fresh key) made_at refl made_old made_have made_values
-            (By Begin (IsFirstOf core callee)) made_into made_back edge edge_item bare c d later later_is
+            (By Begin (IsFirstOf core callee)) made_into made_back edge edge_item says c d
+            (indexed_still given.tables core (By Begin (IsFirstOf core callee)) budget made_ready c made_tables d same no_firsts_later
+            (ready_indexed nodes made_extends made_once k (shared.fresh key) made_at refl made_old made_have made_values)) later later_is
 
         pub made_within : (nodes' : List shared.Node) → nodes' ≡ nodes → k < length nodes'
         made_within nodes' same = slice_get_within nodes' k (shared.fresh key) (ap (λ (z : List shared.Node). slice_get z k) same ∙ made_at)
 
         -- as `add_firsts` leaves it
         pub made_call_in : (edge : Edge) → edge.item ≡ number → (IsTrue edge.is_bare → (label ≡ None) × (excluded ≡ [])) →
+            (IsTrue edge.is_first ↔ IsFirstHere) →
             (envs' : List (List Value)) (nodes' : List shared.Node) (f : numbered.Finding) → envs' ≡ envs → nodes' ≡ nodes →
-            IsAdded (By Begin (IsFirstOf core callee)) budget made_ready (reached envs nodes f) → (later : List shared.Node) →
-            later ≡ shared.with_edge nodes' k edge → IsOnward core text budget s (reached envs' later f)
-        made_call_in edge edge_item bare envs' nodes' f same_envs same_nodes d later later_is =
+            IsAdded (By Begin (IsFirstOf core callee)) budget made_ready (reached envs nodes f) → f.indexed ≡ s.found.indexed →
+            (later : List shared.Node) → later ≡ shared.with_edge nodes' k edge → IsOnward core text budget s (reached envs' later f)
+        made_call_in edge edge_item bare first envs' nodes' f same_envs same_nodes d same later later_is =
             subst (λ (z : List (List Value)). IsOnward core text budget s (reached z later f)) (sym same_envs)
-            (made_call edge edge_item bare (reached envs nodes f) d later
+            (made_call edge edge_item (says_here edge bare first) (reached envs nodes f) d same later
             (later_is ∙ ap (λ (z : List shared.Node). shared.with_edge z k edge) same_nodes))
 
         pub made_stopped : (c : Reached) (f : RunFault) → Adds (By Begin (IsFirstOf core callee)) budget made_ready c (Err f) →
             Refuses core text budget s f
         made_stopped c f d =
             call_stopped nodes made_extends made_once k (shared.fresh key) made_at refl made_old made_have made_values
-            (By Begin (IsFirstOf core callee)) made_into made_back
-            (record { item = number; is_bare = false }) refl (λ no. absurd (let e : false ≡ true = no in cc)) c f d
+            (By Begin (IsFirstOf core callee)) made_into made_back c f d
 
       -- a node was found
       module _ (nodes : List shared.Node) (k : ℕ) (m : shared.FindsNode s.nodes nodes key k) where
@@ -436,9 +459,15 @@ module _ (given : laws.Given) (core : List Nonterminal) (text : List ℕ) (budge
             (subst (Contains held.waiting)
             (λ i. record { position = (ap (λ (z : Item). z.position) this) i; number = sym place i }) taking.takes.there)
 
-        pub found_nodes : ComeByNodes s AtOne
-        found_nodes way x h j at =
-            given.runs.returns_come_by_nodes core text held (nodes_in s) h.2.0 h.2.3 h.0.end x j taking.before.whole h.2.4 at
+        -- behind the first call of its alternative nothing is found yet
+        found_new : IsFirstHere → AreNew s AtOne
+        found_new first way x h c =
+            let same : h.2.0 ≡ it = same_Some h.2.0 it (sym h.2.1 ∙ it_at) in
+            given.runs.first_returns_are_new core text held (nodes_in s) s.found.waiting
+            (events.ticket given core text budget item number s taking) it x number h.0.done taking.before.whole taking.takes
+            (λ e. absurd (running e)) (subst (λ (z : Way). After z x) h.2.2 (found_into way x h))
+            (behind_first core text h.2.0 h.2.3 h.0.end x h.2.4
+            (subst (λ (z : Item). CallsNothing core z.instance.nonterminal z.alternative z.dot) (sym same) first)) c
 
         abbrev found_ready : Reached
         found_ready = reached envs nodes s.found
@@ -463,15 +492,19 @@ module _ (given : laws.Given) (core : List Nonterminal) (text : List ℕ) (budge
             inl (subst (λ (z : Finding). IsReturnAtOne core text z.items number (shared.pops_at nodes k) w x) (sym found_seen) l))
             (λ (r : IsRecorded (seen s) w x). inr r) (found_back w x h)
 
-        pub there_nodes : ComeByNodes found_ready AtOneThere
-        there_nodes way x h j at =
-            found_nodes way x (subst (λ (z : Finding). IsReturnAtOne core text z.items number (shared.pops_at nodes k) way x) found_seen h) j
-            (subst (λ (z : Finding). slice_get z.items j ≡ Some x) found_seen at)
+        pub there_new : (edge : Edge) → (IsTrue edge.is_first ↔ IsFirstHere) → IsTrue edge.is_first → AreNew found_ready AtOneThere
+        there_new edge first is way x h c =
+            found_new (first.0 is) way x
+            (subst (λ (z : Finding). IsReturnAtOne core text z.items number (shared.pops_at nodes k) way x) found_seen h)
+            (subst (λ (z : Finding). Contains z.items x) found_seen c)
+
+        pub found_indexed : AreIndexed core (shared.keys_of nodes) s.found
+        found_indexed = ready_indexed nodes found_extends found_once k node found_at m.1.2 found_old found_have found_values
 
         -- the edge that is added
         pub found_edge : (edge : Edge) → edge.item ≡ number → (IsTrue edge.is_bare → (label ≡ None) × (excluded ≡ [])) →
-            IsEdge core text found_ready edge
-        found_edge edge edge_item bare =
+            (IsTrue edge.is_first ↔ IsFirstHere) → IsEdge core text found_ready edge
+        found_edge edge edge_item bare first =
             let same = ready_means nodes found_extends found_once k node found_at m.1.2 found_old found_have found_values item
             (contains_from_at s.found.items number item taking.at) in
             record {
@@ -479,20 +512,21 @@ module _ (given : laws.Given) (core : List Nonterminal) (text : List ℕ) (budge
               there = ap (slice_get s.found.items) edge_item ∙ taking.at;
               callee = callee;
               calls = subst (λ (z : Item). IsCaller core text z callee) (sym same) caller;
-              bare = λ h. subst (IsBare core text) (sym same) (let b = bare h in bare_here b.0 b.1);
+              says = subst (Says core text edge) (sym same) (says_here edge bare first);
             }
 
         pub found_within : k < length nodes
         found_within = slice_get_within nodes k node found_at
 
-        pub found_call : (edge : Edge) → edge.item ≡ number → (IsTrue edge.is_bare → (label ≡ None) × (excluded ≡ [])) → (c : Reached) →
-            IsAdded AtOneThere budget found_ready c → (later : List shared.Node) → later ≡ shared.with_edge c.nodes k edge →
+        pub found_call : (edge : Edge) → edge.item ≡ number → (IsTrue edge.is_bare → (label ≡ None) × (excluded ≡ [])) →
+            (IsTrue edge.is_first ↔ IsFirstHere) → (c : Reached) → IsAdded AtOneThere budget found_ready c →
+            AreIndexed core (keys_in c) c.found → (later : List shared.Node) → later ≡ shared.with_edge c.nodes k edge →
             IsOnward core text budget s (reached c.envs later c.found)
-        found_call edge edge_item bare c d later later_is =
+        found_call edge edge_item bare first c d indexed later later_is =
             call_over nodes found_extends found_once k node found_at m.1.2 found_old found_have found_values
-            AtOneThere there_into there_back edge edge_item bare c d later later_is
+            AtOneThere there_into there_back edge edge_item (says_here edge bare first) c d indexed later later_is
 
         pub found_stopped : (c : Reached) (f : RunFault) → Adds AtOneThere budget found_ready c (Err f) → Refuses core text budget s f
         found_stopped c f d =
             call_stopped nodes found_extends found_once k node found_at m.1.2 found_old found_have found_values
-            AtOneThere there_into there_back (record { item = number; is_bare = false }) refl (λ no. absurd (let e : false ≡ true = no in cc)) c f d
+            AtOneThere there_into there_back c f d

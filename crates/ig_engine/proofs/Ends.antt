@@ -1,12 +1,13 @@
 -- A complete item is taken.
-use Rattle.std.proofs.Common.{◌≡◌, ⊎_elim, inl, ℕ, ◌<◌, List, length, Contains, Some, refl, sym, ap, ◌∙◌, subst, slice_get, map}
-use Rattle.std.specs.Prelude.{Err}
+use Rattle.std.proofs.Common.{◌≡◌, ⊎_elim, inl, ℕ, suc, ◌<◌, List, length, Contains, Some, refl, sym, ap, ◌∙◌, subst, arith, slice_get, map}
+use Rattle.std.specs.Prelude.{Err, IsTrue}
 use Rattle.std.proofs.lemmas.Option.{same_Some, slice_get_within, get_or_from_slice_get}
 use Rattle.ig_text.proofs.Lists.{contains_from_at, mapped_at, mapped_in, unmapped_at, unmapped_in}
 use Rattle.ig_item.specs.Items.{Item, IsComplete}
 use Rattle.ig_item.specs.Tables.{instance_by}
 use Rattle.ig_item.specs.declared.core_grammar.Nonterminal.{Nonterminal}
 use Rattle.ig_item.specs.declared.items.Instance.{Instance}
+use Rattle.ig_item.specs.declared.items.InstanceKey.{InstanceKey}
 use Rattle.ig_item.specs.declared.items.Item as stored
 use Rattle.ig_item.specs.declared.run_fault.RunFault.{RunFault}
 use Rattle.ig_item.specs.declared.ways.Way.{Way}
@@ -17,12 +18,14 @@ use Rattle.ig_gss.specs.declared.marks.Edge.{Edge}
 use Rattle.ig_gss.specs.declared.marks.Pop as marks
 use Rattle.ig_moves.specs.Tables.{no_key}
 use Rattle.ig_run_laws.specs.Finding.{IsNewTicket, Records}
+use Rattle.ig_run_laws.specs.FirstCalls.{CallsNothing}
 use Rattle.ig_run_laws.specs.Rules.{IsCaller, IsReturn}
 use Rattle.ig_run_laws.specs.Stacks.{Node, HasPop, IsFirstThere, Meets, Pop, pop}
-use Rattle.ig_engine.specs.Adding.{Adds, ComeByNodes, Events, IsAdded, IsOnward, IsReturnByOne}
+use Rattle.ig_engine.specs.Adding.{Adds, AreApart, AreNew, Events, IsAdded, IsOnward, IsReturnBy, IsReturnByOne}
 use Rattle.ig_engine.specs.Given as laws
-use Rattle.ig_engine.specs.Reached.{Reached, AreBare, AreTables, IsEdge, Taking, keys_in, means, node_seen, nodes_in, reached, seen}
+use Rattle.ig_engine.specs.Reached.{Reached, AreIndexed, AreTables, EdgesSay, IsEdge, Taking, keys_in, means, node_seen, nodes_in, reached, seen}
 use Rattle.ig_engine.proofs.Event as events
+use Rattle.ig_engine.proofs.Indexing.{behind_first}
 use Rattle.ig_engine.proofs.Lists.{extends_itself, extends_same}
 use Rattle.ig_engine.proofs.Nodes.{meets_end, more_pop, one_node, seen_pop, updated}
 use Rattle.ig_engine.proofs.Recording.{no_new, records_alike}
@@ -88,7 +91,8 @@ module _ (given : laws.Given) (core : List Nonterminal) (text : List ℕ) (budge
           };
           whole = given.runs.ends_keep core text (events.held given core text budget item number s taking) (nodes_in s) s.found.waiting
               (events.ticket given core text budget item number s taking) it done taking.before.whole taking.takes complete (has_pop done c);
-          bare = record { each = λ node h e i bare y at. taking.before.bare.each node h e i bare y at };
+          edges = record { each = λ node h e i y at. taking.before.edges.each node h e i y at };
+          indexed = taking.before.indexed;
           within = taking.before.within;
         };
         items = extends_itself (seen s).items;
@@ -126,7 +130,7 @@ module _ (given : laws.Given) (core : List Nonterminal) (text : List ℕ) (budge
         there = y.1;
         callee = (node_seen s.envs own.0).key;
         calls = subst (λ (z : Item). IsCaller core text z (node_seen s.envs own.0).key) (sym y.2) w.calls;
-        bare = λ is. taking.before.bare.each own.0 own_in e h is y.0 y.1;
+        says = taking.before.edges.each own.0 own_in e h y.0 y.1;
       }
 
   abbrev ByOne : Way → Item → Type 0
@@ -168,13 +172,39 @@ module _ (given : laws.Given) (core : List Nonterminal) (text : List ℕ) (budge
         (q.1, ap (slice_get (seen s).items) e.2 ∙ q.3, q.4 ∙ ap (λ (z : ℕ). Tree z number) (sym e.2), it.instance, q.5),
       )
 
-  pub edges_nodes : ComeByNodes s ByOne
-  edges_nodes way x m k at =
-      given.runs.returns_come_by_nodes core text (events.held given core text budget item number s taking) (nodes_in s) m.2.0 m.2.3 item.position x k
-      taking.before.whole m.2.4 at
+  -- a caller of an edge that says so stands before the first call of its alternative
+  nothing_before : (e : Edge) → Contains (shared.edges_at s.nodes item.instance) e → IsTrue e.is_first → (caller : Item) →
+      slice_get (seen s).items e.item ≡ Some caller → CallsNothing core caller.instance.nonterminal caller.alternative caller.dot
+  unfolding edges_are
+  nothing_before e c is caller at =
+      let q = edges_are e c in
+      let same : means s q.item ≡ caller = same_Some (means s q.item) caller (sym (mapped_at (means s) s.found.items e.item q.item q.there) ∙ at) in
+      subst (λ (z : Item). CallsNothing core z.instance.nonterminal z.alternative z.dot) same (q.says.first.0 is)
+
+  -- behind such an edge nothing is found yet
+  pub edges_new : (Contains (shared.ends_at s.nodes item.instance) item.position → ⊥) → (e : Edge) →
+      Contains (shared.edges_at s.nodes item.instance) e → IsTrue e.is_first →
+      AreNew s (IsReturnBy core text (seen s).items e.item number item.position)
+  edges_new none e c is way x m there =
+      given.runs.first_returns_are_new core text (events.held given core text budget item number s taking) (nodes_in s) s.found.waiting
+      (events.ticket given core text budget item number s taking) it x e.item number taking.before.whole taking.takes (λ h. first_there none)
+      (subst (λ (z : Way). After z x) m.2 (one_into way x (e, c, m)))
+      (behind_first core text m.0 m.3 item.position x m.4 (nothing_before e c is m.0 m.1)) there
+
+  -- and nothing is behind two of them
+  pub edges_apart : AreApart core text (seen s).items (shared.edges_at s.nodes item.instance) number item.position
+  edges_apart d e c h is v w x m n =
+      let past_one = sym n.4.is ∙ m.4.is in
+      let dots : suc n.0.dot ≡ suc m.0.dot = ap (λ (z : Item). z.dot) past_one in
+      let same : n.0 ≡ m.0 =
+      given.runs.begins_are_one core text (events.held given core text budget item number s taking) (nodes_in s) n.0 m.0 taking.before.whole
+      (contains_from_at (seen s).items e.item n.0 n.1) (contains_from_at (seen s).items d.item m.0 m.1)
+      (ap (λ (z : Item). z.instance) past_one) (ap (λ (z : Item). z.alternative) past_one) (omega (arith, dots))
+      (nothing_before e h is n.0 n.1) in
+      taking.before.whole.run.once d.item e.item m.0 m.1 (n.1 ∙ ap Some same)
 
   -- its node has a pop more
-  module _ (c : Reached) (d : IsAdded ByOne budget s c) (none : Contains (shared.ends_at s.nodes item.instance) item.position → ⊥)
+  module _ (c : Reached) (d : IsAdded ByOne budget s c) (indexed : AreIndexed core (keys_in c) c.found) (none : Contains (shared.ends_at s.nodes item.instance) item.position → ⊥)
       (nodes : List shared.Node) (is : nodes ≡ shared.with_pop c.nodes item.instance (shared.ended item.position number)) where
     abbrev after : Reached
     after = reached c.envs nodes c.found
@@ -189,15 +219,15 @@ module _ (given : laws.Given) (core : List Nonterminal) (text : List ℕ) (budge
         ap (λ (z : List Node). updated (more_pop (pop item.position number)) z item.instance)
         (ap (λ (z : List shared.Node). map (node_seen c.envs) z) d.nodes ∙ grown_nodes given.tables s c.envs d.envs tables)
 
-    bare_after : AreBare core text after
-    bare_after =
+    says_after : EdgesSay core text after
+    says_after =
         record {
-          each = λ node h e i bare y at.
+          each = λ node h e i y at.
               let w = pop_was c.nodes item.instance (shared.ended item.position number) node
               (subst (λ (z : List shared.Node). Contains z node) is h) e i in
-              events.old_bare given core text budget item number s taking after d.envs
+              events.old_says given core text budget item number s taking after d.envs
               (extends_same (keys_in s) (keys_in after) (same_keys ∙ ap shared.keys_of d.nodes)) d.items w.node
-              (subst (λ (z : List shared.Node). Contains z w.node) d.nodes w.among) e w.has bare y at;
+              (subst (λ (z : List shared.Node). Contains z w.node) d.nodes w.among) e w.has y at;
         }
 
     pub ends : IsOnward core text budget s after
@@ -207,7 +237,8 @@ module _ (given : laws.Given) (core : List Nonterminal) (text : List ℕ) (budge
         (records_alike ByOne After (seen s) (seen c) one_into one_back d.records))
         (subst (Meets core text it number (nodes_in s)) (sym nodes_are)
         (meets_end core text it number (nodes_in s) taking.before.whole.stacks.once never complete item.instance (node_seen s.envs own.0) own_seen own_key))
-        (λ h. first_there none) bare_after (d.within taking.before.within)
+        (λ h. first_there none) says_after (subst (λ (z : List InstanceKey). AreIndexed core z c.found) (sym same_keys) indexed)
+        (d.within taking.before.within)
 
   pub ends_stopped : (c : Reached) (f : RunFault) → Adds ByOne budget s c (Err f) → Events core text budget s c (Err f)
   ends_stopped c f d = events.stopped given core text budget item number s taking ByOne c f one_into d

@@ -1,6 +1,6 @@
 -- An item is taken: what its event makes of the run.
-use Rattle.std.proofs.Common.{◌≡◌, ◌↔◌, ◌⊎◌, ℕ, ◌<◌, ◌≤◌, List, length, Contains, Some, refl, sym, ap, ◌∙◌, subst, arith, slice_get, map}
-use Rattle.std.specs.Prelude.{Result, Ok, Err, Option, None, IsTrue}
+use Rattle.std.proofs.Common.{◌≡◌, ◌↔◌, ◌⊎◌, ⊎_elim, ℕ, ◌<◌, ◌≤◌, List, length, Contains, Some, refl, sym, ap, ◌∙◌, subst, arith, slice_get, map}
+use Rattle.std.specs.Prelude.{Result, Ok, Err, Option, None}
 use Rattle.std.specs.Result.{IsErrAnd}
 use Rattle.std.proofs.lemmas.List.{length-map}
 use Rattle.std.proofs.lemmas.Option.{slice_get_within}
@@ -18,7 +18,7 @@ use Rattle.ig_item.specs.declared.items.Item as stored
 use Rattle.ig_item.specs.declared.run_fault.RunFault.{RunFault}
 use Rattle.ig_item.specs.declared.run_fault.RunFault.TheVariants as fault
 use Rattle.ig_item.specs.declared.ways.Way.{Way}
-use Rattle.ig_item.specs.declared.ways.Way.TheVariants.{Pass, Leaf}
+use Rattle.ig_item.specs.declared.ways.Way.TheVariants.{Pass, Leaf, Node as Tree}
 use Rattle.ig_queue.specs.declared.ticket.Ticket.{Ticket}
 use Rattle.ig_found.specs.Finding as numbered
 use Rattle.ig_found.specs.Finding.{ticket_of}
@@ -28,13 +28,15 @@ use Rattle.ig_moves.specs.Rules.{IsBehindTest, IsBehindBind, IsBehind, step_at}
 use Rattle.ig_moves.specs.Tables.{Moves}
 use Rattle.ig_run_laws.specs.AfterBy.{AfterBy}
 use Rattle.ig_run_laws.specs.Finding.{Finding, Records}
+use Rattle.ig_run_laws.specs.FirstCalls.{IsBehindLater}
 use Rattle.ig_run_laws.specs.Rules.{IsCaller}
 use Rattle.ig_run_laws.specs.Stacks.{IsFirstThere, Meets}
 use Rattle.ig_tables.specs.Extends.{Extends}
 use Rattle.ig_engine.specs.Adding.{Adds, AddsBehind, By, Events, IsAdded, IsOnward, IsOver, Refuses}
 use Rattle.ig_engine.specs.Given as laws
-use Rattle.ig_engine.specs.Reached.{Reached, AreBare, AreTables, IsBare, Named, Taking, keys_in, means, node_seen, nodes_in, reached, seen, with_tickets}
+use Rattle.ig_engine.specs.Reached.{Reached, AreIndexed, AreTables, EdgesSay, Named, Says, Taking, keys_in, means, node_seen, nodes_in, reached, seen, with_tickets}
 use Rattle.ig_engine.proofs.Adding.{moved_new, moved_pushes}
+use Rattle.ig_engine.proofs.Indexing.{indexed_still}
 use Rattle.ig_engine.proofs.Lists.{extends_same, extends_within}
 use Rattle.ig_engine.proofs.Nodes.{meets_nothing}
 use Rattle.ig_engine.proofs.Recording.{finds_alike, records_alike}
@@ -65,15 +67,16 @@ module _ (given : laws.Given) (core : List Nonterminal) (text : List ℕ) (budge
 
   -- the event is over
   pub onward : (c : Reached) → AreTables c → Records After (seen s) (seen c) → Meets core text it number (nodes_in s) (nodes_in c) →
-      (IsComplete core it → IsFirstThere (nodes_in s) it) → AreBare core text c → length c.found.items ≤ budget →
-      IsOnward core text budget s c
-  onward c t r meets first bare within =
+      (IsComplete core it → IsFirstThere (nodes_in s) it) → EdgesSay core text c → AreIndexed core (keys_in c) c.found →
+      length c.found.items ≤ budget → IsOnward core text budget s c
+  onward c t r meets first edges indexed within =
       record {
         reached = record {
           tables = t;
           whole = given.runs.events_keep core text held (seen c) (nodes_in s) (nodes_in c) s.found.waiting ticket it taking.before.whole
               taking.takes meets first r;
-          bare = bare;
+          edges = edges;
+          indexed = indexed;
           within = within;
         };
         items = r.items;
@@ -101,23 +104,23 @@ module _ (given : laws.Given) (core : List Nonterminal) (text : List ℕ) (budge
       let l = slice_get_within held.items e.item w.item w.there in
       let n = length-map s.found.items (means s) in omega (arith, l, n)
 
-  -- an edge of before stays bare
-  pub old_bare : (c : Reached) → Extends s.envs c.envs → Extends (keys_in s) (keys_in c) → Extends s.found.items c.found.items →
-      (node : shared.Node) → Contains s.nodes node → (e : Edge) → Contains node.edges e → IsTrue e.is_bare → (y : stored.Item) →
-      slice_get c.found.items e.item ≡ Some y → IsBare core text (means c y)
-  old_bare c envs keys items node h e i bare y at =
+  -- an edge of before says what it did
+  pub old_says : (c : Reached) → Extends s.envs c.envs → Extends (keys_in s) (keys_in c) → Extends s.found.items c.found.items →
+      (node : shared.Node) → Contains s.nodes node → (e : Edge) → Contains node.edges e → (y : stored.Item) →
+      slice_get c.found.items e.item ≡ Some y → Says core text e (means c y)
+  old_says c envs keys items node h e i y at =
       let there = extends_within s.found.items c.found.items e.item y items (edge_within node h e i) at in
       let named = tables.items y (contains_from_at s.found.items e.item y there) in
-      subst (IsBare core text) (sym (given.tables.names_are_kept s.envs c.envs (keys_in s) (keys_in c) y envs keys tables.values named).same)
-      (taking.before.bare.each node h e i bare y there)
+      subst (Says core text e) (sym (given.tables.names_are_kept s.envs c.envs (keys_in s) (keys_in c) y envs keys tables.values named).same)
+      (taking.before.edges.each node h e i y there)
 
   -- where nodes stay
-  pub same_bare : (c : Reached) → Extends s.envs c.envs → c.nodes ≡ s.nodes → Extends s.found.items c.found.items → AreBare core text c
-  same_bare c envs nodes items =
+  pub same_says : (c : Reached) → Extends s.envs c.envs → c.nodes ≡ s.nodes → Extends s.found.items c.found.items → EdgesSay core text c
+  same_says c envs nodes items =
       record {
-        each = λ node h e i bare y at.
-            old_bare c envs (extends_same (keys_in s) (keys_in c) (ap shared.keys_of nodes)) items node
-            (subst (λ (z : List shared.Node). Contains z node) nodes h) e i bare y at;
+        each = λ node h e i y at.
+            old_says c envs (extends_same (keys_in s) (keys_in c) (ap shared.keys_of nodes)) items node
+            (subst (λ (z : List shared.Node). Contains z node) nodes h) e i y at;
       }
 
   pub same_nodes : (c : Reached) → Extends s.envs c.envs → c.nodes ≡ s.nodes → nodes_in c ≡ nodes_in s
@@ -127,17 +130,25 @@ module _ (given : laws.Given) (core : List Nonterminal) (text : List ℕ) (budge
   -- of an item that calls nothing and isn't complete
   module _ (may : Way → Item → Type 0) (into : (way : Way) (x : Item) → may way x → After way x)
       (back : (way : Way) (x : Item) → After way x → may way x) (never : (i : Instance) → IsCaller core text it i → ⊥)
-      (running : IsComplete core it → ⊥) where
-    alone_over : (c : Reached) → IsAdded may budget s c → IsOnward core text budget s c
-    alone_over c d =
+      (running : IsComplete core it → ⊥) (no_node : (way : Way) (x : Item) → may way x → (prev done : ℕ) → way ≡ Tree prev done → ⊥) where
+    -- it isn't behind a call
+    not_behind : (way : Way) (x : Item) → may way x → IsBehindLater core x.instance.nonterminal x.alternative x.dot → ⊥
+    not_behind way x h b =
+        let q = given.runs.returns_come_by_nodes core text (seen s).items (nodes_in s) it x number way (into way x h) b.call in
+        no_node way x h q.0 q.1 q.2
+
+    alone_over : (c : Reached) → IsAdded may budget s c → c.found.indexed ≡ s.found.indexed → IsOnward core text budget s c
+    alone_over c d same =
         onward c d.tables (records_alike may After (seen s) (seen c) into back d.records)
         (subst (Meets core text it number (nodes_in s)) (sym (same_nodes c d.envs d.nodes))
         (meets_nothing core text it number (nodes_in s) taking.before.whole.stacks.once never running))
-        (λ h. absurd (running h)) (same_bare c d.envs d.nodes d.items) (d.within taking.before.within)
+        (λ h. absurd (running h)) (same_says c d.envs d.nodes d.items)
+        (indexed_still given.tables core may budget s c tables d same not_behind taking.before.indexed) (d.within taking.before.within)
 
-    pub alone : (c : Reached) (r : Result (Unit {0}) RunFault) → Adds may budget s c r → Events core text budget s c r
-    alone c (Ok u) d = alone_over c d
-    alone c (Err f) d = stopped may c f into d
+    pub alone : (c : Reached) (r : Result (Unit {0}) RunFault) → Adds may budget s c r → c.found.indexed ≡ s.found.indexed →
+        Events core text budget s c r
+    alone c (Ok u) d same = alone_over c d same
+    alone c (Err f) d same = stopped may c f into d
 
   -- of one that passes to, or reads to, what is behind it
   module _ (behind : Item → Item → Type 0) (way : Way) (once_only : (way ≡ Pass number) ⊎ (way ≡ Leaf number))
@@ -155,11 +166,18 @@ module _ (given : laws.Given) (core : List Nonterminal) (text : List ℕ) (budge
           moved_new given.tables s tables envs wider (once tables.environments) item item_named behind o m way behind_new y is
           (mapped_in (means (reached envs s.nodes s.found)) s.found.items y c)
 
-      pub moves_event : (f : numbered.Finding) (r : Result (Unit {0}) RunFault) → AddsBehind s.found f o way budget r →
-          Events core text budget s (reached envs s.nodes f) r
-      moves_event f r d =
-          alone (By way (behind it)) (λ w x h. (alike w x).1 h) (λ w x h. (alike w x).0 h) never running (reached envs s.nodes f) r
-          (moved_pushes given.tables s tables envs wider (once tables.environments) item item_named behind o m way behind_new f budget r d)
+      -- a way of that form names no node
+      no_node_way : (prev done : ℕ) → way ≡ Tree prev done → ⊥
+      no_node_way prev done e =
+          ⊎_elim (λ (h : way ≡ Pass number). let q : Pass number ≡ Tree prev done = sym h ∙ e in cc)
+          (λ (h : way ≡ Leaf number). let q : Leaf number ≡ Tree prev done = sym h ∙ e in cc) once_only
+
+      pub moves_event : (f : numbered.Finding) (r : Result (Unit {0}) RunFault) → f.indexed ≡ s.found.indexed →
+          AddsBehind s.found f o way budget r → Events core text budget s (reached envs s.nodes f) r
+      moves_event f r same d =
+          alone (By way (behind it)) (λ w x h. (alike w x).1 h) (λ w x h. (alike w x).0 h) never running
+          (λ w x h prev done e. no_node_way prev done (sym h.0 ∙ e)) (reached envs s.nodes f) r
+          (moved_pushes given.tables s tables envs wider (once tables.environments) item item_named behind o m way behind_new f budget r d) same
 
   -- by the form of the step
   pub test_alike : (names : List (List ℕ)) (e : Expression) → StandsBefore core it names (Test e) → (w : Way) (x : Item) →

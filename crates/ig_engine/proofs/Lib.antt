@@ -1,6 +1,8 @@
+pub mod FirstCalls
 pub mod Lists
 pub mod Recording
 pub mod Tables
+pub mod Indexing
 pub mod Adding
 pub mod Returning
 pub mod Firsts

@@ -1,9 +1,10 @@
 -- Lists that grow at their end.
-use Rattle.std.proofs.Common.{◌≡◌, ◌⊎◌, ⊎_elim, ℕ, ◌+◌, ◌≤◌, ◌<◌, List, [], ◌∷◌, ◌++◌, length, Contains, Some, sym, ap, ◌∙◌, subst, arith, slice_get, length-append, append_assoc}
-use Rattle.std.proofs.lemmas.List.{append-nil}
+use Rattle.std.proofs.Common.{◌≡◌, ◌⊎◌, ⊎_elim, ℕ, zero, suc, ◌+◌, ◌≤◌, ◌<◌, List, [], ◌∷◌, ◌++◌, length, Contains, Some, refl, sym, ap, ◌∙◌, subst, arith, map, reverse, slice_get, length-append, append_assoc}
+use Rattle.std.proofs.lemmas.List.{append-nil, map-append, reverse-append}
+use Rattle.std.proofs.lemmas.List.Sorted.{IsPermutation-reverse, IsPermutation-sym, Contains-permutation}
 use Rattle.std.proofs.lemmas.Option.{same_Some, slice_get_within}
 use Rattle.std.proofs.lemmas.List.Elements.{Contains-append_left, Contains-append_cases}
-use Rattle.ig_text.proofs.Lists.{left_at, sides, get_within, contains_from_at, place_cases}
+use Rattle.ig_text.proofs.Lists.{at_from_contains, left_at, mapped_at, sides, get_within, contains_from_at, place_cases, unmapped_in}
 use Rattle.ig_item.specs.WellKinded.{NoneTwice}
 use Rattle.ig_tables.specs.Extends.{Extends}
 
@@ -61,3 +62,25 @@ module _ {X : Type 0} where
       (λ (q : (j ≡ length xs) × (x ≡ y)). p.0 ∙ sym q.0)
       (place_cases xs x y j f))
       (place_cases xs x y i e)
+
+  -- what is in a list from its end is in it
+  pub in_reverse : (xs : List X) (v : X) → Contains (reverse xs) v → Contains xs v
+  in_reverse xs v c = Contains-permutation (reverse xs) xs v (IsPermutation-sym xs (reverse xs) (IsPermutation-reverse xs)) c
+
+  -- the member between two lists
+  pub at_middle : (xs : List X) (v : X) (ys : List X) → slice_get (xs ++ v ∷ ys) (length xs) ≡ Some v
+  at_middle [] v ys = refl
+  at_middle (x ∷ xs) v ys = at_middle xs v ys
+
+-- members with different numbers have them from the end, too
+module _ {X : Type 0} (key : X → ℕ) where
+  pub reverse_once : (xs : List X) → NoneTwice (map key xs) → NoneTwice (map key (reverse xs))
+  reverse_once [] once = once
+  reverse_once (x ∷ xs) once =
+      subst NoneTwice (sym (ap (map key) (reverse-append (x ∷ []) xs) ∙ map-append key (reverse xs) (x ∷ [])))
+      (none_twice_longer (map key (reverse xs)) (key x)
+      (reverse_once xs (λ i j y a b. let e = once (suc i) (suc j) y a b in omega (arith, e)))
+      (λ c.
+      let u = unmapped_in key (reverse xs) (key x) c in
+      let k = at_from_contains xs u.0 (in_reverse xs u.0 u.1) in
+      let e = once zero (suc k.0) (key x) refl (mapped_at key xs k.0 u.0 k.1 ∙ ap Some u.2) in omega (arith, e)))

@@ -1,15 +1,14 @@
 -- Items behind calls.
-use Rattle.std.proofs.Common.{◌≡◌, ◌⊎◌, ⊎_elim, inl, inr, ℕ, List, [], ◌∷◌, ◌++◌, length, Contains, Some, refl, sym, ap, ◌∙◌, subst, arith, slice_get, append_assoc, reverse}
-use Rattle.std.specs.Prelude.{Result, Ok, Err, Option, None, IsTrue}
+use Rattle.std.proofs.Common.{◌≡◌, ◌⊎◌, ⊎_elim, inl, inr, ℕ, List, [], ◌∷◌, ◌++◌, length, Contains, Some, refl, sym, ap, ◌∙◌, subst, arith, map, slice_get, append_assoc, reverse}
+use Rattle.std.specs.Prelude.{◌↔◌, Bool, Result, Ok, Err, OnOk, Option, None, IsTrue, true, false}
 use Rattle.std.proofs.lemmas.Option.{same_Some, slice_get_within}
-use Rattle.std.proofs.lemmas.List.{length-map, append-nil}
+use Rattle.std.proofs.lemmas.List.{append-nil}
 use Rattle.std.proofs.lemmas.List.Elements.{Contains-append_left, Contains-append_right, Contains-append_cases}
-use Rattle.std.proofs.lemmas.List.Sorted.{IsPermutation-reverse, IsPermutation-sym, Contains-permutation}
+use Rattle.std.proofs.lemmas.List.Sorted.{IsPermutation-reverse, Contains-permutation}
 use Rattle.ig_text.specs.declared.pattern.Pattern.{Pattern}
-use Rattle.ig_text.proofs.Lists.{contains_from_at, contains_one, get_within, it_is_in, mapped_at, none_in_nil}
+use Rattle.ig_text.proofs.Lists.{at_from_contains, contains_from_at, contains_one, it_is_in, left_at, mapped_at, mapped_in, none_in_nil}
 use Rattle.ig_expr.specs.declared.value.Value.{Value}
 use Rattle.ig_item.specs.Items.{Item, Calls, MatchesNone, past, span_of}
-use Rattle.ig_item.specs.Ways.{WayTo, found, again}
 use Rattle.ig_item.specs.WellKinded.{NoneTwice}
 use Rattle.ig_item.specs.declared.core_grammar.Nonterminal.{Nonterminal}
 use Rattle.ig_item.specs.declared.items.Instance.{Instance}
@@ -23,13 +22,15 @@ use Rattle.ig_found.specs.Finding as numbered
 use Rattle.ig_moves.specs.Rules.{IsCallAt, IsPastCall, step_at}
 use Rattle.ig_item.specs.Step.{Call}
 use Rattle.ig_moves.specs.Tables.{Moves}
+use Rattle.ig_run_laws.specs.FirstCalls.{CallsNothing}
 use Rattle.ig_run_laws.specs.Rules.{IsCaller, IsReturn}
 use Rattle.ig_tables.specs.Extends.{Extends}
-use Rattle.ig_engine.specs.Adding.{Adds, By, ComeByNodes, IsAdded, IsReturnBy, ReturnsIn}
+use Rattle.ig_engine.specs.Adding.{Adds, AreNew, By, IsAdded, IsReturnBy, ReturnsIn}
 use Rattle.ig_engine.specs.Given as laws
-use Rattle.ig_engine.specs.Reached.{Reached, AreTables, IsBare, IsEdge, Named, means, reached, seen}
+use Rattle.ig_engine.specs.Reached.{Reached, AreIndexed, AreTables, IsEdge, Named, Says, keys_in, means, reached, seen}
 use Rattle.ig_engine.proofs.Adding.{adds_alike, adds_nothing, adds_then, returns_add, stops_alike, stops_then, between_tables, moved_alike, moved_into, moved_named, moved_nothing}
-use Rattle.ig_engine.proofs.Lists.{extends_at, extends_within}
+use Rattle.ig_engine.proofs.Indexing.{behind_indexed, is_later, never_later}
+use Rattle.ig_engine.proofs.Lists.{at_middle, extends_at, extends_cases, in_reverse}
 use Rattle.ig_engine.proofs.Tables.{grown_means}
 
 -- the item behind the call of the item of number n, which is this one
@@ -73,25 +74,43 @@ module _ (given : laws.Tables) (core : List Nonterminal) (text : List ℕ) (a : 
         (reached envs a.nodes a.found) (Ok tt) into_return from_return
         (moved_nothing given a t envs wider once item item_named Behind o m (Tree n done) is budget)
 
-    pub returned_some : (y : stored.Item) → o ≡ Some y → (f : numbered.Finding) (r : Result (Unit {0}) RunFault) →
-        ReturnsIn a.found f y n done budget r →
+    pub returned_some : (y : stored.Item) → o ≡ Some y → (f : numbered.Finding) (is_first : Bool) (r : Result (Unit {0}) RunFault) →
+        ReturnsIn a.found f y n done is_first budget r →
         Adds (IsReturnBy core text (seen a).items n done end) budget a (reached envs a.nodes f) r
-    returned_some y is f r p =
+    returned_some y is f is_first r p =
         adds_alike (By (Tree n done) (Behind (means a item))) (IsReturnBy core text (seen a).items n done end) budget a
         (reached envs a.nodes f) r into_return from_return
         (moved_alike given a t envs wider once item item_named Behind o m (Tree n done) y is budget (reached envs a.nodes f) r
         (returns_add given (reached envs a.nodes a.found) (between_tables given a t envs wider once item item_named Behind o m (Tree n done)) f y
-        (moved_named given a t envs wider once item item_named Behind o m (Tree n done) y is) n done budget r p))
+        (moved_named given a t envs wider once item item_named Behind o m (Tree n done) y is) n done is_first budget r p))
 
-    -- where it is found, that was by a node
-    pub by_node_here : ComeByNodes a (IsReturnBy core text (seen a).items n done end) → (y : stored.Item) → o ≡ Some y → (k : ℕ) →
-        slice_get a.found.items k ≡ Some y → numbered.IsNodeAt a.found.ways.firsts k
-    by_node_here nodes y is k there =
-        let same = grown_means given a envs wider t y (t.items y (contains_from_at a.found.items k y there)) in
-        nodes (Tree n done) (means a y)
+    -- it isn't there, where nothing of the kind is
+    pub new_here : AreNew a (IsReturnBy core text (seen a).items n done end) → (y : stored.Item) → o ≡ Some y → Contains a.found.items y → ⊥
+    new_here new y is c =
+        let same = grown_means given a envs wider t y (t.items y c) in
+        new (Tree n done) (means a y)
         (into_return (Tree n done) (means a y)
         (refl, moved_into given a t envs wider once item item_named Behind o m (Tree n done) y is (means a y) (sym same)))
-        k (mapped_at (means a) a.found.items k y there)
+        (mapped_in (means a) a.found.items y c)
+
+    -- the flag of the call
+    module _ (is_first : Bool) (first : IsTrue is_first ↔ CallsNothing core (means a item).instance.nonterminal item.alternative item.dot) where
+      other_call : is_first ≡ false → CallsNothing core (means a item).instance.nonterminal item.alternative item.dot → ⊥
+      other_call is none = let q : false ≡ true = sym is ∙ first.1 none in cc
+
+      -- if it is there it is indexed, where the call isn't the first
+      pub indexed_here : AreIndexed core (keys_in a) a.found → is_first ≡ false → (y : stored.Item) → o ≡ Some y → Contains a.found.items y →
+          Contains a.found.indexed y
+      indexed_here old other y is c =
+          old y c (is_later core (keys_in a) item y (m.further y is) text a refl callee label excluded calls (other_call other))
+
+      -- and so it is afterwards
+      pub indexed_then : AreIndexed core (keys_in a) a.found → (y : stored.Item) → o ≡ Some y → (f : numbered.Finding)
+          (r : Result (Unit {0}) RunFault) → ReturnsIn a.found f y n done is_first budget r → OnOk r (AreIndexed core (keys_in a) f)
+      indexed_then old y is f (Ok u) p =
+          behind_indexed core (keys_in a) a.found f y n done is_first p.0
+          (λ h. never_later core (keys_in a) item y (m.further y is) (first.0 h)) old
+      indexed_then old y is f (Err e) p = tt
 
 -- the item of an edge
 module _ (core : List Nonterminal) (text : List ℕ) (a : Reached) (edge : Edge) (e : IsEdge core text a edge) (item : stored.Item)
@@ -106,9 +125,12 @@ module _ (core : List Nonterminal) (text : List ℕ) (a : Reached) (edge : Edge)
   pub edge_caller : (callee : Instance) × IsCaller core text (means a item) callee
   edge_caller = (e.callee, record { label = e.calls.label; excluded = e.calls.excluded; calls = edge_calls })
 
+  pub edge_says : Says core text edge (means a item)
+  edge_says = subst (λ (z : stored.Item). Says core text edge (means a z)) edge_item e.says
+
   pub edge_bare : IsTrue edge.is_bare → Calls core text (means a item) e.callee None []
   edge_bare is =
-      let b = e.bare is e.callee e.calls.label e.calls.excluded e.calls.calls in
+      let b = e.says.bare is e.callee e.calls.label e.calls.excluded e.calls.calls in
       subst (λ (z : List Pattern). Calls core text (means a item) e.callee None z) b.1
       (subst (λ (z : Option (List ℕ)). Calls core text (means a item) e.callee z e.calls.excluded) b.0 edge_calls)
 
@@ -121,7 +143,7 @@ edge_on given core text may budget a b t d edge e =
       there = extends_at a.found.items b.found.items edge.item e.item d.items e.there;
       callee = e.callee;
       calls = subst (λ (z : Item). IsCaller core text z e.callee) (sym same) e.calls;
-      bare = λ is. subst (IsBare core text) (sym same) (e.bare is);
+      says = subst (Says core text edge) (sym same) e.says;
     }
   where
     same : means b e.item ≡ means a e.item
@@ -129,38 +151,11 @@ edge_on given core text may budget a b t d edge e =
         let named = t.items e.item (contains_from_at a.found.items edge.item e.item e.there) in
         ap (λ (z : List shared.Node). means (reached b.envs z b.found) e.item) d.nodes ∙ grown_means given a b.envs d.envs t e.item named
 
--- what is found behind calls was found by nodes, as more of it is found
-module _ (may which : Way → Item → Type 0) (budget : ℕ) (a b : Reached)
-    (nodes : (way : Way) (x : Item) → may way x → (prev : ℕ) × (done : ℕ) × (way ≡ Tree prev done)) (t : AreTables a)
-    (d : IsAdded may budget a b) (old : ComeByNodes a which) where
-  numbers_seen : length a.found.ways.firsts ≡ length (seen a).items
-  numbers_seen = t.numbers ∙ sym (length-map a.found.items (means a))
-
-  node_before : (v : Way) (x : Item) → which v x → (k : ℕ) (way : Way) → slice_get (seen b).items k ≡ Some x →
-      slice_get b.found.ways.firsts k ≡ Some way → WayTo a.found.ways k way → numbered.IsNodeAt b.found.ways.firsts k
-  node_before v x w k way at there (found f) =
-      let l = slice_get_within a.found.ways.firsts k way f in
-      let o = old v x w k (extends_within (seen a).items (seen b).items k x d.records.items (let n = numbers_seen in omega (arith, l, n)) at) in
-      (o.0, o.1, extends_at a.found.ways.firsts b.found.ways.firsts k (Tree o.0 o.1) d.records.firsts o.2)
-  node_before v x w k way at there (again more c item is) = (more.prev, more.done, there ∙ ap Some is)
-
-  pub by_nodes_on : ComeByNodes b which
-  by_nodes_on v x w k at =
-      let lt = slice_get_within (seen b).items k x at in
-      let way = get_within b.found.ways.firsts k (let e = d.records.numbered numbers_seen in omega (arith, lt, e)) in
-      ⊎_elim (λ (h : WayTo a.found.ways k way.0). node_before v x w k way.0 at way.1 h)
-      (λ (h : may way.0 x). let node = nodes way.0 x h in (node.0, node.1, way.1 ∙ ap Some node.2))
-      (d.records.each numbers_seen k way.0 x at (found way.1))
-
 -- a return by the item of a number, in lists that have the same item there
 same_return : (core : List Nonterminal) (text : List ℕ) (xs ys : List Item) (n done end : ℕ) (y : Item) → slice_get xs n ≡ Some y →
     slice_get ys n ≡ Some y → (way : Way) (x : Item) → IsReturnBy core text xs n done end way x → IsReturnBy core text ys n done end way x
 same_return core text xs ys n done end y at there way x q =
     (q.0, there ∙ ap Some (sym (same_Some q.0 y (sym q.1 ∙ at))), q.2, q.3, q.4)
-
--- what is in a list from its end is in it
-pub in_reverse : {X : Type 0} (xs : List X) (v : X) → Contains (reverse xs) v → Contains xs v
-in_reverse xs v c = Contains-permutation (reverse xs) xs v (IsPermutation-sym xs (reverse xs) (IsPermutation-reverse xs)) c
 
 -- x is behind a call of an item of one of these numbers
 abbrev pub IsReturnOf : List Nonterminal → List ℕ → List Item → {X : Type 0} → (X → ℕ) → (X → ℕ) → (X → ℕ) → List X → Way → Item → Type 0
@@ -223,10 +218,31 @@ module _ (given : laws.Tables) (core : List Nonterminal) (text : List ℕ) (budg
           (subst (λ (z : X). IsReturnBy core text (seen a).items (number z) (done z) (end z) way x) (contains_one v m.0 h) m.2)))
           (Contains-append_cases w.visited (v ∷ []) m.0 m.1)
 
-      pub walk_nodes : ComeByNodes a (Of whole) → ComeByNodes b Here
-      walk_nodes nodes =
-          by_nodes_on (Of w.visited) Here budget a b (λ way x m. (number m.0, done m.0, m.2.2)) t w.adds
-          (λ way x m. nodes way x (v, in_whole, same_return core text (seen b).items (seen a).items (number v) (done v) (end v) y there_too at way x m))
+      -- nothing of what comes next is there, where no other member gives the same
+      pub walk_new : (key : X → ℕ) → NoneTwice (map key whole) → AreNew a (IsReturnBy core text (seen a).items (number v) (done v) (end v)) →
+          ((u : X) → Contains whole u → (p q : Way) (x : Item) → IsReturnBy core text (seen a).items (number u) (done u) (end u) p x →
+          IsReturnBy core text (seen a).items (number v) (done v) (end v) q x → key u ≡ key v) → AreNew b Here
+      walk_new key once new apart way x h c =
+          ⊎_elim (λ (l : Contains (seen a).items x). new way x back l)
+          (λ (l : Contains w.adds.finds.items.more x). let f = w.adds.finds.each x l in twice f.1.0 f.1.1 (apart f.1.0 (visited_in f.1.0 f.1.1) f.0 way x f.1.2 back))
+          (extends_cases (seen a).items (seen b).items x w.adds.finds.items c)
+        where
+          back : IsReturnBy core text (seen a).items (number v) (done v) (end v) way x
+          back = same_return core text (seen b).items (seen a).items (number v) (done v) (end v) y there_too at way x h
+
+          visited_in : (u : X) → Contains w.visited u → Contains whole u
+          visited_in u i = subst (λ (z : List X). Contains z u) w.split (Contains-append_left w.visited (v ∷ rest) u i)
+
+          twice : (u : X) → Contains w.visited u → key u ≡ key v → ⊥
+          twice u i same =
+              let k = at_from_contains w.visited u i in
+              let lt = slice_get_within w.visited k.0 u k.1 in
+              let first : slice_get whole k.0 ≡ Some u =
+              subst (λ (z : List X). slice_get z k.0 ≡ Some u) w.split (left_at w.visited (v ∷ rest) k.0 u k.1) in
+              let last : slice_get whole (length w.visited) ≡ Some v =
+              subst (λ (z : List X). slice_get z (length w.visited) ≡ Some v) w.split (at_middle w.visited v rest) in
+              let e = once k.0 (length w.visited) (key v) (mapped_at key whole k.0 u first ∙ ap Some same) (mapped_at key whole (length w.visited) v last) in
+              omega (arith, e, lt)
 
       pub walk_goes : (c : Reached) → IsAdded Here budget b c → Walking whole rest c
       walk_goes c d =
@@ -242,10 +258,6 @@ module _ (given : laws.Tables) (core : List Nonterminal) (text : List ℕ) (budg
           (λ way x m. (m.0, subst (λ (z : List X). Contains z m.0) w.split (Contains-append_left w.visited (v ∷ rest) m.0 m.1), m.2))
           (λ way x m. (v, in_whole, same_return core text (seen b).items (seen a).items (number v) (done v) (end v) y there_too at way x m))
           w.adds d
-
-  -- the same of a list as from its end
-  pub nodes_reversed : (xs : List X) → ComeByNodes a (Of xs) → ComeByNodes a (Of (reverse xs))
-  nodes_reversed xs nodes way x m = nodes way x (m.0, in_reverse xs m.0 m.1, m.2)
 
   -- all are visited, of a list that was walked from its end
   pub walk_ends : (xs rest : List X) (b : Reached) → rest ≡ [] → Walking (reverse xs) rest b → Adds (Of xs) budget a b (Ok tt)

@@ -20,13 +20,14 @@ use Rattle.ig_engine.specs.Reached.{IsReached, Reached, Taking, means, reached, 
 module _ (core : List Nonterminal) (text : List ℕ) (budget : ℕ) (envs : List (List Value)) (nodes : List shared.Node) (a b : numbered.Finding)
     (r : IsReached core text budget (reached envs nodes a)) (item : stored.Item) (number : ℕ)
     (at : slice_get a.items number ≡ Some item) (took : IsPermutation a.waiting (ticket_of item number ∷ b.waiting))
-    (gone : Contains b.waiting (ticket_of item number) → ⊥) (items : b.items ≡ a.items) (ways : b.ways ≡ a.ways) where
+    (gone : Contains b.waiting (ticket_of item number) → ⊥) (items : b.items ≡ a.items) (ways : b.ways ≡ a.ways)
+    (indexed : b.indexed ≡ a.indexed) where
   -- but for the tickets nothing is changed
   pub same_but : with_tickets b a.waiting ≡ a
-  same_but = λ i. record { items = items i; ways = ways i; waiting = a.waiting }
+  same_but = λ i. record { items = items i; ways = ways i; waiting = a.waiting; indexed = indexed i }
 
   pub other_tickets : b ≡ with_tickets a b.waiting
-  other_tickets = λ i. record { items = items i; ways = ways i; waiting = b.waiting }
+  other_tickets = λ i. record { items = items i; ways = ways i; waiting = b.waiting; indexed = indexed i }
 
   forth : (u : Ticket) → Contains b.waiting u → Contains a.waiting u × (u ≡ ticket_of item number → ⊥)
   forth u c = (

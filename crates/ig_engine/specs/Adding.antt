@@ -1,5 +1,5 @@
 -- What a function that adds items makes of a run, and what an event does.
-use Rattle.std.specs.Prelude.{◌≡◌, ◌↔◌, ◌⊎◌, ℕ, ◌+◌, ◌<◌, ◌≤◌, List, length, Contains, Option, Some, None, slice_get, Result, Ok, Err, MatchResult}
+use Rattle.std.specs.Prelude.{◌≡◌, ◌↔◌, ◌⊎◌, ℕ, ◌+◌, ◌<◌, ◌≤◌, List, length, Contains, Bool, true, false, IsTrue, Option, Some, None, slice_get, Result, Ok, Err, MatchResult}
 use Rattle.ig_item.specs.Items.{Item, MoreThan}
 use Rattle.ig_item.specs.declared.core_grammar.Nonterminal.{Nonterminal}
 use Rattle.ig_item.specs.declared.items.Instance.{Instance}
@@ -59,11 +59,15 @@ abbrev pub IsReturnAtOne : List Nonterminal → List ℕ → List Item → ℕ �
 IsReturnAtOne core text items e pops way x =
     (p : Pop) × Contains pops p × IsReturnBy core text items e p.done p.end way x
 
--- those of the items that `may` allows and that are found were found behind calls
-abbrev pub ComeByNodes : Reached → (Way → Item → Type 0) → Type 0
-ComeByNodes s may =
-    (way : Way) (x : Item) → may way x → (k : ℕ) → slice_get (seen s).items k ≡ Some x →
-    numbered.IsNodeAt s.found.ways.firsts k
+-- none of the items that `may` allows is found
+abbrev pub AreNew : Reached → (Way → Item → Type 0) → Type 0
+AreNew s may = (way : Way) (x : Item) → may way x → Contains (seen s).items x → ⊥
+
+-- no item is behind two edges of which one says that its call is the first
+abbrev pub AreApart : List Nonterminal → List ℕ → List Item → List Edge → ℕ → ℕ → Type 0
+AreApart core text items edges done end =
+    (d e : Edge) → Contains edges d → Contains edges e → IsTrue e.is_first → (v w : Way) (x : Item) →
+    IsReturnBy core text items d.item done end v x → IsReturnBy core text items e.item done end w x → d.item ≡ e.item
 
 -- what `push` makes of what is found
 abbrev pub Pushes : numbered.Finding → numbered.Finding → stored.Item → Way → ℕ → Result (Unit {0}) RunFault → Type 0
@@ -76,13 +80,20 @@ abbrev pub AddsBehind : numbered.Finding → numbered.Finding → Option stored.
 AddsBehind a b None way budget result = (b ≡ a) × (result ≡ Ok tt)
 AddsBehind a b (Some y) way budget result = Pushes a b y way budget result
 
--- what `add_returned` makes of what is found
-abbrev pub ReturnsIn : numbered.Finding → numbered.Finding → stored.Item → ℕ → ℕ → ℕ → Result (Unit {0}) RunFault → Type 0
-ReturnsIn a b item prev done budget (Ok u) =
-    Returns a b item prev done × (length a.items ≤ budget → length b.items ≤ budget)
-ReturnsIn a b item prev done budget (Err fault.Budget) =
+-- b is a with a way by a call: by the first one of an alternative to an item that wasn't there, and isn't indexed; by another
+-- one as `Returns` says
+pub data ComesBehind (a b : numbered.Finding) (item : stored.Item) (prev done : ℕ) (is_first : Bool) : Type 0 where
+  at_once : (Contains a.items item → ⊥) → Pushed a b item (Tree prev done) → is_first ≡ true → b.indexed ≡ a.indexed →
+      ComesBehind a b item prev done is_first
+  looked_up : is_first ≡ false → Returns a b item prev done → ComesBehind a b item prev done is_first
+
+-- what is made of an item behind a call
+abbrev pub ReturnsIn : numbered.Finding → numbered.Finding → stored.Item → ℕ → ℕ → Bool → ℕ → Result (Unit {0}) RunFault → Type 0
+ReturnsIn a b item prev done is_first budget (Ok u) =
+    ComesBehind a b item prev done is_first × (length a.items ≤ budget → length b.items ≤ budget)
+ReturnsIn a b item prev done is_first budget (Err fault.Budget) =
     (Contains a.items item → ⊥) × Pushed a b item (Tree prev done) × (budget < length b.items)
-ReturnsIn a b item prev done budget (Err fault.Memory) = Unit {0}
+ReturnsIn a b item prev done is_first budget (Err fault.Memory) = Unit {0}
 
 -- why an event was refused; want of memory may come at any time
 abbrev pub Refuses : List Nonterminal → List ℕ → ℕ → Reached → RunFault → Type 0

@@ -23,9 +23,11 @@ use Rattle.ig_engine.specs.Running.{Running, running}
 -- each is stored as its parts, from which it is read back
 abbrev pub finding_code : Coded Finding
 finding_code =
-    code_by (List stored.Item × (WayLists × List Ticket))
-    (coded× (coded_list item.the_row.coded) (coded× ways.the_row.coded (coded_list ticket.the_row.coded)))
-    (λ f. (f.items, (f.ways, f.waiting))) (λ p. record { items = p.0; ways = p.1.0; waiting = p.1.1 }) (λ _. refl)
+    code_by (List stored.Item × (WayLists × (List Ticket × List stored.Item)))
+    (coded× (coded_list item.the_row.coded)
+    (coded× ways.the_row.coded (coded× (coded_list ticket.the_row.coded) (coded_list item.the_row.coded))))
+    (λ f. (f.items, (f.ways, (f.waiting, f.indexed))))
+    (λ p. record { items = p.0; ways = p.1.0; waiting = p.1.1.0; indexed = p.1.1.1 }) (λ _. refl)
 
 abbrev pub reached_code : Coded Reached
 reached_code =

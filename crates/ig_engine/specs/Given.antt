@@ -1,6 +1,6 @@
 -- The laws of the crates below that a run rests on.
 use Rattle.ig_moves.specs.Laws.{NamesAreKept, InstancesAreKept, InstancesAreOne, ItemsAreOne, FirstsAreNamed, CallsAreOne, BeforeTests, BeforeBinds, BeforeTerminals, BeforeCalls, CompleteItemsEnd, StepsAreBehind, EndsAreComplete}
-use Rattle.ig_run_laws.specs.Laws.{EventsKeep, EndsKeep, TestsPass, BindsPass, TerminalsTakeLeaves, CallersMeetPops, NoneIsCalled, EndsMeetEdges, FirstsAreNew, FirstsAreRecorded, StepsComeOnce, ReturnsComeByNodes, RefusedBudgetsAreExceeded, RunsBegin}
+use Rattle.ig_run_laws.specs.Laws.{EventsKeep, EndsKeep, TestsPass, BindsPass, TerminalsTakeLeaves, CallersMeetPops, NoneIsCalled, EndsMeetEdges, FirstsAreNew, FirstsAreRecorded, FirstReturnsAreNew, BeginsAreOne, StepsComeOnce, ReturnsComeByNodes, RefusedBudgetsAreExceeded, RunsBegin}
 
 -- what stored items stand for, and what comes of one
 pub record Tables : Type 0 where
@@ -32,6 +32,8 @@ pub record Runs : Type 0 where
   pub firsts_are_new : FirstsAreNew
   pub firsts_are_recorded : FirstsAreRecorded
   pub steps_come_once : StepsComeOnce
+  pub first_returns_are_new : FirstReturnsAreNew
+  pub begins_are_one : BeginsAreOne
   pub returns_come_by_nodes : ReturnsComeByNodes
   pub refused_budgets_are_exceeded : RefusedBudgetsAreExceeded
 

@@ -1,3 +1,4 @@
+pub mod FirstCalls
 pub mod Reached
 pub mod Adding
 pub mod Given

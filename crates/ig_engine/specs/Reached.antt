@@ -1,5 +1,5 @@
 -- What a run has come to: its environments, its nodes, and what it found, all by number; and what these stand for.
-use Rattle.std.specs.Prelude.{◌≡◌, ◌≤◌, ℕ, List, [], map, length, Contains, Option, Some, None, slice_get, IsTrue}
+use Rattle.std.specs.Prelude.{◌≡◌, ◌↔◌, ◌≤◌, ℕ, List, [], map, length, Contains, Option, Some, None, slice_get, slice_index_or, IsTrue}
 use Rattle.ig_text.specs.declared.pattern.Pattern.{Pattern}
 use Rattle.ig_expr.specs.declared.value.Value.{Value}
 use Rattle.ig_item.specs.Items.{Item, Calls}
@@ -14,8 +14,9 @@ use Rattle.ig_gss.specs.declared.marks.Edge.{Edge}
 use Rattle.ig_gss.specs.Nodes as shared
 use Rattle.ig_found.specs.Finding as numbered
 use Rattle.ig_found.specs.Finding.{ticket_of}
-use Rattle.ig_moves.specs.Tables.{IsNamed, item_by}
+use Rattle.ig_moves.specs.Tables.{IsNamed, item_by, no_key}
 use Rattle.ig_run_laws.specs.Finding.{Finding, Takes}
+use Rattle.ig_run_laws.specs.FirstCalls.{CallsNothing, IsBehindLater}
 use Rattle.ig_run_laws.specs.Rules.{IsCaller}
 use Rattle.ig_run_laws.specs.Run.{IsWhole}
 use Rattle.ig_run_laws.specs.Stacks.{Node, pop}
@@ -69,29 +70,41 @@ IsBare core text it =
 abbrev pub IsCalling : List Nonterminal → List ℕ → Item → Type 0
 IsCalling core text it = (callee : Instance) × IsCaller core text it callee
 
--- the item of the edge's number stands before a call, which is bare where the edge says so
+-- what the edge says of the item's call is so
+pub record Says (core : List Nonterminal) (text : List ℕ) (e : Edge) (it : Item) : Type 0 where
+  pub bare : IsTrue e.is_bare → IsBare core text it
+  pub first : IsTrue e.is_first ↔ CallsNothing core it.instance.nonterminal it.alternative it.dot
+
+-- the item of the edge's number stands before a call, of which the edge says what is so
 pub record IsEdge (core : List Nonterminal) (text : List ℕ) (s : Reached) (e : Edge) : Type 0 where
   pub item : stored.Item
   pub there : slice_get s.found.items e.item ≡ Some item
   pub callee : Instance
   pub calls : IsCaller core text (means s item) callee
-  pub bare : IsTrue e.is_bare → IsBare core text (means s item)
+  pub says : Says core text e (means s item)
 
--- each edge that says so is that of an item before a bare call
-pub record AreBare (core : List Nonterminal) (text : List ℕ) (s : Reached) : Type 0 where
-  pub each : (node : shared.Node) → Contains s.nodes node → (e : Edge) → Contains node.edges e → IsTrue e.is_bare →
-      (item : stored.Item) → slice_get s.found.items e.item ≡ Some item → IsBare core text (means s item)
+-- each edge says of its item's call what is so
+pub record EdgesSay (core : List Nonterminal) (text : List ℕ) (s : Reached) : Type 0 where
+  pub each : (node : shared.Node) → Contains s.nodes node → (e : Edge) → Contains node.edges e → (item : stored.Item) →
+      slice_get s.found.items e.item ≡ Some item → Says core text e (means s item)
+
+-- each item that stands behind a second or later call of its alternative is indexed; no other one comes about once more
+abbrev pub AreIndexed : List Nonterminal → List InstanceKey → numbered.Finding → Type 0
+AreIndexed core keys found =
+    (x : stored.Item) → Contains found.items x →
+    IsBehindLater core (slice_index_or keys x.instance no_key).nonterminal x.alternative x.dot → Contains found.indexed x
 
 -- a run between two events, within its budget
 pub record IsReached (core : List Nonterminal) (text : List ℕ) (budget : ℕ) (s : Reached) : Type 0 where
   pub tables : AreTables s
   pub whole : IsWhole core text (seen s) (nodes_in s)
-  pub bare : AreBare core text s
+  pub edges : EdgesSay core text s
+  pub indexed : AreIndexed core (keys_in s) s.found
   pub within : length s.found.items ≤ budget
 
 -- what was found, with other tickets
 abbrev pub with_tickets : numbered.Finding → List Ticket → numbered.Finding
-with_tickets f waiting = record { items = f.items; ways = f.ways; waiting = waiting }
+with_tickets f waiting = record { items = f.items; ways = f.ways; waiting = waiting; indexed = f.indexed }
 
 -- the ticket of the item, which has that number, was taken; before that the run was between two events
 pub record Taking (core : List Nonterminal) (text : List ℕ) (budget : ℕ) (item : stored.Item) (number : ℕ) (s : Reached) :

@@ -1,5 +1,5 @@
 -- The begin of a run, and its steps.
-use Rattle.std.specs.Prelude.{◌≡◌, ◌↔◌, ℕ, List, [], ◌∷◌, Contains, Result, Ok, Err}
+use Rattle.std.specs.Prelude.{◌≡◌, ◌↔◌, ℕ, List, [], ◌∷◌, length, Contains, Result, Ok, Err}
 use Rattle.std.specs.List.Sorted.{IsPermutation}
 use Rattle.ig_item.specs.Items.{MoreThan}
 use Rattle.ig_item.specs.declared.core_grammar.Nonterminal.{Nonterminal}
@@ -22,11 +22,12 @@ pub record IsEmpty (s : Reached) : Type 0 where
   pub ways : s.found.ways ≡ record { firsts = []; further = []; ends = [] }
   pub waiting : s.found.waiting ≡ []
 
--- the first root item was found, and waits; none is taken
+-- the first root item was found, and its ticket waits alone; none is taken
 pub record IsBegun (core : List Nonterminal) (text : List ℕ) (budget : ℕ) (s : Reached) : Type 0 where
   pub between : IsReached core text budget s
   pub first : seen s ≡ begun s.found.waiting
   pub waits : (t : Ticket) → Contains s.found.waiting t ↔ (t ≡ record { position = 0; number = 0 })
+  pub alone : length s.found.waiting ≡ 1
 
 -- why a run doesn't begin: the first root item is one more than the budget; or memory ran out
 abbrev pub IsUnbegun : List Nonterminal → List ℕ → ℕ → RunFault → Type 0

@@ -4,7 +4,6 @@ ghost use Rattle.std.specs.Prelude.{Contains, Some};
 ghost use Rattle.ig_engine.specs.Adding.{Adds, AddsBehind, By, Events};
 ghost use Rattle.ig_engine.specs.Reached.{AreTables, Taking, means, reached, seen};
 ghost use Rattle.ig_expr.specs.View.{expression_of};
-ghost use Rattle.ig_found.specs.Finding.{ComesOnce};
 ghost use Rattle.ig_gss.specs.Nodes.{keys_of};
 ghost use Rattle.ig_item.specs.Items.{IsComplete, StandsBefore};
 ghost use Rattle.ig_item.specs.Items as tree;
@@ -18,6 +17,7 @@ ghost use Rattle.ig_moves.specs.Rules.{step_at};
 ghost use Rattle.ig_run_laws.specs.Rules.{IsFirstOf};
 ghost use Rattle.ig_steps.specs.Compiled.{form_of};
 
+use crate::first_calls::is_first_call;
 use crate::laws::laws;
 use crate::returns::{meet_edges, meet_pops, nonterminal_of};
 use crate::state::State;
@@ -47,6 +47,7 @@ fn add_firsts<S: Schedule + Drop>(
         (seen (reached state.old.envs.keys state.old.stacks state.old.found)).items x → ⊥ }
     ensures envs { state.new.envs ≡ state.old.envs }
     ensures stacks { state.new.stacks ≡ state.old.stacks }
+    ensures indexed { state.new.found.indexed ≡ state.old.found.indexed }
     ensures adds { Adds (By Begin (IsFirstOf context.now.core.now
         (instance_by state.old.envs.keys key))) context.now.budget
         (reached state.old.envs.keys state.old.stacks state.old.found)
@@ -71,9 +72,9 @@ fn add_behind<S: Schedule + Drop>(
     way: Way,
     budget: u32,
 ) -> Result<(), RunFault>
-    requires new { (y : stored.Item) → behind ≡ Some y → Contains found.old.items y → ⊥ }
-    requires once { ComesOnce way }
-    ensures { AddsBehind found.old found.new behind way budget result }
+    requires { (y : stored.Item) → behind ≡ Some y → Contains found.old.items y → ⊥ }
+    ensures indexed { found.new.indexed ≡ found.old.indexed }
+    ensures adds { AddsBehind found.old found.new behind way budget result }
 {
     match behind {
         Some(item) => found.push(item, way, budget),
@@ -143,12 +144,12 @@ fn take_call<S: Schedule + Drop>(
     let Some(key) = callee else {
         return Ok(());
     };
-    let (node, is_new) = state.stacks.node(key)?;
-    let is_bare = is_bare(qualifiers);
     let edge = Edge {
         item: number,
-        is_bare,
+        is_bare: is_bare(qualifiers),
+        is_first: is_first_call(context.core, &state.stacks, item),
     };
+    let (node, is_new) = state.stacks.node(key)?;
     if is_new {
         add_firsts(context, state, node, key)?;
         state.stacks.add_edge(node, edge)?;

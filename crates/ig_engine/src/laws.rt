@@ -7,8 +7,9 @@ use ig_moves::{
     names_are_kept, steps_are_behind,
 };
 use ig_run_laws::{
-    ends_keep, events_keep, firsts_are_new, firsts_are_recorded, refused_budgets_are_exceeded,
-    returns_come_by_nodes, runs_begin, steps_are_followed, steps_come_once,
+    begins_are_one, ends_keep, events_keep, first_returns_are_new, firsts_are_new,
+    firsts_are_recorded, refused_budgets_are_exceeded, returns_come_by_nodes, runs_begin,
+    steps_are_followed, steps_come_once,
 };
 
 /// What stored items stand for, and what comes of one. This computes nothing.
@@ -41,6 +42,8 @@ fn of_runs()
     firsts_are_new();
     firsts_are_recorded();
     steps_come_once();
+    first_returns_are_new();
+    begins_are_one();
     returns_come_by_nodes();
     refused_budgets_are_exceeded();
 }

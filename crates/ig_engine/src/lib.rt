@@ -14,6 +14,7 @@
 
 mod ending;
 mod events;
+mod first_calls;
 mod laws;
 mod progress;
 mod returns;

@@ -1,22 +1,21 @@
 -- What a run has found, as more is found, and as tickets are taken.
-use Rattle.std.proofs.Common.{◌≡◌, ◌∙◌, ⊎_elim, ℕ, zero, suc, ◌+◌, ◌<◌, List, [], ◌∷◌, ◌++◌, Some, length, take, Contains, slice_get, refl, sym, ap, subst, arith, length-append}
+use Rattle.std.proofs.Common.{◌≡◌, ◌∙◌, ⊎_elim, ℕ, zero, suc, ◌+◌, List, [], ◌∷◌, ◌++◌, Some, length, Contains, slice_get, refl, sym, ap, subst, arith, length-append}
 use Rattle.std.specs.List.Sorted.{IsPermutation}
 use Rattle.std.proofs.lemmas.List.{take_all, length-take-le, take-append-le}
 use Rattle.std.proofs.lemmas.List.Sorted.{IsPermutation-sym, Contains-permutation}
 use Rattle.std.proofs.lemmas.Option.{get_or_from_slice_get, slice_get_within}
-use Rattle.std.proofs.lemmas.List.Elements.{Contains-append_left, Contains-append_right, Contains-append_cases}
-use Rattle.ig_text.proofs.Lists.{at_from_contains, contains_one, contains_first, contains_later, in_rest, it_is_in, left_at, none_in_nil, place_cases, place_last}
+use Rattle.std.proofs.lemmas.List.Elements.{Contains-append_cases}
+use Rattle.ig_text.proofs.Lists.{at_from_contains, contains_from_at, contains_one, contains_first, contains_later, in_rest, left_at, none_in_nil, place_last, unmapped_in}
 use Rattle.ig_text.proofs.Differing.{both_differ, one_differs, pushed_differ}
 use Rattle.ig_item.specs.Ways.{WayLists}
 use Rattle.ig_item.specs.WellKinded.{NoneTwice}
 use Rattle.ig_item.specs.declared.items.Item as stored
 use Rattle.ig_item.specs.declared.ways.Way.{Way}
-use Rattle.ig_item.specs.declared.ways.Way.TheVariants.{Node}
 use Rattle.ig_item.specs.declared.ways.FurtherWay.{FurtherWay}
 use Rattle.ig_item.specs.declared.ways.FurtherEnd.{FurtherEnd}
 use Rattle.ig_queue.specs.declared.ticket.Ticket.{Ticket}
 use Rattle.ig_tables.specs.Returned.{Entry, entry}
-use Rattle.ig_found.specs.Finding.{ComesOnce, IsFinding, IsKept, IsNodeAt, IsTicket, ticket_of, ways_to, with_end, with_first, with_further}
+use Rattle.ig_found.specs.Finding.{IsFinding, IsKept, IsTicket, items_of, ticket_of, ways_to, with_end, with_first, with_further}
 use Rattle.ig_found.proofs.Shuffled.{shuffled_differ}
 
 -- of the same lists
@@ -37,8 +36,7 @@ kept_none =
       tickets = λ t c. absurd (none_in_nil t c);
       waits_once = λ i j x a b. cc a;
       numbered = (0, refl);
-      sound = λ e entry c. absurd (none_in_nil entry c);
-      complete = λ e k x a node. cc a;
+      indexed = λ e c. absurd (none_in_nil e c);
     }
 
 module _ (items : List stored.Item) (lists : WayLists) (index : List Entry) (waiting : List Ticket) (kept : IsKept items lists index waiting) where
@@ -50,8 +48,7 @@ module _ (items : List stored.Item) (lists : WayLists) (index : List Entry) (wai
         tickets = kept.tickets;
         waits_once = kept.waits_once;
         numbered = kept.numbered;
-        sound = kept.sound;
-        complete = kept.complete;
+        indexed = kept.indexed;
       }
 
   pub kept_end : (e : FurtherEnd) → IsKept items (with_end lists e) index waiting
@@ -61,8 +58,7 @@ module _ (items : List stored.Item) (lists : WayLists) (index : List Entry) (wai
         tickets = kept.tickets;
         waits_once = kept.waits_once;
         numbered = kept.numbered;
-        sound = kept.sound;
-        complete = kept.complete;
+        indexed = kept.indexed;
       }
 
   -- tickets in another order, one of which is taken
@@ -73,8 +69,7 @@ module _ (items : List stored.Item) (lists : WayLists) (index : List Entry) (wai
         tickets = λ u c. kept.tickets u (there u c);
         waits_once = λ i j u a b. let e = differ (suc i) (suc j) u a b in omega (arith, e);
         numbered = kept.numbered;
-        sound = kept.sound;
-        complete = kept.complete;
+        indexed = kept.indexed;
       }
     where
       there : (u : Ticket) → Contains rest u → Contains waiting u
@@ -100,7 +95,7 @@ module _ (items : List stored.Item) (lists : WayLists) (index : List Entry) (wai
       let l = slice_get_within items number t.item t.there in omega (arith, is, l)
 
   -- what contracts see
-  pub is_finding : IsFinding (record { items = items; ways = ways_to items lists; waiting = waiting })
+  pub is_finding : IsFinding (record { items = items; ways = ways_to items lists; waiting = waiting; indexed = items_of index })
   is_finding =
       let (n, long) = kept.numbered in
       record {
@@ -108,22 +103,40 @@ module _ (items : List stored.Item) (lists : WayLists) (index : List Entry) (wai
         numbered = length-take-le (length items) lists.firsts (omega (arith, long));
         tickets = kept.tickets;
         waits_once = kept.waits_once;
+        indexed = λ x c.
+            let q = unmapped_in (λ (e : Entry). e.item) index x c in
+            subst (Contains items) q.2 (contains_from_at items q.0.number q.0.item (kept.indexed q.0 q.1));
       }
 
   -- a way that is added alone
-  pub kept_way : (way : Way) (more : List Entry) → length lists.firsts ≡ length items → IsKept items (with_first lists way) more waiting
-  kept_way way more numbered =
+  pub kept_way : (way : Way) → length lists.firsts ≡ length items → IsKept items (with_first lists way) index waiting
+  kept_way way numbered =
       record {
         once = kept.once;
         tickets = kept.tickets;
         waits_once = kept.waits_once;
         numbered = (1, longer);
-        sound = λ e. absurd (let l = longer in omega (arith, e, l));
-        complete = λ e. absurd (let l = longer in omega (arith, e, l));
+        indexed = kept.indexed;
       }
     where
       longer : length (lists.firsts ++ way ∷ []) ≡ length items + 1
       longer = let a = length-append lists.firsts (way ∷ []) in omega (arith, a, numbered)
+
+  -- an item that is indexed
+  pub kept_indexed : (x : stored.Item) (number : ℕ) → slice_get items number ≡ Some x →
+      IsKept items lists (index ++ entry x number ∷ []) waiting
+  kept_indexed x number at =
+      record {
+        once = kept.once;
+        tickets = kept.tickets;
+        waits_once = kept.waits_once;
+        numbered = kept.numbered;
+        indexed = λ e c.
+            ⊎_elim (λ (h : Contains index e). kept.indexed e h)
+            (λ (h : Contains (entry x number ∷ []) e).
+            subst (λ (z : Entry). slice_get items z.number ≡ Some z.item) (sym (contains_one (entry x number) e h)) at)
+            (Contains-append_cases index (entry x number ∷ []) e c);
+      }
 
   module _ (x : stored.Item) (way : Way) (new : Contains items x → ⊥) (numbered : length lists.firsts ≡ length items) where
     once_more : NoneTwice (items ++ x ∷ [])
@@ -137,66 +150,15 @@ module _ (items : List stored.Item) (lists : WayLists) (index : List Entry) (wai
     still_ticket t is =
         record { item = is.item; there = left_at items (x ∷ []) t.number is.item is.there; position = is.position }
 
-    -- the entries of the items before the new one
-    sound_before : (e : Entry) → Contains index e → slice_get (items ++ x ∷ []) e.number ≡ Some e.item
-    sound_before e c = left_at items (x ∷ []) e.number e.item (kept.sound numbered e c)
-
-    -- the way of the new item is the one that was added, and those of the others are as before
-    node_before : (k : ℕ) → k < length items → IsNodeAt (lists.firsts ++ way ∷ []) k → IsNodeAt lists.firsts k
-    node_before k lt (prev, done, node) =
-        ⊎_elim (λ (h : slice_get lists.firsts k ≡ Some (Node prev done)). (prev, done, h))
-        (λ (h : (k ≡ length lists.firsts) × (way ≡ Node prev done)). absurd (let e = h.0 in omega (arith, e, lt, numbered)))
-        (place_cases lists.firsts way (Node prev done) k node)
-
-    node_behind : (k : ℕ) → k ≡ length items → IsNodeAt (lists.firsts ++ way ∷ []) k → (prev : ℕ) × (done : ℕ) × (way ≡ Node prev done)
-    node_behind k last (prev, done, node) =
-        ⊎_elim
-        (λ (h : slice_get lists.firsts k ≡ Some (Node prev done)).
-        absurd (let l = slice_get_within lists.firsts k (Node prev done) h in omega (arith, l, last, numbered)))
-        (λ (h : (k ≡ length lists.firsts) × (way ≡ Node prev done)). (prev, done, h.1))
-        (place_cases lists.firsts way (Node prev done) k node)
-
-    -- an item with its way, which was found by no call; its ticket lacks
-    pub kept_once : ComesOnce way → IsKept (items ++ x ∷ []) (with_first lists way) index waiting
-    kept_once once =
+    -- an item with its way; its ticket lacks
+    pub kept_pushed : IsKept (items ++ x ∷ []) (with_first lists way) index waiting
+    kept_pushed =
         record {
           once = once_more;
           tickets = λ t c. still_ticket t (kept.tickets t c);
           waits_once = kept.waits_once;
           numbered = (0, longer_by_one);
-          sound = λ e. sound_before;
-          complete = λ e k y at node.
-              ⊎_elim (λ (h : slice_get items k ≡ Some y). kept.complete numbered k y h (node_before k (slice_get_within items k y h) node))
-              (λ (h : (k ≡ length items) × (x ≡ y)).
-              let (prev, done, is) = node_behind k h.0 node in absurd (subst ComesOnce is once))
-              (place_cases items x y k at);
-        }
-
-    -- the same of one that was found by a call
-    pub kept_node : (number : ℕ) → number ≡ length items →
-        IsKept (items ++ x ∷ []) (with_first lists way) (index ++ entry x number ∷ []) waiting
-    kept_node number is =
-        record {
-          once = once_more;
-          tickets = λ t c. still_ticket t (kept.tickets t c);
-          waits_once = kept.waits_once;
-          numbered = (0, longer_by_one);
-          sound = λ e entered c.
-              ⊎_elim (λ (h : Contains index entered). sound_before entered h)
-              (λ (h : Contains (entry x number ∷ []) entered).
-              subst (λ (z : Entry). slice_get (items ++ x ∷ []) z.number ≡ Some z.item) (sym (contains_one (entry x number) entered h))
-              (subst (λ n. slice_get (items ++ x ∷ []) n ≡ Some x) (sym is) (place_last items x)))
-              (Contains-append_cases index (entry x number ∷ []) entered c);
-          complete = λ e k y at node.
-              ⊎_elim
-              (λ (h : slice_get items k ≡ Some y).
-              Contains-append_left index (entry x number ∷ []) (entry y k)
-              (kept.complete numbered k y h (node_before k (slice_get_within items k y h) node)))
-              (λ (h : (k ≡ length items) × (x ≡ y)).
-              Contains-append_right index (entry x number ∷ []) (entry y k)
-              (subst (λ (z : stored.Item). Contains (entry x number ∷ []) (entry z k)) h.1
-              (subst (λ n. Contains (entry x number ∷ []) (entry x n)) (is ∙ sym h.0) (it_is_in (entry x number)))))
-              (place_cases items x y k at);
+          indexed = λ e c. left_at items (x ∷ []) e.number e.item (kept.indexed e c);
         }
 
     -- what contracts see: the way is added with its item
@@ -221,8 +183,7 @@ module _ (items : List stored.Item) (lists : WayLists) (index : List Entry) (wai
         tickets = λ u c. there u (Contains-permutation more (t ∷ waiting) u (IsPermutation-sym (t ∷ waiting) more moved) c);
         waits_once = shuffled_differ (t ∷ waiting) more differ moved;
         numbered = kept.numbered;
-        sound = kept.sound;
-        complete = kept.complete;
+        indexed = kept.indexed;
       }
     where
       there : (u : Ticket) → Contains (t ∷ waiting) u → IsTicket items u
@@ -233,13 +194,12 @@ module _ (items : List stored.Item) (lists : WayLists) (index : List Entry) (wai
           both_differ (t ∷ []) waiting (one_differs t) kept.waits_once
           (λ u c d. none (subst (Contains waiting) (contains_one t u c) d))
 
-  -- an item that is found by calls only, and has no entry, isn't there
-  pub not_indexed : (x : stored.Item) → length lists.firsts ≡ length items → ((n : ℕ) → Contains index (entry x n) → ⊥) →
-      ((k : ℕ) → slice_get items k ≡ Some x → IsNodeAt (take (length items) lists.firsts) k) → Contains items x → ⊥
-  not_indexed x numbered none nodes c =
-      let (k, at) = at_from_contains items x c in
-      none k (kept.complete numbered k x at
-      (subst (λ z. IsNodeAt z k) (take_all (length items) lists.firsts (omega (arith, numbered))) (nodes k at)))
+  -- an item that has no entry isn't there, if it is indexed where it is
+  pub not_indexed : (x : stored.Item) → ((n : ℕ) → Contains index (entry x n) → ⊥) →
+      (Contains items x → Contains (items_of index) x) → Contains items x → ⊥
+  not_indexed x none inside c =
+      let q = unmapped_in (λ (e : Entry). e.item) index x (inside c) in
+      none q.0.number (subst (λ (y : stored.Item). Contains index (entry y q.0.number)) q.2 q.1)
 
 -- the ticket of an item that was added at the end
 pub ticket_behind : (items : List stored.Item) (x : stored.Item) (number : ℕ) → number ≡ length items →

@@ -1,11 +1,12 @@
 //! Items with their ways, in the order of finding, and a schedule of those that wait.
-ghost use Rattle.std.specs.Prelude.{◌≡◌, ◌⊎◌, ◌≤◌, ◌<◌, [], ◌∷◌, ◌++◌, ℕ, Contains, length, slice_get};
+ghost use Rattle.std.specs.Prelude.{◌≡◌, ◌⊎◌, ◌≤◌, ◌<◌, [], ◌∷◌, ◌++◌, ℕ};
+ghost use Rattle.std.specs.Prelude.{Contains, length, slice_get};
 ghost use Rattle.std.specs.Prelude.{IfErr, IfNone, IfOk, IfSome, OnErr, OnOk};
 ghost use Rattle.std.specs.List.Sorted.{IsPermutation};
 ghost use Rattle.ig_item.specs.declared.run_fault.RunFault.TheVariants.{Budget, Memory};
 ghost use Rattle.ig_item.specs.declared.ways.Way.TheVariants.{Node};
-ghost use Rattle.ig_found.specs.Finding.{ComesOnce, CutOff, IsFinding, IsNodeAt, Pushed};
-ghost use Rattle.ig_found.specs.Finding.{Returns, ticket_of, with_end};
+ghost use Rattle.ig_found.specs.Finding.{CutOff, IsFinding, Pushed, Returns};
+ghost use Rattle.ig_found.specs.Finding.{ticket_of, with_end};
 
 use ig_item::{FurtherEnd, FurtherWay, Item, RunFault, Way, Ways, number};
 use ig_queue::{Schedule, Ticket};
@@ -21,14 +22,13 @@ pub struct Found<S: Schedule + Drop> {
     items: Vec<Item>,
     /// A way more than items where memory ran out between the two.
     ways: Ways,
-    /// The items that were found behind calls, with their numbers. No other one comes about once
-    /// more.
+    /// The items that may come about once more, with their numbers.
     index: Returned,
     schedule: S,
 }
 
 impl<S: Schedule + Drop> Model for Found<S> {
-    ghost use Rattle.ig_found.specs.Finding.{Finding, IsKept, ways_to};
+    ghost use Rattle.ig_found.specs.Finding.{Finding, IsKept, items_of, ways_to};
 
     ghost Value = { Finding };
 
@@ -36,6 +36,7 @@ impl<S: Schedule + Drop> Model for Found<S> {
       items = f.items.items;
       ways = ways_to f.items.items f.ways;
       waiting = S.waiting f.schedule;
+      indexed = items_of f.index;
     } };
 
     ghost invariant = { λ f. IsKept f.items.items f.ways f.index (S.waiting f.schedule) };
@@ -48,6 +49,7 @@ impl<S: Schedule + Drop> Found<S> {
         ensures items { IfOk result (λ f. f.items ≡ []) }
         ensures ways { IfOk result (λ f. f.ways ≡ record { firsts = []; further = []; ends = [] }) }
         ensures waiting { IfOk result (λ f. f.waiting ≡ []) }
+        ensures indexed { IfOk result (λ f. f.indexed ≡ []) }
     {
         let index = Returned::new(alloc)?;
         Ok(Found {
@@ -73,13 +75,13 @@ impl<S: Schedule + Drop> Found<S> {
         self.items.get(number as usize).copied()
     }
 
-    /// Adds an item, which isn't there, the way in which it came about, by no call, and its ticket.
-    /// `Budget` exactly where it is added and there are more items than `budget`. Refused for want
-    /// of memory, it changes nothing, or adds all but the ticket.
+    /// Adds an item, which isn't there, the way in which it came about, and its ticket. It isn't
+    /// indexed. `Budget` exactly where it is added and there are more items than `budget`. Refused
+    /// for want of memory, it changes nothing, or adds all but the ticket.
     pub fn push(&mut self, item: Item, way: Way, budget: u32) -> Result<(), RunFault>
-        requires new { Contains self.old.items item → ⊥ }
-        requires once { ComesOnce way }
+        requires { Contains self.old.items item → ⊥ }
         ensures pushed { OnOk result (Pushed self.old self.new item way) }
+        ensures indexed { self.new.indexed ≡ self.old.indexed }
         ensures within { OnOk result (length self.new.items ≤ budget) }
         ensures over { IfErr result (λ fault. fault ≡ Budget →
             Pushed self.old self.new item way × (budget < length self.new.items)) }
@@ -92,11 +94,12 @@ impl<S: Schedule + Drop> Found<S> {
         self.keep_within(budget)
     }
 
-    /// Adds that an item came about by a call from the item of number `prev`, where `done` is the
-    /// complete item by which its callee is named: a new item with its ticket, or a further way to
-    /// the one that is there, which was found behind a call, too. `Budget` exactly where a new item
-    /// is added and there are more than `budget`. Refused for want of memory, it changes nothing,
-    /// or adds all but the ticket.
+    /// Adds that an item, which is indexed if it is there, came about by a call from the item of
+    /// number `prev`, where `done` is the complete item by which its callee is named: a new item
+    /// with its ticket, which is indexed then, or a further way to the one that is there. `Budget`
+    /// exactly where a new item is added and there are more than `budget`; it isn't indexed then.
+    /// Refused for want of memory, it changes nothing, or adds all but the ticket, or all, and
+    /// doesn't index it.
     #[inline(always)]
     pub fn add_returned(
         &mut self,
@@ -105,15 +108,16 @@ impl<S: Schedule + Drop> Found<S> {
         done: u32,
         budget: u32,
     ) -> Result<(), RunFault>
-        requires by_node { (k : ℕ) → slice_get self.old.items k ≡ Some item →
-            IsNodeAt self.old.ways.firsts k }
+        requires { Contains self.old.items item → Contains self.old.indexed item }
         ensures returned { OnOk result (Returns self.old self.new item prev done) }
+        ensures unindexed { OnErr result (self.new.indexed ≡ self.old.indexed) }
         ensures within { OnOk result (length self.old.items ≤ budget →
             length self.new.items ≤ budget) }
         ensures over { IfErr result (λ fault. fault ≡ Budget → (Contains self.old.items item → ⊥) ×
             Pushed self.old self.new item (Node prev done) × (budget < length self.new.items)) }
         ensures memory { IfErr result (λ fault. fault ≡ Memory →
-            CutOff self.old self.new item (Node prev done)) }
+            CutOff self.old self.new item (Node prev done) ⊎
+            Pushed self.old self.new item (Node prev done)) }
     {
         next_number(self.items.as_slice(), &self.ways)?;
         let Some(item) = self.index.number_of(item) else {
@@ -125,9 +129,7 @@ impl<S: Schedule + Drop> Found<S> {
         Ok(())
     }
 
-    /// Adds an item, which isn't there and came about by a call, with its ticket. It may come about
-    /// once more, so it is indexed. The way is added first: it alone may stand there without its
-    /// item.
+    /// Adds an item, which isn't there and came about by a call, with its ticket, and indexes it.
     #[inline(never)]
     fn push_returned(
         &mut self,
@@ -138,18 +140,20 @@ impl<S: Schedule + Drop> Found<S> {
     ) -> Result<(), RunFault>
         requires { Contains self.old.items item → ⊥ }
         ensures pushed { OnOk result (Pushed self.old self.new item (Node prev done)) }
+        ensures indexed { OnOk result (self.new.indexed ≡ self.old.indexed ++ item ∷ []) }
+        ensures unindexed { OnErr result (self.new.indexed ≡ self.old.indexed) }
         ensures within { OnOk result (length self.new.items ≤ budget) }
         ensures over { IfErr result (λ fault. fault ≡ Budget →
             Pushed self.old self.new item (Node prev done) ×
             (budget < length self.new.items)) }
         ensures memory { IfErr result (λ fault. fault ≡ Memory →
-            CutOff self.old self.new item (Node prev done)) }
+            CutOff self.old self.new item (Node prev done) ⊎
+            Pushed self.old self.new item (Node prev done)) }
     {
         let number = next_number(self.items.as_slice(), &self.ways)?;
-        self.ways.push(Way::Node { prev, done })?;
+        self.push(item, Way::Node { prev, done }, budget)?;
         self.index.add(item, number)?;
-        add_waiting(&mut self.items, &mut self.schedule, item, number)?;
-        self.keep_within(budget)
+        Ok(())
     }
 
     /// `Budget` exactly where there are more items than the budget.
@@ -184,6 +188,7 @@ impl<S: Schedule + Drop> Found<S> {
         ensures still_none { IfNone result (self.new.waiting ≡ []) }
         ensures items { self.new.items ≡ self.old.items }
         ensures ways { self.new.ways ≡ self.old.ways }
+        ensures indexed { self.new.indexed ≡ self.old.indexed }
     {
         let ticket = self.schedule.take()?;
         Some((ticket.number, self.items[ticket.number as usize]))

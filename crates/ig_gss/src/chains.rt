@@ -1,5 +1,5 @@
-//! Marks of nodes. Those of one node are chained from the latest to the earliest, so that adding one
-//! writes to no other.
+//! Marks of nodes. Those of one node are chained from the latest to the earliest, so that adding
+//! one writes to no other.
 ghost use Rattle.std.specs.Prelude.{◌≡◌, ◌≤◌, ◌++◌, [], ◌∷◌, length, reverse, slice_get};
 ghost use Rattle.std.specs.Prelude.{IfOk, OnErr, OnOk};
 ghost use Rattle.std.specs.Option.{option_copied};
@@ -10,7 +10,8 @@ use ig_item::number;
 use std::alloc::{AllocError, Global};
 use std::marker::Model;
 
-/// A mark, and the place + 1 of the one before it of the same node, which is 0 where it is the first.
+/// A mark, and the place + 1 of the one before it of the same node, which is 0 where it is the
+/// first.
 #[derive(Clone, Copy)]
 pub struct Cell<T> {
     pub mark: T,
@@ -45,8 +46,8 @@ impl<T: Copy> Chains<T> {
         }
     }
 
-    /// Adds a mark behind the one at the place + 1 `earlier`, and gives its own place + 1. Refused for
-    /// want of memory, or of a number of 32 bits, the marks are as before.
+    /// Adds a mark behind the one at the place + 1 `earlier`, and gives its own place + 1. Refused
+    /// for want of memory, or of a number of 32 bits, the marks are as before.
     #[inline(always)]
     pub fn add(&mut self, mark: T, earlier: u32) -> Result<u32, AllocError>
         requires { earlier ≤ length self.old }
@@ -68,7 +69,8 @@ impl<T: Copy> Chains<T> {
         Some(cell.mark)
     }
 
-    /// The marks of a node from the one at the place + 1 `last` on, the latest first. Takes no memory.
+    /// The marks of a node from the one at the place + 1 `last` on, the latest first. Takes no
+    /// memory.
     #[inline(always)]
     pub fn walk(&self, last: u32) -> Walk<'_, T>
         ensures { result ≡ chain (reverse self.now) last }

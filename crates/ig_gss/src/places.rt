@@ -15,8 +15,8 @@ pub struct Place {
     pub end: u32,
 }
 
-/// Enters pops of a node where they aren't in the table yet, and makes room for one more. Refused for
-/// want of memory alone, some of them may be entered.
+/// Enters pops of a node where they aren't in the table yet, and makes room for one more. Refused
+/// for want of memory alone, some of them may be entered.
 pub fn make_ready(
     ends: &mut IndexMap<Place, u32>,
     node: u32,

@@ -18,6 +18,7 @@ fn call(stacks: &mut Stacks, item: u32) -> Result<u32, AllocError> {
             Edge {
                 item,
                 is_bare: true,
+                is_first: true,
             },
         )?;
     }

@@ -3,8 +3,8 @@ ghost use Rattle.std.specs.Prelude.{◌≡◌, ◌<◌, false, IfSome, IsTrue};
 
 use crate::marks::Pop;
 
-/// The places + 1 of the latest edge and of the latest pop of a node, and 0 where there is none; and
-/// whether all its pops are in the table of ends.
+/// The places + 1 of the latest edge and of the latest pop of a node, and 0 where there is none;
+/// and whether all its pops are in the table of ends.
 #[derive(Clone, Copy)]
 pub struct Tops {
     pub edge: u32,

@@ -1,5 +1,5 @@
 -- Which items are new when they follow, and in which way items came about that are there.
-use Rattle.std.proofs.Common.{◌≡◌, ◌⊎◌, ⊎_elim, inl, inr, ℕ, zero, suc, ◌+◌, List, [], ◌∷◌, ◌++◌, Some, None, Option, length, Contains, refl, sym, ap, ◌∙◌, subst, arith, slice_get, length-append}
+use Rattle.std.proofs.Common.{◌≡◌, ◌⊎◌, ⊎_elim, inl, inr, ℕ, zero, suc, List, [], ◌∷◌, ◌++◌, Some, None, Option, length, Contains, refl, sym, ap, ◌∙◌, subst, arith, slice_get, length-append}
 use Rattle.std.proofs.lemmas.Option.{same_Some, slice_get_within}
 use Rattle.ig_text.specs.Pattern.{Matches}
 use Rattle.ig_text.specs.declared.pattern.Pattern.{Pattern}
@@ -9,7 +9,7 @@ use Rattle.ig_expr.specs.Expression.{Expression}
 use Rattle.ig_expr.specs.declared.value.Value.{Value}
 use Rattle.ig_item.specs.Core.{IsAlternative, numbered}
 use Rattle.ig_item.specs.Gives as given
-use Rattle.ig_item.specs.Gives.{NodeKey, Taken, Gives, tree}
+use Rattle.ig_item.specs.Gives.{Taken, Gives}
 use Rattle.ig_item.specs.Items as items
 use Rattle.ig_item.specs.Items.{Item, Follows, StandsBefore, first, past, span_of, root_instance}
 use Rattle.ig_item.specs.Step.{Step, Test, Bind, Term, Call}
@@ -24,12 +24,12 @@ use Rattle.ig_queue.specs.declared.ticket.Ticket.{Ticket}
 use Rattle.ig_run_laws.specs.AfterBy as by
 use Rattle.ig_run_laws.specs.AfterBy.{AfterBy}
 use Rattle.ig_run_laws.specs.Finding.{Finding, IsRecorded, IsTaken, Takes}
-use Rattle.ig_run_laws.specs.Laws.{FirstsAreNew, FirstsAreRecorded, StepsComeOnce, ReturnsComeByNodes}
-use Rattle.ig_run_laws.specs.Rules.{IsReturn, IsFirstOf}
+use Rattle.ig_run_laws.specs.Laws.{FirstsAreNew, FirstsAreRecorded, StepsComeOnce}
+use Rattle.ig_run_laws.specs.Rules.{IsFirstOf}
 use Rattle.ig_run_laws.specs.Run.{IsWhole}
 use Rattle.ig_run_laws.specs.Stacks.{Node, IsCalled, keys_of}
 use Rattle.ig_run_laws.specs.Trail as trails
-use Rattle.ig_run_laws.specs.Trail.{SaysNamed, IsWayNamed}
+use Rattle.ig_run_laws.specs.Trail.{IsWayNamed}
 use Rattle.ig_run_laws.proofs.Events as events
 use Rattle.ig_run_laws.proofs.Steps.{one_step, stands_too}
 
@@ -226,42 +226,6 @@ module _ (core : List Nonterminal) (text : List ℕ) (a : Finding) (nodes : List
       let way = way_at at.0 x at.1 in
       let is = begins x way.0 start (whole.trail.sound at.0 x way.0 at.1 (ways.found way.1)) in
       (at.0, at.1, ways.found (way.1 ∙ ap Some is))
-
-  node_way : (position : ℕ) (way : Way) (prev : Item) (taken : Taken) (key : NodeKey) → taken ≡ tree key →
-      SaysNamed a.items nodes position way prev taken → (k : ℕ) × (d : ℕ) × (way ≡ Tree k d)
-  node_way position v p u key e (trails.pass k prev at) = cc
-  node_way position v p u key e (trails.leaf k prev taken at is) =
-      let no : tree key ≡ given.leaf (record { begin = prev.position; end = position }) = sym e ∙ is in cc
-  node_way position v p u key e (trails.node k d prev other at name) = (k, d, refl)
-
-  module _ (caller : Item) (callee : Instance) (end : ℕ) (x : Item) (r : IsReturn core text caller callee end x) where
-    call_step : (y : Item) (u : List Value) (j : ℕ) (ns : List (List ℕ)) (s : Step) → x ≡ past y u j → StandsBefore core y ns s →
-        s ≡ Call callee.nonterminal r.calls.arguments r.label r.excluded
-    call_step y u j ns s e p =
-        one_step core text caller ns r.calls.names s (Call callee.nonterminal r.calls.arguments r.label r.excluded)
-        (stands_there x y caller u (span_of r.label caller.position end) j end (record { of_y = e; of_it = r.is }) core ns s p) r.calls.before
-
-    given_node : (prev : Item) (taken : Taken) (z : Item) → z ≡ x → Gives core text (IsTaken a.items a.waiting) prev taken z →
-        (key : NodeKey) × (taken ≡ tree key)
-    given_node p v y same (given.test prev names e z k before holds f) =
-        let q = call_step prev [] prev.position names (Test e) (sym same ∙ f) before in cc
-    given_node p v y same (given.bind prev names name e u z k before has f) =
-        let q = call_step prev (u ∷ []) prev.position names (Bind name e) (sym same ∙ f) before in cc
-    given_node p v y same (given.terminal prev names what label excluded j taken z k before matches free e f) =
-        let q = call_step prev (span_of label prev.position j) j names (Term what label excluded) (sym same ∙ f) before in cc
-    given_node p v y same (given.return prev done label excluded key z k l calls completes free f) = (key, refl)
-
-    by_node : (way : Way) → Named x way → (k : ℕ) × (d : ℕ) × (way ≡ Tree k d)
-    by_node way (trails.begin e) =
-        let d : x.dot ≡ suc caller.dot = ap (λ (z : Item). z.dot) r.is in absurd (omega (arith, e, d))
-    by_node way (trails.comes v prev taken says gives) =
-        let g = given_node prev taken x refl gives in node_way x.position v prev taken g.0 g.1 says
-
-pub returns_come_by_nodes : ReturnsComeByNodes
-returns_come_by_nodes core text a nodes caller callee end x n whole r at =
-    let way = way_at core text a nodes whole n x at in
-    let q = by_node core text a nodes whole caller callee end x r way.0 (whole.trail.sound n x way.0 at (ways.found way.1)) in
-    (q.0, q.1, way.1 ∙ ap Some q.2)
 
 -- the root has one alternative
 module _ (core : List Nonterminal) (root : HasRoot core) where

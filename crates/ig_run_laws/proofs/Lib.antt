@@ -11,6 +11,7 @@ pub mod Trails
 pub mod Furthers
 pub mod Whole
 pub mod Fresh
+pub mod FirstCalls
 pub mod Budgets
 pub mod Beginning
 pub mod Renaming

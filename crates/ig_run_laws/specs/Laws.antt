@@ -1,5 +1,5 @@
 -- Laws of a run over a work list.
-use Rattle.std.specs.Prelude.{◌≡◌, ◌↔◌, ◌⊎◌, ℕ, ◌≤◌, ◌<◌, List, [], ◌∷◌, Option, length, Contains, Some, slice_get, true}
+use Rattle.std.specs.Prelude.{◌≡◌, ◌↔◌, ◌⊎◌, ℕ, ◌≤◌, ◌<◌, List, [], ◌∷◌, Option, length, Contains, true}
 use Rattle.ig_text.specs.Pattern.{Matches}
 use Rattle.ig_text.specs.declared.pattern.Pattern.{Pattern}
 use Rattle.ig_expr.specs.Expression.{Expression}
@@ -16,6 +16,7 @@ use Rattle.ig_item.specs.declared.ways.Way.TheVariants.{Begin, Pass, Leaf, Node 
 use Rattle.ig_queue.specs.declared.ticket.Ticket.{Ticket}
 use Rattle.ig_run_laws.specs.AfterBy.{AfterBy, AfterCall, AfterEnd}
 use Rattle.ig_run_laws.specs.Finding.{Finding, Finds, Records, IsRecorded, IsTaken, Takes, ticket_of, with_end, with_waiting}
+use Rattle.ig_run_laws.specs.FirstCalls.{CallsNothing, IsBehindCall, IsBehindFirst}
 use Rattle.ig_run_laws.specs.Renaming.{GivesLeast, renamed}
 use Rattle.ig_run_laws.specs.Rules.{After, IsCaller, IsReturn, IsFirstOf}
 use Rattle.ig_run_laws.specs.Run.{IsWhole, FollowMore}
@@ -153,12 +154,27 @@ StepsComeOnce =
     AfterBy core text a.items nodes it t.number way x → (way ≡ Pass t.number) ⊎ (way ≡ Leaf t.number) →
     Contains a.items x → ⊥
 
--- what is found and stands behind a call was found by a node first
+-- what stands behind the first call of its alternative and follows by a node isn't found before, either
+abbrev pub FirstReturnsAreNew : Type 0
+FirstReturnsAreNew =
+    (core : List Nonterminal) (text : List ℕ) (a : Finding) (nodes : List Node) (rest : List Ticket) (t : Ticket)
+    (it x : Item) (prev done : ℕ) → IsWhole core text a nodes → Takes a rest t it →
+    (IsComplete core it → IsFirstThere nodes it) → AfterBy core text a.items nodes it t.number (Tree prev done) x →
+    IsBehindFirst core x → Contains a.items x → ⊥
+
+-- no two items stand at one dot of an alternative of one instance, up to its first call
+abbrev pub BeginsAreOne : Type 0
+BeginsAreOne =
+    (core : List Nonterminal) (text : List ℕ) (a : Finding) (nodes : List Node) (y z : Item) → IsWhole core text a nodes →
+    Contains a.items y → Contains a.items z → y.instance ≡ z.instance → y.alternative ≡ z.alternative → y.dot ≡ z.dot →
+    CallsNothing core y.instance.nonterminal y.alternative y.dot → y ≡ z
+
+-- what follows and stands behind a call follows by a node
 abbrev pub ReturnsComeByNodes : Type 0
 ReturnsComeByNodes =
-    (core : List Nonterminal) (text : List ℕ) (a : Finding) (nodes : List Node) (caller : Item) (callee : Instance) (end : ℕ)
-    (x : Item) (n : ℕ) → IsWhole core text a nodes → IsReturn core text caller callee end x → slice_get a.items n ≡ Some x →
-    (prev : ℕ) × (done : ℕ) × (slice_get a.lists.firsts n ≡ Some (Tree prev done))
+    (core : List Nonterminal) (text : List ℕ) (found : List Item) (nodes : List Node) (it x : Item) (k : ℕ) (way : Way) →
+    AfterBy core text found nodes it k way x → IsBehindCall core x.instance.nonterminal x.alternative x.dot →
+    (prev : ℕ) × (done : ℕ) × (way ≡ Tree prev done)
 
 -- where an event finds more items than the budget, more follow from those that are taken, and more are reachable
 abbrev pub RefusedBudgetsAreExceeded : Type 0

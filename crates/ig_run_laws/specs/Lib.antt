@@ -1,6 +1,7 @@
 pub mod Rules
 pub mod Stacks
 pub mod AfterBy
+pub mod FirstCalls
 pub mod Finding
 pub mod Trail
 pub mod Renaming

@@ -1,8 +1,10 @@
 //! The laws. The functions do nothing: each contract is proved for all core grammars and texts.
-ghost use Rattle.ig_run_laws.specs.Laws.{AllFollowsInSomeWay, BindsPass, BudgetsSuffice};
+ghost use Rattle.ig_run_laws.specs.Laws.{AllFollowsInSomeWay, BeginsAreOne, BindsPass};
+ghost use Rattle.ig_run_laws.specs.Laws.{BudgetsSuffice};
 ghost use Rattle.ig_run_laws.specs.Laws.{CallersMeetPops, EndedRunsAreComplete, EndedRunsHaveWays};
 ghost use Rattle.ig_run_laws.specs.Laws.{EndsKeep, EndsMeetEdges, EventsKeep, EventsTakeOne};
-ghost use Rattle.ig_run_laws.specs.Laws.{FirstsAreNew, FirstsAreRecorded, NoneIsCalled};
+ghost use Rattle.ig_run_laws.specs.Laws.{FirstReturnsAreNew, FirstsAreNew, FirstsAreRecorded};
+ghost use Rattle.ig_run_laws.specs.Laws.{NoneIsCalled};
 ghost use Rattle.ig_run_laws.specs.Laws.{RefusedBudgetsAreExceeded, ReturnsArePastCalls};
 ghost use Rattle.ig_run_laws.specs.Laws.{ReturnsComeByNodes, RunsBegin, StepsComeOnce};
 ghost use Rattle.ig_run_laws.specs.Laws.{TerminalsTakeLeaves, TestsPass};
@@ -79,7 +81,19 @@ pub fn steps_come_once()
     ensures { StepsComeOnce }
 {}
 
-/// An item behind a call was found by a node first. This law computes nothing.
+/// What stands behind the first call of its alternative and follows by a node isn't found before,
+/// either. This law computes nothing.
+pub fn first_returns_are_new()
+    ensures { FirstReturnsAreNew }
+{}
+
+/// No two items stand at one dot of an alternative of one instance, up to its first call. This law
+/// computes nothing.
+pub fn begins_are_one()
+    ensures { BeginsAreOne }
+{}
+
+/// What follows and stands behind a call follows by a node. This law computes nothing.
 pub fn returns_come_by_nodes()
     ensures { ReturnsComeByNodes }
 {}

@@ -8,8 +8,8 @@
 mod laws;
 
 pub use laws::{
-    all_follows_in_some_way, budgets_suffice, ended_runs_are_complete, ended_runs_have_ways,
-    ends_keep, events_keep, events_take_one, firsts_are_new, firsts_are_recorded,
-    refused_budgets_are_exceeded, returns_are_past_calls, returns_come_by_nodes, runs_begin,
-    steps_are_followed, steps_come_once,
+    all_follows_in_some_way, begins_are_one, budgets_suffice, ended_runs_are_complete,
+    ended_runs_have_ways, ends_keep, events_keep, events_take_one, first_returns_are_new,
+    firsts_are_new, firsts_are_recorded, refused_budgets_are_exceeded, returns_are_past_calls,
+    returns_come_by_nodes, runs_begin, steps_are_followed, steps_come_once,
 };

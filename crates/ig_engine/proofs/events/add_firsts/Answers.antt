@@ -1,4 +1,4 @@
-use Rattle.std.proofs.Common.{◌+◌, arith, length, refl, subst, sym}
+use Rattle.std.proofs.Common.{◌+◌, ◌∙◌, arith, length, refl, subst, sym}
 use Rattle.std.specs.Prelude.{Contains, Ok, Err}
 use Rattle.ig_item.specs.declared.core_grammar.Nonterminal.{Nonterminal}
 use Rattle.ig_item.specs.declared.ways.Way.TheVariants.{Begin}
@@ -13,10 +13,10 @@ returns-in_default-clause-adds g c =
     no_firsts c.laws.ensures.tables c.args.context.now.core.now c.args.node c.args.key c.args.context.now.budget (reached c.args.state.now.envs.keys c.args.state.now.stacks c.args.state.now.found) c.requires.tables c.requires.there (mapped_none (λ (n : Nonterminal). length n.alternatives) _ c.in_default.ensures)
 
 pub loop-alternative-init : goal.loop-alternative-init
-loop-alternative-init g c = record { envs = refl; stacks = refl; adds = begins c.laws.ensures.tables c.args.context.now.core.now c.args.node c.args.key c.args.context.now.budget (reached c.args.state.now.envs.keys c.args.state.now.stacks c.args.state.now.found) c.requires.tables c.requires.there }
+loop-alternative-init g c = record { envs = refl; stacks = refl; indexed = refl; adds = begins c.laws.ensures.tables c.args.context.now.core.now c.args.node c.args.key c.args.context.now.budget (reached c.args.state.now.envs.keys c.args.state.now.stacks c.args.state.now.found) c.requires.tables c.requires.there }
 
-pub push-requires-clause-new : goal.push-requires-clause-new
-push-requires-clause-new g c =
+pub push-requires : goal.push-requires
+push-requires g c =
     let m = mapped_some (λ (n : Nonterminal). length n.alternatives) _ c.in-Some.count c.in-Some.ensures in
     subst (λ z. Contains c.loop-alternative.state.found.items z → ⊥) (sym c.first_item-first.ensures)
     (is_new c.laws.ensures.tables c.args.context.now.core.now c.args.node c.args.key c.args.context.now.budget (reached c.args.state.now.envs.keys c.args.state.now.stacks c.args.state.now.found) c.requires.tables c.requires.there c.loop-alternative.alternative m.0 c.loop-alternative.state.found m.1 (let e = m.2 in omega (arith, e, c.loop-alternative-test.true)) c.loop-alternative.invariant.adds c.requires.new)
@@ -37,6 +37,7 @@ loop-alternative-preserved g c =
     record {
       envs = c.loop-alternative.invariant.envs;
       stacks = c.loop-alternative.invariant.stacks;
+      indexed = c.in_ok-push.ensures.indexed ∙ c.loop-alternative.invariant.indexed;
       adds = goes c.laws.ensures.tables c.args.context.now.core.now c.args.node c.args.key c.args.context.now.budget (reached c.args.state.now.envs.keys c.args.state.now.stacks c.args.state.now.found) c.requires.tables c.requires.there c.loop-alternative.alternative m.0 c.loop-alternative.state.found m.1 (let e = m.2 in omega (arith, e, c.loop-alternative-test.true)) c.loop-alternative.invariant.adds c.requires.new c.push.new.self (Ok tt)
           (subst (λ z. Pushes c.loop-alternative.state.found c.push.new.self z Begin c.args.context.now.budget (Ok tt)) c.first_item-first.ensures
           (pushes_of c.loop-alternative.state.found c.push.new.self c.first_item-first.result Begin c.args.context.now.budget (Ok tt) c.in_ok-push.ensures.pushed c.in_ok-push.ensures.within tt));

@@ -1,10 +1,10 @@
 use Rattle.std.proofs.Common.{subst, sym}
 use Rattle.std.specs.Prelude.{Contains, Ok}
-use Rattle.ig_gss.specs.Nodes.{ended, ends_at, pops_at}
+use Rattle.ig_gss.specs.Nodes.{ended, ends_at, keys_of, pops_at}
 use Rattle.ig_item.specs.Items.{IsComplete}
 use Rattle.ig_engine.specs.Adding.{Events}
-use Rattle.ig_engine.specs.Reached.{Taking, means, reached}
-use Rattle.ig_engine.proofs.Ends.{again, edges_are, edges_nodes, ends, ends_stopped, node_within}
+use Rattle.ig_engine.specs.Reached.{AreIndexed, Taking, means, reached}
+use Rattle.ig_engine.proofs.Ends.{again, edges_apart, edges_are, edges_new, ends, ends_stopped, node_within}
 use Rattle.ig_engine.proofs.Event.{event_exit, event_stops, tables}
 use Rattle.ig_engine.proofs.events.take_complete.Goals as goal
 
@@ -50,13 +50,27 @@ meet_edges-requires-clause-edges g c =
     let complete = subst (λ z. IsComplete c.args.context.now.core.now (means (reached c.args.state.now.envs.keys z c.args.state.now.found) c.args.item)) (sym same) c.requires.complete in
     edges_are c.laws.ensures c.args.context.now.core.now c.args.context.now.text.now c.args.context.now.budget c.args.item c.args.number s taking complete
 
-pub meet_edges-requires-clause-by_nodes : goal.meet_edges-requires-clause-by_nodes
-meet_edges-requires-clause-by_nodes g c =
+pub meet_edges-requires-clause-indexed : goal.meet_edges-requires-clause-indexed
+meet_edges-requires-clause-indexed g c =
+    let same = c.in_ok-before.ensures.same in
+    subst (λ z. AreIndexed c.args.context.now.core.now (keys_of z) c.args.state.now.found) (sym same) c.requires.taking.before.indexed
+
+pub meet_edges-requires-clause-new : goal.meet_edges-requires-clause-new
+meet_edges-requires-clause-new g c =
+    let none = rw c.in_default.is at c.in_ok-before.ensures.none in
     let same = c.in_ok-before.ensures.same in
     let s = reached c.args.state.now.envs.keys c.pop_at.new.self c.args.state.now.found in
     let taking = subst (λ z. Taking c.args.context.now.core.now c.args.context.now.text.now c.args.context.now.budget c.args.item c.args.number (reached c.args.state.now.envs.keys z c.args.state.now.found)) (sym same) c.requires.taking in
     let complete = subst (λ z. IsComplete c.args.context.now.core.now (means (reached c.args.state.now.envs.keys z c.args.state.now.found) c.args.item)) (sym same) c.requires.complete in
-    edges_nodes c.laws.ensures c.args.context.now.core.now c.args.context.now.text.now c.args.context.now.budget c.args.item c.args.number s taking complete
+    edges_new c.laws.ensures c.args.context.now.core.now c.args.context.now.text.now c.args.context.now.budget c.args.item c.args.number s taking complete (λ h. none (subst (λ z. Contains (ends_at z c.args.item.instance) c.args.item.position) same h))
+
+pub meet_edges-requires-clause-apart : goal.meet_edges-requires-clause-apart
+meet_edges-requires-clause-apart g c =
+    let same = c.in_ok-before.ensures.same in
+    let s = reached c.args.state.now.envs.keys c.pop_at.new.self c.args.state.now.found in
+    let taking = subst (λ z. Taking c.args.context.now.core.now c.args.context.now.text.now c.args.context.now.budget c.args.item c.args.number (reached c.args.state.now.envs.keys z c.args.state.now.found)) (sym same) c.requires.taking in
+    let complete = subst (λ z. IsComplete c.args.context.now.core.now (means (reached c.args.state.now.envs.keys z c.args.state.now.found) c.args.item)) (sym same) c.requires.complete in
+    edges_apart c.laws.ensures c.args.context.now.core.now c.args.context.now.text.now c.args.context.now.budget c.args.item c.args.number s taking complete
 
 pub returns-in_err-meet_edges : goal.returns-in_err-meet_edges
 returns-in_err-meet_edges g c =
@@ -66,7 +80,7 @@ returns-in_err-meet_edges g c =
     let complete = subst (λ z. IsComplete c.args.context.now.core.now (means (reached c.args.state.now.envs.keys z c.args.state.now.found) c.args.item)) (sym same) c.requires.complete in
     let f = c.in_err-meet_edges.field-0.0 in
     subst (λ z. Events c.args.context.now.core.now c.args.context.now.text.now c.args.context.now.budget (reached c.args.state.now.envs.keys z c.args.state.now.found) (reached c.meet_edges.new.envs.keys c.pop_at.new.self c.meet_edges.new.found) c.from_residual-in_err-meet_edges.result) same
-    (event_stops c.args.context.now.core.now c.args.context.now.text.now c.args.context.now.budget s (reached c.meet_edges.new.envs.keys c.pop_at.new.self c.meet_edges.new.found) c.from_residual-in_err-meet_edges.result f c.from_residual-in_err-meet_edges.ensures.1 (ends_stopped c.laws.ensures c.args.context.now.core.now c.args.context.now.text.now c.args.context.now.budget c.args.item c.args.number s taking complete (reached c.meet_edges.new.envs.keys c.pop_at.new.self c.meet_edges.new.found) f c.in_err-meet_edges.ensures))
+    (event_stops c.args.context.now.core.now c.args.context.now.text.now c.args.context.now.budget s (reached c.meet_edges.new.envs.keys c.pop_at.new.self c.meet_edges.new.found) c.from_residual-in_err-meet_edges.result f c.from_residual-in_err-meet_edges.ensures.1 (ends_stopped c.laws.ensures c.args.context.now.core.now c.args.context.now.text.now c.args.context.now.budget c.args.item c.args.number s taking complete (reached c.meet_edges.new.envs.keys c.pop_at.new.self c.meet_edges.new.found) f c.in_err-meet_edges.ensures.adds))
 
 pub add_pop-requires-clause-node : goal.add_pop-requires-clause-node
 add_pop-requires-clause-node g c =
@@ -96,4 +110,4 @@ returns g c =
     let taking = subst (λ z. Taking c.args.context.now.core.now c.args.context.now.text.now c.args.context.now.budget c.args.item c.args.number (reached c.args.state.now.envs.keys z c.args.state.now.found)) (sym same) c.requires.taking in
     let complete = subst (λ z. IsComplete c.args.context.now.core.now (means (reached c.args.state.now.envs.keys z c.args.state.now.found) c.args.item)) (sym same) c.requires.complete in
     subst (λ z. Events c.args.context.now.core.now c.args.context.now.text.now c.args.context.now.budget (reached c.args.state.now.envs.keys z c.args.state.now.found) (reached c.meet_edges.new.envs.keys c.add_pop.new.self c.meet_edges.new.found) (Ok tt)) same
-    (ends c.laws.ensures c.args.context.now.core.now c.args.context.now.text.now c.args.context.now.budget c.args.item c.args.number s taking complete (reached c.meet_edges.new.envs.keys c.pop_at.new.self c.meet_edges.new.found) c.in_ok-meet_edges.ensures (λ h. none (subst (λ z. Contains (ends_at z c.args.item.instance) c.args.item.position) same h)) c.add_pop.new.self c.in_ok-add_pop.ensures.ok)
+    (ends c.laws.ensures c.args.context.now.core.now c.args.context.now.text.now c.args.context.now.budget c.args.item c.args.number s taking complete (reached c.meet_edges.new.envs.keys c.pop_at.new.self c.meet_edges.new.found) c.in_ok-meet_edges.ensures.adds c.in_ok-meet_edges.ensures.indexed (λ h. none (subst (λ z. Contains (ends_at z c.args.item.instance) c.args.item.position) same h)) c.add_pop.new.self c.in_ok-add_pop.ensures.ok)

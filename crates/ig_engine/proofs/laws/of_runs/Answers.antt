@@ -15,6 +15,8 @@ returns c =
       firsts_are_new = c.firsts_are_new.ensures;
       firsts_are_recorded = c.firsts_are_recorded.ensures;
       steps_come_once = c.steps_come_once.ensures;
+      first_returns_are_new = c.first_returns_are_new.ensures;
+      begins_are_one = c.begins_are_one.ensures;
       returns_come_by_nodes = c.returns_come_by_nodes.ensures;
       refused_budgets_are_exceeded = c.refused_budgets_are_exceeded.ensures;
     }

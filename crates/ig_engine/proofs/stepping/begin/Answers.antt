@@ -13,8 +13,8 @@ returns-in_err-env g c = λ core text. unbegun_exit core text c.args.budget _ c.
 pub returns-in_err-root : goal.returns-in_err-root
 returns-in_err-root g c = λ core text. unbegun_exit core text c.args.budget _ c.from_residual-in_err-root.result c.from_residual-in_err-root.ensures.1
 
-pub push-requires-clause-new : goal.push-requires-clause-new
-push-requires-clause-new g c = λ h. none_in_nil _ (subst (λ z. Contains z c.first_item-first.result) c.requires.items h)
+pub push-requires : goal.push-requires
+push-requires g c = λ h. none_in_nil _ (subst (λ z. Contains z c.first_item-first.result) c.requires.items h)
 
 pub returns : goal.returns
 returns g c =

@@ -1,4 +1,4 @@
-use Rattle.ig_run_laws.proofs.Fresh.{returns_come_by_nodes}
+use Rattle.ig_run_laws.proofs.FirstCalls.{returns_come_by_nodes}
 use Rattle.ig_run_laws.proofs.laws.returns_come_by_nodes.Goals as goal
 
 pub returns : goal.returns

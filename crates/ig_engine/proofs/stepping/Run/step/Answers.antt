@@ -14,7 +14,7 @@ pub take_in-taken-requires-clause-taking : goal.take_in-taken-requires-clause-ta
 take_in-taken-requires-clause-taking g c =
     taken c.self.inside.core.now c.self.inside.text.now c.self.inside.budget c.self.inside.state.envs.keys c.self.inside.state.stacks
     c.self.inside.state.found c.take.new.self (c.self.invariant.1 c.in_default.is) c.in-Some-take.item c.in-Some-take.number c.in-Some-take.ensures.found
-    c.in-Some-take.ensures.taken c.in-Some-take.ensures.gone c.in-Some-take.ensures.items c.in-Some-take.ensures.ways
+    c.in-Some-take.ensures.taken c.in-Some-take.ensures.gone c.in-Some-take.ensures.items c.in-Some-take.ensures.ways c.in-Some-take.ensures.indexed
 
 pub returns-in-Ok-clause-steps : goal.returns-in-Ok-clause-steps
 returns-in-Ok-clause-steps g c =
@@ -23,7 +23,7 @@ returns-in-Ok-clause-steps g c =
     (λ none.
     goes_on c.self.inside.core.now c.self.inside.text.now c.self.inside.budget c.self.inside.state.envs.keys c.self.inside.state.stacks
     c.self.inside.state.found c.take.new.self (c.self.invariant.1 none) c.in-Some-take.item c.in-Some-take.number c.in-Some-take.ensures.found
-    c.in-Some-take.ensures.taken c.in-Some-take.ensures.gone c.in-Some-take.ensures.items c.in-Some-take.ensures.ways next c.in-Ok.ensures)
+    c.in-Some-take.ensures.taken c.in-Some-take.ensures.gone c.in-Some-take.ensures.items c.in-Some-take.ensures.ways c.in-Some-take.ensures.indexed next c.in-Ok.ensures)
 
 pub returns-in-Err-clause-steps : goal.returns-in-Err-clause-steps
 returns-in-Err-clause-steps g c =
@@ -32,5 +32,5 @@ returns-in-Err-clause-steps g c =
     (λ none.
     stops c.self.inside.core.now c.self.inside.text.now c.self.inside.budget c.self.inside.state.envs.keys c.self.inside.state.stacks
     c.self.inside.state.found c.take.new.self (c.self.invariant.1 none) c.in-Some-take.item c.in-Some-take.number c.in-Some-take.ensures.found
-    c.in-Some-take.ensures.taken c.in-Some-take.ensures.gone c.in-Some-take.ensures.items c.in-Some-take.ensures.ways next c.in-Err.fault
+    c.in-Some-take.ensures.taken c.in-Some-take.ensures.gone c.in-Some-take.ensures.items c.in-Some-take.ensures.ways c.in-Some-take.ensures.indexed next c.in-Err.fault
     c.in-Err.ensures)

@@ -1,58 +1,21 @@
-use Rattle.std.proofs.Common.{◌∙◌, ⊎_elim, ◌++◌, ◌∷◌, [], length, Contains, ap, refl, sym, subst}
-use Rattle.ig_item.specs.declared.ways.Way.TheVariants.{Node}
+use Rattle.std.proofs.Common.{◌∙◌, ◌++◌, ◌∷◌, [], length, slice_get, ap, refl}
+use Rattle.ig_text.proofs.Lists.{place_last}
 use Rattle.ig_tables.specs.Returned.{entry}
-use Rattle.ig_found.specs.Finding.{Finding, ticket_of, with_first}
-use Rattle.ig_found.proofs.Keeping.{kept_node, kept_put, kept_same, kept_way, none_behind, ticket_behind}
+use Rattle.ig_found.specs.Finding.{Finding}
+use Rattle.ig_found.proofs.Keeping.{kept_indexed, kept_same}
 use Rattle.ig_found.proofs.found.Found.push_returned.Goals as goal
-
-pub invariant_of-self-in_err-add : goal.invariant_of-self-in_err-add
-invariant_of-self-in_err-add g c =
-    let before = c.self.inside in
-    let waiting = g.S.Schedule.waiting before.schedule in
-    let way = Node c.args.prev c.args.done in
-    let numbered = c.in_ok-number.ensures.numbered ∙ ap length c.as_slice.ensures.value in
-    kept_same before.items.items _ (with_first before.ways way) _ c.add.new.self _ waiting _ refl c.in_ok-push.ensures.ok refl refl
-    (kept_way before.items.items before.ways before.index waiting c.self.invariant way c.add.new.self numbered)
-
-pub add_waiting-requires : goal.add_waiting-requires
-add_waiting-requires g c =
-    none_behind c.self.inside.items.items c.self.inside.ways c.self.inside.index (g.S.Schedule.waiting c.self.inside.schedule)
-    c.self.invariant c.args.item c.in_ok-number.number (c.in_ok-number.ensures.number ∙ ap length c.as_slice.ensures.value)
-
-pub invariant_of-self-in_err-add_waiting : goal.invariant_of-self-in_err-add_waiting
-invariant_of-self-in_err-add_waiting g c =
-    let before = c.self.inside in
-    let waiting = g.S.Schedule.waiting before.schedule in
-    let way = Node c.args.prev c.args.done in
-    let is = c.in_ok-number.ensures.number ∙ ap length c.as_slice.ensures.value in
-    let numbered = c.in_ok-number.ensures.numbered ∙ ap length c.as_slice.ensures.value in
-    let absent = subst (λ (f : Finding). Contains f.items c.args.item → ⊥) (sym c.self.view_is) c.requires in
-    ⊎_elim
-    (λ same. kept_same before.items.items _ (with_first before.ways way) _ c.add.new.self _ waiting _ same
-    c.in_ok-push.ensures.ok refl c.in_err-add_waiting.ensures.err_waiting
-    (kept_way before.items.items before.ways before.index waiting c.self.invariant way c.add.new.self numbered))
-    (λ longer. kept_same (before.items.items ++ c.args.item ∷ []) _ (with_first before.ways way) _
-    (before.index ++ entry c.args.item c.in_ok-number.number ∷ []) _ waiting _
-    longer c.in_ok-push.ensures.ok c.in_ok-add.ensures.ok c.in_err-add_waiting.ensures.err_waiting
-    (kept_node before.items.items before.ways before.index waiting c.self.invariant c.args.item way absent numbered
-    c.in_ok-number.number is))
-    c.in_err-add_waiting.ensures.err_items
 
 pub invariant_of-self-2 : goal.invariant_of-self-2
 invariant_of-self-2 g c =
-    let before = c.self.inside in
-    let waiting = g.S.Schedule.waiting before.schedule in
-    let more = g.S.Schedule.waiting c.add_waiting.new.schedule in
-    let way = Node c.args.prev c.args.done in
-    let is = c.in_ok-number.ensures.number ∙ ap length c.as_slice.ensures.value in
-    let numbered = c.in_ok-number.ensures.numbered ∙ ap length c.as_slice.ensures.value in
-    let absent = subst (λ (f : Finding). Contains f.items c.args.item → ⊥) (sym c.self.view_is) c.requires in
-    let ticket = ticket_of c.args.item c.in_ok-number.number in
-    let index = before.index ++ entry c.args.item c.in_ok-number.number ∷ [] in
-    kept_same (before.items.items ++ c.args.item ∷ []) _ (with_first before.ways way) _ index _ more _
-    c.in_ok-add_waiting.ensures.items c.in_ok-push.ensures.ok c.in_ok-add.ensures.ok refl
-    (kept_put (before.items.items ++ c.args.item ∷ []) (with_first before.ways way) index waiting
-    (kept_node before.items.items before.ways before.index waiting c.self.invariant c.args.item way absent numbered
-    c.in_ok-number.number is) ticket more (ticket_behind before.items.items c.args.item c.in_ok-number.number is)
-    (none_behind before.items.items before.ways before.index waiting c.self.invariant c.args.item c.in_ok-number.number is)
-    c.in_ok-add_waiting.ensures.waiting)
+    let after = c.self-2.inside in
+    let number = c.in_ok-number.number in
+    let items = c.args.self.now.items in
+    let is =
+    c.in_ok-number.ensures.number ∙ ap length c.as_slice.ensures.value ∙ ap (λ (f : Finding). length f.items) c.self.view_is in
+    let at =
+    ap (λ (f : Finding). slice_get f.items number) c.self-2.view_is ∙
+    ap (λ z. slice_get z number) c.in_ok-push.ensures.pushed.items ∙
+    ap (slice_get (items ++ c.args.item ∷ [])) is ∙ place_last items c.args.item in
+    kept_same after.items.items _ after.ways _ (after.index ++ entry c.args.item number ∷ []) _
+    (g.S.Schedule.waiting after.schedule) _ refl refl c.in_ok-add.ensures.ok refl
+    (kept_indexed after.items.items after.ways after.index (g.S.Schedule.waiting after.schedule) c.self-2.invariant c.args.item number at)
