@@ -4,11 +4,12 @@ import re
 
 from forest_count import count_trees
 from forest_text import NotAForest, read_forest
-from mutations import LIMITS
+from job_lists import text_of_jobs, wrong_line
+from mutations import LIMITS, draw_case
 from unfoldings import Unfolding
 
 DONE, NO_PARSE, USAGE, REFUSED, BAD_INPUT, BUDGET, UNREAD, NO_MEMORY, NO_CURSOR, NO_DEPTH = 0, 1, 2, 3, 4, 5, 6, 8, 9, 10
-NOT_SOUND, NOT_A_FOREST = 12, 13
+NOT_A_LIST, NOT_SOUND, NOT_A_FOREST = 11, 12, 13
 CAUSES = rb"""duplicate name|unknown name|wrong arity|unknown variable|duplicate variable|kind mismatch|no start|start has parameters
     |layout not plain|align not list|mark in lexical|syntax in lexical|too many (?:nonterminals|parameters|variables)"""
 CAUSES = re.sub(rb"\n *", b"", CAUSES)
@@ -24,6 +25,7 @@ NOTES = {
     NO_MEMORY: rb"out of memory\n",
     NO_CURSOR: rb"no such cursor\n",
     NO_DEPTH: rb"depth needed: the forest is cyclic\n",
+    NOT_A_LIST: rb"batch list: (?:line \d+|too long)\n",
     NOT_SOUND: rb"not sound: (?:node|item) \d+ rule [1-5]\n",
     NOT_A_FOREST: rb"forest: (?:not a forest|too long)\n",
 }
@@ -34,13 +36,14 @@ MOST_TREES = 40  # that are listed
 MOST_CURSOR = 100_000  # bytes of a cursor that is given as a word; Linux takes 131,071
 MOST_HEIGHT = 12
 PER_FOREST = 40_000  # lines that are read here
+MOST_JOBS = 4  # of other cases in a list
 
 
 class Case:
     """A grammar and an input on the bench, and what is asked of them."""
 
-    def __init__(self, bench, commands, grammar, text, draw):
-        self.bench, self.commands, self.draw = bench, commands, draw
+    def __init__(self, bench, commands, grammar, text, draw, seeds):
+        self.bench, self.commands, self.draw, self.seeds = bench, commands, draw, seeds
         self.flaws, self.statuses = [], []
         bench.put("g", grammar)
         bench.put("i", text)
@@ -77,6 +80,8 @@ class Case:
             self.ask_input()
         if self.draw.random() < 0.1:
             self.ask_words()
+        if "batch" in self.commands and self.draw.random() < 0.1:
+            self.ask_batch()
         return self.flaws
 
     def ask_grammar(self):
@@ -211,10 +216,45 @@ class Case:
         if self.run("verify", "g", "i", "f").status not in (DONE, NOT_SOUND, NOT_A_FOREST, NO_MEMORY):
             self.flaw("verify of a changed forest")
 
+    def ask_batch(self):
+        """Whether jobs of this case and of others, in a list, end as each does alone, whatever turns they take."""
+        draw, files = self.draw, ["g i"]
+        for number in range(1, draw.randint(1, MOST_JOBS) + 1):
+            for name, data in zip("gi", draw_case(draw, self.seeds)):
+                self.bench.put(f"{name}{number}", data)
+            files.append(f"g{number} i{number}")
+        jobs = files + draw.choices((*files, "g1 i", "g i1", "g nowhere"), (*(3,) * len(files), 3, 3, 1), k=draw.randrange(3))
+        draw.shuffle(jobs)
+        options = (f"--budget={draw.choice(BUDGETS)}",)
+        alone = [self.run("forest", *job.split(), *options) for job in jobs]
+        self.bench.put("l", "".join(f"{job}\n" for job in jobs).encode())
+        turns = (f"--turn={draw.choice((1, 2, 7, 100, 1000, 1_000_000))}", f"--order={draw.choice(('fifo', 'lifo', 'lowest'))}")
+        said = self.run("batch", "l", *options, *turns)
+        unread = [end for end in alone if end.status == UNREAD]
+        if NO_MEMORY in (said.status, *(end.status for end in alone)):
+            return
+        text = text_of_jobs([(end.status, end.out, end.notes) for end in alone])
+        wanted = (UNREAD, b"", unread[0].notes) if unread else (DONE, text, b"")
+        if (said.status, said.out, said.notes) != wanted:
+            self.flaw("another end in a list than alone", f"{jobs} {options} {turns}", said)
+        self.ask_changed_list(jobs)
+
+    def ask_changed_list(self, jobs):
+        """Whether the first wrong line of a list is told, of which bytes were changed at random."""
+        data = bytearray("".join(f"{job}\n" for job in jobs).encode())
+        for _ in range(self.draw.randint(1, 3)):
+            data[self.draw.randrange(len(data))] = self.draw.choice(b"\n\n  -g\xc3\xff")
+        self.bench.put("l", bytes(data))
+        said, wrong = self.run("batch", "l", "--budget=1"), wrong_line(bytes(data))
+        if wrong and (said.status, said.notes) != (NOT_A_LIST, b"batch list: line %d\n" % wrong[0]):
+            self.flaw("another first wrong line", f"{bytes(data)!r}: {wrong}", said)
+        elif not wrong and said.status not in (DONE, UNREAD, NO_MEMORY):
+            self.flaw("a list is refused", repr(bytes(data)), said)
+
     def ask_words(self):
         """Words that may be no command: any end will do that is one."""
         draw = self.draw
-        words = [draw.choice(("check", "show", "core", "load", "trees", "query", "forest", *self.commands)), "none"]
+        words = [draw.choice(("check", "show", "core", "load", "trees", "query", "forest", *sorted(self.commands))), "none"]
         words += draw.choices(("nowhere", "-", "--", "--help", "", "--count", "--depth=0", f"--budget={draw.choice(LIMITS)}",
                                "--what=", "--after=0.1", str(draw.choice(LIMITS)), "é"), k=draw.randrange(4))
         self.run(*words)

@@ -5,18 +5,20 @@ a command, in a folder with a grammar in the file `g`, an input in the file `i` 
 
     $ WORDS     the command; else that of the row above
     g TEXT      a line of the grammar, `i TEXT` one of the input, `f TEXT` one of the forest's text; else the last ones
+    @NAME TEXT  a line of another file of that name; else the last ones
     - LINE      a line that the last text of a forest has, but not here; `+ LINE` one in its place, or else at the end
     > TEXT      a line that out gets, whole; `>` alone where out gets nothing
     ~ TEXT      a line that out has somewhere, together with the `~` lines below it
     ! TEXT      a line that notes get, whole; without one they get nothing
     = STATUS    the status, where it isn't 0
     & WORDS     a command that ends the same, and that isn't refused for its words
+    % WORDS     a command that ends as the next job of a list: out has the ends of all of these, as `batch` prints them
     * TREES     how many trees the forest has: none, one, a number, or more
 
-Lines of a text are parted by a line feed, and out and notes end with one. Behind `g`, `i`, `f` and `~` may stand a plus, where
-the text goes on without a line feed; `*`, where a range `FIRST..LAST` follows and the text comes once for each number of
-it, in place of `{}`, without line feeds; and a backslash, where the text has the escapes of Python. The text of a forest
-ends with a line feed where its last line is `f` alone.
+Lines of a text are parted by a line feed, and out and notes end with one. Behind the marks of files, `>` and `~` may stand a
+plus, where the text goes on without a line feed; `*`, where a range `FIRST..LAST` follows and the text comes once for each
+number of it, in place of `{}`, without line feeds; and a backslash, where the text has the escapes of Python. The text of a
+file ends with a line feed where its last line is its mark alone.
 """
 
 import os
@@ -25,10 +27,11 @@ import shlex
 
 from forest_count import count_trees
 from forest_text import read_forest
+from job_lists import text_of_jobs
 
 NO_PARSE = 1
 USAGE = 2
-LINE = re.compile(r"([$gif>~!=*&+-])([+*]?)(\\?)(?: (.*))?")
+LINE = re.compile(r"([$gif>~!=*&%+-]|@\w+)([+*]?)(\\?)(?: (.*))?")
 RANGE = re.compile(r"(\d+)\.\.(\d+) (.*)")
 
 
@@ -62,6 +65,7 @@ class Row:
         self.texts = {mark: Text() for mark in "gif>~!"}
         self.status, self.trees, self.same = 0, None, None
         self.forest, self.changes = None, []
+        self.files, self.jobs = {}, []
 
     def read(self, line):
         """Takes a line of the row."""
@@ -72,6 +76,8 @@ class Row:
             self.status = int(text)
         elif mark == "&":
             self.same = shlex.split(text)
+        elif mark == "%":
+            self.jobs.append(shlex.split(text))
         elif mark == "-":
             self.changes.append((text, []))
         elif mark == "+":
@@ -81,6 +87,8 @@ class Row:
         elif mark == "*":
             self.trees = text
             self.status = NO_PARSE if text == "none" else 0
+        elif mark[0] == "@":
+            self.files.setdefault(mark[1:], Text()).add(flag, escaped, text)
         else:
             self.texts[mark].add(flag, escaped, text)
 
@@ -89,6 +97,8 @@ class Row:
         for name in "gi":
             if self.texts[name].data is not None:
                 write(folder, name, self.texts[name].data)
+        for name, text in self.files.items():
+            write(folder, name, text.data)
         if self.forest is not None:
             write(folder, "f", changed(self.forest.decode("utf-8"), self.changes).encode("utf-8"))
         said = run(self.command, folder)
@@ -101,6 +111,9 @@ class Row:
             yield from self.flaws_of_trees(said)
             return
         whole, piece, notes = (self.texts[mark].data for mark in ">~!")
+        if self.jobs:
+            ends = [run(words, folder) for words in self.jobs]
+            whole = text_of_jobs([(end.returncode, end.stdout, end.stderr) for end in ends]).removesuffix(b"\n")
         if piece is not None:
             if piece not in said.stdout:
                 yield f"out has no {piece!r}"

@@ -11,12 +11,14 @@ OPTIONS = {
     "budget": BUDGET,
     "count": ("count", 1, 100_000, "20"),
     "depth": ("depth", 0, 1_000_000, "no bound"),
+    "turn": ("turn", 1, 1_000_000, "1,000"),
 }
 CHOICES = {
     "what": ("question", ("ambiguous", "cyclic", "spans", "report")),
     "order": ("order", ("fifo", "lifo", "lowest", "plain")),
     "notation": ("notation", ("own", "w3c")),
 }
+CHOICES_OF_BATCH = {"order": ("order of jobs that take turns", ("fifo", "lifo", "lowest"))}
 COMMANDS = {
     "check": (("G",), ("notation",)),
     "show": (("G",), ("notation",)),
@@ -26,10 +28,12 @@ COMMANDS = {
     "trees": (("G", "I"), ("notation", "budget", "order", "depth", "count", "after")),
     "query": (("G", "I"), ("notation", "budget", "order", "what", "name")),
     "load": (("SIZE", "NUMBER"), ("budget", "order")),
+    "batch": (("LIST",), ("budget", "order", "turn")),
     "verify": (("G", "I", "F"), ("notation",)),
 }
 MOST_SIZE, MOST_NUMBER = 4000, (1 << 64) - 1
-PLACES = {"G": "a grammar", "I": "an input", "F": "a forest", "SIZE": "a number of operands", "NUMBER": "a number that decides which"}
+PLACES = {"G": "a grammar", "I": "an input", "F": "a forest", "LIST": "a list of jobs", "SIZE": "a number of operands",
+          "NUMBER": "a number that decides which"}
 
 
 def said_number(number):
@@ -104,9 +108,10 @@ def option_fault(command, name, value, options):
     if name in OPTIONS:
         _, least, most, usual = OPTIONS[name]
         return number_fault(f"`--{name}`", value, least, most, usual)
-    if name in CHOICES and value not in CHOICES[name][1]:
-        what, choices = CHOICES[name]
-        near = difflib.get_close_matches(value, choices, 1, 0.4)
+    choices_of = {**CHOICES, **(CHOICES_OF_BATCH if command == "batch" else {})}
+    if name in choices_of and value not in choices_of[name][1]:
+        what, choices = choices_of[name]
+        near = [] if value in CHOICES[name][1] else difflib.get_close_matches(value, choices, 1, 0.4)
         hint = f" `{near[0]}` was meant, perhaps." if near else ""
         return f"`{value}` is no {what}; `--{name}` has {listed(choices, 'or')}.{hint}"
     return None

@@ -34,6 +34,7 @@ is_simple_row rows.Forest = refl
 is_simple_row rows.Trees = refl
 is_simple_row rows.Query = refl
 is_simple_row rows.Load = refl
+is_simple_row rows.Batch = refl
 is_simple_row rows.Verify = refl
 is_simple_row rows.Analyse = refl
 
@@ -45,6 +46,7 @@ ids_differ rows.Forest = refl
 ids_differ rows.Trees = refl
 ids_differ rows.Query = refl
 ids_differ rows.Load = refl
+ids_differ rows.Batch = refl
 ids_differ rows.Verify = refl
 ids_differ rows.Analyse = refl
 
@@ -56,6 +58,7 @@ are_few rows.Forest = omega arith
 are_few rows.Trees = omega arith
 are_few rows.Query = omega arith
 are_few rows.Load = omega arith
+are_few rows.Batch = omega arith
 are_few rows.Verify = omega arith
 are_few rows.Analyse = omega arith
 
@@ -70,6 +73,7 @@ built_row rows.Forest = refl
 built_row rows.Trees = refl
 built_row rows.Query = refl
 built_row rows.Load = refl
+built_row rows.Batch = refl
 built_row rows.Verify = refl
 built_row rows.Analyse = refl
 

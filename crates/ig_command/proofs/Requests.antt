@@ -7,36 +7,38 @@ use Rattle.ig_text.specs.Words.{is_word}
 use Rattle.ig_text.proofs.Booleans.{first_true, rest_true}
 use Rattle.ig_text.proofs.Options.{mapped}
 use Rattle.ig_command.specs.Words.{Parts, Setting, is_apart, is_equals, is_joined, is_long, is_value, no_parts, parts_of, with_positional, with_setting, word_before}
-use Rattle.ig_command.specs.Commands.{Listing, Request, are_among, listing_with, number_if, number_of, number_or, option_in, question_with, request_of, request_with, row, most_budget, most_count, most_depth, most_number, most_size, usual_budget, usual_count, Source, source, source_in, notation_with, notation_in, order_with, order_in, order_of, run_with, run_in, stored_order, Orders}
-use Rattle.ig_command.specs.Commands.{check, show, core, forest, trees, query, load, verify, analyse, for_forest, for_grammar, for_load, for_query, for_trees, for_verify}
+use Rattle.ig_command.specs.Commands.{Listing, Request, are_among, listing_with, number_if, number_of, number_or, option_in, question_with, request_of, request_with, row, most_budget, most_count, most_depth, most_number, most_size, usual_budget, usual_count, Source, source, source_in, notation_with, notation_in, order_with, order_in, order_of, run_with, run_in, listed, list_order_in, turn_in, usual_turn, most_turn, stored_order, Orders}
+use Rattle.ig_command.specs.Commands.{check, show, core, forest, trees, query, load, batch, verify, analyse, for_batch, for_forest, for_grammar, for_load, for_query, for_trees, for_verify}
 use Rattle.ig_command.specs.Commands.{Reads, budget_in, count_in, listing_in, question_in, stored_request}
-use Rattle.ig_command.specs.Rows.{Answers, Finds, HasParts, IsRefused, asked, budget_found, listing_found, question_found, with_both, with_three, notation_found, order_found, order_for, run_found, source_of, for_one, found_request, is_empty, may_stand, names_of, places_of, row_of}
+use Rattle.ig_command.specs.Rows.{Answers, Finds, HasParts, IsRefused, asked, budget_found, listing_found, question_found, with_both, with_three, notation_found, order_found, list_order_found, turn_found, order_for, run_found, source_of, for_one, found_request, is_empty, may_stand, names_of, places_of, row_of}
 use Rattle.clap.specs.Words.{first_value, found_of}
 use Rattle.clap.specs.declared.parser.matches.ArgMatches.{ArgMatches}
 use Rattle.ig_command.specs.declared.command.Command.{Command}
 use Rattle.ig_command.specs.declared.command.Notation.{Notation}
 use Rattle.ig_queue.specs.declared.order.Order.{Order}
+use Rattle.ig_queue.specs.declared.order.Order.TheVariants as which
 use Rattle.ig_command.specs.declared.rows.Row.{Row}
 use Rattle.ig_command.specs.declared.rows.Row.TheVariants as rows
 
 -- the table, by its rows
-by_row : (name : List ℕ) (p : Parts) (a b c d e f g v w : Bool) → is_word name (codes "check") ≡ a → is_word name (codes "show") ≡ b →
+by_row : (name : List ℕ) (p : Parts) (a b c d e f g x v w : Bool) → is_word name (codes "check") ≡ a → is_word name (codes "show") ≡ b →
     is_word name (codes "core") ≡ c → is_word name (codes "forest") ≡ d → is_word name (codes "trees") ≡ e → is_word name (codes "query") ≡ f →
-    is_word name (codes "load") ≡ g → is_word name (codes "verify") ≡ v → is_word name (codes "analyse") ≡ w →
+    is_word name (codes "load") ≡ g → is_word name (codes "batch") ≡ x → is_word name (codes "verify") ≡ v → is_word name (codes "analyse") ≡ w →
     request_with name p ≡ option_and_then (λ r. row (names_of r) (asked r) p) (row_of name)
-by_row name p true b c d e f g v w h i j k l m n o q = rw h refl
-by_row name p false true c d e f g v w h i j k l m n o q = rw (h, i) refl
-by_row name p false false true d e f g v w h i j k l m n o q = rw (h, i, j) refl
-by_row name p false false false true e f g v w h i j k l m n o q = rw (h, i, j, k) refl
-by_row name p false false false false true f g v w h i j k l m n o q = rw (h, i, j, k, l) refl
-by_row name p false false false false false true g v w h i j k l m n o q = rw (h, i, j, k, l, m) refl
-by_row name p false false false false false false true v w h i j k l m n o q = rw (h, i, j, k, l, m, n) refl
-by_row name p false false false false false false false true w h i j k l m n o q = rw (h, i, j, k, l, m, n, o) refl
-by_row name p false false false false false false false false true h i j k l m n o q = rw (h, i, j, k, l, m, n, o, q) refl
-by_row name p false false false false false false false false false h i j k l m n o q = rw (h, i, j, k, l, m, n, o, q) refl
+by_row name p true b c d e f g x v w h i j k l m n u o q = rw h refl
+by_row name p false true c d e f g x v w h i j k l m n u o q = rw (h, i) refl
+by_row name p false false true d e f g x v w h i j k l m n u o q = rw (h, i, j) refl
+by_row name p false false false true e f g x v w h i j k l m n u o q = rw (h, i, j, k) refl
+by_row name p false false false false true f g x v w h i j k l m n u o q = rw (h, i, j, k, l) refl
+by_row name p false false false false false true g x v w h i j k l m n u o q = rw (h, i, j, k, l, m) refl
+by_row name p false false false false false false true x v w h i j k l m n u o q = rw (h, i, j, k, l, m, n) refl
+by_row name p false false false false false false false true v w h i j k l m n u o q = rw (h, i, j, k, l, m, n, u) refl
+by_row name p false false false false false false false false true w h i j k l m n u o q = rw (h, i, j, k, l, m, n, u, o) refl
+by_row name p false false false false false false false false false true h i j k l m n u o q = rw (h, i, j, k, l, m, n, u, o, q) refl
+by_row name p false false false false false false false false false false h i j k l m n u o q = rw (h, i, j, k, l, m, n, u, o, q) refl
 
 pub table : (name : List ℕ) (p : Parts) → request_with name p ≡ option_and_then (λ r. row (names_of r) (asked r) p) (row_of name)
-table name p = by_row name p _ _ _ _ _ _ _ _ _ refl refl refl refl refl refl refl refl refl
+table name p = by_row name p _ _ _ _ _ _ _ _ _ _ refl refl refl refl refl refl refl refl refl refl
 
 -- one positional word, and two
 one_word : (x : Option (List ℕ)) (ys : List (List ℕ)) → x ∷ [] ≡ map Some ys → (y : List ℕ) × (x ≡ Some y) × (ys ≡ y ∷ [])
@@ -104,6 +106,24 @@ run_same : (find : Finds) (options : List Setting) → option_in (codes "budget"
     option_in (codes "order") options ≡ Some (find (codes "order")) → run_found find ≡ run_in options
 run_same find options b o = ap₂ run_with (budget_same find options b) (order_same find options o)
 
+list_order_same : (find : Finds) (options : List Setting) → option_in (codes "order") options ≡ Some (find (codes "order")) →
+    list_order_found find ≡ list_order_in options
+list_order_same find options e = ap (option_and_then listed) (order_same find options e)
+
+turn_same : (find : Finds) (options : List Setting) → option_in (codes "turn") options ≡ Some (find (codes "turn")) →
+    turn_found find ≡ turn_in options
+turn_same find options e = sym (ap (option_and_then (number_or usual_turn 1 most_turn)) e)
+
+-- with the name of a list
+one_list : (find : Finds) (words : List (List ℕ)) (options : List Setting) → find (codes "F") ∷ [] ≡ map Some words →
+    run_with (budget_found find) (list_order_found find) ≡ run_with (budget_in options) (list_order_in options) → turn_found find ≡ turn_in options →
+    found_request rows.Batch find ≡ for_batch words options
+one_list find words options e run turn =
+    let w = one_word (find (codes "F")) words e in
+    ap₂ (λ b t. option_and_then (λ l. option_and_then (λ budget. option_map (batch l budget) t) b) (find (codes "F"))) run turn ∙
+    ap (option_and_then (λ l. option_and_then (λ budget. option_map (batch l budget) (turn_in options))
+    (run_with (budget_in options) (list_order_in options)))) w.1 ∙ sym (ap (λ xs. for_batch xs options) w.2)
+
 listing_same : (find : Finds) (options : List Setting) → option_in (codes "depth") options ≡ Some (find (codes "depth")) →
     option_in (codes "count") options ≡ Some (find (codes "count")) → option_in (codes "after") options ≡ Some (find (codes "after")) →
     listing_found find ≡ listing_in options
@@ -159,6 +179,11 @@ found_asked rows.Load find p has =
     (λ words. for_load words p.options)
     (λ size number. ap (λ b. option_and_then (λ s. option_and_then (λ n. option_map (load s n) b)
     (number_of 0 most_number number)) (number_of 1 most_size size)) (run_same find p.options (has.options (codes "budget") refl) (has.options (codes "order") refl)))
+found_asked rows.Batch find p has =
+    one_list find p.positional p.options has.files
+    (ap₂ run_with (budget_same find p.options (has.options (codes "budget") refl))
+    (list_order_same find p.options (has.options (codes "order") refl)))
+    (turn_same find p.options (has.options (codes "turn") refl))
 found_asked rows.Verify find p has =
     three_files (find (codes "G")) (find (codes "I")) (find (codes "F")) (notation_found find) p.positional p.options has.files
     (notation_same find p.options (has.options (codes "notation") refl))
@@ -262,6 +287,16 @@ load_twice (Some s) (Some n) None o e = refl
 load_twice (Some s) (Some n) (Some b) None e = ap (option_map (load s n)) (unordered (number_or usual_budget 1 most_budget b))
 load_twice x y (Some b) (Some o) e = absurd (cc)
 
+batch_twice : (l : List ℕ) (b o t : Value) → (is_some b && (is_some o && (is_some t && true))) ≡ false →
+    option_and_then (λ budget. option_map (batch l budget) (option_and_then (number_or usual_turn 1 most_turn) t))
+    (run_with (budget_of b) (option_and_then listed (option_and_then order_with o))) ≡ None
+batch_twice l None o t e = refl
+batch_twice l (Some b) None t e =
+    ap (option_and_then (λ budget. option_map (batch l budget) (option_and_then (number_or usual_turn 1 most_turn) t)))
+    (unordered (number_or usual_budget 1 most_budget b))
+batch_twice l (Some b) (Some o) None e = never (run_with (budget_of (Some b)) (option_and_then listed (order_with o)))
+batch_twice l (Some b) (Some o) (Some t) e = absurd (cc)
+
 abbrev Twice : Row → List Setting → Type 0
 Twice r options = list_all (λ name. is_some (option_in name options)) (names_of r) ≡ false
 
@@ -310,6 +345,10 @@ refused_asks rows.Load (size ∷ number ∷ []) options h =
     load_twice (number_of 1 most_size size) (number_of 0 most_number number) (option_in (codes "budget") options)
     (option_in (codes "order") options) (h refl)
 refused_asks rows.Load (size ∷ number ∷ w ∷ ws) options h = refl
+refused_asks rows.Batch [] options h = refl
+refused_asks rows.Batch (l ∷ []) options h =
+    batch_twice l (option_in (codes "budget") options) (option_in (codes "order") options) (option_in (codes "turn") options) (h refl)
+refused_asks rows.Batch (l ∷ w ∷ ws) options h = refl
 refused_asks rows.Verify [] options h = refl
 refused_asks rows.Verify (g ∷ []) options h = refl
 refused_asks rows.Verify (g ∷ i ∷ []) options h = refl
@@ -403,6 +442,7 @@ all_named rows.Forest = refl
 all_named rows.Trees = refl
 all_named rows.Query = refl
 all_named rows.Load = refl
+all_named rows.Batch = refl
 all_named rows.Verify = refl
 all_named rows.Analyse = refl
 
@@ -453,6 +493,14 @@ order_by : (find : Finds) (name : List ℕ) (ws : List (List ℕ)) (p : Parts) (
 order_by find name ws p order e at is =
     ap (option_and_then (λ (q : Parts). order_in q.options)) e ∙ sym (order_same find p.options at) ∙ is
 
+-- an order that keeps a work list is the one that was named
+itself : (o : Option Order) (order : Order) → option_and_then listed o ≡ Some order → o ≡ Some order
+itself None order e = absurd (cc)
+itself (Some which.Fifo) order e = e
+itself (Some which.Lifo) order e = e
+itself (Some which.Lowest) order e = e
+itself (Some which.Plain) order e = absurd (cc)
+
 order_named : (r : Row) (find : Finds) (name : List ℕ) (ws : List (List ℕ)) (p : Parts) (order : Order) → parts_of ws ≡ Some p →
     HasParts (places_of r) (names_of r) find p → order_for r find ≡ Some order → order_of (name ∷ ws) ≡ Some order
 order_named rows.Check find name ws p order e has is = absurd (cc)
@@ -462,6 +510,8 @@ order_named rows.Forest find name ws p order e has is = order_by find name ws p 
 order_named rows.Trees find name ws p order e has is = order_by find name ws p order e (has.options (codes "order") refl) is
 order_named rows.Query find name ws p order e has is = order_by find name ws p order e (has.options (codes "order") refl) is
 order_named rows.Load find name ws p order e has is = order_by find name ws p order e (has.options (codes "order") refl) is
+order_named rows.Batch find name ws p order e has is =
+    order_by find name ws p order e (has.options (codes "order") refl) (itself (order_found find) order is)
 order_named rows.Verify find name ws p order e has is = absurd (cc)
 order_named rows.Analyse find name ws p order e has is = absurd (cc)
 

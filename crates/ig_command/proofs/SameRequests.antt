@@ -5,9 +5,9 @@ use Rattle.std.specs.Cmp.Lexicographic.{bytes_decides}
 use Rattle.std.proofs.lemmas.Option.{same_Some}
 use Rattle.ig_text.specs.Words.{is_word}
 use Rattle.ig_command.specs.Words.{Setting}
-use Rattle.ig_command.specs.Commands.{Request, Source, check, show, core, forest, trees, query, load, verify, analyse}
-use Rattle.ig_command.specs.Commands.{are_among, budget_in, count_in, depth_in, listing_in, listing_with, notation_with, number_if, number_of, number_or, once, option_in, order_in, question_in, question_with, row, run_with, source, source_in, values_of}
-use Rattle.ig_command.specs.Commands.{most_budget, most_count, most_depth, most_number, most_size, usual_budget, usual_count, for_grammar}
+use Rattle.ig_command.specs.Commands.{Request, Source, check, show, core, forest, trees, query, load, batch, verify, analyse}
+use Rattle.ig_command.specs.Commands.{are_among, budget_in, count_in, depth_in, listing_in, listing_with, notation_with, number_if, number_of, number_or, once, option_in, order_in, list_order_in, turn_in, question_in, question_with, row, run_with, source, source_in, values_of}
+use Rattle.ig_command.specs.Commands.{most_budget, most_count, most_depth, most_number, most_size, most_turn, usual_budget, usual_count, usual_turn, for_grammar}
 use Rattle.ig_command.specs.Laws.{OrdersAskTheSame, unordered}
 use Rattle.ig_command.specs.Rows.{asked, names_of, row_of}
 use Rattle.ig_command.specs.declared.rows.Row.{Row}
@@ -55,6 +55,9 @@ module _ (a b : List Setting) (same : unordered a ≡ unordered b) where
   budget_same : budget_in a ≡ budget_in b
   budget_same = ap (option_and_then (number_or usual_budget 1 most_budget)) (option_same (codes "budget") refl)
 
+  turn_same : turn_in a ≡ turn_in b
+  turn_same = ap (option_and_then (number_or usual_turn 1 most_turn)) (option_same (codes "turn") refl)
+
   listing_same : listing_in a ≡ listing_in b
   listing_same =
       ap (λ z. listing_with (option_and_then (number_if 0 most_depth) z) (count_in a) (option_in (codes "after") a))
@@ -74,11 +77,15 @@ module _ (a b : List Setting) (same : unordered a ≡ unordered b) where
   grammar_same ask (g ∷ h ∷ ws) = refl
 
   module _ (r s : Request) where
+    in_orders : (o p : Option Order) (ask other : Option ℕ → Option Request) → ask None ≡ None → other None ≡ None →
+        ask (budget_in a) ≡ other (budget_in b) → ask (run_with (budget_in a) o) ≡ Some r → other (run_with (budget_in b) p) ≡ Some s → r ≡ s
+    in_orders o p ask other none nothing equal e f =
+        one_request (ask (budget_in a)) (other (budget_in b)) r s equal (by_budget ask none (budget_in a) o r e)
+        (by_budget other nothing (budget_in b) p s f)
+
     in_turn : (ask other : Option ℕ → Option Request) → ask None ≡ None → other None ≡ None → ask (budget_in a) ≡ other (budget_in b) →
         ask (run_with (budget_in a) (order_in a)) ≡ Some r → other (run_with (budget_in b) (order_in b)) ≡ Some s → r ≡ s
-    in_turn ask other none nothing equal e f =
-        one_request (ask (budget_in a)) (other (budget_in b)) r s equal (by_budget ask none (budget_in a) (order_in a) r e)
-        (by_budget other nothing (budget_in b) (order_in b) s f)
+    in_turn ask other none nothing equal e f = in_orders (order_in a) (order_in b) ask other none nothing equal e f
 
     asked_same : (z : Row) (words : List (List ℕ)) → asked z words a ≡ Some r → asked z words b ≡ Some s → r ≡ s
     asked_same rows.Check words e f = one_request _ _ r s (grammar_same check words) e f
@@ -126,6 +133,12 @@ module _ (a b : List Setting) (same : unordered a ≡ unordered b) where
             none_each (λ x. option_and_then (λ k. option_map (load x k) None) (number_of 0 most_number number))
             (number_of 1 most_size size) (λ x. never (number_of 0 most_number number))
     asked_same rows.Load (size ∷ number ∷ w ∷ ws) e f = absurd (cc)
+    asked_same rows.Batch [] e f = absurd (cc)
+    asked_same rows.Batch (l ∷ []) e f =
+        in_orders (list_order_in a) (list_order_in b) (λ n. option_and_then (λ k. option_map (batch l k) (turn_in a)) n)
+        (λ n. option_and_then (λ k. option_map (batch l k) (turn_in b)) n) refl refl
+        (ap₂ (λ t n. option_and_then (λ k. option_map (batch l k) t) n) turn_same budget_same) e f
+    asked_same rows.Batch (l ∷ w ∷ ws) e f = absurd (cc)
     asked_same rows.Verify [] e f = absurd (cc)
     asked_same rows.Verify (g ∷ []) e f = absurd (cc)
     asked_same rows.Verify (g ∷ i ∷ []) e f = absurd (cc)

@@ -13,6 +13,8 @@ use Rattle.ig_command.specs.declared.command.Question.TheVariants as asks
 use Rattle.ig_command.specs.declared.command.Notation.{Notation}
 use Rattle.ig_command.specs.declared.command.Notation.TheVariants as notation
 use Rattle.ig_command.specs.declared.command.Source.{Source as StoredSource}
+use Rattle.ig_command.specs.declared.command.WorkList.{WorkList}
+use Rattle.ig_command.specs.declared.command.WorkList.TheVariants as lists
 use Rattle.ig_queue.specs.declared.order.Order.{Order}
 use Rattle.ig_queue.specs.declared.order.Order.TheVariants as orders
 
@@ -57,12 +59,14 @@ pub data Request : Type 0 where
   query : (grammar : Source) (input : List ℕ) (budget : ℕ) (question : Question) → Request
   -- the numbers of the forest of a grammar and an input that are made
   load : (size number budget : ℕ) → Request
+  -- what comes of each job of a list, which take turns of so many events, where no more items than the budget are reachable in it
+  batch : (list : List ℕ) (budget turn : ℕ) → Request
   -- that a forest of the grammar and the input is checked, which its text tells
   verify : (grammar : Source) (input text : List ℕ) → Request
   -- the facts of the grammar's nonterminals
   analyse : (grammar : Source) → Request
 
--- the names of the files that a command reads, the grammar's first
+-- the names of the files that a command's words name, the grammar's first
 abbrev pub files_of : Request → List (List ℕ)
 files_of (check grammar) = grammar.name ∷ []
 files_of (show grammar) = grammar.name ∷ []
@@ -71,10 +75,11 @@ files_of (forest grammar input budget) = grammar.name ∷ input ∷ []
 files_of (trees grammar input budget listing) = grammar.name ∷ input ∷ []
 files_of (query grammar input budget question) = grammar.name ∷ input ∷ []
 files_of (load size number budget) = []
+files_of (batch list budget turn) = list ∷ []
 files_of (verify grammar input text) = grammar.name ∷ input ∷ text ∷ []
 files_of (analyse grammar) = grammar.name ∷ []
 
--- the file of the grammar, where one is read
+-- the file of the grammar, where the words name one
 abbrev pub grammar_file : Request → Option Source
 grammar_file (check grammar) = Some grammar
 grammar_file (show grammar) = Some grammar
@@ -83,10 +88,11 @@ grammar_file (forest grammar input budget) = Some grammar
 grammar_file (trees grammar input budget listing) = Some grammar
 grammar_file (query grammar input budget question) = Some grammar
 grammar_file (load size number budget) = None
+grammar_file (batch list budget turn) = None
 grammar_file (verify grammar input text) = Some grammar
 grammar_file (analyse grammar) = Some grammar
 
--- the name of the input, where one is read
+-- the name of the input, where the words name one
 abbrev pub input_file : Request → Option (List ℕ)
 input_file (check grammar) = None
 input_file (show grammar) = None
@@ -95,6 +101,7 @@ input_file (forest grammar input budget) = Some input
 input_file (trees grammar input budget listing) = Some input
 input_file (query grammar input budget question) = Some input
 input_file (load size number budget) = None
+input_file (batch list budget turn) = None
 input_file (verify grammar input text) = Some input
 input_file (analyse grammar) = None
 
@@ -116,6 +123,12 @@ most_count = 100000
 
 abbrev pub most_size : ℕ
 most_size = 4000
+
+abbrev pub usual_turn : ℕ
+usual_turn = 1000
+
+abbrev pub most_turn : ℕ
+most_turn = 1000000
 
 abbrev pub most_number : ℕ
 most_number = 18446744073709551615
@@ -159,6 +172,9 @@ depth_in options = option_and_then (number_if 0 most_depth) (option_in (codes "d
 
 abbrev pub count_in : List Setting → Option ℕ
 count_in options = option_and_then (number_or usual_count 1 most_count) (option_in (codes "count") options)
+
+abbrev pub turn_in : List Setting → Option ℕ
+turn_in options = option_and_then (number_or usual_turn 1 most_turn) (option_in (codes "turn") options)
 
 abbrev pub listing_with : Option (Option ℕ) → Option ℕ → Option (Option (List ℕ)) → Option Listing
 listing_with depth count after =
@@ -209,6 +225,16 @@ run_with budget order = option_and_then (λ n. option_map (λ o. n) order) budge
 abbrev pub run_in : List Setting → Option ℕ
 run_in options = run_with (budget_in options) (order_in options)
 
+-- an order that keeps a work list
+abbrev pub listed : Order → Option Order
+listed orders.Fifo = Some orders.Fifo
+listed orders.Lifo = Some orders.Lifo
+listed orders.Lowest = Some orders.Lowest
+listed orders.Plain = None
+
+abbrev pub list_order_in : List Setting → Option Order
+list_order_in options = option_and_then listed (order_in options)
+
 -- the grammar in the file of this name
 abbrev pub source_in : List ℕ → List Setting → Option Source
 source_in file options = option_map (source file) (notation_in options)
@@ -241,6 +267,12 @@ for_load (size ∷ number ∷ []) options =
     (number_of 0 most_number number)) (number_of 1 most_size size)
 for_load words options = None
 
+abbrev pub for_batch : List (List ℕ) → List Setting → Option Request
+for_batch (list ∷ []) options =
+    option_and_then (λ budget. option_map (batch list budget) (turn_in options))
+    (run_with (budget_in options) (list_order_in options))
+for_batch words options = None
+
 abbrev pub for_verify : List (List ℕ) → List Setting → Option Request
 for_verify (grammar ∷ input ∷ text ∷ []) options =
     option_map (λ g. verify g input text) (source_in grammar options)
@@ -266,9 +298,10 @@ request_with name =
     else (if is_word name (codes "query")
     then row (codes "notation" ∷ codes "budget" ∷ codes "order" ∷ codes "what" ∷ codes "name" ∷ []) for_query
     else (if is_word name (codes "load") then row (codes "budget" ∷ codes "order" ∷ []) for_load
+    else (if is_word name (codes "batch") then row (codes "budget" ∷ codes "order" ∷ codes "turn" ∷ []) for_batch
     else (if is_word name (codes "verify") then row (codes "notation" ∷ []) for_verify
     else (if is_word name (codes "analyse") then row (codes "notation" ∷ []) (for_grammar analyse)
-    else (λ parts. None)))))))))
+    else (λ parts. None))))))))))
 
 -- the request of the words: first the name of a command, then positional words and options in any order; none exactly where
 -- they are no command
@@ -301,6 +334,7 @@ stored_request (stored.Forest grammar input budget order) = forest (stored_sourc
 stored_request (stored.Trees grammar input budget order listing) = trees (stored_source grammar) input.now budget (stored_listing listing)
 stored_request (stored.Query grammar input budget order question) = query (stored_source grammar) input.now budget (stored_question question)
 stored_request (stored.Load size number budget order) = load size number budget
+stored_request (stored.Batch list budget order turn) = batch list.now budget turn
 stored_request (stored.Verify grammar input text) = verify (stored_source grammar) input.now text.now
 stored_request (stored.Analyse grammar) = analyse (stored_source grammar)
 
@@ -309,12 +343,19 @@ abbrev pub Reads : List (List ℕ) → Option Command → Type 0
 Reads words None = (request : Request) → IsCommand words request → ⊥
 Reads words (Some command) = IsCommand words (stored_request command)
 
+-- the order of a stored work list
+abbrev pub order_of_list : WorkList → Order
+order_of_list lists.Fifo = orders.Fifo
+order_of_list lists.Lifo = orders.Lifo
+order_of_list lists.Lowest = orders.Lowest
+
 -- the order in which a stored command runs, where it does
 abbrev pub stored_order : Command → Option Order
 stored_order (stored.Forest grammar input budget order) = Some order
 stored_order (stored.Trees grammar input budget order listing) = Some order
 stored_order (stored.Query grammar input budget order question) = Some order
 stored_order (stored.Load size number budget order) = Some order
+stored_order (stored.Batch list budget order turn) = Some (order_of_list order)
 stored_order command = None
 
 -- the order that the words name

@@ -5,8 +5,8 @@ use Rattle.clap.specs.Words.{App, Rule, new_app, new_rule, first_value, found_of
 use Rattle.clap.specs.declared.parser.matches.ArgMatches.{ArgMatches}
 use Rattle.ig_text.specs.Words.{is_word}
 use Rattle.ig_command.specs.Words.{Parts, Setting, is_equals, is_long, is_value}
-use Rattle.ig_command.specs.Commands.{Listing, Question, Request, are_among, for_forest, for_grammar, for_load, for_query, for_trees, for_verify, listing_with, most_budget, most_count, most_depth, most_number, most_size, number_if, number_of, number_or, notation_with, option_in, order_with, question_with, run_with, source, Source, usual_budget, usual_count}
-use Rattle.ig_command.specs.Commands.{check, show, core, forest, trees, query, load, verify, analyse}
+use Rattle.ig_command.specs.Commands.{Listing, Question, Request, are_among, for_batch, for_forest, for_grammar, for_load, for_query, for_trees, for_verify, listed, listing_with, most_budget, most_count, most_depth, most_number, most_size, most_turn, number_if, number_of, number_or, notation_with, option_in, order_with, question_with, run_with, source, Source, usual_budget, usual_count, usual_turn}
+use Rattle.ig_command.specs.Commands.{check, show, core, forest, trees, query, load, batch, verify, analyse}
 use Rattle.ig_command.specs.declared.command.Notation.{Notation}
 use Rattle.ig_command.specs.declared.rows.Row.{Row}
 use Rattle.ig_command.specs.declared.rows.Row.TheVariants as rows
@@ -22,8 +22,9 @@ row_of name =
     else (if is_word name (codes "trees") then Some rows.Trees
     else (if is_word name (codes "query") then Some rows.Query
     else (if is_word name (codes "load") then Some rows.Load
+    else (if is_word name (codes "batch") then Some rows.Batch
     else (if is_word name (codes "verify") then Some rows.Verify
-    else (if is_word name (codes "analyse") then Some rows.Analyse else None))))))))
+    else (if is_word name (codes "analyse") then Some rows.Analyse else None)))))))))
 
 -- the ids of its positional words, in order
 abbrev pub places_of : Row → List (List ℕ)
@@ -34,6 +35,7 @@ places_of rows.Forest = codes "G" ∷ codes "I" ∷ []
 places_of rows.Trees = codes "G" ∷ codes "I" ∷ []
 places_of rows.Query = codes "G" ∷ codes "I" ∷ []
 places_of rows.Load = codes "SIZE" ∷ codes "NUMBER" ∷ []
+places_of rows.Batch = codes "F" ∷ []
 places_of rows.Verify = codes "G" ∷ codes "I" ∷ codes "F" ∷ []
 places_of rows.Analyse = codes "G" ∷ []
 
@@ -46,6 +48,7 @@ names_of rows.Forest = codes "notation" ∷ codes "budget" ∷ codes "order" ∷
 names_of rows.Trees = codes "notation" ∷ codes "budget" ∷ codes "order" ∷ codes "depth" ∷ codes "count" ∷ codes "after" ∷ []
 names_of rows.Query = codes "notation" ∷ codes "budget" ∷ codes "order" ∷ codes "what" ∷ codes "name" ∷ []
 names_of rows.Load = codes "budget" ∷ codes "order" ∷ []
+names_of rows.Batch = codes "budget" ∷ codes "order" ∷ codes "turn" ∷ []
 names_of rows.Verify = codes "notation" ∷ []
 names_of rows.Analyse = codes "notation" ∷ []
 
@@ -58,6 +61,7 @@ asked rows.Forest = for_forest
 asked rows.Trees = for_trees
 asked rows.Query = for_query
 asked rows.Load = for_load
+asked rows.Batch = for_batch
 asked rows.Verify = for_verify
 asked rows.Analyse = for_grammar analyse
 
@@ -110,6 +114,12 @@ order_found find = order_with (find (codes "order"))
 abbrev pub run_found : Finds → Option ℕ
 run_found find = run_with (budget_found find) (order_found find)
 
+abbrev pub list_order_found : Finds → Option Order
+list_order_found find = option_and_then listed (order_found find)
+
+abbrev pub turn_found : Finds → Option ℕ
+turn_found find = number_or usual_turn 1 most_turn (find (codes "turn"))
+
 abbrev pub count_found : Finds → Option ℕ
 count_found find = number_or usual_count 1 most_count (find (codes "count"))
 
@@ -135,6 +145,9 @@ found_request rows.Query find =
 found_request rows.Load find =
     with_both (λ size number. option_and_then (λ s. option_and_then (λ n. option_map (load s n) (run_found find))
     (number_of 0 most_number number)) (number_of 1 most_size size)) (find (codes "SIZE")) (find (codes "NUMBER"))
+found_request rows.Batch find =
+    option_and_then (λ list. option_and_then (λ budget. option_map (batch list budget) (turn_found find))
+    (run_with (budget_found find) (list_order_found find))) (find (codes "F"))
 found_request rows.Verify find =
     with_three (λ g i f. Some (verify g i f)) (source_found find) (find (codes "I")) (find (codes "F"))
 found_request rows.Analyse find = for_one analyse find
@@ -145,6 +158,7 @@ order_for rows.Forest find = order_found find
 order_for rows.Trees find = order_found find
 order_for rows.Query find = order_found find
 order_for rows.Load find = order_found find
+order_for rows.Batch find = list_order_found find
 order_for r find = None
 
 abbrev pub is_empty : List ℕ → Bool

@@ -6,9 +6,10 @@ ghost use Rattle.clap.specs.Words.{first_value, found_of};
 ghost use Rattle.ig_command.specs.Commands.{Orders, Reads, number_if, number_of, number_or};
 ghost use Rattle.ig_command.specs.Commands.{question_with, stored_listing, stored_question};
 ghost use Rattle.ig_command.specs.Commands.{notation_with, stored_request, stored_source};
-ghost use Rattle.ig_command.specs.Commands.{order_with, stored_order};
+ghost use Rattle.ig_command.specs.Commands.{listed, order_of_list, order_with, stored_order};
 ghost use Rattle.ig_command.specs.Rows.{budget_found, count_found, found_request, listing_found};
-ghost use Rattle.ig_command.specs.Rows.{notation_found, order_for, order_found, source_found};
+ghost use Rattle.ig_command.specs.Rows.{list_order_found, notation_found, order_for, order_found};
+ghost use Rattle.ig_command.specs.Rows.{source_found, turn_found};
 
 use crate::rows::{Row, matches_of, row_named};
 use crate::words::{all_may_stand, read_number};
@@ -30,6 +31,12 @@ const USUAL_COUNT: u32 = 20;
 
 /// How many trees may be asked for.
 const MOST_COUNT: u32 = 100_000;
+
+/// How many events a turn has where no number is given.
+const USUAL_TURN: u32 = 1000;
+
+/// How many events a turn may have.
+const MOST_TURN: u32 = 1_000_000;
 
 /// The greatest size of a load.
 pub const MOST_SIZE: u32 = 4000;
@@ -74,6 +81,17 @@ pub struct Source<'a> {
     pub name: &'a str,
     /// The notation of its text.
     pub notation: Notation,
+}
+
+/// An order that keeps a work list.
+#[derive(Clone, Copy, PartialEq, Eq, Debug)]
+pub enum WorkList {
+    /// The oldest first.
+    Fifo,
+    /// The newest first.
+    Lifo,
+    /// The one at the lowest position first.
+    Lowest,
 }
 
 /// What the words of a command ask for, with the names of its files.
@@ -121,6 +139,14 @@ pub enum Command<'a> {
         number: u64,
         budget: u32,
         order: Order,
+    },
+    /// What comes of each job of a list, where no more items are reachable in it than the budget.
+    /// The jobs take turns of so many events, and their items are taken in that order.
+    Batch {
+        list: &'a str,
+        budget: u32,
+        order: WorkList,
+        turn: u32,
     },
     /// That a forest of the grammar and the input, which its text tells, is checked.
     Verify {
@@ -170,6 +196,7 @@ fn command_in<'a>(row: Row, matches: &ArgMatches<'a>) -> Option<Command<'a>>
         Row::Trees => trees_command(matches),
         Row::Query => query_command(matches),
         Row::Load => load_command(matches),
+        Row::Batch => batch_command(matches),
         Row::Verify => verify_command(matches),
         Row::Analyse => analyse_command(matches),
     }
@@ -287,6 +314,25 @@ fn load_command<'a>(matches: &ArgMatches<'a>) -> Option<Command<'a>>
     })
 }
 
+/// The command for the jobs of a list.
+fn batch_command<'a>(matches: &ArgMatches<'a>) -> Option<Command<'a>>
+    ensures request { option_map stored_request result
+        ≡ found_request Row.Batch (first_value (found_of matches.now)) }
+    ensures order { IfSome result (λ c. stored_order c
+        ≡ list_order_found (first_value (found_of matches.now))) }
+{
+    let list = matches.get_str("F")?;
+    let budget = budget_of(matches)?;
+    let order = list_order_of(matches)?;
+    let turn = turn_of(matches)?;
+    Some(Command::Batch {
+        list,
+        budget,
+        order,
+        turn,
+    })
+}
+
 /// The command that checks a forest.
 fn verify_command<'a>(matches: &ArgMatches<'a>) -> Option<Command<'a>>
     ensures request { option_map stored_request result
@@ -389,6 +435,27 @@ fn order_named(word: &str) -> Option<Order>
     None
 }
 
+/// The order of the runs of a batch.
+fn list_order_of(matches: &ArgMatches<'_>) -> Option<WorkList>
+    ensures { option_map order_of_list result
+        ≡ list_order_found (first_value (found_of matches.now)) }
+{
+    let order = order_of(matches)?;
+    listed(order)
+}
+
+/// The order, where it keeps a work list.
+fn listed(order: Order) -> Option<WorkList>
+    ensures { option_map order_of_list result ≡ listed order }
+{
+    match order {
+        Order::Fifo => Some(WorkList::Fifo),
+        Order::Lifo => Some(WorkList::Lifo),
+        Order::Lowest => Some(WorkList::Lowest),
+        Order::Plain => None,
+    }
+}
+
 /// The budget.
 fn budget_of(matches: &ArgMatches<'_>) -> Option<u32>
     ensures { result ≡ budget_found (first_value (found_of matches.now)) }
@@ -401,6 +468,13 @@ fn count_of(matches: &ArgMatches<'_>) -> Option<u32>
     ensures { result ≡ count_found (first_value (found_of matches.now)) }
 {
     small_or(USUAL_COUNT, 1, MOST_COUNT, matches.get_str("count"))
+}
+
+/// How many events a turn has.
+fn turn_of(matches: &ArgMatches<'_>) -> Option<u32>
+    ensures { result ≡ turn_found (first_value (found_of matches.now)) }
+{
+    small_or(USUAL_TURN, 1, MOST_TURN, matches.get_str("turn"))
 }
 
 /// Which trees are listed.

@@ -12,5 +12,5 @@ mod laws;
 mod rows;
 mod words;
 
-pub use command::{Command, Listing, MOST_SIZE, Notation, Question, Source, command_of};
-pub use laws::{load_sizes_are_few, orders_ask_the_same};
+pub use command::{Command, Listing, MOST_SIZE, Notation, Question, Source, WorkList, command_of};
+pub use laws::{batch_numbers_are_some, load_sizes_are_few, orders_ask_the_same};

@@ -21,6 +21,7 @@ pub(crate) enum Row {
     Trees,
     Query,
     Load,
+    Batch,
     Verify,
     Analyse,
 }
@@ -49,6 +50,9 @@ pub(crate) fn row_named(name: &str) -> Option<Row>
     }
     if name == "load" {
         return Some(Row::Load);
+    }
+    if name == "batch" {
+        return Some(Row::Batch);
     }
     if name == "verify" {
         return Some(Row::Verify);
@@ -99,6 +103,7 @@ fn command_for<'a>(alloc: Global, row: Row) -> Result<Command<'a>, AllocError>
         Row::Trees => trees(alloc),
         Row::Query => query(alloc),
         Row::Load => load(alloc),
+        Row::Batch => batch(alloc),
         Row::Verify => verify(alloc),
         Row::Analyse => one_file(alloc),
     }
@@ -177,6 +182,16 @@ fn load<'a>(alloc: Global) -> Result<Command<'a>, AllocError>
     let size = with_place(alloc, bare(alloc), "SIZE")?;
     let both = with_place(alloc, size, "NUMBER")?;
     with_run(alloc, both)
+}
+
+/// The command for a list of jobs.
+fn batch<'a>(alloc: Global) -> Result<Command<'a>, AllocError>
+    ensures { IfOk result (λ c. app_of c ≡ app_with (place (codes "F")
+        ∷ option (codes "budget") ∷ option (codes "order") ∷ option (codes "turn") ∷ [])) }
+{
+    let list = with_place(alloc, bare(alloc), "F")?;
+    let with_both = with_run(alloc, list)?;
+    with_option(alloc, with_both, "turn")
 }
 
 /// The command that checks a forest.

@@ -6,7 +6,7 @@ use Rattle.ig_text.specs.declared.text.TextFault.{TextFault}
 use Rattle.ig_text.specs.declared.text.TextFault.TheVariants as text_fault
 
 abbrev pub usage_note : List ℕ
-usage_note = codes "usage: iguana (check|show|core) G | (forest|trees|query) G I | load SIZE NUMBER | verify G I F | analyse G" ++ line_end
+usage_note = codes "usage: iguana (check|show|core) G | (forest|trees|query) G I | load SIZE NUMBER | batch F | verify G I F | analyse G" ++ line_end
 
 abbrev pub cannot_read_note : List ℕ → List ℕ
 cannot_read_note name = codes "cannot read " ++ (name ++ line_end)
@@ -31,6 +31,13 @@ depth_needed_note = codes "depth needed: the forest is cyclic" ++ line_end
 
 abbrev pub no_cursor_note : List ℕ
 no_cursor_note = codes "no such cursor" ++ line_end
+
+abbrev pub long_list_note : List ℕ
+long_list_note = codes "batch list: too long" ++ line_end
+
+-- the line of that number, counted from 1, is the first wrong one
+abbrev pub bad_list_note : ℕ → List ℕ
+bad_list_note line = codes "batch list: line " ++ (decimal line ++ line_end)
 
 -- the node or the item of that number breaks that rule
 abbrev pub not_sound_note : Bool → ℕ → ℕ → List ℕ

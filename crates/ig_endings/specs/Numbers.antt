@@ -15,5 +15,6 @@ number_of status.WriteFault = 7
 number_of status.NoMemory = 8
 number_of status.BadCursor = 9
 number_of status.DepthNeeded = 10
+number_of status.BadList = 11
 number_of status.NotSound = 12
 number_of status.NotForest = 13

@@ -12,8 +12,8 @@ mod stop;
 mod writing;
 
 pub use notes::{
-    cannot_read, depth_needed, long_forest, no_cursor, no_forest, no_parse, not_sound, not_utf8,
-    over_budget, refuse, too_long, usage,
+    bad_list, cannot_read, depth_needed, long_forest, long_list, no_cursor, no_forest, no_parse,
+    not_sound, not_utf8, over_budget, refuse, too_long, usage,
 };
 pub use status::Status;
 pub use stop::Stop;

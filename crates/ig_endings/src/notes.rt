@@ -3,6 +3,7 @@
 ghost use Rattle.std.specs.Prelude.{◌≡◌, ◌++◌, OnOk, codes};
 ghost use Rattle.std.specs.Fmt.{decimal};
 ghost use Rattle.ig_endings.specs.Notes.{depth_needed_note, no_cursor_note, no_parse_note};
+ghost use Rattle.ig_endings.specs.Notes.{bad_list_note, long_list_note};
 ghost use Rattle.ig_endings.specs.Notes.{long_forest_note, no_forest_note, not_sound_note};
 ghost use Rattle.ig_endings.specs.Notes.{usage_note};
 ghost use Rattle.ig_endings.specs.Stops.{IsBadAt, IsCannotRead, IsOverBudget, IsTooLong};
@@ -16,8 +17,8 @@ use std::alloc::{AllocError, Global};
 
 /// The line of wrong words.
 const USAGE: &[u8] =
-    b"usage: iguana (check|show|core) G | (forest|trees|query) G I | load SIZE NUMBER | verify G I F \
-        | analyse G";
+    b"usage: iguana (check|show|core) G | (forest|trees|query) G I | load SIZE NUMBER | batch F \
+        | verify G I F | analyse G";
 
 /// The words are no command: how the program is called.
 pub fn usage(alloc: Global) -> Stop
@@ -156,4 +157,25 @@ pub fn no_forest(alloc: Global) -> Stop
     ensures { StopsWith status.NotForest no_forest_note result }
 {
     stop_with(alloc, Status::NotForest, b"forest: not a forest", b"")
+}
+
+/// The text of a list of jobs is too long.
+pub fn long_list(alloc: Global) -> Stop
+    ensures { StopsWith status.BadList long_list_note result }
+{
+    stop_with(alloc, Status::BadList, b"batch list: too long", b"")
+}
+
+/// The line of that number, counted from 1, is the first wrong one of a list of jobs.
+pub fn bad_list(alloc: Global, line: u32) -> Stop
+    ensures { StopsWith status.BadList (bad_list_note line) result }
+{
+    let mut digits = Buffer::new();
+    let line = digits.format(line);
+    stop_with(
+        alloc,
+        Status::BadList,
+        b"batch list: line ",
+        line.as_bytes(),
+    )
 }

@@ -27,6 +27,8 @@ pub enum Status {
     BadCursor,
     /// A depth is wanted, since the forest is cyclic.
     DepthNeeded,
+    /// The text isn't that of a list of jobs.
+    BadList,
     /// The forest of a text breaks a rule.
     NotSound,
     /// The text isn't that of a forest.
@@ -50,6 +52,7 @@ impl Status {
             Status::NoMemory => 8,
             Status::BadCursor => 9,
             Status::DepthNeeded => 10,
+            Status::BadList => 11,
             Status::NotSound => 12,
             Status::NotForest => 13,
         }

@@ -1,5 +1,5 @@
 -- What a parser's answer comes to as a text.
-use Rattle.std.proofs.Common.{◌≡◌, ℕ, List, Result, Ok, Err, Vec, Global, [], ◌<◌, ◌≤◌, sym, subst, ◌∙◌}
+use Rattle.std.proofs.Common.{◌≡◌, ◌↔◌, ℕ, List, Contains, Result, Ok, Err, Vec, Global, [], ◌<◌, ◌≤◌, sym, subst, subst₂, ◌∙◌}
 use Rattle.ig_grammar.specs.Checked.{CheckedGrammar}
 use Rattle.ig_grammar.specs.declared.grammar.Grammar.{Grammar}
 use Rattle.ig_forest_tables.specs.Forest.{Forest}
@@ -7,12 +7,15 @@ use Rattle.ig_item.specs.Core.{dots}
 use Rattle.ig_item.specs.Limits.{most_dots}
 use Rattle.ig_core_laws.specs.Lowered.{CoreOf}
 use Rattle.ig_core_laws.specs.Notation.{unchanged}
+use Rattle.ig_item.specs.Items.{Item, Reachable}
+use Rattle.ig_item.specs.Recorded.{IsRecorded, Recording}
+use Rattle.ig_item.specs.Tables.{items_of}
 use Rattle.ig_item.specs.WellKinded.{IsWellKinded}
 use Rattle.ig_item.specs.declared.core_grammar.Nonterminal.{Nonterminal}
 use Rattle.ig_forest.specs.Reduced.{IsReduced}
 use Rattle.ig_forest_tables.specs.Unfold.{IsTrim}
 use Rattle.ig_forest.specs.TreeLaws.{TagsNameNonterminals, CursorsAreShort}
-use Rattle.ig_parse.specs.Parses.{IsOver, IsUnparsed, IsForestOf, HasForest}
+use Rattle.ig_parse.specs.Parses.{AreReachable, IsOver, IsUnparsed, IsForestOf, HasForest}
 use Rattle.ig_query.specs.Report.{IsReport}
 use Rattle.ig_print.specs.declared.report.Report.{Report}
 use Rattle.ig_sources.specs.Refusals.{dots_text}
@@ -53,6 +56,12 @@ printable core c input f e well reduced tags short =
       named = λ d cs t u. tags core input f d cs t well same u;
       short = λ d cs t u. short core input same d cs t u;
     }
+
+-- the items that were recorded of the core grammar and the input are the reachable ones
+pub recorded_reachable : (c : CheckedGrammar) (input : List ℕ) (r : Recording) → r.core ≡ CoreOf c → r.text ≡ input → IsRecorded r →
+    AreReachable c input r.tables
+recorded_reachable c input r core text is =
+    subst₂ (λ k t. (x : Item) → Contains (items_of r.tables) x ↔ Reachable k t x) core text is.reachable
 
 module _ (c : CheckedGrammar) (input : List ℕ) (budget : ℕ) (job : Job) where
   pub parses_forest : (f : Forest) (r : Result (Vec ℕ Global) Stop) → HasForest c input budget f → FinishesJob c input f job r →

@@ -1,5 +1,5 @@
 -- What a check of a forest comes to.
-use Rattle.std.proofs.Common.{◌≡◌, ◌≤◌, ◌∙◌, ℕ, List, [], length, Result, Ok, Err, Vec, Global, Option, Some, sym, subst}
+use Rattle.std.proofs.Common.{◌≡◌, ◌≤◌, ◌∙◌, ℕ, List, [], length, Result, Ok, Err, Vec, Global, Some, sym, subst}
 use Rattle.std.proofs.lemmas.Option.{same_Some}
 use Rattle.ig_text.specs.Limits.{most_characters}
 use Rattle.ig_grammar.specs.Checked.{CheckedGrammar}
@@ -16,7 +16,6 @@ use Rattle.ig_forest_reader.specs.Written.{IsDraftOf, TellsNames}
 use Rattle.ig_certificates.specs.Laws.{IsCertified, ReadCoresTellNames, ReducedIsCertified, VerifiedIsPermitted}
 use Rattle.ig_endings.specs.Notes.{no_forest_note, not_sound_note}
 use Rattle.ig_endings.specs.Stops.{StopsWith}
-use Rattle.ig_endings.specs.declared.status.Status.{Status}
 use Rattle.ig_endings.specs.declared.status.Status.TheVariants as status
 use Rattle.ig_endings.specs.declared.stop.Stop.{Stop}
 use Rattle.ig_endings.specs.declared.stop.Stop.TheVariants as halt

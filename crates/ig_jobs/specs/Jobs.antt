@@ -1,7 +1,7 @@
 -- What is done with a grammar, or with a grammar and an input.
 use Rattle.std.specs.Prelude.{ℕ, List, Option, Some, None}
 use Rattle.ig_queue.specs.declared.order.Order.{Order}
-use Rattle.ig_command.specs.Commands.{Request, check, show, core, forest, trees, query, load, verify, analyse, Listing, Question, Source, stored_source, stored_listing, stored_question}
+use Rattle.ig_command.specs.Commands.{Request, check, show, core, forest, trees, query, load, batch, verify, analyse, Listing, Question, Source, order_of_list, stored_source, stored_listing, stored_question}
 use Rattle.ig_jobs.specs.declared.job.Job.{Job as StoredJob}
 use Rattle.ig_jobs.specs.declared.job.Job.TheVariants as stored
 use Rattle.ig_jobs.specs.declared.job.Task.{Task}
@@ -42,9 +42,11 @@ work_request (work.OnGrammar grammar task) = task_request task (stored_source gr
 work_request (work.OnInput files budget order job) = request_for (stored_job job) (stored_source files.grammar) files.input.now budget
 work_request (work.OnForest files text) = verify (stored_source files.grammar) files.input.now text.now
 work_request (work.OfLoad size number budget order) = load size number budget
+work_request (work.OnList file budget order turn) = batch file.now budget turn
 
 -- the order in which it runs, where it does
 abbrev pub work_order : Work → Option Order
 work_order (work.OnInput files budget order job) = Some order
 work_order (work.OfLoad size number budget order) = Some order
+work_order (work.OnList file budget order turn) = Some (order_of_list order)
 work_order w = None

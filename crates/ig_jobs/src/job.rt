@@ -1,10 +1,10 @@
-//! What a command asks for: a task with a grammar, a job by a forest, a check of a forest, or a
-//! load.
+//! What a command asks for: a task with a grammar, a job by a forest, a check of a forest, a load,
+//! or a list of jobs.
 ghost use Rattle.std.specs.Prelude.{◌≡◌};
 ghost use Rattle.ig_command.specs.Commands.{stored_order, stored_request};
 ghost use Rattle.ig_jobs.specs.Jobs.{work_order, work_request};
 
-use ig_command::{Command, Listing, Question, Source};
+use ig_command::{Command, Listing, Question, Source, WorkList};
 use ig_queue::Order;
 
 /// What is done with a grammar alone.
@@ -58,6 +58,15 @@ pub enum Work<'a> {
         budget: u32,
         order: Order,
     },
+    /// What comes of each job of the list in the file of that name, where no more items are
+    /// reachable in it than the budget, and are taken in that order; the jobs take turns of so many
+    /// events.
+    OnList {
+        list: &'a str,
+        budget: u32,
+        order: WorkList,
+        turn: u32,
+    },
 }
 
 /// What the command asks for. Takes no memory.
@@ -99,6 +108,17 @@ pub fn work_of(command: Command<'_>) -> Work<'_>
             number,
             budget,
             order,
+        },
+        Command::Batch {
+            list,
+            budget,
+            order,
+            turn,
+        } => Work::OnList {
+            list,
+            budget,
+            order,
+            turn,
         },
         Command::Verify {
             grammar,

@@ -2,12 +2,14 @@
 //! stops.
 //!
 //! [`work_of`] says what a command asks for: a task with a grammar, a job by the forest of a
-//! grammar and an input, a check of a forest, or a load. Of a grammar it can be said that it is
-//! accepted, its canonical text shown, that of its core grammar, or that of its facts ([`do_task`]). [`parser_of`] makes its parser, unless it has
-//! too many dots. [`parse`] runs the parser on an input within the budget; the forest is printed,
-//! or its trees are listed by `ig_pages`, or a question on it is answered by `ig_answers`
-//! (`finish`). What that has to do with permitted trees, `specs/Finishes.antt` says. The forest that
-//! somebody wrote down is checked ([`verify_text`]). A load has its line (`summary`).
+//! grammar and an input, a check of a forest, a load, or a list of jobs. Of a grammar it can be
+//! said that it is accepted, its canonical text shown, that of its core grammar, or that of its
+//! facts ([`do_task`]). [`parser_of`] makes its parser, unless it has too many dots. [`parse`] runs
+//! the parser on an input within the budget, [`parse_recorded`] takes what such a run recorded; the
+//! forest is printed, or its trees are listed by `ig_pages`, or a question on it is answered by
+//! `ig_answers` (`finish`). What that has to do with permitted trees, `specs/Outcome.antt` says.
+//! The forest that somebody wrote down is checked ([`verify_text`]). A load has its line
+//! (`summary`).
 #![tactic(auto)]
 
 mod finish;
@@ -18,7 +20,7 @@ mod tasks;
 mod verifying;
 
 pub use job::{Files, Job, Task, Work, work_of};
-pub use parsing::{parse, parser_of};
+pub use parsing::{parse, parse_recorded, parser_of};
 pub use summary::summary_line;
 pub use tasks::do_task;
 pub use verifying::verify_text;

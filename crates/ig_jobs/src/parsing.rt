@@ -1,7 +1,8 @@
 //! Running a grammar on an input.
-ghost use Rattle.std.specs.Prelude.{◌≡◌};
-ghost use Rattle.ig_core_laws.specs.Lowered.{IsBuildable};
+ghost use Rattle.std.specs.Prelude.{◌≡◌, ℕ};
+ghost use Rattle.ig_core_laws.specs.Lowered.{CoreOf, IsBuildable};
 ghost use Rattle.ig_core_laws.specs.Notation.{unchanged};
+ghost use Rattle.ig_parse.specs.Parses.{IsOver};
 ghost use Rattle.ig_jobs.specs.Jobs.{stored_job};
 ghost use Rattle.ig_jobs.specs.Texts.{ParsesText, Prepares, TellsPlace};
 
@@ -12,7 +13,7 @@ use ig_endings::{Stop, no_parse, over_budget, refuse};
 use ig_forest::{cursors_are_short, tags_name_nonterminals};
 use ig_grammar::Checked;
 use ig_heights::depths_are_heights;
-use ig_item::RunFault;
+use ig_item::{Recorded, RunFault};
 use ig_parse::{
     Parser, ambiguity_is_two_permitted, cyclic_is_without_highest, spans_are_of_declarations,
 };
@@ -54,6 +55,28 @@ pub fn parse(
     requires as_it_is { parser.now ≡ unchanged parser.now.grammar }
     ensures { ParsesText parser.now input.now budget (stored_job job.entry) result }
 {
+    match parser.run(alloc, input, budget, order) {
+        Ok(recorded) => parse_recorded(alloc, parser, input, recorded, job),
+        Err(RunFault::Budget) => Err(over_budget(alloc, budget)),
+        Err(RunFault::Memory) => Err(Stop::Memory),
+    }
+}
+
+/// The same, from what was recorded of the parser's core grammar and the input, under each budget
+/// that suffices. Stops as [`parse`] does, but never with the status `Budget`.
+pub fn parse_recorded(
+    alloc: Global,
+    parser: &Parser<'_>,
+    input: &Text,
+    recorded: Recorded<'_>,
+    job: Job<'_>,
+) -> Result<Vec<u8>, Stop>
+    requires as_it_is { parser.now ≡ unchanged parser.now.grammar }
+    requires core { recorded.core ≡ CoreOf parser.now }
+    requires text { recorded.text ≡ input.now }
+    ensures { (budget : ℕ) → (IsOver parser.now input.now budget → ⊥) →
+        ParsesText parser.now input.now budget (stored_job job.entry) result }
+{
     ambiguity_is_two_permitted();
     cyclic_is_without_highest();
     spans_are_of_declarations();
@@ -61,11 +84,6 @@ pub fn parse(
     tags_name_nonterminals();
     let core = parser.core();
     let _nonterminals = core.nonterminals();
-    let recorded = match parser.run(alloc, input, budget, order) {
-        Ok(recorded) => recorded,
-        Err(RunFault::Budget) => return Err(over_budget(alloc, budget)),
-        Err(RunFault::Memory) => return Err(Stop::Memory),
-    };
     let Some(forest) = parser.forest(alloc, &recorded)? else {
         let report = parser.report(alloc, recorded.items(), input)?;
         return Err(unparsed(alloc, &report));

@@ -1,6 +1,6 @@
 //! Parsers of one grammar.
 ghost use Rattle.std.specs.Prelude.{◌≡◌, ◌≢◌, ◌<◌, ◌≤◌, IfErr, IfOk};
-ghost use Rattle.ig_core_laws.specs.Lowered.{CoreOf, IsBuildable};
+ghost use Rattle.ig_core_laws.specs.Lowered.{CoreOf, IsBuildable, IsNumbered};
 ghost use Rattle.ig_item.specs.Core.{dots};
 ghost use Rattle.ig_item.specs.Limits.{most_dots};
 ghost use Rattle.ig_core.specs.declared.fault.CoreFault.TheVariants as core_fault;
@@ -61,7 +61,18 @@ impl<'g> Parser<'g> {
             most_dots < dots (CoreOf grammar.now)) }
     {
         let core = build(alloc, grammar)?;
-        Ok(Parser { grammar, core })
+        Ok(Parser::with_core(grammar, core))
+    }
+
+    /// The parser of a grammar that the passes take, whose core grammar was built before. Takes no
+    /// memory.
+    pub fn with_core(grammar: &'g Checked, core: Core) -> Parser<'g>
+        requires buildable { IsBuildable grammar.now }
+        requires numbered { IsNumbered grammar.now }
+        requires core { core ≡ CoreOf grammar.now }
+        ensures { result ≡ grammar.now }
+    {
+        Parser { grammar, core }
     }
 
     /// The grammar. Takes no memory.

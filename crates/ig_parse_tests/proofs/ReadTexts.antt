@@ -1,4 +1,4 @@
--- A grammar that was read from a text and checked can be built.
+-- A grammar that was read from a text and checked is as it is written, and can be built.
 use Rattle.std.proofs.Common.{◌≡◌, ℕ, List, sym, subst, [], ◌∷◌, length, map, replicate, refl, ap, ◌∙◌}
 use Rattle.ig_grammar.specs.Checked.{CheckedGrammar, rules}
 use Rattle.ig_grammar.specs.declared.grammar.Grammar.{Grammar}
@@ -21,9 +21,13 @@ checked_written : (c : CheckedGrammar) → c.shapes ≡ rules c.grammar → c �
 checked_written c e =
     ap (λ (z : List Shape). record { grammar = c.grammar; shapes = z }) (e ∙ all_rules c.grammar.decls)
 
+-- the same of one that was made of a grammar
+pub checked_as_it_is : (g : Grammar) (c : CheckedGrammar) → c.grammar ≡ g → c.shapes ≡ rules g → c ≡ unchanged c.grammar
+checked_as_it_is g c grammar shapes = checked_written c (shapes ∙ ap rules (sym grammar))
+
 -- so it can be built, by the law
 pub checked_is_buildable : ReadGrammarsAreBuildable → (xs : List ℕ) (g : Grammar) (c : CheckedGrammar) → IsTextOf Own xs g →
     c.grammar ≡ g → c.shapes ≡ rules g → IsBuildable c
 checked_is_buildable law xs g c text grammar shapes =
-    let is : c ≡ unchanged c.grammar = checked_written c (shapes ∙ ap rules (sym grammar)) in
+    let is : c ≡ unchanged c.grammar = checked_as_it_is g c grammar shapes in
     subst IsBuildable (sym (is ∙ ap unchanged grammar)) (law Own xs g text)

@@ -26,7 +26,7 @@ const DISORDER: &str =
         0..0\nbegin\n";
 
 /// Asserts how the command ends on this shelf: its status, and what out and notes got.
-fn expect_end(
+pub(crate) fn expect_end(
     rt: &impl Abort,
     alloc: Global,
     words: &[&str],
@@ -89,7 +89,8 @@ fn checks_what_it_prints(rt: HostRuntime) -> Result<(), Fail> {
     expect_end(&rt, alloc, VERIFY, &mut shelf, Status::NotSound, broken)
 }
 
-/// The text of the forest is fetched last: each file is missed only where those before it are there.
+/// The text of the forest is fetched last: each file is missed only where those before it are
+/// there.
 #[test]
 fn checks_files_in_order(rt: HostRuntime) -> Result<(), Fail> {
     let alloc = rt.alloc();

@@ -1,7 +1,8 @@
 //! Parsing from the text of a grammar, as a program would embed it: the forest of a text, and the
 //! parts of a parser.
-ghost use Rattle.std.specs.Prelude.{IfOk};
+ghost use Rattle.std.specs.Prelude.{◌≡◌, IfOk};
 ghost use Rattle.ig_core_laws.specs.Lowered.{IsBuildable};
+ghost use Rattle.ig_core_laws.specs.Notation.{unchanged};
 
 use ig_analyse::analyse;
 use ig_core_text::show_core;
@@ -25,9 +26,10 @@ const LETTER: &str = "start S; syntax S = \"a\";";
 /// More items than any text of these tests has.
 const BUDGET: u32 = 1_000_000;
 
-/// The grammar of the text, which can be built since it was read.
+/// The grammar of the text, which can be built since it was read, and which no pass has changed.
 pub(crate) fn checked(alloc: Global, source: &str) -> Result<Checked, Fail>
-    ensures { IfOk result (λ checked. IsBuildable checked) }
+    ensures buildable { IfOk result (λ checked. IsBuildable checked) }
+    ensures as_it_is { IfOk result (λ checked. checked ≡ unchanged checked.grammar) }
 {
     read_grammars_are_regular();
     read_grammars_are_buildable();

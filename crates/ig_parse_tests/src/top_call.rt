@@ -92,7 +92,7 @@ fn answers_a_question(rt: HostRuntime) -> Result<(), Fail> {
 }
 
 /// Asserts that the command on this shelf can't read a file: what notes got, and the shelf's count.
-fn expect_unread(
+pub(crate) fn expect_unread(
     rt: &impl Abort,
     alloc: Global,
     words: &[&str],

@@ -422,6 +422,10 @@ const WRONG_WORDS: &[&[&str]] = &[
     &["forest", "g", "i", "--budget", "0"],
     &["trees", "g", "i", "--count", "0"],
     &["forest", "g", "i", "--order", "first"],
+    &["forest", "g", "i", "--turn", "5"],
+    &["batch", "i", "--order", "plain"],
+    &["batch", "i", "--turn", "0"],
+    &["batch", "i", "--notation", "own"],
     &[],
 ];
 

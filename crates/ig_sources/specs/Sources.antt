@@ -1,18 +1,22 @@
 -- What comes of the files that a command names: a grammar, an input, or where it stops.
-use Rattle.std.specs.Prelude.{◌≡◌, ◌≢◌, ℕ, ◌<◌, ◌≤◌, List, length, Result, Ok, Err, Vec}
+use Rattle.std.specs.Prelude.{◌≡◌, ◌≢◌, ℕ, ◌<◌, ◌≤◌, List, length, map, Option, Some, None, Result, Ok, Err, Vec}
 use Rattle.std.specs.declared.alloc.Global.{Global}
 use Rattle.ig_text.specs.Decoding.{IsDecoded, IsFaulty}
 use Rattle.ig_text.specs.declared.text.Text.{Text}
 use Rattle.ig_text.specs.declared.text.TextFault.{TextFault}
 use Rattle.ig_text.specs.declared.text.TextFault.TheVariants as text_fault
 use Rattle.ig_command.specs.declared.command.Notation.{Notation}
+use Rattle.ig_batch_list.specs.Lists.{Job, reading}
+use Rattle.ig_batch_list.specs.Reads.{stored_job}
+use Rattle.ig_batch_list.specs.declared.list.Names.{Names}
+use Rattle.ig_syntax.specs.Notation.{most_bytes}
 use Rattle.ig_outside.specs.Counts.{Rose}
 use Rattle.ig_outside.specs.States.{ShelfState}
 use Rattle.ig_outside.specs.Told.{Told, silent, nothing, bytes}
 use Rattle.ig_grammar.specs.Checked.{CheckedGrammar}
 use Rattle.ig_core_laws.specs.Notation.{unchanged}
 use Rattle.ig_endings.specs.Change.{Change, Stood}
-use Rattle.ig_endings.specs.Notes.{cannot_read_note, grammar_note, input_note, long_forest_note}
+use Rattle.ig_endings.specs.Notes.{bad_list_note, cannot_read_note, grammar_note, input_note, long_forest_note, long_list_note}
 use Rattle.ig_endings.specs.declared.status.Status.{Status}
 use Rattle.ig_endings.specs.declared.status.Status.TheVariants as status
 use Rattle.ig_endings.specs.declared.stop.Stop.{Stop}
@@ -69,6 +73,33 @@ pub record IsLongForest (xs : List ℕ) (s : Status) (note : List ℕ) : Type 0 
   pub status_is : s ≡ status.NotForest
   pub note_is : note ≡ long_forest_note
 
+-- how many bytes the text of a list of jobs may have
+abbrev pub most_list_bytes : ℕ
+most_list_bytes = 65536
+
+-- the bytes are the text of a list of these jobs
+pub record IsListOf (xs : List ℕ) (jobs : List Job) : Type 0 where
+  pub few : length xs ≤ most_list_bytes
+  pub reading_is : reading xs ≡ Ok jobs
+
+-- the bytes are refused as a list of jobs with this note
+pub data IsBadList (xs : List ℕ) : List ℕ → Type 0 where
+  -- there are too many
+  too_long : most_list_bytes < length xs → IsBadList xs long_list_note
+  -- this line is the first wrong one
+  wrong : (line : ℕ) → length xs ≤ most_list_bytes → reading xs ≡ Err line → IsBadList xs (bad_list_note line)
+
+-- and with this status
+pub record IsNoList (xs : List ℕ) (s : Status) (note : List ℕ) : Type 0 where
+  pub bad : IsBadList xs note
+  pub status_is : s ≡ status.BadList
+
+-- the bytes are the text of a list of the jobs, or of none
+abbrev pub ReadsList : List ℕ → Result (Vec Names Global) Stop → Type 0
+ReadsList xs (Ok jobs) = IsListOf xs (map stored_job jobs.items)
+ReadsList xs (Err (halt.Note s line)) = IsNoList xs s line.items
+ReadsList xs (Err halt.Memory) = Unit {0}
+
 -- why a file that was to be fetched gave nothing, by what the shelf tells of it and its counts of
 -- faults; `Refused` says which bytes are refused with a status and a line
 pub data StopsAt (told : Told) (name : List ℕ) (old new : ℕ) (Refused : List ℕ → Status → List ℕ → Type 0) : Status → List ℕ → Type 0 where
@@ -90,6 +121,23 @@ GivesGrammar n told name old new (Ok checked) =
     (new ≡ old) × ((xs : List ℕ) × MayGive told xs × IsWrittenIn n xs checked)
 GivesGrammar n told name old new (Err stop) = StopsFile told name old new (IsNoGrammar n) stop
 
+-- no bytes are refused
+abbrev pub RefusesNone : List ℕ → Status → List ℕ → Type 0
+RefusesNone xs s note = ⊥
+
+-- the bytes of a file that is to be a grammar text; none where there are too many
+abbrev pub GivesGrammarText : Told → List ℕ → ℕ → ℕ → Result (Option (Vec ℕ Global)) Stop → Type 0
+GivesGrammarText told name old new (Ok (Some text)) =
+    (new ≡ old) × MayGive told text.items × (length text.items ≤ most_bytes)
+GivesGrammarText told name old new (Ok None) = (new ≡ old) × ((xs : List ℕ) × MayGive told xs × (most_bytes < length xs))
+GivesGrammarText told name old new (Err stop) = StopsFile told name old new RefusesNone stop
+
+-- a file that is to be a list of jobs
+abbrev pub GivesList : Told → List ℕ → ℕ → ℕ → Result (Vec Names Global) Stop → Type 0
+GivesList told name old new (Ok jobs) =
+    (new ≡ old) × ((xs : List ℕ) × MayGive told xs × IsListOf xs (map stored_job jobs.items))
+GivesList told name old new (Err stop) = StopsFile told name old new IsNoList stop
+
 -- a file that is to be an input
 abbrev pub GivesInput : Told → List ℕ → ℕ → ℕ → Result Text Stop → Type 0
 GivesInput told name old new (Ok text) = (new ≡ old) × ((xs : List ℕ) × MayGive told xs × IsDecoded xs text)
@@ -104,6 +152,12 @@ GivesForest told name old new (Err stop) = StopsFile told name old new IsLongFor
 -- what is loaded from the shelf under the name
 abbrev pub LoadsGrammar : Notation → Change ShelfState → List ℕ → Result CheckedGrammar Stop → Type 0
 LoadsGrammar n shelf name = GivesGrammar n (shelf.before.holds name) name shelf.before.faults shelf.after.faults
+
+abbrev pub LoadsGrammarText : Change ShelfState → List ℕ → Result (Option (Vec ℕ Global)) Stop → Type 0
+LoadsGrammarText shelf name = GivesGrammarText (shelf.before.holds name) name shelf.before.faults shelf.after.faults
+
+abbrev pub LoadsList : Change ShelfState → List ℕ → Result (Vec Names Global) Stop → Type 0
+LoadsList shelf name = GivesList (shelf.before.holds name) name shelf.before.faults shelf.after.faults
 
 abbrev pub LoadsInput : Change ShelfState → List ℕ → Result Text Stop → Type 0
 LoadsInput shelf name = GivesInput (shelf.before.holds name) name shelf.before.faults shelf.after.faults

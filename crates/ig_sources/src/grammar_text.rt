@@ -6,6 +6,7 @@ ghost use Rattle.ig_syntax.specs.Notation.{most_bytes};
 ghost use Rattle.ig_conditions.specs.Causes.{condition_of};
 ghost use Rattle.ig_refusals.specs.Texts.{condition_text, place_text};
 ghost use Rattle.ig_endings.specs.Stops.{RefusesWith};
+ghost use Rattle.ig_notation.specs.declared.fault.Large.TheVariants.{Bytes};
 ghost use Rattle.ig_sources.specs.Accepted.{IsReadFaultIn, IsReadIn};
 ghost use Rattle.ig_sources.specs.Refusals.{large_text};
 ghost use Rattle.ig_sources.specs.Sources.{ReadsGrammar};
@@ -24,9 +25,8 @@ use std::str;
 
 /// The well-scoped grammar that the bytes read as in this notation; or the note on the first of
 /// these tests that they fail: UTF-8; tokens; numbers and nesting; the rules of the notation;
-/// scopes. The bytes are at most [`MOST_BYTES`](ig_notation::MOST_BYTES), since no more were
-/// fetched.
-pub(crate) fn read_grammar(alloc: Global, bytes: &[u8], notation: Notation) -> Result<Checked, Stop>
+/// scopes. The bytes are at most [`MOST_BYTES`](ig_notation::MOST_BYTES).
+pub fn read_grammar(alloc: Global, bytes: &[u8], notation: Notation) -> Result<Checked, Stop>
     requires { length bytes.now ≤ most_bytes }
     ensures { ReadsGrammar notation bytes.now result }
 {
@@ -62,8 +62,15 @@ fn read_in(alloc: Global, source: &str, notation: Notation) -> Result<Grammar, R
     }
 }
 
+/// The grammar's text has more than [`MOST_BYTES`](ig_notation::MOST_BYTES).
+pub fn long_grammar(alloc: Global) -> Stop
+    ensures { RefusesWith (large_text Bytes) result }
+{
+    too_large(alloc, Large::Bytes)
+}
+
 /// The grammar's text passes a limit.
-pub(crate) fn too_large(alloc: Global, which: Large) -> Stop
+fn too_large(alloc: Global, which: Large) -> Stop
     ensures { RefusesWith (large_text which) result }
 {
     match which {

@@ -1,5 +1,5 @@
-//! The notation of the XML recommendation: texts, what is printed of them, and bytes of faults, from
-//! what the notation says.
+//! The notation of the XML recommendation: texts, what is printed of them, and bytes of faults,
+//! from what the notation says.
 ghost use Rattle.std.specs.Prelude.{IfOk};
 ghost use Rattle.ig_w3c_rules.specs.Notation.{HasReading};
 

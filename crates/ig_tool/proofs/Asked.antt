@@ -25,7 +25,7 @@ use Rattle.ig_item.specs.Core.{dots}
 use Rattle.ig_item.specs.Limits.{most_dots}
 use Rattle.ig_core_laws.specs.Lowered.{CoreOf}
 use Rattle.ig_core_laws.specs.Notation.{unchanged}
-use Rattle.ig_command.specs.Commands.{Request, Source, request_of, check, show, core, forest, trees, query, load, verify, analyse, grammar_file, input_file, IsCommand}
+use Rattle.ig_command.specs.Commands.{Request, Source, request_of, check, show, core, forest, trees, query, load, batch, verify, analyse, grammar_file, input_file, IsCommand}
 use Rattle.ig_jobs.specs.Jobs.{Job, print, list, ask, request_for, task_request}
 use Rattle.ig_jobs.specs.declared.job.Task.{Task}
 use Rattle.ig_jobs.specs.declared.job.Task.TheVariants as task
@@ -95,11 +95,12 @@ pub got_none : (sink : Change SinkState) → Untouched sink → Got sink []
 got_none sink u =
     record { told = subst (λ z. Appends sink.before.got z []) (sym u.told) (nothing_added sink.before.got); calm = u.calm }
 
--- what is asked for: a task with a grammar, a job, a load, or a check of a forest
+-- what is asked for: a task with a grammar, a job, a load, a batch, or a check of a forest
 pub data Sort : Type 0 where
   of_grammar : Sort
   of_job : Sort
   of_load : Sort
+  of_batch : Sort
   of_check : Sort
 
 abbrev pub sort_of : Request → Sort
@@ -110,6 +111,7 @@ sort_of (forest file input budget) = of_job
 sort_of (trees file input budget listing) = of_job
 sort_of (query file input budget question) = of_job
 sort_of (load size number budget) = of_load
+sort_of (batch file budget turn) = of_batch
 sort_of (verify file input text) = of_check
 sort_of (analyse file) = of_grammar
 

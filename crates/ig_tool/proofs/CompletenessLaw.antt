@@ -15,7 +15,8 @@ use Rattle.ig_endings.specs.Change.{Change, Got, Untouched}
 use Rattle.ig_jobs.specs.Listing.{IsBounded, IsNoCursor, Begins, at_first, at_cursor}
 use Rattle.ig_jobs.specs.Finishes.{Finishes, printed, depth_needed, bad_cursor, listed, told_ambiguous, told_cyclic, told_spans, told_report}
 use Rattle.ig_tool.specs.Outcome.{Answers}
-use Rattle.ig_tool.specs.Headline.{Outcome, over_budget, no_parse, parsed, Says, IsLawful, Completeness, GotText}
+use Rattle.ig_jobs.specs.Outcome.{Outcome, over_budget, no_parse, parsed}
+use Rattle.ig_tool.specs.Headline.{Says, IsLawful, Completeness, GotText}
 use Rattle.ig_tool.proofs.Asked.{Laws}
 use Rattle.ig_tool.proofs.HeadlineLaw.{headline}
 

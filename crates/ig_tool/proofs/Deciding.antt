@@ -15,7 +15,7 @@ use Rattle.ig_endings.specs.declared.stop.Stop.{Stop}
 use Rattle.ig_endings.specs.declared.stop.Stop.TheVariants as halt
 use Rattle.ig_endings.specs.declared.status.Status.{Status}
 use Rattle.ig_endings.specs.declared.status.Status.TheVariants as status
-use Rattle.ig_command.specs.Commands.{Request, Source, check, show, core, forest, trees, query, load, verify, analyse, grammar_file, input_file, files_of, IsCommand}
+use Rattle.ig_command.specs.Commands.{Request, Source, check, show, core, forest, trees, query, load, batch, verify, analyse, grammar_file, input_file, files_of, IsCommand}
 use Rattle.ig_jobs.specs.Jobs.{Job, print, list, ask, request_for, task_request}
 use Rattle.ig_jobs.specs.declared.job.Task.{Task}
 use Rattle.ig_jobs.specs.declared.job.Task.TheVariants as task
@@ -67,6 +67,7 @@ one_file (forest grammar input budget) file e = omega arith
 one_file (trees grammar input budget listing) file e = omega arith
 one_file (query grammar input budget question) file e = omega arith
 one_file (load size number budget) file e = absurd (cc)
+one_file (batch named budget turn) file e = absurd (cc)
 one_file (verify grammar input text) file e = omega arith
 one_file (analyse grammar) file e = omega arith
 
@@ -79,6 +80,7 @@ two_files (forest grammar input budget) file e = omega arith
 two_files (trees grammar input budget listing) file e = omega arith
 two_files (query grammar input budget question) file e = omega arith
 two_files (load size number budget) file e = absurd (cc)
+two_files (batch named budget turn) file e = absurd (cc)
 two_files (verify grammar input text) file e = omega arith
 two_files (analyse grammar) file e = absurd (cc)
 

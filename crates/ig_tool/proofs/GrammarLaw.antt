@@ -8,7 +8,7 @@ use Rattle.ig_endings.specs.Change.{Change, FetchFailed}
 use Rattle.ig_endings.specs.declared.status.Status.{Status}
 use Rattle.ig_endings.specs.declared.status.Status.TheVariants as status
 use Rattle.ig_command.specs.Commands as asks
-use Rattle.ig_command.specs.Commands.{Request, Source, load, verify, grammar_file, input_file, IsCommand}
+use Rattle.ig_command.specs.Commands.{Request, Source, load, batch, verify, grammar_file, input_file, IsCommand}
 use Rattle.ig_jobs.specs.Jobs.{request_for, task_request}
 use Rattle.ig_jobs.specs.Tasks.{GrammarText}
 use Rattle.ig_jobs.specs.declared.job.Task.{Task}
@@ -71,6 +71,18 @@ module _ (laws : Laws) (words : List (List ℕ)) (shelf : Change ShelfState) (t 
       let same = of_one_sort (load size number b) _ command refl in absurd (cc)
   decided_text s out note k (answer.load_summed size number b summary e command few is) calm =
       let same = of_one_sort (load size number b) _ command refl in absurd (cc)
+  decided_text s out note k (answer.list_missing l b t e command held_not) calm =
+      let same = of_one_sort (batch l b t) _ command refl in absurd (cc)
+  decided_text s out note k (answer.list_unread l b t rose command) calm =
+      let same = of_one_sort (batch l b t) _ command refl in absurd (cc)
+  decided_text s out note k (answer.list_refused l b t ys line e command gives bad) calm =
+      let same = of_one_sort (batch l b t) _ command refl in absurd (cc)
+  decided_text s out note k (answer.job_missing l b t js f j e has stops) calm =
+      let same = of_one_sort (batch l b t) _ has.command refl in absurd (cc)
+  decided_text s out note k (answer.job_unread l b t js f j rose has stops) calm =
+      let same = of_one_sort (batch l b t) _ has.command refl in absurd (cc)
+  decided_text s out note k (answer.batched l b t js ends j e has all_end) calm =
+      let same = of_one_sort (batch l b t) _ has.command refl in absurd (cc)
   decided_text s out note k (answer.grammar_missing r f e command n held_not) calm =
       absurd (not_missing laws words shelf.before request asked file (named_of_task t file) xs held g accepted r f command n held_not)
   decided_text s out note k (answer.grammar_unread r f rose command n) calm = absurd (calm rose)

@@ -5,11 +5,12 @@ use Rattle.ig_grammar.specs.declared.grammar.Grammar.{Grammar}
 use Rattle.ig_endings.specs.Change.{Change, FetchFailed, PutFailed}
 use Rattle.ig_endings.specs.declared.status.Status.{Status}
 use Rattle.ig_endings.specs.declared.status.Status.TheVariants as status
-use Rattle.ig_command.specs.Commands.{Request, Source, load, verify, IsCommand}
+use Rattle.ig_command.specs.Commands.{Request, Source, load, batch, verify, IsCommand}
 use Rattle.ig_jobs.specs.Jobs.{Job, print, list, ask, request_for, task_request}
 use Rattle.ig_tool.specs.Outcome as answer
 use Rattle.ig_tool.specs.Outcome.{HasFiles, Decided, Answers, written, noted, unwritten, unnoted, no_memory}
-use Rattle.ig_tool.specs.Headline.{Asks, Outcome, over_budget, no_parse, parsed, Says, Headline}
+use Rattle.ig_jobs.specs.Outcome.{Outcome, over_budget, no_parse, parsed}
+use Rattle.ig_tool.specs.Headline.{Asks, Says, Headline}
 use Rattle.ig_tool.proofs.Asked.{Laws, Sort, of_job, got_none, no_missing_grammar, no_missing_input, no_refused_grammar, no_refused_input, one_sort, same_grammar, same_input, same_request, sort_of, sort_of_job, sort_of_task}
 
 -- two requests are one only where jobs, files and budgets are
@@ -67,6 +68,18 @@ module _ (laws : Laws) (words : List (List ℕ)) (shelf : Change ShelfState) (gr
       let same = of_one_sort (load size number b) _ command refl in absurd (cc)
   decided_outcome s out note k (answer.load_summed size number b summary e command few is) calm =
       let same = of_one_sort (load size number b) _ command refl in absurd (cc)
+  decided_outcome s out note k (answer.list_missing l b t e command held_not) calm =
+      let same = of_one_sort (batch l b t) _ command refl in absurd (cc)
+  decided_outcome s out note k (answer.list_unread l b t rose command) calm =
+      let same = of_one_sort (batch l b t) _ command refl in absurd (cc)
+  decided_outcome s out note k (answer.list_refused l b t ys line e command gives bad) calm =
+      let same = of_one_sort (batch l b t) _ command refl in absurd (cc)
+  decided_outcome s out note k (answer.job_missing l b t js f j e has stops) calm =
+      let same = of_one_sort (batch l b t) _ has.command refl in absurd (cc)
+  decided_outcome s out note k (answer.job_unread l b t js f j rose has stops) calm =
+      let same = of_one_sort (batch l b t) _ has.command refl in absurd (cc)
+  decided_outcome s out note k (answer.batched l b t js ends j e has all_end) calm =
+      let same = of_one_sort (batch l b t) _ has.command refl in absurd (cc)
   decided_outcome s out note k (answer.grammar_missing r f e command n held_not) calm =
       absurd (no_missing_grammar laws words shelf.before request g input asked r f command n held_not)
   decided_outcome s out note k (answer.grammar_unread r f rose command n) calm = absurd (calm rose)

@@ -5,3 +5,5 @@ pub mod CompletenessLaw
 pub mod GrammarLaw
 pub mod VerificationLaw
 pub mod LoadLaw
+pub mod Batching
+pub mod BatchLaw

@@ -3,7 +3,7 @@ use Rattle.std.proofs.Common.{◌≡◌, ℕ, List, [], inl, inr, refl, ap, subs
 use Rattle.ig_outside.specs.States.{ShelfState, SinkState}
 use Rattle.ig_endings.specs.declared.status.Status.{Status}
 use Rattle.ig_endings.specs.declared.status.Status.TheVariants as status
-use Rattle.ig_command.specs.Commands.{Request, Source, load, verify, grammar_file, IsCommand}
+use Rattle.ig_command.specs.Commands.{Request, Source, load, batch, verify, grammar_file, IsCommand}
 use Rattle.ig_jobs.specs.Jobs.{request_for, task_request}
 use Rattle.ig_endings.specs.Change.{Change}
 use Rattle.ig_tool.specs.Outcome as answer
@@ -38,6 +38,18 @@ module _ (words : List (List ℕ)) (shelf : Change ShelfState) (size number budg
     decided_load t text note k (answer.load_over_budget s n b e command many) = moved s n b t text note command (too_large many)
     decided_load t text note k (answer.load_summed s n b summary e command few is) =
         moved s n b t text note command (summed summary few is)
+    decided_load t text note k (answer.list_missing l b u e command held_not) =
+        let same = of_one_sort (batch l b u) _ command refl in absurd (cc)
+    decided_load t text note k (answer.list_unread l b u rose command) =
+        let same = of_one_sort (batch l b u) _ command refl in absurd (cc)
+    decided_load t text note k (answer.list_refused l b u ys line e command gives bad) =
+        let same = of_one_sort (batch l b u) _ command refl in absurd (cc)
+    decided_load t text note k (answer.job_missing l b u js f j e has stops) =
+        let same = of_one_sort (batch l b u) _ has.command refl in absurd (cc)
+    decided_load t text note k (answer.job_unread l b u js f j rose has stops) =
+        let same = of_one_sort (batch l b u) _ has.command refl in absurd (cc)
+    decided_load t text note k (answer.batched l b u js ends j e has all_end) =
+        let same = of_one_sort (batch l b u) _ has.command refl in absurd (cc)
     decided_load t text note k (answer.grammar_missing r f e command named held) = absurd (no_grammar r f command named)
     decided_load t text note k (answer.grammar_unread r f rose command named) = absurd (no_grammar r f command named)
     decided_load t text note k (answer.grammar_refused r f xs line e command named gives refused) = absurd (no_grammar r f command named)

@@ -8,7 +8,7 @@ use Rattle.ig_endings.specs.Change.{Change, FetchFailed, Got}
 use Rattle.ig_grammar.specs.Checked.{CheckedGrammar}
 use Rattle.ig_endings.specs.declared.status.Status.{Status}
 use Rattle.ig_endings.specs.declared.status.Status.TheVariants as status
-use Rattle.ig_command.specs.Commands.{Request, Source, load, verify, IsCommand}
+use Rattle.ig_command.specs.Commands.{Request, Source, load, batch, verify, IsCommand}
 use Rattle.ig_jobs.specs.Jobs.{request_for, task_request}
 use Rattle.ig_jobs.specs.Verifying.{PassesReduced, Verifies, too_long, no_forest, not_sound, verified, verified_text}
 use Rattle.ig_tool.specs.Outcome as answer
@@ -42,6 +42,18 @@ module _ (laws : Laws) (words : List (List ℕ)) (shelf : Change ShelfState) (gr
       let same = of_one_sort (load size number b) _ command refl in absurd (cc)
   decided_check s out note k (answer.load_summed size number b summary e command few is) calm =
       let same = of_one_sort (load size number b) _ command refl in absurd (cc)
+  decided_check s out note k (answer.list_missing l b t e command held_not) calm =
+      let same = of_one_sort (batch l b t) _ command refl in absurd (cc)
+  decided_check s out note k (answer.list_unread l b t rose command) calm =
+      let same = of_one_sort (batch l b t) _ command refl in absurd (cc)
+  decided_check s out note k (answer.list_refused l b t ys line e command gives bad) calm =
+      let same = of_one_sort (batch l b t) _ command refl in absurd (cc)
+  decided_check s out note k (answer.job_missing l b t js f j e has stops) calm =
+      let same = of_one_sort (batch l b t) _ has.command refl in absurd (cc)
+  decided_check s out note k (answer.job_unread l b t js f j rose has stops) calm =
+      let same = of_one_sort (batch l b t) _ has.command refl in absurd (cc)
+  decided_check s out note k (answer.batched l b t js ends j e has all_end) calm =
+      let same = of_one_sort (batch l b t) _ has.command refl in absurd (cc)
   decided_check s out note k (answer.grammar_missing r f e command n held_not) calm =
       absurd (no_missing_grammar laws words shelf.before request g input asked r f command n held_not)
   decided_check s out note k (answer.grammar_unread r f rose command n) calm = absurd (calm rose)

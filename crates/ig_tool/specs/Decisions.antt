@@ -71,4 +71,4 @@ Decides words shelf (Ok text) = (k : ℕ) × Decided words shelf status.Done tex
 Decides words shelf (Err (halt.Note s line)) =
     (k : ℕ) × Decided words shelf s [] line.items k × Fetched shelf k × (s ≢ status.Done)
 Decides words shelf (Err halt.Memory) =
-    (k : ℕ) × MayFetch words k × Fetched shelf k × Stood shelf.before.faults shelf.after.faults
+    (k : ℕ) × MayFetch words shelf.before k × Fetched shelf k × Stood shelf.before.faults shelf.after.faults

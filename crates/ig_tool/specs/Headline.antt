@@ -1,20 +1,20 @@
 -- The main theorem: which trees the printed forest has, and when there is none.
-use Rattle.std.specs.Prelude.{◌≡◌, ℕ, ◌≤◌, ◌⊎◌, List, [], length, Option, Some}
+use Rattle.std.specs.Prelude.{◌≡◌, ℕ, ◌≤◌, ◌⊎◌, List, [], All, length, Option, Some}
 use Rattle.ig_text.specs.Decoding.{IsDecoded}
 use Rattle.ig_text.specs.Tree.{Tree}
 use Rattle.ig_outside.specs.States.{ShelfState, SinkState}
-use Rattle.ig_outside.specs.Told.{bytes}
+use Rattle.ig_outside.specs.Told.{Told, bytes}
 use Rattle.ig_grammar.specs.declared.grammar.Grammar.{Grammar}
 use Rattle.ig_core_laws.specs.Notation.{unchanged}
 use Rattle.ig_forest_tables.specs.Forest.{Forest}
 use Rattle.ig_grammar.specs.Checked.{CheckedGrammar}
-use Rattle.ig_parse.specs.Parses.{IsParsed, IsUnparsed, IsOver, IsForestOf, HasForest}
+use Rattle.ig_parse.specs.Parses.{IsParsed, IsOver, IsForestOf, HasForest}
 use Rattle.ig_endings.specs.declared.status.Status.{Status}
 use Rattle.ig_endings.specs.declared.status.Status.TheVariants as status
 use Rattle.ig_load.specs.Summary.{IsLoadSummary, IsTooLarge}
 use Rattle.ig_load_texts.specs.Line.{summary_text}
 use Rattle.ig_load_texts.specs.declared.summary.Summary.{Summary}
-use Rattle.ig_command.specs.Commands.{Request, Source, load, verify, grammar_file, input_file, IsCommand}
+use Rattle.ig_command.specs.Commands.{Request, Source, load, batch, verify, grammar_file, input_file, IsCommand}
 use Rattle.ig_jobs.specs.Jobs.{Job, print, list, ask, request_for, task_request}
 use Rattle.ig_jobs.specs.declared.job.Task.{Task}
 use Rattle.ig_jobs.specs.Listing.{IsBounded, Begins}
@@ -23,8 +23,13 @@ use Rattle.ig_endings.specs.Change.{Change, FetchFailed, PutFailed, Got, Untouch
 use Rattle.ig_endings.specs.Notes.{budget_note}
 use Rattle.ig_jobs.specs.Tasks.{GrammarText}
 use Rattle.ig_jobs.specs.Verifying.{IsReducedText, Verifies, verified_text}
-use Rattle.ig_sources.specs.Sources.{most_forest_bytes}
-use Rattle.ig_jobs.specs.Finishes.{IsNoParseNote, Finishes}
+use Rattle.ig_sources.specs.Sources.{IsListOf, most_forest_bytes}
+use Rattle.ig_jobs.specs.Finishes.{Finishes}
+use Rattle.ig_jobs.specs.Outcome.{Outcome}
+use Rattle.ig_batch_list.specs.Lists.{Job as ListedJob}
+use Rattle.ig_batch.specs.Ends.{AllEnd}
+use Rattle.ig_batch.specs.Files.{IsHeld}
+use Rattle.ig_batch.specs.Text.{End, batch_text}
 
 -- the words are the request, and the shelf tells that it holds its grammar and its input: the first is a text of the
 -- grammar in the notation that they name, which is accepted, the second is the input
@@ -40,18 +45,6 @@ pub record Asks (words : List (List ℕ)) (shelf : ShelfState) (request : Reques
   pub input_bytes : List ℕ
   pub holds_input : shelf.holds input_name ≡ bytes input_bytes
   pub decoded : IsDecoded input_bytes input
-
--- the status, out's text and notes' line, from the grammar as it is written, the input, the budget and the job
-pub data Outcome (g : Grammar) (input : List ℕ) (budget : ℕ) (job : Job) : Status → List ℕ → List ℕ → Type 0 where
-  -- more items are reachable than the budget allows
-  over_budget : IsOver (unchanged g) input budget → Outcome g input budget job status.Budget [] (budget_note budget)
-  -- no tree is permitted; the note says how far the items came, and what was expected there
-  no_parse : (note : List ℕ) → (IsOver (unchanged g) input budget → ⊥) → IsUnparsed (unchanged g) input →
-      IsNoParseNote (unchanged g) input note → Outcome g input budget job status.NoParse [] note
-  -- a tree is permitted, and the one reduced forest says what comes of the job: to every depth it unfolds to exactly the
-  -- permitted trees of at most that height. Where it is to be printed, out gets its text
-  parsed : (f : Forest) (s : Status) (out note : List ℕ) → HasForest (unchanged g) input budget f →
-      Finishes (unchanged g) input f job s out note → Outcome g input budget job s out note
 
 -- the answer is the outcome; or memory ran out, and out got nothing
 abbrev pub Says : Grammar → List ℕ → ℕ → Job → Change SinkState → Change SinkState → Status → Type 0
@@ -139,3 +132,22 @@ LoadCommands words out notes answer =
     (size number budget : ℕ) → IsCommand words (load size number budget) → (PutFailed out → ⊥) → (PutFailed notes → ⊥) →
     ((answer ≡ status.NoMemory) × Untouched out) ⊎
     ((text : List ℕ) × ((note : List ℕ) × (LoadOutcome size number budget answer text note × Got out text × Got notes note)))
+
+-- out got what comes of jobs, one behind the other, each as it would end alone
+pub record GotEnds (holds : List ℕ → Told) (budget : ℕ) (jobs : List ListedJob) (out notes : Change SinkState) : Type 0 where
+  pub ends : List End
+  pub fetches : ℕ
+  pub all_end : AllEnd holds budget jobs ends fetches
+  pub got : Got out (batch_text 1 ends)
+  pub quiet : Untouched notes
+
+-- where the words ask for a batch, the shelf tells that it holds the list, which is that of these jobs, and of each job the
+-- grammar and, where that is accepted, the input, and nothing failed outside, the answer is status 0 and out got the ends of all
+-- jobs, or memory ran out, and out got nothing
+abbrev pub BatchCommands : List (List ℕ) → Change ShelfState → Change SinkState → Change SinkState → Status → Type 0
+BatchCommands words shelf out notes answer =
+    (list : List ℕ) (budget turn : ℕ) (xs : List ℕ) (jobs : List ListedJob) → IsCommand words (batch list budget turn) →
+    shelf.before.holds list ≡ bytes xs → IsListOf xs jobs → All (IsHeld shelf.before.holds) jobs → (FetchFailed shelf → ⊥) →
+    (PutFailed out → ⊥) → (PutFailed notes → ⊥) →
+    ((answer ≡ status.NoMemory) × Untouched out) ⊎
+    ((answer ≡ status.Done) × GotEnds shelf.before.holds budget jobs out notes)

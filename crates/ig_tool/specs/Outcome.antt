@@ -1,5 +1,5 @@
 -- What the top call answers, by cases.
-use Rattle.std.specs.Prelude.{◌≡◌, ◌≢◌, ◌≤◌, ℕ, zero, List, [], length, Some}
+use Rattle.std.specs.Prelude.{◌≡◌, ◌≢◌, ◌≤◌, ℕ, ◌+◌, zero, List, [], length, Some}
 use Rattle.ig_text.specs.Decoding.{IsDecoded, IsFaulty}
 use Rattle.ig_text.specs.declared.text.TextFault.{TextFault}
 use Rattle.ig_text.specs.declared.text.TextFault.TheVariants as text_fault
@@ -12,19 +12,24 @@ use Rattle.ig_parse.specs.Parses.{IsUnparsed, IsOver, HasForest}
 use Rattle.ig_load.specs.Summary.{IsLoadSummary, IsTooLarge}
 use Rattle.ig_load_texts.specs.Line.{summary_text}
 use Rattle.ig_load_texts.specs.declared.summary.Summary.{Summary}
-use Rattle.ig_command.specs.Commands.{Request, Source, load, verify, grammar_file, input_file, files_of, IsCommand}
+use Rattle.ig_command.specs.Commands.{Request, Source, load, batch, verify, grammar_file, input_file, files_of, IsCommand}
 use Rattle.ig_endings.specs.Change.{Change, Fetched, IsCalm, FetchFailed, Stood, Got, Failed, Untouched, Noted}
 use Rattle.ig_endings.specs.Notes.{budget_note, cannot_read_note, cannot_write_note, grammar_note, input_note, no_memory_note, usage_note}
 use Rattle.ig_endings.specs.declared.status.Status.{Status}
 use Rattle.ig_endings.specs.declared.status.Status.TheVariants as status
 use Rattle.ig_sources.specs.Accepted.{IsAccepted}
 use Rattle.ig_sources.specs.Refusals.{IsRefused}
-use Rattle.ig_sources.specs.Sources.{MayGive}
+use Rattle.ig_sources.specs.Sources.{IsBadList, MayGive}
 use Rattle.ig_jobs.specs.Jobs.{Job, request_for, task_request}
 use Rattle.ig_jobs.specs.declared.job.Task.{Task}
 use Rattle.ig_jobs.specs.Tasks.{GrammarText}
 use Rattle.ig_jobs.specs.Verifying.{Verifies, PassesReduced}
 use Rattle.ig_jobs.specs.Finishes.{IsNoParseNote, Finishes}
+use Rattle.ig_batch_list.specs.Lists.{Job as ListedJob}
+use Rattle.ig_batch.specs.Batch.{GivesJobs, IsAny, IsMissing, MayFetchBatch}
+use Rattle.ig_batch.specs.Ends.{AllEnd}
+use Rattle.ig_batch.specs.Files.{StopsAtFile}
+use Rattle.ig_batch.specs.Text.{End, batch_text}
 
 -- the file of the request's grammar may give it in its notation, and it is accepted
 pub record HasGrammar (shelf : ShelfState) (request : Request) (g : Grammar) : Type 0 where
@@ -47,6 +52,11 @@ pub record HasFiles (words : List (List ℕ)) (shelf : ShelfState) (request : Re
   pub command : IsCommand words request
   pub of_grammar : HasGrammar shelf request g
   pub of_input : HasInput shelf request input
+
+-- the words ask for a batch, and the file of its list may give the text of these jobs
+pub record HasJobs (words : List (List ℕ)) (shelf : ShelfState) (list : List ℕ) (budget turn : ℕ) (jobs : List ListedJob) : Type 0 where
+  pub command : IsCommand words (batch list budget turn)
+  pub gives : GivesJobs (shelf.holds list) jobs
 
 -- the status that is decided before anything is written, the text for out, the line for notes, and
 -- the number of fetches
@@ -115,11 +125,35 @@ pub data Decided (words : List (List ℕ)) (shelf : Change ShelfState) : Status 
       IsCalm shelf → HasFiles words shelf.before (verify grammar input_name file) g input →
       MayGive (shelf.before.holds file) zs → Verifies (unchanged g) input zs s out note → PassesReduced (unchanged g) input zs s →
       Decided words shelf s out note 3
+  -- a batch is asked for, and nothing is held under the name of its list
+  list_missing : (list : List ℕ) (budget turn : ℕ) → IsCalm shelf → IsCommand words (batch list budget turn) →
+      shelf.before.holds list ≡ nothing → Decided words shelf status.ReadFault [] (cannot_read_note list) 1
+  -- the fetch of its list failed
+  list_unread : (list : List ℕ) (budget turn : ℕ) → FetchFailed shelf → IsCommand words (batch list budget turn) →
+      Decided words shelf status.ReadFault [] (cannot_read_note list) 1
+  -- the bytes are the text of no list
+  list_refused : (list : List ℕ) (budget turn : ℕ) (xs note : List ℕ) → IsCalm shelf → IsCommand words (batch list budget turn) →
+      MayGive (shelf.before.holds list) xs → IsBadList xs note → Decided words shelf status.BadList [] note 1
+  -- nothing is held under the name of a file of a job
+  job_missing : (list : List ℕ) (budget turn : ℕ) (jobs : List ListedJob) (file : List ℕ) (k : ℕ) → IsCalm shelf →
+      HasJobs words shelf.before list budget turn jobs → StopsAtFile shelf.before.holds IsMissing jobs file k →
+      Decided words shelf status.ReadFault [] (cannot_read_note file) (1 + k)
+  -- the fetch of a file of a job failed
+  job_unread : (list : List ℕ) (budget turn : ℕ) (jobs : List ListedJob) (file : List ℕ) (k : ℕ) → FetchFailed shelf →
+      HasJobs words shelf.before list budget turn jobs → StopsAtFile shelf.before.holds IsAny jobs file k →
+      Decided words shelf status.ReadFault [] (cannot_read_note file) (1 + k)
+  -- each job ended as it would alone
+  batched : (list : List ℕ) (budget turn : ℕ) (jobs : List ListedJob) (ends : List End) (k : ℕ) → IsCalm shelf →
+      HasJobs words shelf.before list budget turn jobs → AllEnd shelf.before.holds budget jobs ends k →
+      Decided words shelf status.Done (batch_text 1 ends) [] (1 + k)
 
--- how often files may be fetched: never where the words are no command, else once for each file at most
-pub data MayFetch (words : List (List ℕ)) : ℕ → Type 0 where
-  never : MayFetch words zero
-  for_names : (request : Request) (k : ℕ) → IsCommand words request → k ≤ length (files_of request) → MayFetch words k
+-- how often files may be fetched: never where the words are no command, else once for each file that they name at most, and of
+-- a batch the files of its jobs in order
+pub data MayFetch (words : List (List ℕ)) (shelf : ShelfState) : ℕ → Type 0 where
+  never : MayFetch words shelf zero
+  for_names : (request : Request) (k : ℕ) → IsCommand words request → k ≤ length (files_of request) → MayFetch words shelf k
+  for_batch : (list : List ℕ) (budget turn k : ℕ) → IsCommand words (batch list budget turn) → MayFetchBatch shelf list k →
+      MayFetch words shelf k
 
 -- the answer of the top call to its words, by what the shelf tells, with what was fetched and put
 pub data Answers (words : List (List ℕ)) (shelf : Change ShelfState) (out notes : Change SinkState) : Status → Type 0 where
@@ -136,5 +170,5 @@ pub data Answers (words : List (List ℕ)) (shelf : Change ShelfState) (out note
   unnoted : (s : Status) (note : List ℕ) (k : ℕ) → Decided words shelf s [] note k → s ≢ status.Done → Fetched shelf k →
       Untouched out → Failed notes note → Answers words shelf out notes status.WriteFault
   -- memory ran out before anything was written
-  no_memory : (k : ℕ) → MayFetch words k → Fetched shelf k → Stood shelf.before.faults shelf.after.faults →
+  no_memory : (k : ℕ) → MayFetch words shelf.before k → Fetched shelf k → Stood shelf.before.faults shelf.after.faults →
       Untouched out → Noted notes no_memory_note → Answers words shelf out notes status.NoMemory

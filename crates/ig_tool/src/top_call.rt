@@ -8,9 +8,10 @@ ghost use Rattle.ig_jobs.specs.Verifying.{IsTaken};
 ghost use Rattle.ig_tool.specs.Outcome.{Answers};
 ghost use Rattle.ig_tool.specs.Decisions.{Decides, RunsCheck, RunsJob};
 ghost use Rattle.ig_tool.specs.Headline.{Completeness, GrammarCommands, Headline};
-ghost use Rattle.ig_tool.specs.Headline.{Certification, LoadCommands, Verification};
+ghost use Rattle.ig_tool.specs.Headline.{BatchCommands, Certification, LoadCommands, Verification};
 
-use ig_command::{Source, command_of, load_sizes_are_few};
+use ig_batch::batch;
+use ig_command::{Source, batch_numbers_are_some, command_of, load_sizes_are_few};
 use ig_endings::{Status, Stop, end, usage};
 use ig_jobs::{
     Files, Job, Task, Work, do_task, parse, parser_of, summary_line, verify_text, work_of,
@@ -51,13 +52,21 @@ use std::alloc::Global;
 /// of one of the grammar and the input, so that each of its trees is permitted; it need not have
 /// all of them.
 ///
-/// The option `--notation` of each of these but `load` says in which notation the grammar text is:
-/// `own`, which is meant without it, or `w3c`, that of section 6 of the XML recommendation; `show`
-/// puts the text in the same notation.
+/// `batch F` parses many inputs in one run: the file F has a line for each job, with the names of
+/// its grammar and its input and a space between them. It puts, for each job in order, the line
+/// `job K status S out B notes C`, and then the B bytes that `forest` with these files and the same
+/// budget puts on out, and the C bytes that it puts on notes. The jobs take turns of as many events
+/// as the option `--turn` says, or 1,000; that changes nothing of what they give. A job whose
+/// grammar or input is refused ends with its own status; where one of its files isn't there, so
+/// does the command.
 ///
-/// The option `--order` of `forest`, `trees`, `query` and `load` says in which order the items are
-/// taken: `fifo`, which is meant without it, `lifo`, `lowest` or `plain`. It changes no byte of the
-/// output.
+/// The option `--notation` of each of these but `load` and `batch` says in which notation the
+/// grammar text is: `own`, which is meant without it, or `w3c`, that of section 6 of the XML
+/// recommendation; `show` puts the text in the same notation.
+///
+/// The option `--order` of `forest`, `trees`, `query`, `load` and `batch` says in which order the
+/// items are taken: `fifo`, which is meant without it, `lifo`, `lowest` or, but for `batch`,
+/// `plain`. It changes no byte of the output.
 ///
 /// The words come without the program's name. All memory is taken before the first put.
 pub fn iguana<F: Shelf, O: Sink, N: Sink>(
@@ -94,6 +103,10 @@ pub fn iguana<F: Shelf, O: Sink, N: Sink>(
     ensures loads { LoadCommands (map string_bytes words.now)
         (change (O.state out.old) (O.state out.new))
         (change (N.state notes.old) (N.state notes.new)) result }
+    ensures batches { BatchCommands (map string_bytes words.now)
+        (change (F.state shelf.old) (F.state shelf.new))
+        (change (O.state out.old) (O.state out.new))
+        (change (N.state notes.old) (N.state notes.new)) result }
     ensures same { (n : List ℕ) → (F.state shelf.new).holds n ≡ (F.state shelf.old).holds n }
 {
     one_reading();
@@ -108,6 +121,7 @@ fn decide<F: Shelf>(alloc: Global, words: &[String], shelf: &mut F) -> Result<Ve
         (change (F.state shelf.old) (F.state shelf.new)) result }
     ensures same { (n : List ℕ) → (F.state shelf.new).holds n ≡ (F.state shelf.old).holds n }
 {
+    batch_numbers_are_some();
     load_sizes_are_few();
     let Some(command) = command_of(alloc, words)? else {
         return Err(usage(alloc));
@@ -124,6 +138,12 @@ fn decide<F: Shelf>(alloc: Global, words: &[String], shelf: &mut F) -> Result<Ve
             budget,
             order,
         } => summary_line(alloc, size, number, budget, order),
+        Work::OnList {
+            list,
+            budget,
+            order,
+            turn,
+        } => batch(alloc, shelf, list, budget, order, turn),
     }
 }
 

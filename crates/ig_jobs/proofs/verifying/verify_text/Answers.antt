@@ -1,4 +1,4 @@
-use Rattle.std.proofs.Common.{ℕ, ◌≤◌, List, length, subst, sym, ◌∙◌}
+use Rattle.std.proofs.Common.{ℕ, ◌≤◌, List, subst, sym, ◌∙◌}
 use Rattle.ig_text.specs.Limits.{most_characters}
 use Rattle.ig_item.specs.declared.core_grammar.Nonterminal.{Nonterminal}
 use Rattle.ig_forest_reader.specs.Written.{IsDraftOf, TellsNames}

@@ -1,6 +1,7 @@
 use Rattle.std.proofs.Common.{subst, sym}
 use Rattle.std.specs.Prelude.{map, string_bytes}
 use Rattle.ig_command.specs.Commands.{IsCommand}
+use Rattle.ig_tool.proofs.Batching.{decides_batch}
 use Rattle.ig_tool.proofs.Deciding.{decides_usage, decides_load, decides_memory}
 use Rattle.ig_tool.proofs.top_call.decide.Goals as goal
 
@@ -42,3 +43,17 @@ returns-in-OfLoad-clause-answer g c =
     let asked = rw c.in-OfLoad.is at c.work_of.ensures.request in
     decides_load _ _ c.in-OfLoad.size c.in-OfLoad.number c.in-OfLoad.budget c.summary_line.result
     (subst (IsCommand (map string_bytes c.args.words.now)) (sym asked) read) c.summary_line.ensures
+
+pub batch-requires : goal.batch-requires
+batch-requires g c =
+    let read = rw c.in-Some.is at c.in_ok-command.ensures.reads in
+    let asked = rw c.in-OnList.is at c.work_of.ensures.request in
+    (c.batch_numbers_are_some.ensures (map string_bytes c.args.words.now) c.in-OnList.list.now c.in-OnList.budget c.in-OnList.turn
+    (subst (IsCommand (map string_bytes c.args.words.now)) (sym asked) read)).some_events
+
+pub returns-in-OnList-clause-answer : goal.returns-in-OnList-clause-answer
+returns-in-OnList-clause-answer g c =
+    let read = rw c.in-Some.is at c.in_ok-command.ensures.reads in
+    let asked = rw c.in-OnList.is at c.work_of.ensures.request in
+    decides_batch _ _ c.in-OnList.list.now c.in-OnList.budget c.in-OnList.turn
+    (subst (IsCommand (map string_bytes c.args.words.now)) (sym asked) read) c.batch.result c.batch.ensures.answer

@@ -1,4 +1,5 @@
 use Rattle.ig_tool.proofs.Deciding.{answers_end}
+use Rattle.ig_tool.proofs.BatchLaw.{batch_commands}
 use Rattle.ig_tool.proofs.CompletenessLaw.{completeness}
 use Rattle.ig_tool.proofs.Asked.{given}
 use Rattle.ig_tool.proofs.GrammarLaw.{grammar_commands}
@@ -33,6 +34,9 @@ returns-clause-certification g c =
 
 pub returns-clause-loads : goal.returns-clause-loads
 returns-clause-loads g c = load_commands _ _ _ _ _ (returns-clause-answer g c)
+
+pub returns-clause-batches : goal.returns-clause-batches
+returns-clause-batches g c = batch_commands _ _ _ _ _ (returns-clause-answer g c)
 
 pub returns-clause-same : goal.returns-clause-same
 returns-clause-same g c = c.decide-decided.ensures.same
