@@ -112,9 +112,9 @@ def draws(number):
         yield number >> 33
 
 
-def sum_input(size):
-    """Letters with operators between them, `size` letters."""
-    draw = draws(1)
+def sum_input(size, number=1):
+    """Letters with operators between them, `size` letters; the number decides which."""
+    draw = draws(number)
     out = [chr(97 + next(draw) % 26)]
     for _ in range(size - 1):
         out += ["^*+-"[next(draw) % 4], chr(97 + next(draw) % 26)]
