@@ -6,11 +6,11 @@ use Rattle.ig_grammar.specs.declared.symbol.Symbol as declared
 use Rattle.ig_grammar.specs.Symbol.{Symbol, Group}
 use Rattle.ig_grammar.specs.Alternative.{gathered_alternatives}
 use Rattle.ig_grammar.specs.declared.symbol.Alt.{Alt}
-use Rattle.ig_blocks_laws.specs.Setting.{Setting, Pair, inner, wrapped}
-use Rattle.ig_blocks_laws.specs.Body.{tests_of, body_of, choices_of}
-use Rattle.ig_blocks_laws.specs.Blocks.{symbols_by, alternative_by}
-use Rattle.ig_blocks_laws.specs.Laws.{AreGathered}
-use Rattle.ig_forms.specs.Code.{item_by, list_by}
+use Rattle.ig_blocks_parts.specs.Setting.{Setting, Pair, inner, wrapped}
+use Rattle.ig_blocks_parts.specs.Body.{tests_of, body_of, choices_of}
+use Rattle.ig_blocks_parts.specs.Blocks.{symbols_by, alternative_by}
+use Rattle.ig_blocks_parts.specs.Laws.{AreGathered}
+use Rattle.ig_blocks_parts.specs.FormCode.{item_by, list_by}
 
 -- a form, from what was made of the symbols inside it
 module _ {E : Type 0} (s : Setting) (al : Bool) (p : Pair) where

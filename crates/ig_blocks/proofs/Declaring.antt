@@ -7,9 +7,9 @@ use Rattle.ig_grammar.specs.declared.declaration.Decl.{Decl}
 use Rattle.ig_grammar.specs.declared.declaration.Level.{Level}
 use Rattle.ig_grammar.specs.declared.declaration.Param.{Param}
 use Rattle.ig_grammar.specs.declared.place.Shape.{Shape}
-use Rattle.ig_rewrite.specs.Rooted.{is_root, rooted}
-use Rattle.ig_blocks_laws.specs.Setting.{Setting, lacking, pair_by, extra_by}
-use Rattle.ig_blocks_laws.specs.Blocks.{level_by, int_param, declaration_by, root_by, lowered_declaration, lowered_declarations, setting_of, lowered_grammar, lowered_of, BlocksOf}
+use Rattle.ig_pass.specs.Rooted.{is_root, rooted}
+use Rattle.ig_blocks_parts.specs.Setting.{Setting, lacking, pair_by, extra_by}
+use Rattle.ig_blocks_parts.specs.Blocks.{level_by, int_param, declaration_by, root_by, lowered_declaration, lowered_declarations, setting_of, lowered_grammar, lowered_of, BlocksOf}
 use Rattle.ig_blocks.specs.Code.{has_pair}
 use Rattle.ig_grammar.specs.declared.grammar.Grammar.{Grammar}
 

@@ -1,29 +1,27 @@
 //! What the pass makes of declarations and grammars.
 ghost use Rattle.std.specs.Prelude.{◌≡◌, [], ◌∷◌, ◌++◌, length, map, IfOk, OnOk};
-ghost use Rattle.ig_rewrite.specs.Added.{margin_name, first_name, column_name};
-ghost use Rattle.ig_rewrite.specs.Rooted.{is_root};
-ghost use Rattle.ig_rewrite.specs.Sound.{IsSound, IsFree};
-ghost use Rattle.ig_rewrite.specs.Unbound.{IsUnbound};
-ghost use Rattle.ig_blocks_laws.specs.Setting.{extra_by, pair_by};
-ghost use Rattle.ig_blocks_laws.specs.Blocks.{alternative_by, level_by, int_param, BlocksOf};
-ghost use Rattle.ig_blocks_laws.specs.Blocks.{lowered_declaration, lowered_declarations};
-ghost use Rattle.ig_blocks_laws.specs.Blocks.{lowered_grammar};
-ghost use Rattle.ig_blocks_laws.specs.Laws.{PlainIsUnmarked};
-ghost use Rattle.ig_columns.specs.Code.{setting_by};
+ghost use Rattle.ig_pass.specs.Added.{margin_name, first_name, column_name};
+ghost use Rattle.ig_pass.specs.Rooted.{is_root};
+ghost use Rattle.ig_pass.specs.Sound.{IsSound, IsFree};
+ghost use Rattle.ig_pass.specs.Unbound.{IsUnbound};
+ghost use Rattle.ig_blocks_parts.specs.Setting.{extra_by, pair_by};
+ghost use Rattle.ig_blocks_parts.specs.Blocks.{alternative_by, level_by, int_param, BlocksOf};
+ghost use Rattle.ig_blocks_parts.specs.Blocks.{lowered_declaration, lowered_declarations};
+ghost use Rattle.ig_blocks_parts.specs.Blocks.{lowered_grammar};
+ghost use Rattle.ig_blocks_parts.specs.Laws.{PlainIsUnmarked};
+ghost use Rattle.ig_blocks_parts.specs.ColumnCode.{setting_by};
 ghost use Rattle.ig_blocks.specs.Code.{has_pair};
 
 use crate::symbols::choices;
-use ig_blocks_laws::blocks_keep;
-use ig_columns::{Guide, Pair, guide_of, is_paired, is_root};
+use ig_blocks_parts::{Guide, Pair, blocks_keep, guide_of, is_paired, is_root};
 use ig_grammar::{
     Alts, Checked, Decl, DeclKind, Decls, Grammar, Level, Levels, Params, Shape, Shapes,
 };
-use ig_rooting::{copy_of_shapes, root};
+use ig_pass::{copy_of_shapes, copy_of_start, push_declaration, push_integer, push_level, root};
 use ig_text::{Copied, Word};
-use ig_traversal::{copy_of_start, push_declaration, push_integer, push_level};
 use std::alloc::{AllocError, Global};
 
-/// The grammar without `offside`, `ignore` and `align`, exactly as `ig_blocks_laws` says;
+/// The grammar without `offside`, `ignore` and `align`, exactly as `ig_blocks_parts` says;
 /// `$root` is its last declaration where none stood for the root. Refused for want of memory alone.
 /// No declaration of the grammar has operators, nothing in it has the names of the pair or of the
 /// column, and where some declaration is plain it has no mark.

@@ -1,24 +1,23 @@
 //! What the pass makes of symbols.
 ghost use Rattle.std.specs.Prelude.{◌≡◌, map, IfOk, false};
 ghost use Rattle.ig_grammar.specs.View.{symbol_of};
-ghost use Rattle.ig_blocks_laws.specs.Setting.{inner, wrapped};
-ghost use Rattle.ig_blocks_laws.specs.Body.{tests_of, body_of};
-ghost use Rattle.ig_blocks_laws.specs.Blocks.{symbols_by, alternative_by};
-ghost use Rattle.ig_columns.specs.Code.{pair_of, setting_by};
-ghost use Rattle.ig_forms.specs.Code.{item_by};
+ghost use Rattle.ig_blocks_parts.specs.Setting.{inner, wrapped};
+ghost use Rattle.ig_blocks_parts.specs.Body.{tests_of, body_of};
+ghost use Rattle.ig_blocks_parts.specs.Blocks.{symbols_by, alternative_by};
+ghost use Rattle.ig_blocks_parts.specs.ColumnCode.{pair_of, setting_by};
+ghost use Rattle.ig_blocks_parts.specs.FormCode.{item_by};
 
-use ig_blocks_laws::all_are_gathered;
-use ig_columns::{Guide, Pair, cleared_by, inner_of, opened_by};
-use ig_forms::{
-    behind_tests, both, called, entered_again, entered_by, item_of, optional, repeated, starred,
+use ig_blocks_parts::{
+    Guide, Pair, all_are_gathered, behind_tests, both, called, cleared_by, entered_again,
+    entered_by, inner_of, item_of, opened_by, optional, repeated, starred,
 };
 use ig_grammar::{Alt, Alts, Inner, Symbol, Symbols};
+use ig_pass::{filtered, labelled, push_alternative, push_symbol};
 use ig_text::Copied;
-use ig_traversal::{filtered, labelled, push_alternative, push_symbol};
 use std::alloc::{AllocError, Global};
 
 /// A symbol under a pair, without its tests; a list under `align` is aligned. What is made of a
-/// form, from what is inside it, `ig_forms` says.
+/// form, from what is inside it, `ig_blocks_parts` says.
 #[cycle(bodies)]
 fn body(
     symbol: &Symbol,

@@ -3,18 +3,18 @@ use Rattle.std.proofs.Common.{◌≡◌, ◌∙◌, Result, Ok, Err, None, refl,
 use Rattle.std.specs.Prelude.{IfOk}
 use Rattle.ig_grammar.specs.Checked.{CheckedGrammar}
 use Rattle.ig_grammar.specs.Numbering.{layout_among}
-use Rattle.ig_rewrite.specs.Added.{margin_name, first_name, column_name}
-use Rattle.ig_rewrite.specs.Sound.{IsSound, IsFree, IsUnmarked, HasExclusionsAlone}
-use Rattle.ig_rewrite.specs.Unbound.{IsUnbound}
-use Rattle.ig_levels_laws.specs.Levels.{LevelsOf}
-use Rattle.ig_blocks_laws.specs.Blocks.{BlocksOf}
-use Rattle.ig_blocks_laws.specs.Laws.{PlainIsUnmarked}
-use Rattle.ig_lexical_laws.specs.Layout.{LayoutOf}
-use Rattle.ig_lexical_laws.specs.Filters.{FiltersOf}
-use Rattle.ig_ebnf_laws.specs.Lists.{ListsOf, HasFewLists}
-use Rattle.ig_core_laws.specs.CoreOf.{core_of}
-use Rattle.ig_core_laws.specs.Laws.{ArePassed}
-use Rattle.ig_core_laws.specs.Lowered.{BeforeLists, Lowered, CoreOf, IsNumbered}
+use Rattle.ig_pass.specs.Added.{margin_name, first_name, column_name}
+use Rattle.ig_pass.specs.Sound.{IsSound, IsFree, IsUnmarked, HasExclusionsAlone}
+use Rattle.ig_pass.specs.Unbound.{IsUnbound}
+use Rattle.ig_levels.specs.Levels.{LevelsOf}
+use Rattle.ig_blocks_parts.specs.Blocks.{BlocksOf}
+use Rattle.ig_blocks_parts.specs.Laws.{PlainIsUnmarked}
+use Rattle.ig_lexical.specs.Layout.{LayoutOf}
+use Rattle.ig_lexical.specs.Filters.{FiltersOf}
+use Rattle.ig_ebnf_variables.specs.Lists.{ListsOf, HasFewLists}
+use Rattle.ig_core.specs.CoreOf.{core_of}
+use Rattle.ig_core.specs.Laws.{ArePassed}
+use Rattle.ig_core.specs.Lowered.{BeforeLists, Lowered, CoreOf, IsNumbered}
 
 pub record AtLevels (x : CheckedGrammar) : Type 0 where
   pub sound : IsSound x

@@ -16,10 +16,10 @@ use Rattle.ig_grammar.specs.declared.place.Shape.{Shape}
 use Rattle.ig_grammar.specs.declared.place.Shape.TheVariants.{Root}
 use Rattle.ig_item.specs.Core.{dots, dots_of_nonterminal, dots_of_alternative}
 use Rattle.ig_item.specs.declared.core_grammar.Nonterminal.{Nonterminal}
-use Rattle.ig_nonterminals.specs.Tables.{given, number_by, found_from, Numbers}
-use Rattle.ig_core_laws.specs.CoreOf.{Shaped, shaped, unrooted, place, number_in, number_of, nonterminal_of, nonterminals_of, alternative_of, alternatives_of, core_of, root_of, root_among, written_root, start_symbols, call_of}
-use Rattle.ig_rewrite.specs.Rooted.{is_root}
-use Rattle.ig_core_laws.specs.Steps.{step_of, steps_of}
+use Rattle.ig_core.specs.Tables.{given, number_by, found_from, Numbers}
+use Rattle.ig_core.specs.CoreOf.{Shaped, shaped, unrooted, place, number_in, number_of, nonterminal_of, nonterminals_of, alternative_of, alternatives_of, core_of, root_of, root_among, written_root, start_symbols, call_of}
+use Rattle.ig_pass.specs.Rooted.{is_root}
+use Rattle.ig_core.specs.Steps.{step_of, steps_of}
 use Rattle.std.specs.Prelude.{if◌then◌else◌, MatchOption, is_some}
 use Rattle.std.specs.Bool.{Decides}
 use Rattle.std.proofs.Common.{Bool, true, false, drop, get_or, take}

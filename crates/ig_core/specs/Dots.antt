@@ -6,8 +6,8 @@ use Rattle.ig_grammar.specs.declared.symbol.Alt.{Alt}
 use Rattle.ig_grammar.specs.declared.declaration.Level.{Level}
 use Rattle.ig_grammar.specs.declared.declaration.Decl.{Decl}
 use Rattle.ig_grammar.specs.declared.place.Shape.{Shape}
-use Rattle.ig_core_laws.specs.CoreOf.{Shaped, shaped}
-use Rattle.ig_rewrite.specs.Rooted.{is_root}
+use Rattle.ig_core.specs.CoreOf.{Shaped, shaped}
+use Rattle.ig_pass.specs.Rooted.{is_root}
 
 abbrev pub alt_dots : Alt → ℕ
 alt_dots alt = length alt.symbols + 1

@@ -1,1 +1,9 @@
+pub mod Limits
+pub mod Steps
+pub mod CoreOf
+pub mod Ready
+pub mod Lowered
+pub mod Notation
+pub mod Laws
+pub mod Tables
 pub mod Dots

@@ -3,20 +3,22 @@ ghost use Rattle.std.specs.Prelude.{◌≡◌, ◌<◌, ◌≤◌, length, IfOk,
 ghost use Rattle.std.specs.Bool.{Decides};
 ghost use Rattle.ig_item.specs.Core.{dots};
 ghost use Rattle.ig_item.specs.Limits.{most_dots};
-ghost use Rattle.ig_core_laws.specs.CoreOf.{core_of};
-ghost use Rattle.ig_core_laws.specs.Lowered.{CoreOf, IsBuildable, IsNumbered};
-ghost use Rattle.ig_rewrite.specs.Remaining.{IsRemaining};
-ghost use Rattle.ig_core_laws.specs.Limits.{most_declarations};
+ghost use Rattle.ig_core.specs.CoreOf.{core_of};
+ghost use Rattle.ig_core.specs.Lowered.{CoreOf, IsBuildable, IsNumbered};
+ghost use Rattle.ig_pass.specs.Remaining.{IsRemaining};
+ghost use Rattle.ig_core.specs.Limits.{most_declarations};
 ghost use Rattle.ig_core.specs.declared.fault.CoreFault.TheVariants.{TooManyDots};
 
 use crate::dots::has_few_dots;
 use crate::fault::CoreFault;
+use crate::laws::{cores_are_well_kinded, passes_keep};
 use crate::lowering::lower;
-use ig_core_laws::{cores_are_well_kinded, passes_keep};
+use crate::naming::{count, number_names};
+use crate::nonterminals::add_nonterminals;
+use crate::roots::build_root;
 use ig_grammar::Checked;
 use ig_item::Core;
-use ig_nonterminals::{add_nonterminals, build_root, count, number_names};
-use ig_rewrite::declarations_are_found;
+use ig_pass::declarations_are_found;
 use ig_text::Sequence;
 use std::alloc::{AllocError, Global};
 

@@ -4,12 +4,12 @@ ghost use Rattle.std.specs.Bool.{Decides};
 ghost use Rattle.ig_grammar.specs.Numbering.{layout_among};
 ghost use Rattle.ig_item.specs.Core.{dots};
 ghost use Rattle.ig_item.specs.Limits.{most_dots};
-ghost use Rattle.ig_core_laws.specs.CoreOf.{unrooted, call_of, root_of, core_of};
+ghost use Rattle.ig_core.specs.CoreOf.{unrooted, call_of, root_of, core_of};
 ghost use Rattle.ig_core.specs.Dots.{alt_dots, level_dots, decl_dots, row_dots, row, IsCount};
 
+use crate::roots::{find_root, is_root};
 use ig_grammar::{Alt, Checked, Decl, Level, Shape};
 use ig_item::MOST_DOTS;
-use ig_nonterminals::{find_root, is_root};
 use ig_text::Word;
 
 /// The dots and those of the alternatives; `None` exactly where they are more than `MOST_DOTS`.

@@ -1,18 +1,16 @@
 //! The passes, one behind the other.
 ghost use Rattle.std.specs.Prelude.{◌≡◌, IfOk};
-ghost use Rattle.ig_rewrite.specs.Sound.{IsSound, IsFree, IsUnmarked};
-ghost use Rattle.ig_lexical_laws.specs.Layout.{LayoutOf};
-ghost use Rattle.ig_lexical_laws.specs.Filters.{FiltersOf};
-ghost use Rattle.ig_core_laws.specs.Lowered.{IsBuildable, IsNumbered, Lowered};
+ghost use Rattle.ig_pass.specs.Sound.{IsSound, IsFree, IsUnmarked};
+ghost use Rattle.ig_lexical.specs.Layout.{LayoutOf};
+ghost use Rattle.ig_lexical.specs.Filters.{FiltersOf};
+ghost use Rattle.ig_core.specs.Lowered.{IsBuildable, IsNumbered, Lowered};
 
+use crate::laws::passes_in_turn;
 use ig_blocks::lower_blocks;
-use ig_core_laws::passes_in_turn;
 use ig_ebnf::lower_ebnf;
-use ig_filters::attach_filters;
 use ig_grammar::Checked;
-use ig_layout::add_layout;
 use ig_levels::lower_levels;
-use ig_lexical_laws::layout_keeps;
+use ig_lexical::{add_layout, attach_filters, layout_keeps};
 use std::alloc::{AllocError, Global};
 
 /// What the passes leave of a grammar: levels, blocks, layout, filters and lists, in this order.

@@ -9,12 +9,12 @@ use Rattle.ig_grammar.specs.declared.symbol.Symbol.{Symbol as Stored}
 use Rattle.ig_grammar.specs.declared.symbol.Symbol.TheVariants.{Opt, Star, Plus, SepStar, Group}
 use Rattle.ig_grammar.specs.declared.symbol.Alt.{Alt}
 use Rattle.ig_grammar.specs.declared.place.Shape.TheVariants as shape
-use Rattle.ig_rewrite.specs.Added.{added_name}
-use Rattle.ig_rewrite.specs.Needs.{needs}
-use Rattle.ig_ebnf_laws.specs.Laws.{IsGathered}
-use Rattle.ig_ebnf_laws.specs.Lists.{Made, made, decls_of, forms_of, params_for, count, added, added_alts, new_alts}
-use Rattle.ig_lists.specs.Made.{Grows, option_made, star_made, plus_made, sep_star_made, sep_plus_made}
-use Rattle.ig_lists.specs.declared.made.Lowered.{Lowered}
+use Rattle.ig_pass.specs.Added.{added_name}
+use Rattle.ig_pass.specs.Needs.{needs}
+use Rattle.ig_ebnf_variables.specs.Laws.{IsGathered}
+use Rattle.ig_ebnf_variables.specs.Lists.{Made, made, decls_of, forms_of, params_for, count, added, added_alts, new_alts}
+use Rattle.ig_ebnf.specs.Made.{Grows, option_made, star_made, plus_made, sep_star_made, sep_plus_made}
+use Rattle.ig_ebnf.specs.declared.made.Lowered.{Lowered}
 
 -- those that are still to be added
 pub record Leads (before : Lowered) (ms : List Made) (after : Lowered) (rest : List Made) : Type 0 where

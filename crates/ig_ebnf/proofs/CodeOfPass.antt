@@ -7,11 +7,11 @@ use Rattle.ig_grammar.specs.WellScoped.{IsWellScoped}
 use Rattle.ig_grammar.specs.declared.declaration.Decl.{Decl}
 use Rattle.ig_grammar.specs.declared.declaration.Level.{Level}
 use Rattle.ig_grammar.specs.declared.place.Shape.{Shape}
-use Rattle.ig_rewrite.specs.Added.{numbers_bound, root_name, IsFresh}
-use Rattle.ig_rewrite.specs.Rooted.{has_root}
-use Rattle.ig_rewrite.specs.Sound.{IsSound, IsFree, IsUnmarked, HasExclusionsAlone}
-use Rattle.ig_ebnf_laws.specs.Lists.{count_levels, HasFewLists, lowered, lowered_grammar}
-use Rattle.ig_ebnf_laws.specs.Laws.{LoweringKeeps}
+use Rattle.ig_pass.specs.Added.{numbers_bound, root_name, IsFresh}
+use Rattle.ig_pass.specs.Rooted.{has_root}
+use Rattle.ig_pass.specs.Sound.{IsSound, IsFree, IsUnmarked, HasExclusionsAlone}
+use Rattle.ig_ebnf_variables.specs.Lists.{count_levels, HasFewLists, lowered, lowered_grammar}
+use Rattle.ig_ebnf_variables.specs.Laws.{LoweringKeeps}
 
 pub few_counted : (items levels : List Level) (i next : ℕ) → items ≡ levels → length items ≤ i →
     next + count_levels (drop i items) ≡ 1 + count_levels items → next < numbers_bound →

@@ -1,2 +1,3 @@
+pub mod CodeOfMade
 pub mod CodeOfGrowth
 pub mod CodeOfPass

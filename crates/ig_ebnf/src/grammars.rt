@@ -3,21 +3,20 @@ ghost use Rattle.std.specs.Prelude.{◌≡◌, ◌<◌, None, Contains, map, IfO
 ghost use Rattle.ig_grammar.specs.Numbering.{layout_among};
 ghost use Rattle.ig_grammar.specs.Visible.{parameters};
 ghost use Rattle.ig_grammar.specs.declared.declaration.Decl as declared;
-ghost use Rattle.ig_rewrite.specs.Added.{numbers_bound};
-ghost use Rattle.ig_rewrite.specs.Sound.{IsSound, IsFree, IsUnmarked, HasExclusionsAlone};
-ghost use Rattle.ig_ebnf_laws.specs.Lists.{new_levels, new_declaration, added_by, all_added};
-ghost use Rattle.ig_ebnf_laws.specs.Lists.{count_levels, HasFewLists, ListsOf};
-ghost use Rattle.ig_ebnf_laws.specs.Lists.{lowered_grammar, lowered};
-ghost use Rattle.ig_lists.specs.Made.{Grows};
+ghost use Rattle.ig_pass.specs.Added.{numbers_bound};
+ghost use Rattle.ig_pass.specs.Sound.{IsSound, IsFree, IsUnmarked, HasExclusionsAlone};
+ghost use Rattle.ig_ebnf_variables.specs.Lists.{new_levels, new_declaration, added_by, all_added};
+ghost use Rattle.ig_ebnf_variables.specs.Lists.{count_levels, HasFewLists, ListsOf};
+ghost use Rattle.ig_ebnf_variables.specs.Lists.{lowered_grammar, lowered};
+ghost use Rattle.ig_ebnf.specs.Made.{Grows};
 
 use crate::growing::add_alternatives;
-use ig_ebnf_laws::lowering_keeps;
+use crate::made::Lowered;
+use crate::placing::new_alternatives;
+use ig_ebnf_variables::{count_alternatives, lowering_keeps, sum};
 use ig_grammar::{Checked, Decl, Decls, Grammar, Level, Levels, Variables};
-use ig_lists::{Lowered, new_alternatives};
-use ig_rooting::{copy_of_shapes, has_root, root};
+use ig_pass::{copy_of_shapes, copy_of_start, has_root, push_declaration, push_level, root};
 use ig_text::Copied;
-use ig_traversal::{copy_of_start, push_declaration, push_level};
-use ig_variables::{count_alternatives, sum};
 use std::alloc::{AllocError, Global};
 
 /// The levels of the declaration, with what stands for their symbols.
@@ -126,11 +125,11 @@ fn lowered(alloc: Global, checked: &Checked) -> Result<Checked, AllocError>
 }
 
 /// The grammar with a call in place of each list, option and group, and with the declarations that
-/// are added for these, exactly as `ig_ebnf_laws` says; `$root` is its last declaration where none
-/// stood for the root. Refused for want of memory alone: that is said of a declaration, too, for
-/// which more are added than numbers of 64 bits from 1 tell apart. The grammar is sound, as passes
-/// leave it: no layout is declared, no declaration has operators, no mark is left, and of filters
-/// only exclusions are.
+/// are added for these, exactly as `ig_ebnf_variables` says; `$root` is its last declaration where
+/// none stood for the root. Refused for want of memory alone: that is said of a declaration, too,
+/// for which more are added than numbers of 64 bits from 1 tell apart. The grammar is sound, as
+/// passes leave it: no layout is declared, no declaration has operators, no mark is left, and of
+/// filters only exclusions are.
 pub fn lower_ebnf(alloc: Global, checked: &Checked) -> Result<Checked, AllocError>
     requires sound { IsSound checked.now }
     requires free { IsFree checked.now.grammar }

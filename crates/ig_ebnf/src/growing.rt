@@ -2,16 +2,15 @@
 ghost use Rattle.std.specs.Prelude.{suc, ◌+◌, ◌∷◌, ◌++◌, OnOk};
 ghost use Rattle.ig_grammar.specs.View.{symbol_of};
 ghost use Rattle.ig_grammar.specs.Symbol.{gathered};
-ghost use Rattle.ig_ebnf_laws.specs.Lists.{count, added, added_symbols, added_alts};
-ghost use Rattle.ig_lists.specs.Made.{Grows, sep_plus_made};
+ghost use Rattle.ig_ebnf_variables.specs.Lists.{count, added, added_symbols, added_alts};
+ghost use Rattle.ig_ebnf.specs.Made.{Grows, sep_plus_made};
 
-use ig_ebnf_laws::groups_are_gathered;
-use ig_grammar::{Alts, Symbol, Symbols, Variables};
-use ig_lists::{
+use crate::made::{
     Lowered, Separated, push_group, push_option, push_plus, push_sep_plus, push_sep_star, push_star,
 };
+use ig_ebnf_variables::{bind, count, count_symbols, groups_are_gathered, successor, sum};
+use ig_grammar::{Alts, Symbol, Symbols, Variables};
 use ig_text::{Copied, Word};
-use ig_variables::{bind, count, count_symbols, successor, sum};
 use std::alloc::{AllocError, Global};
 
 /// Adds the declarations for a symbol, the first of which is the k-th one.

@@ -15,11 +15,11 @@ use Rattle.ig_item.specs.declared.run_fault.RunFault.{RunFault}
 use Rattle.ig_item.specs.declared.run_fault.RunFault.TheVariants as fault
 use Rattle.ig_item.specs.declared.ways.Way.{Way}
 use Rattle.ig_item.specs.declared.ways.Way.TheVariants.{Node as Tree}
-use Rattle.ig_found.specs.Finding as numbered
-use Rattle.ig_found.specs.Finding.{Pushed, Returns, ticket_of}
-use Rattle.ig_moves.specs.Tables.{Moves}
+use Rattle.ig_run_moves.specs.Finding as numbered
+use Rattle.ig_run_moves.specs.Finding.{Pushed, Returns, ticket_of}
+use Rattle.ig_run_moves.specs.Tables.{Moves}
 use Rattle.ig_run_laws.specs.Finding.{Finding, Finds, Records}
-use Rattle.ig_tables.specs.Extends.{Extends}
+use Rattle.ig_run_tables.specs.Extends.{Extends}
 use Rattle.ig_engine.specs.Adding.{Adds, AddsBehind, By, ComesBehind, IsAdded, IsOver, Pushes, ReturnsIn, at_once, looked_up}
 use Rattle.ig_engine.specs.Given as laws
 use Rattle.ig_engine.specs.Reached.{Reached, AreTables, Named, keys_in, means, reached, seen}

@@ -21,11 +21,11 @@ use Rattle.ig_item.specs.declared.run_fault.RunFault.{RunFault}
 use Rattle.ig_item.specs.declared.run_fault.RunFault.TheVariants as fault
 use Rattle.ig_item.specs.declared.ways.Way.TheVariants.{Begin}
 use Rattle.ig_queue.specs.declared.ticket.Ticket.{Ticket}
-use Rattle.ig_found.specs.Finding as numbered
-use Rattle.ig_found.specs.Finding.{Pushed, ticket_of}
+use Rattle.ig_run_moves.specs.Finding as numbered
+use Rattle.ig_run_moves.specs.Finding.{Pushed, ticket_of}
 use Rattle.ig_gss.specs.Nodes as shared
-use Rattle.ig_moves.specs.Laws.{IsFirstNamed}
-use Rattle.ig_moves.specs.Tables.{IsNamed, first_stored}
+use Rattle.ig_run_moves.specs.Laws.{IsFirstNamed}
+use Rattle.ig_run_moves.specs.Tables.{IsNamed, first_stored}
 use Rattle.ig_run_laws.specs.Finding.{Finding}
 use Rattle.ig_run_laws.specs.Laws.{begun}
 use Rattle.ig_run_laws.specs.Run.{IsWhole}

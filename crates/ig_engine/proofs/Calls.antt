@@ -19,17 +19,17 @@ use Rattle.ig_item.specs.declared.run_fault.RunFault.{RunFault}
 use Rattle.ig_item.specs.declared.run_fault.RunFault.TheVariants as fault
 use Rattle.ig_item.specs.declared.ways.Way.{Way}
 use Rattle.ig_item.specs.declared.ways.Way.TheVariants.{Begin, Node as Tree}
-use Rattle.ig_found.specs.Finding as numbered
+use Rattle.ig_run_moves.specs.Finding as numbered
 use Rattle.ig_gss.specs.Nodes as shared
 use Rattle.ig_gss.specs.declared.marks.Edge.{Edge}
 use Rattle.ig_gss.specs.declared.marks.Pop as marks
-use Rattle.ig_moves.specs.Rules.{IsCallee}
-use Rattle.ig_moves.specs.Tables.{GivesCallee}
+use Rattle.ig_run_moves.specs.Rules.{IsCallee}
+use Rattle.ig_run_moves.specs.Tables.{GivesCallee}
 use Rattle.ig_run_laws.specs.Finding.{Finding, Finds, IsRecorded, Records}
 use Rattle.ig_run_laws.specs.FirstCalls.{CallsNothing, IsBehindLater}
 use Rattle.ig_run_laws.specs.Rules.{IsCaller, IsFirstOf, IsReturn}
 use Rattle.ig_run_laws.specs.Stacks.{Node, HasPop, Meets, Pop, fresh, keys_of, pop}
-use Rattle.ig_tables.specs.Extends.{Extends}
+use Rattle.ig_run_tables.specs.Extends.{Extends}
 use Rattle.ig_engine.specs.Adding.{Adds, AreNew, By, IsAdded, IsOnward, IsReturnAtOne, Refuses}
 use Rattle.ig_engine.specs.Given as laws
 use Rattle.ig_engine.specs.Reached.{Reached, AreIndexed, AreTables, EdgesSay, IsBare, IsEdge, Says, Taking, keys_in, means, node_seen, nodes_in, reached, seen}

@@ -17,7 +17,7 @@ use Rattle.ig_item.specs.declared.items.Item as stored
 use Rattle.ig_item.specs.declared.run_fault.RunFault.{RunFault}
 use Rattle.ig_item.specs.declared.run_fault.RunFault.TheVariants as fault
 use Rattle.ig_gss.specs.Nodes as shared
-use Rattle.ig_moves.specs.Laws.{NamedItemsAreOfTables}
+use Rattle.ig_run_moves.specs.Laws.{NamedItemsAreOfTables}
 use Rattle.ig_run_laws.specs.Laws.{BudgetsSuffice, EndedRunsAreComplete, EndedRunsHaveWays}
 use Rattle.ig_run_laws.specs.Renaming.{GivesLeast, renamed}
 use Rattle.ig_run_laws.specs.Finding.{IsTaken}

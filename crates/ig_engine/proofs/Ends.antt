@@ -12,11 +12,11 @@ use Rattle.ig_item.specs.declared.items.Item as stored
 use Rattle.ig_item.specs.declared.run_fault.RunFault.{RunFault}
 use Rattle.ig_item.specs.declared.ways.Way.{Way}
 use Rattle.ig_item.specs.declared.ways.Way.TheVariants.{Node as Tree}
-use Rattle.ig_found.specs.Finding as numbered
+use Rattle.ig_run_moves.specs.Finding as numbered
 use Rattle.ig_gss.specs.Nodes as shared
 use Rattle.ig_gss.specs.declared.marks.Edge.{Edge}
 use Rattle.ig_gss.specs.declared.marks.Pop as marks
-use Rattle.ig_moves.specs.Tables.{no_key}
+use Rattle.ig_run_moves.specs.Tables.{no_key}
 use Rattle.ig_run_laws.specs.Finding.{IsNewTicket, Records}
 use Rattle.ig_run_laws.specs.FirstCalls.{CallsNothing}
 use Rattle.ig_run_laws.specs.Rules.{IsCaller, IsReturn}

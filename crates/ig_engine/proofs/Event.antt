@@ -20,18 +20,18 @@ use Rattle.ig_item.specs.declared.run_fault.RunFault.TheVariants as fault
 use Rattle.ig_item.specs.declared.ways.Way.{Way}
 use Rattle.ig_item.specs.declared.ways.Way.TheVariants.{Pass, Leaf, Node as Tree}
 use Rattle.ig_queue.specs.declared.ticket.Ticket.{Ticket}
-use Rattle.ig_found.specs.Finding as numbered
-use Rattle.ig_found.specs.Finding.{ticket_of}
+use Rattle.ig_run_moves.specs.Finding as numbered
+use Rattle.ig_run_moves.specs.Finding.{ticket_of}
 use Rattle.ig_gss.specs.Nodes as shared
 use Rattle.ig_gss.specs.declared.marks.Edge.{Edge}
-use Rattle.ig_moves.specs.Rules.{IsBehindTest, IsBehindBind, IsBehind, step_at}
-use Rattle.ig_moves.specs.Tables.{Moves}
+use Rattle.ig_run_moves.specs.Rules.{IsBehindTest, IsBehindBind, IsBehind, step_at}
+use Rattle.ig_run_moves.specs.Tables.{Moves}
 use Rattle.ig_run_laws.specs.AfterBy.{AfterBy}
 use Rattle.ig_run_laws.specs.Finding.{Finding, Records}
 use Rattle.ig_run_laws.specs.FirstCalls.{IsBehindLater}
 use Rattle.ig_run_laws.specs.Rules.{IsCaller}
 use Rattle.ig_run_laws.specs.Stacks.{IsFirstThere, Meets}
-use Rattle.ig_tables.specs.Extends.{Extends}
+use Rattle.ig_run_tables.specs.Extends.{Extends}
 use Rattle.ig_engine.specs.Adding.{Adds, AddsBehind, By, Events, IsAdded, IsOnward, IsOver, Refuses}
 use Rattle.ig_engine.specs.Given as laws
 use Rattle.ig_engine.specs.Reached.{Reached, AreIndexed, AreTables, EdgesSay, Named, Says, Taking, keys_in, means, node_seen, nodes_in, reached, seen, with_tickets}

@@ -14,8 +14,8 @@ use Rattle.ig_item.specs.declared.items.Item as stored
 use Rattle.ig_item.specs.declared.run_fault.RunFault.{RunFault}
 use Rattle.ig_item.specs.declared.ways.Way.{Way}
 use Rattle.ig_item.specs.declared.ways.Way.TheVariants.{Begin}
-use Rattle.ig_found.specs.Finding as by_number
-use Rattle.ig_moves.specs.Tables.{first_stored}
+use Rattle.ig_run_moves.specs.Finding as by_number
+use Rattle.ig_run_moves.specs.Tables.{first_stored}
 use Rattle.ig_run_laws.specs.Rules.{IsFirstOf}
 use Rattle.ig_engine.specs.Adding.{Adds, By, IsAdded, Pushes}
 use Rattle.ig_engine.specs.Given as laws

@@ -13,8 +13,8 @@ use Rattle.ig_item.specs.declared.items.InstanceKey.{InstanceKey}
 use Rattle.ig_item.specs.declared.items.Item as stored
 use Rattle.ig_item.specs.declared.ways.Way.{Way}
 use Rattle.ig_gss.specs.Nodes as shared
-use Rattle.ig_found.specs.Finding as numbered
-use Rattle.ig_moves.specs.Tables.{IsOneFurther, no_key}
+use Rattle.ig_run_moves.specs.Finding as numbered
+use Rattle.ig_run_moves.specs.Tables.{IsOneFurther, no_key}
 use Rattle.ig_run_laws.specs.FirstCalls.{CallsNothing, IsBehindFirst, IsBehindLater}
 use Rattle.ig_run_laws.specs.Rules.{IsReturn}
 use Rattle.ig_engine.specs.Adding.{ComesBehind, IsAdded, at_once, looked_up}

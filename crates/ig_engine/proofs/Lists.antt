@@ -6,7 +6,7 @@ use Rattle.std.proofs.lemmas.Option.{same_Some, slice_get_within}
 use Rattle.std.proofs.lemmas.List.Elements.{Contains-append_left, Contains-append_cases}
 use Rattle.ig_text.proofs.Lists.{at_from_contains, left_at, mapped_at, sides, get_within, contains_from_at, place_cases, unmapped_in}
 use Rattle.ig_item.specs.WellKinded.{NoneTwice}
-use Rattle.ig_tables.specs.Extends.{Extends}
+use Rattle.ig_run_tables.specs.Extends.{Extends}
 
 module _ {X : Type 0} where
   abbrev pub extends_itself : (xs : List X) → Extends xs xs

@@ -12,7 +12,7 @@ use Rattle.ig_item.specs.declared.ways.Way.{Way}
 use Rattle.ig_item.specs.declared.ways.Way.TheVariants.{Node}
 use Rattle.ig_item.specs.declared.ways.FurtherWay.{FurtherWay}
 use Rattle.ig_queue.specs.declared.ticket.Ticket.{Ticket}
-use Rattle.ig_tables.specs.Extends.{Extends}
+use Rattle.ig_run_tables.specs.Extends.{Extends}
 use Rattle.ig_run_laws.specs.Finding.{Finding, Finds, IsNewTicket, IsRecorded, Records}
 use Rattle.ig_engine.specs.Adding.{By}
 use Rattle.ig_engine.proofs.Lists.{longer, extends_itself, extends_by, extends_same, extends_at, extends_in, extends_then, extends_cases, extends_within, none_twice_longer}

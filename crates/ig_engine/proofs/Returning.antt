@@ -18,13 +18,13 @@ use Rattle.ig_item.specs.declared.ways.Way.{Way}
 use Rattle.ig_item.specs.declared.ways.Way.TheVariants.{Node as Tree}
 use Rattle.ig_gss.specs.Nodes as shared
 use Rattle.ig_gss.specs.declared.marks.Edge.{Edge}
-use Rattle.ig_found.specs.Finding as numbered
-use Rattle.ig_moves.specs.Rules.{IsCallAt, IsPastCall, step_at}
+use Rattle.ig_run_moves.specs.Finding as numbered
+use Rattle.ig_run_moves.specs.Rules.{IsCallAt, IsPastCall, step_at}
 use Rattle.ig_item.specs.Step.{Call}
-use Rattle.ig_moves.specs.Tables.{Moves}
+use Rattle.ig_run_moves.specs.Tables.{Moves}
 use Rattle.ig_run_laws.specs.FirstCalls.{CallsNothing}
 use Rattle.ig_run_laws.specs.Rules.{IsCaller, IsReturn}
-use Rattle.ig_tables.specs.Extends.{Extends}
+use Rattle.ig_run_tables.specs.Extends.{Extends}
 use Rattle.ig_engine.specs.Adding.{Adds, AreNew, By, IsAdded, IsReturnBy, ReturnsIn}
 use Rattle.ig_engine.specs.Given as laws
 use Rattle.ig_engine.specs.Reached.{Reached, AreIndexed, AreTables, IsEdge, Named, Says, keys_in, means, reached, seen}

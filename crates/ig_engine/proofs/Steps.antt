@@ -3,7 +3,7 @@ use Rattle.std.proofs.Common.{◌≡◌, ℕ, List, Some, sym, ap, ◌∙◌}
 use Rattle.ig_item.specs.Items.{Item}
 use Rattle.ig_item.specs.Step.{Step}
 use Rattle.ig_item.specs.declared.core_grammar.Nonterminal.{Nonterminal}
-use Rattle.ig_moves.specs.Rules.{Stands, step_at}
+use Rattle.ig_run_moves.specs.Rules.{Stands, step_at}
 use Rattle.ig_engine.specs.Given as laws
 
 pub stands_there : (given : laws.Tables) (core : List Nonterminal) (it : Item) (n : ℕ) (step tree : Step) → n ≡ it.instance.nonterminal →

@@ -8,7 +8,7 @@ use Rattle.ig_item.specs.declared.items.InstanceKey.{InstanceKey}
 use Rattle.ig_gss.specs.Nodes.{Node, edges_at, keys_of, pops_at, with_edge, with_pop}
 use Rattle.ig_gss.specs.declared.marks.Edge.{Edge}
 use Rattle.ig_gss.specs.declared.marks.Pop.{Pop}
-use Rattle.ig_moves.specs.Tables.{IsNamed, item_by}
+use Rattle.ig_run_moves.specs.Tables.{IsNamed, item_by}
 use Rattle.ig_engine.specs.Reached.{Reached, AreTables, reached, seen}
 use Rattle.ig_engine.proofs.Tables.{finding}
 

@@ -8,10 +8,10 @@ use Rattle.ig_item.specs.WellKinded.{NoneTwice}
 use Rattle.ig_item.specs.declared.items.Instance.{Instance}
 use Rattle.ig_item.specs.declared.items.Item as stored
 use Rattle.ig_queue.specs.declared.ticket.Ticket.{Ticket}
-use Rattle.ig_moves.specs.Laws.{StaysNamed}
+use Rattle.ig_run_moves.specs.Laws.{StaysNamed}
 use Rattle.ig_run_laws.specs.Finding.{Finding}
 use Rattle.ig_run_laws.specs.Stacks.{Node, Pop, pop}
-use Rattle.ig_tables.specs.Extends.{Extends}
+use Rattle.ig_run_tables.specs.Extends.{Extends}
 use Rattle.ig_engine.specs.Given as laws
 use Rattle.ig_engine.specs.Reached.{Reached, AreTables, Named, keys_in, means, node_seen, nodes_in, reached, seen}
 use Rattle.ig_engine.proofs.Lists.{extends_itself}

@@ -9,8 +9,8 @@ use Rattle.ig_item.specs.declared.core_grammar.Nonterminal.{Nonterminal}
 use Rattle.ig_item.specs.declared.items.Item as stored
 use Rattle.ig_item.specs.declared.run_fault.RunFault.{RunFault}
 use Rattle.ig_queue.specs.declared.ticket.Ticket.{Ticket}
-use Rattle.ig_found.specs.Finding as numbered
-use Rattle.ig_found.specs.Finding.{ticket_of}
+use Rattle.ig_run_moves.specs.Finding as numbered
+use Rattle.ig_run_moves.specs.Finding.{ticket_of}
 use Rattle.ig_gss.specs.Nodes as shared
 use Rattle.ig_engine.specs.declared.progress.Progress.TheVariants as progress
 use Rattle.ig_engine.specs.Adding.{IsOnward, Refuses}

@@ -10,13 +10,13 @@ use Rattle.ig_item.specs.declared.ways.Way.{Way}
 use Rattle.ig_item.specs.declared.ways.Way.TheVariants.{Node as Tree}
 use Rattle.ig_gss.specs.declared.marks.Edge.{Edge}
 use Rattle.ig_gss.specs.declared.marks.Pop.{Pop}
-use Rattle.ig_found.specs.Finding as numbered
-use Rattle.ig_found.specs.Finding.{Pushed, Returns}
+use Rattle.ig_run_moves.specs.Finding as numbered
+use Rattle.ig_run_moves.specs.Finding.{Pushed, Returns}
 use Rattle.ig_queue.specs.declared.ticket.Ticket.{Ticket}
 use Rattle.ig_run_laws.specs.Finding.{Finds, IsNewTicket, IsTaken, Records}
 use Rattle.ig_run_laws.specs.Rules.{IsReturn}
 use Rattle.ig_run_laws.specs.Run.{FollowMore}
-use Rattle.ig_tables.specs.Extends.{Extends}
+use Rattle.ig_run_tables.specs.Extends.{Extends}
 use Rattle.ig_engine.specs.Reached.{Reached, AreTables, IsReached, seen}
 
 -- what `may` allows, in that way

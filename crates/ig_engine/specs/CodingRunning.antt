@@ -16,7 +16,7 @@ use Rattle.ig_queue.specs.contracts.ticket.Ticket as ticket
 use Rattle.ig_queue.specs.declared.ticket.Ticket.{Ticket}
 use Rattle.ig_gss.specs.Nodes.{Node}
 use Rattle.ig_gss.specs.contracts.stacks.Stacks as stacks
-use Rattle.ig_found.specs.Finding.{Finding}
+use Rattle.ig_run_moves.specs.Finding.{Finding}
 use Rattle.ig_engine.specs.Reached.{Reached, reached}
 use Rattle.ig_engine.specs.Running.{Running, running}
 

@@ -1,5 +1,5 @@
 -- The laws of the crates below that a run rests on.
-use Rattle.ig_moves.specs.Laws.{NamesAreKept, InstancesAreKept, InstancesAreOne, ItemsAreOne, FirstsAreNamed, CallsAreOne, BeforeTests, BeforeBinds, BeforeTerminals, BeforeCalls, CompleteItemsEnd, StepsAreBehind, EndsAreComplete}
+use Rattle.ig_run_moves.specs.Laws.{NamesAreKept, InstancesAreKept, InstancesAreOne, ItemsAreOne, FirstsAreNamed, CallsAreOne, BeforeTests, BeforeBinds, BeforeTerminals, BeforeCalls, CompleteItemsEnd, StepsAreBehind, EndsAreComplete}
 use Rattle.ig_run_laws.specs.Laws.{EventsKeep, EndsKeep, TestsPass, BindsPass, TerminalsTakeLeaves, CallersMeetPops, NoneIsCalled, EndsMeetEdges, FirstsAreNew, FirstsAreRecorded, FirstReturnsAreNew, BeginsAreOne, StepsComeOnce, ReturnsComeByNodes, RefusedBudgetsAreExceeded, RunsBegin}
 
 -- what stored items stand for, and what comes of one

@@ -12,9 +12,9 @@ use Rattle.ig_item.specs.declared.items.Item as stored
 use Rattle.ig_queue.specs.declared.ticket.Ticket.{Ticket}
 use Rattle.ig_gss.specs.declared.marks.Edge.{Edge}
 use Rattle.ig_gss.specs.Nodes as shared
-use Rattle.ig_found.specs.Finding as numbered
-use Rattle.ig_found.specs.Finding.{ticket_of}
-use Rattle.ig_moves.specs.Tables.{IsNamed, item_by, no_key}
+use Rattle.ig_run_moves.specs.Finding as numbered
+use Rattle.ig_run_moves.specs.Finding.{ticket_of}
+use Rattle.ig_run_moves.specs.Tables.{IsNamed, item_by, no_key}
 use Rattle.ig_run_laws.specs.Finding.{Finding, Takes}
 use Rattle.ig_run_laws.specs.FirstCalls.{CallsNothing, IsBehindLater}
 use Rattle.ig_run_laws.specs.Rules.{IsCaller}

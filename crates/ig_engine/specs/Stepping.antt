@@ -7,7 +7,7 @@ use Rattle.ig_item.specs.declared.items.Item as stored
 use Rattle.ig_item.specs.declared.run_fault.RunFault.{RunFault}
 use Rattle.ig_item.specs.declared.run_fault.RunFault.TheVariants as fault
 use Rattle.ig_queue.specs.declared.ticket.Ticket.{Ticket}
-use Rattle.ig_found.specs.Finding.{ticket_of}
+use Rattle.ig_run_moves.specs.Finding.{ticket_of}
 use Rattle.ig_run_laws.specs.Laws.{begun}
 use Rattle.ig_engine.specs.Adding.{IsOnward, Refuses}
 use Rattle.ig_engine.specs.Reached.{IsReached, Reached, reached, seen, with_tickets}

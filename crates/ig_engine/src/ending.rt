@@ -5,11 +5,10 @@ ghost use Rattle.ig_item.specs.Recorded.{IsRecorded};
 ghost use Rattle.ig_run_laws.specs.Run.{IsWhole};
 
 use crate::state::State;
-use ig_finish::finish;
 use ig_item::{Core, Recorded};
-use ig_moves::named_items_are_of_tables;
 use ig_queue::Schedule;
-use ig_run_laws::{ended_runs_are_complete, ended_runs_have_ways};
+use ig_run_laws::{ended_runs_are_complete, ended_runs_have_ways, finish};
+use ig_run_moves::named_items_are_of_tables;
 use ig_text::Text;
 use std::alloc::{AllocError, Global};
 

@@ -13,24 +13,23 @@ ghost use Rattle.ig_item.specs.View.{step_of};
 ghost use Rattle.ig_item.specs.WellKinded.{IsWellKinded};
 ghost use Rattle.ig_item.specs.declared.items.Item as stored;
 ghost use Rattle.ig_item.specs.declared.ways.Way.TheVariants.{Begin};
-ghost use Rattle.ig_moves.specs.Rules.{step_at};
+ghost use Rattle.ig_run_moves.specs.Rules.{step_at};
 ghost use Rattle.ig_run_laws.specs.Rules.{IsFirstOf};
-ghost use Rattle.ig_steps.specs.Compiled.{form_of};
+ghost use Rattle.ig_run_tables.specs.Compiled.{form_of};
 
 use crate::first_calls::is_first_call;
 use crate::laws::laws;
 use crate::returns::{meet_edges, meet_pops, nonterminal_of};
 use crate::state::State;
 use ig_expr::Expr;
-use ig_found::Found;
 use ig_gss::{Edge, Pop};
 use ig_item::{Core, InstanceKey, Item, RunFault, Step, Way};
-use ig_moves::{
-    Context, behind_bind, behind_terminal, behind_test, callee_of, first_item, is_bare,
+use ig_queue::Schedule;
+use ig_run_moves::{
+    Context, Found, behind_bind, behind_terminal, behind_test, callee_of, first_item, is_bare,
     known_before, step_behind,
 };
-use ig_queue::Schedule;
-use ig_steps::{Known, Qualifiers};
+use ig_run_tables::{Known, Qualifiers};
 
 /// Adds the first item of each alternative of the instance of that number and key, none of which
 /// is there.

@@ -3,7 +3,7 @@ ghost use Rattle.std.specs.Prelude.{◌↔◌, ◌<◌, IsTrue, length, map, sli
 ghost use Rattle.ig_engine.specs.FirstCalls.{CallsNone, IsCall};
 ghost use Rattle.ig_gss.specs.Nodes.{keys_of};
 ghost use Rattle.ig_item.specs.View.{step_of};
-ghost use Rattle.ig_moves.specs.Tables.{no_key};
+ghost use Rattle.ig_run_moves.specs.Tables.{no_key};
 ghost use Rattle.ig_run_laws.specs.FirstCalls.{CallsNothing, IsCallIn};
 
 use crate::returns::nonterminal_of;

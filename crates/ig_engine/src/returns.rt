@@ -7,15 +7,14 @@ ghost use Rattle.ig_engine.specs.Reached.{AreIndexed, AreTables, IsCalling, IsEd
 ghost use Rattle.ig_engine.specs.Reached.{reached, seen};
 ghost use Rattle.ig_gss.specs.Nodes.{edges_at, keys_of, pops_at};
 ghost use Rattle.ig_gss.specs.declared.marks.Edge as marks;
-ghost use Rattle.ig_moves.specs.Tables.{no_key};
+ghost use Rattle.ig_run_moves.specs.Tables.{no_key};
 
 use crate::laws::laws;
 use ig_expr::Values;
-use ig_found::Found;
 use ig_gss::{Edge, Stacks};
 use ig_item::{Item, RunFault, Way};
-use ig_moves::{Context, behind_return, past_bare};
 use ig_queue::Schedule;
+use ig_run_moves::{Context, Found, behind_return, past_bare};
 use indexmap::IndexSet;
 
 /// The item of that number.

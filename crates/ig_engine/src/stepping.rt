@@ -8,7 +8,7 @@ ghost use Rattle.ig_engine.specs.Stepping.{IsBegun, IsEmpty, IsUnbegun, Steps};
 ghost use Rattle.ig_item.specs.Recorded.{IsRecorded};
 ghost use Rattle.ig_item.specs.declared.core_grammar.Nonterminal as tree;
 ghost use Rattle.ig_item.specs.declared.run_fault.RunFault as fault;
-ghost use Rattle.ig_steps.specs.Names.{all_dots};
+ghost use Rattle.ig_run_tables.specs.Names.{all_dots};
 
 use crate::ending::recorded;
 use crate::events::take;
@@ -16,13 +16,11 @@ use crate::laws::laws;
 use crate::progress::Progress;
 use crate::state::State;
 use ig_expr::Values;
-use ig_found::Found;
 use ig_gss::Stacks;
 use ig_item::{Core, InstanceKey, Item, Recorded, RunFault, Way};
-use ig_moves::{Context, first_item};
 use ig_queue::Schedule;
-use ig_steps::{Dots, dots_of_core};
-use ig_tables::enter_values;
+use ig_run_moves::{Context, Found, first_item};
+use ig_run_tables::{Dots, dots_of_core, enter_values};
 use ig_text::{Sequence, Text};
 use indexmap::IndexSet;
 use std::alloc::{AllocError, Global};
@@ -46,7 +44,7 @@ impl<'a, S: Schedule + Drop> Model for Run<'a, S> {
     ghost use Rattle.std.specs.Prelude.{◌≡◌};
     ghost use Rattle.ig_engine.specs.Reached.{reached};
     ghost use Rattle.ig_engine.specs.Running.{IsBetween, Running, running};
-    ghost use Rattle.ig_steps.specs.Names.{all_dots};
+    ghost use Rattle.ig_run_tables.specs.Names.{all_dots};
 
     ghost Value = { Running };
 

@@ -14,12 +14,12 @@ use Rattle.ig_item.specs.declared.core_grammar.Nonterminal.{Nonterminal}
 use Rattle.ig_item.specs.Laws.{StandsBeforeOne}
 use Rattle.ig_item.specs.Gives as rules
 use Rattle.ig_item.specs.Gives.{NodeKey, Taken, Completes, nothing, leaf, tree}
-use Rattle.ig_live.specs.Live.{Gives}
+use Rattle.ig_forest_live.specs.Live.{Gives}
 use Rattle.ig_forest.specs.CodeTables.{item_by}
 use Rattle.ig_forest_tables.specs.Tables.{list_at}
 use Rattle.ig_expr.specs.ValueOrder.{values_cmp}
 use Rattle.ig_forest.specs.CodeDone.{StandsLast}
-use Rattle.ig_live.specs.declared.rows.ItemRow.{ItemRow}
+use Rattle.ig_forest_live.specs.declared.rows.ItemRow.{ItemRow}
 use Rattle.ig_forest.proofs.Uniqueness.{same_key}
 use Rattle.ig_expr.specs.Ordered.{list_total}
 use Rattle.std.specs.List.Sorted.{IsStrictlySortedBy}

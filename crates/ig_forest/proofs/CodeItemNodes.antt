@@ -27,12 +27,12 @@ use Rattle.ig_item.specs.declared.ways.Way.TheVariants as way
 use Rattle.ig_item.specs.declared.ways.FurtherWay.{FurtherWay}
 use Rattle.ig_forest_tables.specs.Orders.{entry_cmp, previous}
 use Rattle.ig_forest.specs.CodeItemNodes.{AreNumbers, AreFromOne, AreSources, AreEntriesOf, AddsItem, WayFits, entry_by, further_entry}
-use Rattle.ig_live.specs.Rows.{item_at, row_of}
-use Rattle.ig_live.specs.Once.{IsOnce}
+use Rattle.ig_forest_live.specs.Rows.{item_at, row_of}
+use Rattle.ig_forest_live.specs.Once.{IsOnce}
 use Rattle.ig_forest_tables.specs.StoredItems.{StoredItem}
 use Rattle.ig_forest_tables.specs.declared.entry.Entry.{Entry}
 use Rattle.ig_forest_tables.specs.declared.entry.Entry.TheVariants.{Begin}
-use Rattle.ig_live.specs.declared.rows.ItemRow.{ItemRow}
+use Rattle.ig_forest_live.specs.declared.rows.ItemRow.{ItemRow}
 use Rattle.ig_forest.specs.declared.item_nodes.Sources.{Sources}
 use Rattle.ig_forest.proofs.TotalOrders.{entry_total}
 

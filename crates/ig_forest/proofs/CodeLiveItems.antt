@@ -18,30 +18,30 @@ use Rattle.ig_item.specs.Ways.{AreWays, IsFirstEnd, WayTo}
 use Rattle.ig_item.specs.declared.ways.Way.{Way}
 use Rattle.ig_item.specs.declared.core_grammar.Nonterminal.{Nonterminal}
 use Rattle.ig_item.specs.declared.items.Item as stored
-use Rattle.ig_live.specs.Live as live
-use Rattle.ig_live.specs.Live.{IsLive}
+use Rattle.ig_forest_live.specs.Live as live
+use Rattle.ig_forest_live.specs.Live.{IsLive}
 use Rattle.ig_forest_tables.specs.Orders.{choice_cmp, node_cmp}
 use Rattle.ig_forest.specs.Reduced.{IsEntry, IsItemNode, IsReduced}
-use Rattle.ig_live.specs.Live.{root_key}
+use Rattle.ig_forest_live.specs.Live.{root_key}
 use Rattle.ig_forest_tables.specs.Tables.{FitsTables, forest_by, item_node_by}
 use Rattle.ig_forest.specs.CodeItemNodes.{AreSources, AreNumbers, IsStoredItem, entry_by}
 use Rattle.ig_forest.specs.CodeLiveItems.{AreFound, AreLiveItems, items_in, lists_in}
-use Rattle.ig_live.specs.Rows.{AreApart, IsThere, item_at, number_cmp, row_of}
-use Rattle.ig_live.specs.LiveOrder.{AreLiveInOrder}
-use Rattle.ig_live.specs.Marks.{is_live}
+use Rattle.ig_forest_live.specs.Rows.{AreApart, IsThere, item_at, number_cmp, row_of}
+use Rattle.ig_forest_live.specs.LiveOrder.{AreLiveInOrder}
+use Rattle.ig_forest_live.specs.Marks.{is_live}
 use Rattle.ig_forest_tables.specs.StoredNodes.{rows_in, StoredNode}
 use Rattle.ig_forest.specs.CodeNodes.{AreNodesWith, MarkComplete, rows_of}
 use Rattle.ig_forest_tables.specs.StoredItems.{StoredItem}
-use Rattle.ig_live.specs.Lists.{AreLists, ArePlaces}
+use Rattle.ig_forest_live.specs.Lists.{AreLists, ArePlaces}
 use Rattle.ig_forest.specs.CodeTables.{AreRows, RowFits, item_by, key_by}
-use Rattle.ig_live.specs.Marks.{AreMarks}
-use Rattle.ig_live.specs.Links.{IsSameRun}
+use Rattle.ig_forest_live.specs.Marks.{AreMarks}
+use Rattle.ig_forest_live.specs.Links.{IsSameRun}
 use Rattle.ig_forest.specs.declared.builder.LiveItems.{LiveItems}
-use Rattle.ig_live.specs.declared.found.Found.{Found}
-use Rattle.ig_live.specs.declared.mark.Mark.{Mark}
+use Rattle.ig_forest_live.specs.declared.found.Found.{Found}
+use Rattle.ig_forest_live.specs.declared.mark.Mark.{Mark}
 use Rattle.ig_forest_tables.specs.declared.entry.Entry.{Entry}
 use Rattle.ig_forest.specs.declared.item_nodes.Sources.{Sources}
-use Rattle.ig_live.specs.declared.rows.ItemRow.{ItemRow}
+use Rattle.ig_forest_live.specs.declared.rows.ItemRow.{ItemRow}
 use Rattle.ig_forest.proofs.Liveness.{live_is_reachable}
 use Rattle.ig_forest.proofs.TotalOrders.{node_total}
 use Rattle.ig_forest.proofs.CodeItemNodes.{few_numbers}

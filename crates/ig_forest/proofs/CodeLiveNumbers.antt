@@ -6,10 +6,10 @@ use Rattle.std.proofs.lemmas.List.{length-map}
 use Rattle.std.proofs.lemmas.Option.{slice_get_within}
 use Rattle.ig_item.specs.declared.items.Item.{Item}
 use Rattle.ig_item.specs.declared.items.InstanceKey.{InstanceKey}
-use Rattle.ig_live.specs.Marks.{is_live}
-use Rattle.ig_live.specs.Rows.{number_cmp, row_of}
-use Rattle.ig_live.specs.contracts.rows.ItemRowOrd.TheImpl.Laws as row_laws
-use Rattle.ig_live.specs.declared.mark.Mark.{Mark}
+use Rattle.ig_forest_live.specs.Marks.{is_live}
+use Rattle.ig_forest_live.specs.Rows.{number_cmp, row_of}
+use Rattle.ig_forest_live.specs.contracts.rows.ItemRowOrd.TheImpl.Laws as row_laws
+use Rattle.ig_forest_live.specs.declared.mark.Mark.{Mark}
 
 -- only an item has a mark
 pub marked_within : (marks : List Mark) (k : ℕ) → slice_get (map is_live marks) k ≡ Some true → k < length marks

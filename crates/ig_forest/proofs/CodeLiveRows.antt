@@ -11,18 +11,18 @@ use Rattle.ig_item.specs.Tables.{AreTables, HaveValues, Tables, instance_by, ite
 use Rattle.ig_item.specs.WellKinded.{NoneTwice}
 use Rattle.ig_item.specs.declared.core_grammar.Nonterminal.{Nonterminal}
 use Rattle.ig_item.specs.declared.items.InstanceKey.{InstanceKey}
-use Rattle.ig_live.specs.Live.{IsLive}
-use Rattle.ig_live.specs.Lists.{ArePlaces}
+use Rattle.ig_forest_live.specs.Live.{IsLive}
+use Rattle.ig_forest_live.specs.Lists.{ArePlaces}
 use Rattle.ig_forest.specs.CodeTables.{AreRows, RowFits, item_by}
 use Rattle.ig_forest_tables.specs.Tables.{list_at}
-use Rattle.ig_live.specs.Rows.{row_cmp}
-use Rattle.ig_live.specs.Rows.{AreApart, IsThere, item_at, key_at, no_item, no_key, number_cmp, row_of}
-use Rattle.ig_live.specs.LiveOrder.{AreLiveInOrder}
-use Rattle.ig_live.specs.Marks.{is_live}
+use Rattle.ig_forest_live.specs.Rows.{row_cmp}
+use Rattle.ig_forest_live.specs.Rows.{AreApart, IsThere, item_at, key_at, no_item, no_key, number_cmp, row_of}
+use Rattle.ig_forest_live.specs.LiveOrder.{AreLiveInOrder}
+use Rattle.ig_forest_live.specs.Marks.{is_live}
 use Rattle.ig_forest.specs.CodeNodes.{MarkComplete, rows_of}
-use Rattle.ig_live.specs.declared.mark.Mark.{Mark}
-use Rattle.ig_live.specs.declared.mark.Mark.TheVariants.{Complete}
-use Rattle.ig_live.specs.declared.rows.ItemRow.{ItemRow}
+use Rattle.ig_forest_live.specs.declared.mark.Mark.{Mark}
+use Rattle.ig_forest_live.specs.declared.mark.Mark.TheVariants.{Complete}
+use Rattle.ig_forest_live.specs.declared.rows.ItemRow.{ItemRow}
 use Rattle.ig_forest.proofs.CodeGives.{complete_from_last, last_from_complete}
 use Rattle.ig_forest.proofs.CodeLiveNumbers.{marked_within}
 use Rattle.ig_forest.proofs.CodeSorted.{strict_map}

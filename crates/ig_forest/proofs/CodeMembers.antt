@@ -13,15 +13,15 @@ use Rattle.ig_expr.specs.declared.value.Value.{Value}
 use Rattle.ig_item.specs.Items.{Item}
 use Rattle.ig_item.specs.declared.core_grammar.Nonterminal.{Nonterminal}
 use Rattle.ig_item.specs.Gives.{NodeKey, Completes}
-use Rattle.ig_live.specs.Live.{IsLive}
+use Rattle.ig_forest_live.specs.Live.{IsLive}
 use Rattle.ig_forest_tables.specs.Orders.{item_cmp, node_cmp}
 use Rattle.ig_forest.specs.Reduced.{AreItems, AreNodes}
 use Rattle.ig_forest.specs.CodeTables.{RowFits, AreRows, item_by, key_by, node_of, node_row_cmp}
 use Rattle.ig_forest_tables.specs.Tables.{list_at}
 use Rattle.ig_expr.specs.ValueOrder.{values_cmp}
-use Rattle.ig_live.specs.Rows.{row_cmp}
+use Rattle.ig_forest_live.specs.Rows.{row_cmp}
 use Rattle.ig_forest.specs.CodeDone.{AreNodesOf}
-use Rattle.ig_live.specs.declared.rows.ItemRow.{ItemRow}
+use Rattle.ig_forest_live.specs.declared.rows.ItemRow.{ItemRow}
 use Rattle.ig_forest_tables.specs.declared.node_rows.NodeRow.{NodeRow}
 use Rattle.ig_expr.specs.Ordered.{list_total}
 use Rattle.ig_forest.proofs.CodeSorted.{strict_map}

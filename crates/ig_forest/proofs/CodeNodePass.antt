@@ -22,18 +22,18 @@ use Rattle.ig_item.specs.declared.core_grammar.Nonterminal.{Nonterminal}
 use Rattle.ig_item.specs.declared.items.Item.{Item}
 use Rattle.ig_item.specs.declared.items.InstanceKey.{InstanceKey}
 use Rattle.ig_forest.specs.CodeTables.{node_of, node_row_cmp}
-use Rattle.ig_live.specs.Rows.{row_cmp}
+use Rattle.ig_forest_live.specs.Rows.{row_cmp}
 use Rattle.ig_forest.specs.CodeDone.{AreNodesOf, IsDoneRow, StandsLast, HasChoices, IsChoiceRow, IsTagged, choice_item_cmp}
-use Rattle.ig_live.specs.LiveOrder.{AreLiveInOrder}
-use Rattle.ig_live.specs.Marks.{is_live}
-use Rattle.ig_live.specs.Rows.{number_cmp, row_of}
+use Rattle.ig_forest_live.specs.LiveOrder.{AreLiveInOrder}
+use Rattle.ig_forest_live.specs.Marks.{is_live}
+use Rattle.ig_forest_live.specs.Rows.{number_cmp, row_of}
 use Rattle.ig_forest_tables.specs.StoredNodes.{rows_in, with_choice, StoredNode}
 use Rattle.ig_forest.specs.CodeNodes as opens
 use Rattle.ig_forest.specs.CodeNodes.{AreNodesWith, EndsWith, IsNumbered, MarkComplete, NodesUpTo, Opens, rows_of}
 use Rattle.ig_forest_tables.specs.declared.entry.Choice.{Choice}
-use Rattle.ig_live.specs.declared.mark.Mark.{Mark}
-use Rattle.ig_live.specs.declared.mark.Mark.TheVariants.{Complete}
-use Rattle.ig_live.specs.declared.rows.ItemRow.{ItemRow}
+use Rattle.ig_forest_live.specs.declared.mark.Mark.{Mark}
+use Rattle.ig_forest_live.specs.declared.mark.Mark.TheVariants.{Complete}
+use Rattle.ig_forest_live.specs.declared.rows.ItemRow.{ItemRow}
 use Rattle.ig_forest_tables.specs.declared.node_rows.NodeRow.{NodeRow}
 use Rattle.ig_text.proofs.Sorted.{less_number, strict_none, strict_push}
 use Rattle.ig_forest.proofs.CodeLiveNumbers.{marked_within, number_total}

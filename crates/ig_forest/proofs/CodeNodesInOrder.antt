@@ -17,7 +17,7 @@ use Rattle.ig_forest.specs.CodeDone.{AreNodesOf, HasChoices, choice_item_cmp}
 use Rattle.ig_forest_tables.specs.StoredNodes.{IsPutInOrder, rows_in, StoredNode}
 use Rattle.ig_forest.specs.CodeNodes.{AreNodesWith}
 use Rattle.ig_forest_tables.specs.declared.entry.Choice.{Choice}
-use Rattle.ig_live.specs.declared.rows.ItemRow.{ItemRow}
+use Rattle.ig_forest_live.specs.declared.rows.ItemRow.{ItemRow}
 use Rattle.ig_forest_tables.specs.declared.node_rows.NodeRow.{NodeRow}
 use Rattle.ig_forest.proofs.TotalOrders.{choice_total}
 use Rattle.ig_text.proofs.Sorted.{strict_none}

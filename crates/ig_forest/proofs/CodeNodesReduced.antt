@@ -19,7 +19,7 @@ use Rattle.ig_forest.specs.CodeDone.{IsChoiceRow, IsTagged}
 use Rattle.ig_forest_tables.specs.StoredNodes.{rows_in, StoredNode}
 use Rattle.ig_forest.specs.CodeNodes.{AreNodesWith}
 use Rattle.ig_forest_tables.specs.declared.entry.Choice.{Choice}
-use Rattle.ig_live.specs.declared.rows.ItemRow.{ItemRow}
+use Rattle.ig_forest_live.specs.declared.rows.ItemRow.{ItemRow}
 use Rattle.ig_forest_tables.specs.declared.node_rows.NodeRow.{NodeRow}
 use Rattle.ig_forest.proofs.CodeGives.{complete_from_last, last_from_complete, same_list_place}
 use Rattle.ig_forest.proofs.CodeMembers.{are_nodes, nodes_fit}

@@ -13,13 +13,13 @@ use Rattle.ig_item.specs.Ways.{AreWays, WayTo, IsWay, Says, IsFirstEnd, CameBy, 
 use Rattle.ig_item.specs.declared.core_grammar.Nonterminal.{Nonterminal}
 use Rattle.ig_item.specs.declared.ways.Way.{Way}
 use Rattle.ig_item.specs.declared.ways.Way.TheVariants as way
-use Rattle.ig_live.specs.Live as live
-use Rattle.ig_live.specs.Live.{Gives, IsLive}
+use Rattle.ig_forest_live.specs.Live as live
+use Rattle.ig_forest_live.specs.Live.{Gives, IsLive}
 use Rattle.ig_forest_tables.specs.Orders.{previous}
 use Rattle.ig_forest.specs.Reduced as reduced
 use Rattle.ig_forest.specs.Reduced.{IsEntry}
 use Rattle.ig_forest.specs.CodeItemNodes.{AreNumbers, AreSources, WayFits, entry_by, number_by}
-use Rattle.ig_live.specs.Rows.{IsThere, item_at}
+use Rattle.ig_forest_live.specs.Rows.{IsThere, item_at}
 use Rattle.ig_forest_tables.specs.declared.entry.Entry.{Entry}
 use Rattle.ig_forest_tables.specs.declared.entry.Entry.TheVariants.{Begin, Pass, Take}
 use Rattle.ig_forest_tables.specs.declared.entry.Child.TheVariants as child

@@ -20,7 +20,7 @@ use Rattle.ig_forest_tables.specs.Unfold as ways
 use Rattle.ig_forest_tables.specs.Unfold.{OfNode, OfItem, noted}
 use Rattle.ig_item.specs.Gives as rules
 use Rattle.ig_item.specs.Gives.{NodeKey}
-use Rattle.ig_live.specs.Live.{Gives}
+use Rattle.ig_forest_live.specs.Live.{Gives}
 use Rattle.ig_forest_tables.specs.Orders.{item_cmp, node_cmp, choice_cmp, entry_cmp}
 use Rattle.ig_forest.specs.Reduced.{IsReduced, IsChoice}
 use Rattle.ig_forest.specs.Laws.{HasOneCursor}

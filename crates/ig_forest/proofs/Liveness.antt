@@ -3,9 +3,9 @@ use Rattle.std.proofs.Common.{ℕ, List}
 use Rattle.ig_item.specs.Items.{Item, Reachable}
 use Rattle.ig_item.specs.declared.core_grammar.Nonterminal.{Nonterminal}
 use Rattle.ig_item.specs.Gives as rules
-use Rattle.ig_live.specs.Live as live
+use Rattle.ig_forest_live.specs.Live as live
 use Rattle.ig_item.specs.Gives.{Taken, NodeKey, Completes}
-use Rattle.ig_live.specs.Live.{Gives, IsLive}
+use Rattle.ig_forest_live.specs.Live.{Gives, IsLive}
 use Rattle.ig_forest.specs.Laws.{LiveIsReachable, LiveIsLeast}
 
 module _ (core : List Nonterminal) (text : List ℕ) where

@@ -36,10 +36,10 @@ use Rattle.ig_forest_tables.specs.Unfold as ways
 use Rattle.ig_forest_tables.specs.Unfold.{OfNode, OfItem, noted}
 use Rattle.ig_item.specs.Gives as rules
 use Rattle.ig_item.specs.Gives.{NodeKey, Taken}
-use Rattle.ig_live.specs.Live.{Gives}
+use Rattle.ig_forest_live.specs.Live.{Gives}
 use Rattle.ig_forest_tables.specs.Orders.{item_cmp, node_cmp, choice_cmp, entry_cmp, previous}
 use Rattle.ig_forest.specs.Reduced.{IsReduced, IsChoice}
-use Rattle.ig_live.specs.Live.{root_key}
+use Rattle.ig_forest_live.specs.Live.{root_key}
 use Rattle.ig_forest.specs.Laws.{CursorsAreOrderedAsTrees}
 use Rattle.ig_forest_tables.specs.declared.entry.Choice.{Choice}
 use Rattle.ig_forest_tables.specs.declared.entry.Entry.{Entry}

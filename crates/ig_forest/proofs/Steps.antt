@@ -8,7 +8,7 @@ use Rattle.ig_item.specs.CoreTrees.{HasTree}
 use Rattle.ig_item.specs.declared.core_grammar.Nonterminal.{Nonterminal}
 use Rattle.ig_item.specs.Gives as rules
 use Rattle.ig_item.specs.Gives.{NodeKey, Taken, nothing, leaf, tree}
-use Rattle.ig_live.specs.Live.{Gives}
+use Rattle.ig_forest_live.specs.Live.{Gives}
 use Rattle.ig_forest.specs.Reduced as reduced
 use Rattle.ig_forest.specs.Reduced.{IsEntry}
 use Rattle.ig_forest_tables.specs.declared.entry.Entry.{Entry}

@@ -11,7 +11,7 @@ use Rattle.ig_item.specs.declared.core_grammar.Nonterminal.{Nonterminal}
 use Rattle.ig_item.specs.declared.items.Instance.{Instance}
 use Rattle.ig_item.specs.Gives as rules
 use Rattle.ig_item.specs.Gives.{NodeKey, Taken}
-use Rattle.ig_live.specs.Live.{Gives}
+use Rattle.ig_forest_live.specs.Live.{Gives}
 use Rattle.ig_forest.proofs.Given.{Given}
 use Rattle.ig_forest.proofs.Steps.{given_dot}
 

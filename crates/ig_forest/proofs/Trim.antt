@@ -17,7 +17,7 @@ use Rattle.ig_item.specs.Laws.{ItemsAreInText}
 use Rattle.ig_forest_tables.specs.Forest.{Forest, ItemNode, IsForest, IsPrevious, EntryFits, PreviousIsBefore, PreviousAreBefore, item_of}
 use Rattle.ig_item.specs.Gives as rules
 use Rattle.ig_item.specs.Gives.{Taken}
-use Rattle.ig_live.specs.Live.{Gives, root_key}
+use Rattle.ig_forest_live.specs.Live.{Gives, root_key}
 use Rattle.ig_expr.specs.ValueOrder.{values_cmp}
 use Rattle.ig_expr.specs.Ordered.{list_total}
 use Rattle.ig_forest_tables.specs.Orders.{item_cmp, entry_cmp}

@@ -20,12 +20,12 @@ use Rattle.ig_forest_tables.specs.Forest.{Forest}
 use Rattle.ig_forest_tables.specs.Unfold as ways
 use Rattle.ig_forest_tables.specs.Unfold.{OfNode, OfItem, noted}
 use Rattle.ig_item.specs.Gives as rules
-use Rattle.ig_live.specs.Live as live
+use Rattle.ig_forest_live.specs.Live as live
 use Rattle.ig_item.specs.Gives.{NodeKey, nothing, leaf, tree}
-use Rattle.ig_live.specs.Live.{Gives, IsLive}
+use Rattle.ig_forest_live.specs.Live.{Gives, IsLive}
 use Rattle.ig_forest.specs.Reduced as reduced
 use Rattle.ig_forest.specs.Reduced.{IsReduced}
-use Rattle.ig_live.specs.Live.{root_key}
+use Rattle.ig_forest_live.specs.Live.{root_key}
 use Rattle.ig_forest.specs.Laws.{UnfoldsToCoreTrees}
 use Rattle.ig_forest_tables.specs.declared.entry.Choice.{Choice}
 use Rattle.ig_forest_tables.specs.declared.entry.Entry.TheVariants.{Begin, Pass, Take}

@@ -10,10 +10,10 @@ use Rattle.ig_item.specs.Items.{Item}
 use Rattle.ig_item.specs.declared.core_grammar.Nonterminal.{Nonterminal}
 use Rattle.ig_forest_tables.specs.Forest.{Node, ItemNode, item_of}
 use Rattle.ig_item.specs.Gives.{NodeKey, Completes}
-use Rattle.ig_live.specs.Live.{IsLive}
+use Rattle.ig_forest_live.specs.Live.{IsLive}
 use Rattle.ig_forest_tables.specs.Orders.{item_cmp, node_cmp, choice_cmp, entry_cmp}
 use Rattle.ig_forest.specs.Reduced.{IsNamed, AreNodes, IsNode, IsItemNode, IsChoice, IsEntry}
-use Rattle.ig_live.specs.Live.{root_key}
+use Rattle.ig_forest_live.specs.Live.{root_key}
 use Rattle.ig_forest.specs.Laws.{OnlyOne, ReducedHasNoKeyTwice, RootIsThere}
 use Rattle.ig_forest.proofs.TotalOrders.{item_total, node_total, choice_total, entry_total}
 use Rattle.ig_forest.proofs.Liveness.{live_is_reachable}

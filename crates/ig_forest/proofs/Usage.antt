@@ -14,13 +14,13 @@ use Rattle.ig_forest_tables.specs.Forest.{Forest, ItemNode}
 use Rattle.ig_forest_tables.specs.Unfold as ways
 use Rattle.ig_forest_tables.specs.Unfold.{OfNode, OfItem, Part, TheNode, TheAlternative, TheEntry, node_uses, item_uses, noted, IsUsed, HasNoDeadPart}
 use Rattle.ig_item.specs.Gives as rules
-use Rattle.ig_live.specs.Live as live
+use Rattle.ig_forest_live.specs.Live as live
 use Rattle.ig_item.specs.Gives.{NodeKey, Taken}
-use Rattle.ig_live.specs.Live.{Gives, IsLive}
+use Rattle.ig_forest_live.specs.Live.{Gives, IsLive}
 use Rattle.ig_forest_tables.specs.Orders.{item_cmp, node_cmp}
 use Rattle.ig_forest.specs.Reduced as reduced
 use Rattle.ig_forest.specs.Reduced.{IsReduced, IsEntry}
-use Rattle.ig_live.specs.Live.{root_key}
+use Rattle.ig_forest_live.specs.Live.{root_key}
 use Rattle.ig_forest.specs.Laws.{ReducedIsTrim, TrimHasTrees}
 use Rattle.ig_forest_tables.specs.declared.entry.Entry.{Entry}
 use Rattle.ig_forest_tables.specs.declared.entry.Entry.TheVariants.{Begin, Pass, Take}

@@ -7,8 +7,8 @@ use Rattle.ig_item.specs.declared.ways.Way.{Way}
 use Rattle.ig_item.specs.declared.ways.Way.TheVariants as way
 use Rattle.ig_item.specs.declared.ways.FurtherWay.{FurtherWay}
 use Rattle.ig_forest_tables.specs.Orders.{entry_cmp, previous}
-use Rattle.ig_live.specs.Founds.{IsThereIn, row_in}
-use Rattle.ig_live.specs.Rows.{item_at}
+use Rattle.ig_forest_live.specs.Founds.{IsThereIn, row_in}
+use Rattle.ig_forest_live.specs.Rows.{item_at}
 use Rattle.ig_forest_tables.specs.StoredItems.{StoredItem}
 use Rattle.ig_forest_tables.specs.declared.entry.Entry.{Entry}
 use Rattle.ig_forest_tables.specs.declared.entry.Entry.TheVariants.{Begin, Pass, Take}

@@ -7,12 +7,12 @@ use Rattle.ig_item.specs.Items.{Item}
 use Rattle.ig_item.specs.Recorded.{AreReachable, Recording, recording}
 use Rattle.ig_item.specs.Tables.{Tables, AreTables, HaveValues, instance_by, items_of}
 use Rattle.ig_item.specs.Ways.{AreWays}
-use Rattle.ig_live.specs.Lists.{AreLists, ArePlaces}
-use Rattle.ig_live.specs.LiveOrder.{AreLiveInOrder}
-use Rattle.ig_live.specs.Founds.{number_cmp_in}
-use Rattle.ig_live.specs.Marks.{AreMarks}
+use Rattle.ig_forest_live.specs.Lists.{AreLists, ArePlaces}
+use Rattle.ig_forest_live.specs.LiveOrder.{AreLiveInOrder}
+use Rattle.ig_forest_live.specs.Founds.{number_cmp_in}
+use Rattle.ig_forest_live.specs.Marks.{AreMarks}
 use Rattle.ig_forest.specs.declared.builder.LiveItems.{LiveItems}
-use Rattle.ig_live.specs.declared.found.Found.{Found}
+use Rattle.ig_forest_live.specs.declared.found.Found.{Found}
 
 -- the tables of a run, and where each environment stands among the lists in order
 pub record AreFound (tables : Tables) (lists : List (List Value)) (found : Found) : Type 0 where

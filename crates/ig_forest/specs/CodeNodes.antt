@@ -7,14 +7,14 @@ use Rattle.ig_item.specs.declared.items.Item.{Item}
 use Rattle.ig_item.specs.declared.items.InstanceKey.{InstanceKey}
 use Rattle.ig_forest.specs.CodeTables.{node_of}
 use Rattle.ig_forest.specs.CodeDone.{AreNodesOf, StandsLast, HasChoices, choice_item_cmp}
-use Rattle.ig_live.specs.Marks.{is_live}
-use Rattle.ig_live.specs.Rows.{row_of}
+use Rattle.ig_forest_live.specs.Marks.{is_live}
+use Rattle.ig_forest_live.specs.Rows.{row_of}
 use Rattle.ig_forest_tables.specs.StoredNodes.{rows_in, StoredNode}
 use Rattle.ig_forest_tables.specs.declared.entry.Choice.{Choice}
-use Rattle.ig_live.specs.declared.found.Found.{Found}
-use Rattle.ig_live.specs.declared.mark.Mark.{Mark}
-use Rattle.ig_live.specs.declared.mark.Mark.TheVariants.{Complete}
-use Rattle.ig_live.specs.declared.rows.ItemRow.{ItemRow}
+use Rattle.ig_forest_live.specs.declared.found.Found.{Found}
+use Rattle.ig_forest_live.specs.declared.mark.Mark.{Mark}
+use Rattle.ig_forest_live.specs.declared.mark.Mark.TheVariants.{Complete}
+use Rattle.ig_forest_live.specs.declared.rows.ItemRow.{ItemRow}
 use Rattle.ig_forest_tables.specs.declared.node_rows.NodeRow.{NodeRow}
 
 -- the mark of a number is `Complete` exactly where it is of a live item that is complete

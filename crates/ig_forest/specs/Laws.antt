@@ -13,7 +13,7 @@ use Rattle.ig_item.specs.declared.core_grammar.Nonterminal.{Nonterminal}
 use Rattle.ig_forest_tables.specs.Forest.{Forest, Node, ItemNode, item_of}
 use Rattle.ig_forest_tables.specs.Unfold.{Unfold, Unfolds, HasNoDeadPart, HasTrees, IsTrim}
 use Rattle.ig_item.specs.Gives.{NodeKey, Taken, tree, Completes}
-use Rattle.ig_live.specs.Live.{Gives, IsLive}
+use Rattle.ig_forest_live.specs.Live.{Gives, IsLive}
 use Rattle.ig_forest.specs.Reduced.{IsReduced}
 use Rattle.ig_forest.specs.Cursors.{Less}
 

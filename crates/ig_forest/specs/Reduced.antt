@@ -7,7 +7,7 @@ use Rattle.ig_item.specs.Items.{Item}
 use Rattle.ig_item.specs.declared.core_grammar.Nonterminal.{Nonterminal}
 use Rattle.ig_forest_tables.specs.Forest.{Forest, Node, ItemNode, item_of}
 use Rattle.ig_item.specs.Gives.{NodeKey, nothing, leaf, tree, Completes}
-use Rattle.ig_live.specs.Live.{Gives, IsLive, root_key}
+use Rattle.ig_forest_live.specs.Live.{Gives, IsLive, root_key}
 use Rattle.ig_forest_tables.specs.Orders.{item_cmp, node_cmp, choice_cmp, entry_cmp}
 use Rattle.ig_forest_tables.specs.declared.entry.Choice.{Choice}
 use Rattle.ig_forest_tables.specs.declared.entry.Entry.{Entry}

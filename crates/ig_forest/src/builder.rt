@@ -1,6 +1,6 @@
 //! How the reduced forest is made of what was recorded.
 ghost use Rattle.std.specs.Prelude.{◌≡◌, ◌∷◌, [], ◌++◌, IfOk, OnOk, map, length};
-ghost use Rattle.ig_live.specs.FirstRoot.{IsFirstRoot};
+ghost use Rattle.ig_forest_live.specs.FirstRoot.{IsFirstRoot};
 ghost use Rattle.ig_forest.specs.CodeLiveItems.{AreFound, AreLiveItems, recording_in};
 ghost use Rattle.ig_forest.specs.Reduced.{IsReduced};
 
@@ -9,9 +9,9 @@ use crate::item_nodes::{Sources, numbers_of};
 use crate::laws::reduced_forest_is_trim;
 use crate::nodes::{Nodes, nodes_of};
 use ig_expr::Value;
+use ig_forest_live::{Found, Links, Mark, lists_of, marks_of, order_of, places_of};
 use ig_forest_tables::ForestTables;
 use ig_item::{Core, EnvironmentTable, Recorded, environments_fit, stands_before_one};
-use ig_live::{Found, Links, Mark, lists_of, marks_of, order_of, places_of};
 use ig_text::{Copied, Text, Word, Words};
 use std::alloc::{AllocError, Global};
 

@@ -8,9 +8,9 @@ ghost use Rattle.ig_forest_tables.specs.Unfold.{IsTrim};
 ghost use Rattle.ig_forest_tables.specs.Views.{item_node_view, node_view};
 
 use crate::builder::from_recorded;
+use ig_forest_live::first_root;
 use ig_forest_tables::{ForestTables, ItemNode, Node};
 use ig_item::Recorded;
-use ig_live::first_root;
 use std::alloc::{AllocError, Global};
 use std::marker::Model;
 

@@ -11,11 +11,11 @@ ghost use Rattle.ig_text.specs.Limits.{numbers_end};
 ghost use Rattle.ig_forest.specs.CodeItemNodes.{AddsItem, AreSources, AreFromOne, AreNumbers};
 ghost use Rattle.ig_forest.specs.CodeItemNodes.{IsStoredItem, WayFits, entry_by, further_entry};
 ghost use Rattle.ig_forest.specs.CodeItemNodes.{node_by, number_by};
-ghost use Rattle.ig_live.specs.Once.{IsOnce};
+ghost use Rattle.ig_forest_live.specs.Once.{IsOnce};
 
+use ig_forest_live::{Found, Links};
 use ig_forest_tables::{Child, Entry, ItemTable};
 use ig_item::{FurtherWay, Way};
-use ig_live::{Found, Links};
 use ig_text::Span;
 use std::alloc::{AllocError, Global};
 

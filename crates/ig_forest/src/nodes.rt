@@ -1,18 +1,18 @@
 //! The nodes of a forest, read off its complete items in order.
 ghost use Rattle.std.specs.Prelude.{◌≡◌, ◌<◌, ◌+◌, ◌-◌, false, IfOk, OnOk, IsTrue, length};
 ghost use Rattle.ig_text.specs.Limits.{numbers_end};
-ghost use Rattle.ig_live.specs.declared.mark.Mark.TheVariants.{Complete};
+ghost use Rattle.ig_forest_live.specs.declared.mark.Mark.TheVariants.{Complete};
 ghost use Rattle.ig_forest.specs.CodeDone.{IsTagged, StandsLast};
-ghost use Rattle.ig_live.specs.LiveOrder.{AreLiveInOrder};
-ghost use Rattle.ig_live.specs.Founds.{AreThereIn, number_cmp_in};
+ghost use Rattle.ig_forest_live.specs.LiveOrder.{AreLiveInOrder};
+ghost use Rattle.ig_forest_live.specs.Founds.{AreThereIn, number_cmp_in};
 ghost use Rattle.ig_forest.specs.CodeNodes.{AreNodesWith, EndsWith, MarkCompleteIn, NodesUpToIn};
 ghost use Rattle.ig_forest.specs.CodeNodes.{Opens, rows_at};
 ghost use Rattle.ig_forest.specs.CodeTables.{node_of};
 ghost use Rattle.ig_forest_tables.specs.Orders.{choice_cmp};
 
+use ig_forest_live::{Found, ItemRow, Mark};
 use ig_forest_tables::{Choice, NodeRow, NodeRows};
 use ig_item::{Core, alternatives_are_one};
-use ig_live::{Found, ItemRow, Mark};
 use ig_text::Tag;
 use std::alloc::{AllocError, Global};
 

@@ -5,11 +5,11 @@ use Rattle.std.specs.Fmt.{decimal}
 use Rattle.std.proofs.lemmas.List.{append_cancel_left}
 use Rattle.ig_text.specs.declared.text.Span.{Span}
 use Rattle.ig_text.specs.Limits.{numbers_end}
-use Rattle.ig_pieces.specs.ValueText.{span_text}
-use Rattle.ig_forest_text.specs.ForestText.{child_text}
+use Rattle.ig_show_texts.specs.ValueText.{span_text}
+use Rattle.ig_show_texts.specs.ForestText.{child_text}
 use Rattle.ig_forest_tables.specs.declared.entry.Child.{Child}
 use Rattle.ig_forest_tables.specs.declared.entry.Child.TheVariants as child
-use Rattle.ig_forest_text.specs.ForestText.{entry_text}
+use Rattle.ig_show_texts.specs.ForestText.{entry_text}
 use Rattle.ig_forest_tables.specs.declared.entry.Entry.{Entry}
 use Rattle.ig_forest_tables.specs.declared.entry.Entry.TheVariants.{Begin, Pass, Take}
 use Rattle.ig_forest_reader.specs.Written.{IsSmallSpan, IsSmallChild, IsSmallEntry}

@@ -9,16 +9,16 @@ use Rattle.ig_text.proofs.Lists.{get_within}
 use Rattle.ig_text.specs.declared.text.Span.{Span}
 use Rattle.ig_expr.specs.declared.value.Value.{Value}
 use Rattle.ig_item.specs.declared.core_grammar.Nonterminal.{Nonterminal}
-use Rattle.ig_live.specs.declared.rows.ItemRow.{ItemRow}
-use Rattle.ig_pieces.specs.Listed.{comma_separated}
-use Rattle.ig_pieces.specs.ValueText.{places_text, span_text, value_text, values_text}
+use Rattle.ig_forest_live.specs.declared.rows.ItemRow.{ItemRow}
+use Rattle.ig_show_texts.specs.Listed.{comma_separated}
+use Rattle.ig_show_texts.specs.ValueText.{places_text, span_text, value_text, values_text}
 use Rattle.ig_forest_tables.specs.Forest.{Node, ItemNode}
 use Rattle.ig_forest_tables.specs.StoredNodes.{StoredNode}
 use Rattle.ig_forest_tables.specs.StoredItems.{StoredItem}
 use Rattle.ig_forest_tables.specs.declared.node_rows.NodeRow.{NodeRow}
 use Rattle.ig_forest_tables.specs.declared.entry.Choice.{Choice}
 use Rattle.ig_forest_tables.specs.declared.entry.Entry.{Entry}
-use Rattle.ig_forest_text.specs.ForestText.{choice_text, entry_text, head_text, node_line, node_text, place_text, item_line, item_text}
+use Rattle.ig_show_texts.specs.ForestText.{choice_text, entry_text, head_text, node_line, node_text, place_text, item_line, item_text}
 use Rattle.ig_forest_reader.specs.Runs.{Stops, IsChoice, NoItem}
 use Rattle.ig_forest_reader.specs.Shown.{Added, Begun, HeadRead, IsIndex, ItemLineRead, ItemRead, Keeps, NoItemLine, NoItemRead, NoNode, NoNodeLine, NoPlace, NodeLineRead, NodeRead, NoStart, PlaceRead, Reads, StartRead, lookup, place_line}
 use Rattle.ig_forest_reader.specs.declared.fault.ForestFault.{ForestFault}

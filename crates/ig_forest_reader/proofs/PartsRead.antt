@@ -5,7 +5,7 @@ use Rattle.std.proofs.lemmas.List.{append_assoc, append-nil, length-append}
 use Rattle.ig_text.specs.Limits.{numbers_end}
 use Rattle.ig_text.specs.Pairwise as pairs
 use Rattle.ig_text.specs.Pairwise.{Each}
-use Rattle.ig_pieces.specs.Listed.{numbered_texts}
+use Rattle.ig_show_texts.specs.Listed.{numbered_texts}
 use Rattle.ig_forest_reader.specs.Runs.{Stops}
 use Rattle.ig_forest_reader.specs.Shown.{PartRead, PartsRead, NoPart, NoParts}
 use Rattle.ig_forest_reader.proofs.LinesLeft.{joined_parts}

@@ -5,13 +5,13 @@ use Rattle.std.specs.Fmt.{decimal}
 use Rattle.std.proofs.lemmas.List.{append_assoc, append-nil}
 use Rattle.std.proofs.lemmas.Grind.{flat_map-append}
 use Rattle.ig_expr.specs.declared.value.Value.{Value}
-use Rattle.ig_pieces.specs.Listed.{comma_separated}
-use Rattle.ig_pieces.specs.TagText.{tag_text}
-use Rattle.ig_pieces.specs.ValueText.{places_text, value_text}
+use Rattle.ig_show_texts.specs.Listed.{comma_separated}
+use Rattle.ig_show_texts.specs.TagText.{tag_text}
+use Rattle.ig_show_texts.specs.ValueText.{places_text, value_text}
 use Rattle.ig_forest_tables.specs.declared.entry.Child.{Child}
 use Rattle.ig_forest_tables.specs.declared.entry.Choice.{Choice}
 use Rattle.ig_forest_tables.specs.declared.entry.Entry.TheVariants.{Pass, Take}
-use Rattle.ig_forest_text.specs.ForestText.{child_text, choice_text, entry_text}
+use Rattle.ig_show_texts.specs.ForestText.{child_text, choice_text, entry_text}
 use Rattle.ig_forest_reader.proofs.Telling.{places_joined}
 use Rattle.ig_forest_reader.proofs.TellingLines.{pass_joined, take_joined}
 

@@ -8,7 +8,7 @@ use Rattle.ig_text.specs.declared.tag.Tag.{Tag}
 use Rattle.ig_item.specs.Core.{IsAlternative, alternative_at, numbered}
 use Rattle.ig_item.specs.declared.core_grammar.Nonterminal.{Nonterminal}
 use Rattle.ig_item.specs.declared.core_grammar.CoreAlt.{CoreAlt}
-use Rattle.ig_pieces.specs.TagText.{tag_text}
+use Rattle.ig_show_texts.specs.TagText.{tag_text}
 use Rattle.ig_forest_tables.specs.declared.entry.Choice.{Choice}
 use Rattle.ig_forest_reader.specs.Shown.{HasTag}
 use Rattle.ig_forest_reader.specs.Written.{TellsNames, IsNamed, IsSmallTag, IsTagOf}

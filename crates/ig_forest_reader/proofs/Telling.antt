@@ -12,8 +12,8 @@ use Rattle.ig_expr.specs.declared.value.Value.TheVariants as value
 use Rattle.ig_forest_reader.specs.Written.{IsSmall, ListsAreTold, round, square}
 use Rattle.ig_forest_reader.specs.Runs.{Each, none, more, Stops, at_end, at, IsDigit, IsInner}
 use Rattle.std.specs.List.{AllByRecursion}
-use Rattle.ig_pieces.specs.Listed.{comma_separated}
-use Rattle.ig_pieces.specs.ValueText.{places_text, value_text, values_text}
+use Rattle.ig_show_texts.specs.Listed.{comma_separated}
+use Rattle.ig_show_texts.specs.ValueText.{places_text, value_text, values_text}
 
 pub each_join : {P : ℕ → Type 0} (xs ys : List ℕ) → Each P xs → Each P ys → Each P (xs ++ ys)
 each_join [] ys none b = b

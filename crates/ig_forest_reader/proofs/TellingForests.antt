@@ -7,10 +7,10 @@ use Rattle.std.proofs.Math.Seq.{drop-append_seam}
 use Rattle.std.specs.List.{AllByRecursion}
 use Rattle.ig_expr.specs.declared.value.Value.{Value}
 use Rattle.ig_item.specs.declared.core_grammar.Nonterminal.{Nonterminal}
-use Rattle.ig_pieces.specs.Listed.{comma_separated, numbered_texts}
-use Rattle.ig_pieces.specs.ValueText.{places_text, span_text, value_text}
+use Rattle.ig_show_texts.specs.Listed.{comma_separated, numbered_texts}
+use Rattle.ig_show_texts.specs.ValueText.{places_text, span_text, value_text}
 use Rattle.ig_forest_tables.specs.Forest.{Forest, Node, ItemNode}
-use Rattle.ig_forest_text.specs.ForestText.{choice_text, head_text, node_text, entry_text, place_text, item_text}
+use Rattle.ig_show_texts.specs.ForestText.{choice_text, head_text, node_text, entry_text, place_text, item_text}
 use Rattle.ig_forest_tables.specs.declared.entry.Choice.{Choice}
 use Rattle.ig_forest_tables.specs.declared.entry.Entry.{Entry}
 use Rattle.ig_forest_tables.specs.declared.entry.Entry.TheVariants.{Begin, Pass, Take}

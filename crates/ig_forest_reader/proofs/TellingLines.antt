@@ -10,9 +10,9 @@ use Rattle.ig_text.specs.declared.tag.Tag.{Tag}
 use Rattle.ig_text.specs.declared.tag.Tag.TheVariants.{Rule, Nil, Snoc, One, More, Absent, Present, GroupAlt, Root}
 use Rattle.ig_text.specs.Limits.{numbers_end}
 use Rattle.ig_item.specs.declared.core_grammar.Nonterminal.{Nonterminal}
-use Rattle.ig_pieces.specs.Listed.{numbered_texts}
-use Rattle.ig_pieces.specs.TagText.{tag_text}
-use Rattle.ig_forest_text.specs.ForestText.{choice_text, child_text, entry_text}
+use Rattle.ig_show_texts.specs.Listed.{numbered_texts}
+use Rattle.ig_show_texts.specs.TagText.{tag_text}
+use Rattle.ig_show_texts.specs.ForestText.{choice_text, child_text, entry_text}
 use Rattle.ig_forest_tables.specs.declared.entry.Choice.{Choice}
 use Rattle.ig_forest_tables.specs.declared.entry.Entry.{Entry}
 use Rattle.ig_forest_tables.specs.declared.entry.Entry.TheVariants.{Begin, Pass, Take}

@@ -12,7 +12,7 @@ use Rattle.ig_text.specs.declared.text.Span.{Span}
 use Rattle.ig_text.specs.Limits.{integers_end}
 use Rattle.ig_expr.specs.declared.value.Value.{Value}
 use Rattle.ig_expr.specs.declared.value.Value.TheVariants as value
-use Rattle.ig_pieces.specs.ValueText.{span_text, value_text}
+use Rattle.ig_show_texts.specs.ValueText.{span_text, value_text}
 use Rattle.ig_forest_reader.specs.Runs.{Each, none, more}
 use Rattle.ig_forest_reader.specs.Written.{IsSmall, IsSmallSpan}
 use Rattle.ig_forest_reader.proofs.Telling.{NoDot, no_dot_digit, signed_each, value_told}

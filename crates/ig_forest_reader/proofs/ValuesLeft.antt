@@ -4,7 +4,7 @@ use Rattle.std.specs.Prelude.{flat_map, codes}
 use Rattle.std.specs.List.{AllByRecursion}
 use Rattle.std.proofs.lemmas.List.{append_assoc, append-nil, length-append, append_cancel_left}
 use Rattle.ig_expr.specs.declared.value.Value.{Value}
-use Rattle.ig_pieces.specs.ValueText.{value_text}
+use Rattle.ig_show_texts.specs.ValueText.{value_text}
 use Rattle.ig_forest_reader.specs.Runs.{Stops, at, IsInner, IsComma}
 use Rattle.ig_forest_reader.specs.Written.{IsSmall}
 

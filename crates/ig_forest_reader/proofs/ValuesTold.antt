@@ -5,8 +5,8 @@ use Rattle.std.specs.Result.{IsErrAnd}
 use Rattle.std.specs.List.{AllByRecursion}
 use Rattle.std.proofs.lemmas.List.{append_assoc, append-nil, append_cancel_left}
 use Rattle.ig_expr.specs.declared.value.Value.{Value}
-use Rattle.ig_pieces.specs.Listed.{comma_separated}
-use Rattle.ig_pieces.specs.ValueText.{value_text}
+use Rattle.ig_show_texts.specs.Listed.{comma_separated}
+use Rattle.ig_show_texts.specs.ValueText.{value_text}
 use Rattle.ig_forest_reader.specs.Runs.{Stops, at, IsInner, IsComma}
 use Rattle.ig_forest_reader.specs.Shown.{Added, NoValues, Reads, ValuesRead}
 use Rattle.ig_forest_reader.specs.declared.fault.ForestFault.{ForestFault}

@@ -13,13 +13,13 @@ use Rattle.ig_text.specs.Pairwise as pairs
 use Rattle.ig_text.specs.Pairwise.{Each}
 use Rattle.ig_expr.specs.declared.value.Value.{Value}
 use Rattle.ig_item.specs.declared.core_grammar.Nonterminal.{Nonterminal}
-use Rattle.ig_pieces.specs.Listed.{numbered_texts}
+use Rattle.ig_show_texts.specs.Listed.{numbered_texts}
 use Rattle.ig_forest_tables.specs.Forest.{Forest, Node, ItemNode, IsForest}
 use Rattle.ig_forest_tables.specs.StoredNodes.{StoredNode, rows_in}
 use Rattle.ig_forest_tables.specs.StoredItems.{StoredItem}
 use Rattle.ig_forest_tables.specs.Tables.{FitsTables, forest_by, item_node_by, node_by}
 use Rattle.ig_forest_tables.specs.declared.node_rows.NodeRow.{NodeRow}
-use Rattle.ig_forest_text.specs.ForestText.{forest_text, item_text, node_text}
+use Rattle.ig_show_texts.specs.ForestText.{forest_text, item_text, node_text}
 use Rattle.ig_verify.specs.Sound.{IsDraft}
 use Rattle.ig_forest_reader.specs.Runs.{at_end}
 use Rattle.ig_forest_reader.specs.Shown.{IsBegunItem, IsFirstRoot, ItemsRead, Keeps, NodesRead, NoForest, NoItems, NoNodes, NoRoot, ShowsItem, ShowsNode, TablesRead}

@@ -13,14 +13,14 @@ use Rattle.ig_expr.specs.declared.value.Value.{Value}
 use Rattle.ig_item.specs.Core.{IsAlternative}
 use Rattle.ig_item.specs.declared.core_grammar.Nonterminal.{Nonterminal}
 use Rattle.ig_item.specs.declared.core_grammar.CoreAlt.{CoreAlt}
-use Rattle.ig_pieces.specs.Listed.{comma_separated, numbered_texts}
-use Rattle.ig_pieces.specs.ValueText.{places_text, value_text}
+use Rattle.ig_show_texts.specs.Listed.{comma_separated, numbered_texts}
+use Rattle.ig_show_texts.specs.ValueText.{places_text, value_text}
 use Rattle.ig_forest_tables.specs.Forest.{Forest, Node, ItemNode}
 use Rattle.ig_forest_tables.specs.StoredNodes.{StoredNode}
 use Rattle.ig_forest_tables.specs.StoredItems.{StoredItem}
 use Rattle.ig_forest_tables.specs.declared.node_rows.NodeRow.{NodeRow}
-use Rattle.ig_live.specs.declared.rows.ItemRow.{ItemRow}
-use Rattle.ig_forest_text.specs.ForestText.{forest_text, head_text, item_line, item_text, node_line, node_text}
+use Rattle.ig_forest_live.specs.declared.rows.ItemRow.{ItemRow}
+use Rattle.ig_show_texts.specs.ForestText.{forest_text, head_text, item_line, item_text, node_line, node_text}
 use Rattle.ig_forest_reader.specs.Runs.{Stops, IsChoice, NoItem}
 use Rattle.ig_forest_reader.specs.Written.{HasFirstRoot, IsDraftOf, IsSmall, IsSmallTag, IsNamed, IsNodeOf, IsItemOf}
 use Rattle.ig_forest_reader.specs.declared.fault.ForestFault.{ForestFault}

@@ -11,11 +11,11 @@ use Rattle.ig_item.specs.Core.{IsAlternative}
 use Rattle.ig_item.specs.declared.core_grammar.Nonterminal.{Nonterminal}
 use Rattle.ig_item.specs.declared.core_grammar.CoreAlt.{CoreAlt}
 use Rattle.std.specs.List.{AllByRecursion}
-use Rattle.ig_pieces.specs.Listed.{comma_separated}
-use Rattle.ig_pieces.specs.TagText.{tag_text}
-use Rattle.ig_pieces.specs.ValueText.{value_text}
+use Rattle.ig_show_texts.specs.Listed.{comma_separated}
+use Rattle.ig_show_texts.specs.TagText.{tag_text}
+use Rattle.ig_show_texts.specs.ValueText.{value_text}
 use Rattle.ig_forest_tables.specs.Forest.{Forest, Node, ItemNode}
-use Rattle.ig_forest_text.specs.ForestText.{forest_text}
+use Rattle.ig_show_texts.specs.ForestText.{forest_text}
 use Rattle.ig_forest_tables.specs.declared.entry.Choice.{Choice}
 use Rattle.ig_forest_tables.specs.declared.entry.Entry.{Entry}
 use Rattle.ig_forest_tables.specs.declared.entry.Entry.TheVariants.{Begin, Pass, Take}

@@ -15,9 +15,9 @@ use crate::names::NameTable;
 use crate::nodes::read_start;
 use crate::tables::{push_item, push_list};
 use ig_expr::Value;
+use ig_forest_live::ItemRow;
 use ig_forest_tables::{Entry, ItemTable};
 use ig_item::EnvironmentTable;
-use ig_live::ItemRow;
 use std::alloc::Global;
 
 /// An alternative, a dot, and what stands after the opening bracket.

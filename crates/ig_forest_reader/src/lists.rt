@@ -2,11 +2,11 @@
 ghost use Rattle.std.specs.Prelude.{◌≡◌, ◌∷◌, ℕ, List, [], ◌++◌, IfOk, OnOk, MatchBool};
 ghost use Rattle.std.specs.Prelude.{flat_map, codes};
 ghost use Rattle.std.specs.List.{AllByRecursion};
-ghost use Rattle.ig_forest_text.specs.ForestText.{entry_text};
+ghost use Rattle.ig_show_texts.specs.ForestText.{entry_text};
 ghost use Rattle.ig_forest_tables.specs.declared.entry.Entry.{Entry as entry_type};
 ghost use Rattle.ig_expr.specs.declared.value.Value.{Value as value_type};
-ghost use Rattle.ig_pieces.specs.Listed.{comma_separated};
-ghost use Rattle.ig_pieces.specs.ValueText.{value_text};
+ghost use Rattle.ig_show_texts.specs.Listed.{comma_separated};
+ghost use Rattle.ig_show_texts.specs.ValueText.{value_text};
 ghost use Rattle.ig_forest_reader.specs.Runs.{Stops, NoItem, IsInner, IsComma};
 ghost use Rattle.ig_forest_reader.specs.Shown.{Added, NoValues, Reads, ValuesRead};
 ghost use Rattle.ig_forest_reader.specs.Written.{Closes, IsSmall, IsSmallEntry};

@@ -5,7 +5,7 @@ ghost use Rattle.std.specs.Fmt.{decimal};
 ghost use Rattle.ig_text.specs.Limits.{numbers_end};
 ghost use Rattle.ig_forest_tables.specs.Forest.{Forest as forest_type};
 ghost use Rattle.ig_forest_tables.specs.StoredNodes.{rows_in};
-ghost use Rattle.ig_forest_text.specs.ForestText.{forest_text};
+ghost use Rattle.ig_show_texts.specs.ForestText.{forest_text};
 ghost use Rattle.ig_forest_reader.specs.Shown.{IsFirstRoot, IsRootRow, NoForest, NoRoot, Reads};
 ghost use Rattle.ig_forest_reader.specs.Shown.{TablesRead};
 ghost use Rattle.ig_forest_reader.specs.Written.{IsDraftOf, TellsNames};

@@ -4,9 +4,9 @@ ghost use Rattle.ig_forest_tables.specs.StoredNodes.{StoredNode};
 ghost use Rattle.ig_forest_reader.specs.Shown.{Keeps};
 
 use ig_expr::{Value, equal_values_are_one};
+use ig_forest_live::ItemRow;
 use ig_forest_tables::{Choice, Entry, ItemTable, NodeRow, NodeRows};
 use ig_item::{EnvironmentTable, number};
-use ig_live::ItemRow;
 use std::alloc::AllocError;
 
 /// Whether both lists have the same values. Most have none.

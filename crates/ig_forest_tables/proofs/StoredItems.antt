@@ -6,7 +6,7 @@ use Rattle.std.proofs.lemmas.List.{map-append}
 use Rattle.std.proofs.lemmas.List.Elements.{Contains-push_cases}
 use Rattle.ig_text.proofs.Lists.{contains_from_at, range_left, range_right, same_map, mapped_at}
 use Rattle.ig_forest_tables.specs.declared.entry.Entry.{Entry}
-use Rattle.ig_live.specs.declared.rows.ItemRow.{ItemRow}
+use Rattle.ig_forest_live.specs.declared.rows.ItemRow.{ItemRow}
 use Rattle.ig_forest_tables.specs.declared.item_table.Part.{Part}
 use Rattle.ig_forest_tables.specs.StoredItems.{StoredItem, entries_in, item_in, IsPartOf, ArePartsOf}
 

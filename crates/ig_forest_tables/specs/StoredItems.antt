@@ -1,7 +1,7 @@
 -- Item nodes whose entries stand side by side in one list.
 use Rattle.std.specs.Prelude.{◌≤◌, List, length, Contains, slice_range}
 use Rattle.ig_forest_tables.specs.declared.entry.Entry.{Entry}
-use Rattle.ig_live.specs.declared.rows.ItemRow.{ItemRow}
+use Rattle.ig_forest_live.specs.declared.rows.ItemRow.{ItemRow}
 use Rattle.ig_forest_tables.specs.declared.item_table.Part.{Part}
 use Rattle.ig_forest_tables.specs.declared.item_table.Stored.{Stored}
 

@@ -4,8 +4,8 @@ ghost use Rattle.std.specs.Prelude.{slice_get};
 ghost use Rattle.ig_forest_tables.specs.StoredItems.{IsPartOf, entries_in, stored_view};
 
 use crate::entry::Entry;
+use ig_forest_live::ItemRow;
 use ig_item::number;
-use ig_live::ItemRow;
 use std::alloc::{AllocError, Global};
 use std::marker::Model;
 

@@ -1,3 +1,4 @@
 pub mod Sums
 pub mod KeywordTexts
 pub mod NamePlaces
+pub mod FirstPlaces

@@ -24,3 +24,4 @@ pub mod CodingSizes
 pub mod CodingMembers
 pub mod CodingFalls
 pub mod CodingChecked
+pub mod Tables

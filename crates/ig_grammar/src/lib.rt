@@ -6,10 +6,14 @@
 //! `specs/Regular.antt` says what a grammar that was read keeps to, and each one that a pass makes
 //! of it, `specs/WellScoped.antt` which ones are well scoped; a [`Checked`] grammar is one, with a
 //! shape for each declaration.
+//!
+//! [`Declarations`] finds the first declaration of a name, or that there is none, in a time that
+//! doesn't grow with their number; it is the list of declarations to whoever reads its contracts.
 #![tactic(auto)]
 
 mod checked;
 mod declaration;
+mod declarations;
 mod filter;
 mod grammar;
 mod keywords;
@@ -21,6 +25,7 @@ mod variables;
 
 pub use checked::Checked;
 pub use declaration::{Assoc, Decl, DeclKind, Decls, Level, Levels, Param, Params};
+pub use declarations::Declarations;
 pub use filter::{Filter, Filters};
 pub use grammar::Grammar;
 pub use keywords::{is_keyword, is_name};

@@ -5,7 +5,7 @@ use Rattle.std.proofs.lemmas.List.{length_push}
 use Rattle.std.proofs.lemmas.Option.{same_Some, slice_get_read}
 use Rattle.indexmap.specs.IndexMap.{insert_entry}
 use Rattle.ig_item.specs.declared.items.InstanceKey.{InstanceKey}
-use Rattle.ig_tables.specs.Extends.{IsNew}
+use Rattle.ig_run_tables.specs.Extends.{IsNew}
 use Rattle.ig_gss.specs.declared.marks.Edge.{Edge}
 use Rattle.ig_gss.specs.declared.marks.Pop.{Pop}
 use Rattle.ig_gss.specs.declared.chains.Cell.{Cell}

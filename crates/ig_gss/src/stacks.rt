@@ -9,7 +9,7 @@ use crate::marks::{Edge, Pop};
 use crate::places::{Place, done_at, make_ready};
 use crate::tops::Tops;
 use ig_item::InstanceKey;
-use ig_tables::InstanceSet;
+use ig_run_tables::InstanceSet;
 use indexmap::IndexMap;
 use std::alloc::{AllocError, Global};
 use std::marker::Model;

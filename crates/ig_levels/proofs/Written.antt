@@ -8,9 +8,9 @@ use Rattle.ig_grammar.specs.declared.symbol.Alt.{Alt}
 use Rattle.ig_grammar.specs.declared.declaration.Level.{Level}
 use Rattle.ig_grammar.specs.declared.declaration.Decl.{Decl}
 use Rattle.ig_grammar.specs.declared.grammar.Grammar.{Grammar}
-use Rattle.ig_levels_laws.specs.Levels.{names_levelled, lowered_declaration, lowered_grammar}
+use Rattle.ig_levels.specs.Levels.{names_levelled, lowered_declaration, lowered_grammar}
 use Rattle.ig_levels.specs.Numbered.{numbered}
-use Rattle.ig_operands.specs.Tables.{levelled_by, Tells}
+use Rattle.ig_levels.specs.Tables.{levelled_by, Tells}
 
 pub level_added : (f : Levelled → Alt) (levels : List Level) (i : ℕ) (level : Level) (n : ℕ) (all more whole : List Alt) → i < length levels → level ≡ get_or levels i level →
     n ≡ length levels - i → more ≡ all ++ map f (numbered n level.assoc level.alts) → all ++ map f (by_level (drop i levels)) ≡ whole →

@@ -4,36 +4,35 @@ ghost use Rattle.std.specs.Prelude.{◌≡◌, ◌+◌, ◌-◌, ◌<◌, ◌≤
 ghost use Rattle.ig_text.specs.Limits.{numbers_end};
 ghost use Rattle.ig_grammar.specs.Numbering.{by_level};
 ghost use Rattle.ig_grammar.specs.View.{symbol_of};
-ghost use Rattle.ig_rewrite.specs.Added.{left_name, right_name};
-ghost use Rattle.ig_rewrite.specs.Sound.{IsSound};
-ghost use Rattle.ig_rewrite.specs.Unbound.{IsUnbound};
-ghost use Rattle.ig_levels_laws.specs.Levels.{lowered, test_of, symbols_in, added_parameters};
-ghost use Rattle.ig_levels_laws.specs.Levels.{lowered_alternative, lowered_declaration};
-ghost use Rattle.ig_levels_laws.specs.Levels.{is_levelled, lowered_grammar, one_level, LevelsOf};
-ghost use Rattle.ig_levels_laws.specs.Levels.{has_left, has_right};
+ghost use Rattle.ig_pass.specs.Added.{left_name, right_name};
+ghost use Rattle.ig_pass.specs.Sound.{IsSound};
+ghost use Rattle.ig_pass.specs.Unbound.{IsUnbound};
+ghost use Rattle.ig_levels.specs.Levels.{lowered, test_of, symbols_in, added_parameters};
+ghost use Rattle.ig_levels.specs.Levels.{lowered_alternative, lowered_declaration};
+ghost use Rattle.ig_levels.specs.Levels.{is_levelled, lowered_grammar, one_level, LevelsOf};
+ghost use Rattle.ig_levels.specs.Levels.{has_left, has_right};
 ghost use Rattle.ig_meaning.specs.Operands.{more_on_the_left, more_on_the_right};
-ghost use Rattle.ig_operands.specs.Roles.{place_of};
-ghost use Rattle.ig_operands.specs.Tables.{levelled_by};
+ghost use Rattle.ig_levels.specs.Roles.{place_of};
+ghost use Rattle.ig_levels.specs.Tables.{levelled_by};
 ghost use Rattle.ig_levels.specs.Numbered.{numbered};
 
+use crate::laws::levels_keep;
+use crate::naming::{is_levelled, left_word, levelled_names, right_word};
+use crate::operands::{Bounds, asks_left, asks_right, bounds_at, is_test, role_at};
+use crate::symbols::with_bounds;
 use ig_expr::{Expr, Op, Operand};
 use ig_grammar::{
     Alt, Alts, Assoc, Checked, Decl, Decls, Grammar, Level, Levels, Params, Symbol, Symbols,
 };
-use ig_levels_laws::levels_keep;
-use ig_operands::{
-    Bounds, asks_left, asks_right, bounds_at, is_levelled, is_test, left_word, levelled_names,
-    right_word, role_at, with_bounds,
+use ig_pass::{
+    copy_of_shapes, copy_of_start, push_alternative, push_declaration, push_integer, push_level,
+    push_symbol, root,
 };
-use ig_rooting::{copy_of_shapes, root};
 use ig_text::{Copied, Word};
-use ig_traversal::{
-    copy_of_start, push_alternative, push_declaration, push_integer, push_level, push_symbol,
-};
 use std::alloc::{AllocError, Global};
 use std::collections::BTreeMap;
 
-/// The grammar without levels, exactly as `ig_levels_laws` says; `$root` is its last declaration
+/// The grammar without levels, exactly as `specs/Levels.antt` says; `$root` is its last declaration
 /// where none stood for the root. Refused for want of memory alone; a level whose number 32 bits
 /// don't hold counts as that. The grammar is sound, and nothing in it binds or reads `.l` and `.r`.
 pub fn lower_levels(alloc: Global, checked: &Checked) -> Result<Checked, AllocError>

@@ -1,1 +1,13 @@
+pub mod Inputs
+pub mod Lines
+pub mod Chains
+pub mod Places
+pub mod Derived
+pub mod Spines
+pub mod Permitting
+pub mod Scoped
+pub mod Reading
+pub mod Refusals
+pub mod Said
+pub mod Dots
 pub mod Summaries

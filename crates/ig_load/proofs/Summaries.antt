@@ -10,12 +10,12 @@ use Rattle.ig_heights.specs.Heights.{Heights, AreHeights}
 use Rattle.ig_query.specs.Ambiguity.{IsAmbiguous}
 use Rattle.ig_parse.specs.Laws.{AmbiguityIsTwoPermitted, CyclicIsWithoutHighest}
 use Rattle.ig_parse.specs.Parses.{AreReachable, IsForestOf}
-use Rattle.ig_core_laws.specs.Notation.{unchanged}
+use Rattle.ig_core.specs.Notation.{unchanged}
 use Rattle.ig_parse.specs.Parses.{IsOver, IsParsed}
-use Rattle.ig_load_grammar.specs.Grammar.{LoadGrammar}
-use Rattle.ig_load_texts.specs.Input.{LoadInput}
+use Rattle.ig_load.specs.Grammar.{LoadGrammar}
+use Rattle.ig_load.specs.Input.{LoadInput}
 use Rattle.ig_load.specs.Summary.{IsSummaryOf, Loads}
-use Rattle.ig_load_texts.specs.declared.summary.Summary.{Summary}
+use Rattle.ig_load.specs.declared.summary.Summary.{Summary}
 
 module _ (c : CheckedGrammar) (text : List ℕ) (f : Forest) (is : IsForestOf c text f) where
   pub summary_is : (tables : Tables) (heights : Heights) (summary : Summary) → AreReachable c text tables → NoneTwice (items_of tables) →

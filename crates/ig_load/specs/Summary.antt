@@ -5,14 +5,14 @@ use Rattle.ig_item.specs.Items.{Item, Reachable}
 use Rattle.ig_item.specs.WellKinded.{NoneTwice}
 use Rattle.ig_item.specs.declared.run_fault.RunFault.{RunFault}
 use Rattle.ig_item.specs.declared.run_fault.RunFault.TheVariants.{Budget, Memory}
-use Rattle.ig_core_laws.specs.Lowered.{CoreOf}
-use Rattle.ig_core_laws.specs.Notation.{unchanged}
+use Rattle.ig_core.specs.Lowered.{CoreOf}
+use Rattle.ig_core.specs.Notation.{unchanged}
 use Rattle.ig_forest_tables.specs.Forest.{Forest}
 use Rattle.ig_parse.specs.Laws.{HasNoHighest, PermitsTwo}
 use Rattle.ig_parse.specs.Parses.{IsForestOf, IsOver}
-use Rattle.ig_load_grammar.specs.Grammar.{LoadGrammar}
-use Rattle.ig_load_texts.specs.Input.{LoadInput}
-use Rattle.ig_load_texts.specs.declared.summary.Summary.{Summary}
+use Rattle.ig_load.specs.Grammar.{LoadGrammar}
+use Rattle.ig_load.specs.Input.{LoadInput}
+use Rattle.ig_load.specs.declared.summary.Summary.{Summary}
 
 module _ (c : CheckedGrammar) (text : List ℕ) where
   -- so many items are reachable

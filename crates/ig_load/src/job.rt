@@ -1,20 +1,22 @@
 //! The whole of a load.
 ghost use Rattle.std.specs.Prelude.{◌≡◌, ◌↔◌, ◌≤◌, length, IfOk, IsTrue};
-ghost use Rattle.ig_core_laws.specs.Lowered.{CoreOf};
-ghost use Rattle.ig_core_laws.specs.Notation.{unchanged};
+ghost use Rattle.ig_core.specs.Lowered.{CoreOf};
+ghost use Rattle.ig_core.specs.Notation.{unchanged};
 ghost use Rattle.ig_item.specs.Tables.{items_of};
 ghost use Rattle.ig_item.specs.WellKinded.{NoneTwice};
 ghost use Rattle.ig_parse.specs.Parses.{AreReachable, IsParsed};
 ghost use Rattle.ig_query.specs.Ambiguity.{IsAmbiguous};
-ghost use Rattle.ig_load_grammar.specs.Grammar.{LoadGrammar};
+ghost use Rattle.ig_load.specs.Grammar.{LoadGrammar};
 ghost use Rattle.ig_load.specs.Summary.{IsSummaryOf, Loads};
 
+use crate::grammar::{load_grammar, load_parser};
+use crate::input::{MOST_OPERANDS, load_input};
+use crate::laws::load_inputs_are_permitted;
+use crate::summary::Summary;
 use ig_forest::Forest;
 use ig_grammar::Checked;
 use ig_heights::Heights;
 use ig_item::{Items, Recorded, RunFault};
-use ig_load_grammar::{load_grammar, load_inputs_are_permitted, load_parser};
-use ig_load_texts::{MOST_OPERANDS, Summary, load_input};
 use ig_parse::{Parser, ambiguity_is_two_permitted, cyclic_is_without_highest};
 use ig_query::is_ambiguous;
 use ig_queue::Order;

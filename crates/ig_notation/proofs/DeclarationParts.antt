@@ -3,7 +3,7 @@ use Rattle.std.proofs.Common.{◌≡◌, ℕ, suc, ◌+◌, ◌≤◌, ◌<◌, 
 use Rattle.std.specs.Prelude.{Option, Some, None}
 use Rattle.std.proofs.lemmas.List.{append-nil, drop_all}
 use Rattle.ig_expr.specs.declared.kind.Kind.{Kind}
-use Rattle.ig_syntax.specs.Token.{Token, Name, Head, Colon, Comma, Close, Equals, Semicolon, Greater, Start}
+use Rattle.ig_notation_syntax.specs.Token.{Token, Name, Head, Colon, Comma, Close, Equals, Semicolon, Greater, Start}
 use Rattle.ig_grammar.specs.Symbol.{Alternatives}
 use Rattle.ig_grammar.specs.Alternative.{gathered_alternatives}
 use Rattle.ig_grammar.specs.declared.symbol.Alt.{Alt}
@@ -13,17 +13,17 @@ use Rattle.ig_grammar.specs.declared.declaration.DeclKind.{DeclKind}
 use Rattle.ig_grammar.specs.declared.declaration.Param.{Param}
 use Rattle.ig_grammar.specs.declared.declaration.Level.{Level}
 use Rattle.ig_grammar.specs.declared.declaration.Decl.{Decl}
-use Rattle.ig_syntax.specs.Rules as rule
-use Rattle.ig_syntax.specs.Rules.{IsKind, IsDeclKind, ReadsAssociativity, ReadsAlternatives, ReadsLevel, ReadsLevels, ReadsParameters, ReadsDeclaration, ReadsDeclarations, FollowsRules}
-use Rattle.ig_rules.specs.Machine as want
-use Rattle.ig_rules.specs.Machine.{Want, before, run, go, step, chosen, after_kind, after_declaration, alternatives_wants, level_wants, levels_wants, parameters_wants, declaration_wants}
-use Rattle.ig_rules.specs.Reading.{Goes}
-use Rattle.ig_readers.specs.declared.fault.RuleFault.{RuleFault}
-use Rattle.ig_readers.specs.declared.fault.RuleFault.TheVariants.{Unexpected, Memory}
-use Rattle.ig_readers.specs.Readers.{Stands, Takes, Misses, at_end, at_token, MissesAt, StopsAt, Runs, Finds, Closed, Front, After}
+use Rattle.ig_notation_syntax.specs.Rules as rule
+use Rattle.ig_notation_syntax.specs.Rules.{IsKind, IsDeclKind, ReadsAssociativity, ReadsAlternatives, ReadsLevel, ReadsLevels, ReadsParameters, ReadsDeclaration, ReadsDeclarations, FollowsRules}
+use Rattle.ig_notation_syntax.specs.Machine as want
+use Rattle.ig_notation_syntax.specs.Machine.{Want, before, run, go, step, chosen, after_kind, after_declaration, alternatives_wants, level_wants, levels_wants, parameters_wants, declaration_wants}
+use Rattle.ig_notation_syntax.specs.Reading.{Goes}
+use Rattle.ig_notation_terms.specs.declared.fault.RuleFault.{RuleFault}
+use Rattle.ig_notation_terms.specs.declared.fault.RuleFault.TheVariants.{Unexpected, Memory}
+use Rattle.ig_notation_terms.specs.Readers.{Stands, Takes, Misses, at_end, at_token, MissesAt, StopsAt, Runs, Finds, Closed, Front, After}
 use Rattle.ig_notation.specs.Parts.{FailsAt, ReadsHeading, ReadsParameter, ReadsFirst}
-use Rattle.ig_readers.specs.Lists.{one_more, the_last, snoc}
-use Rattle.ig_readers.specs.Steps.{passed, missed, some_there, stop_first, stop_past, stop_token, by_token, by_itself, in_turn, nothing, ReadsToken, the_token, the_sign, sign_then, then_sign}
+use Rattle.ig_notation_terms.specs.Lists.{one_more, the_last, snoc}
+use Rattle.ig_notation_terms.specs.Steps.{passed, missed, some_there, stop_first, stop_past, stop_token, by_token, by_itself, in_turn, nothing, ReadsToken, the_token, the_sign, sign_then, then_sign}
 
 -- kinds
 kind_row : (t : Token) (k : Kind) → IsKind t k → after_kind t ≡ Some []

@@ -6,8 +6,8 @@ use Rattle.ig_grammar.specs.Alternative.{gathered_alternatives}
 use Rattle.ig_grammar.specs.Subterms.{subterms, subterms_of_symbols, subterms_of_alternatives}
 use Rattle.ig_grammar.specs.Symbol.{Symbol, Literal, OneOf, Call, Label, Guard, Let, Opt, Star, Plus, SepStar, SepPlus, Group, Offside, Ignore, Align, Filtered, Seq, Entry}
 use Rattle.ig_grammar.specs.Symbol.{Symbols, no_symbols, next_symbol, Alternatives, no_alternatives, next_alternative}
-use Rattle.ig_rules.specs.Laws.{ReadsAreWritten}
-use Rattle.ig_rules.specs.Written.{IsWritten, SymbolsAreWritten, AlternativesAreWritten}
+use Rattle.ig_notation_syntax.specs.RuleLaws.{ReadsAreWritten}
+use Rattle.ig_notation_syntax.specs.Written.{IsWritten, SymbolsAreWritten, AlternativesAreWritten}
 use Rattle.ig_notation.specs.Outcome.{IsOfText, unplaced, ReadGrammarsAreWritten, RulesHaveFormsOfText}
 
 -- a symbol in front of those inside it, and one without any

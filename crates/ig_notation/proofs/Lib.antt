@@ -1,3 +1,4 @@
+pub mod SymbolParts
 pub mod DeclarationParts
 pub mod Outcomes
 pub mod Readings

@@ -3,25 +3,25 @@ use Rattle.std.proofs.Common.{◌≡◌, ◌↔◌, Bool, false, ℕ, ◌≤◌,
 use Rattle.std.specs.Prelude.{Result, Ok, Err, IfErr, IsTrue, chars}
 use Rattle.std.specs.Result.{IsErrAnd}
 use Rattle.std.proofs.lemmas.Bool.Decides.{not_from_Decides}
-use Rattle.ig_syntax.specs.Notation.{most_bytes}
-use Rattle.ig_syntax.specs.Rules.{FollowsRules}
-use Rattle.ig_syntax.specs.Lexing.{Lexes}
-use Rattle.ig_syntax.specs.Stops.{Stops}
+use Rattle.ig_notation_syntax.specs.Notation.{most_bytes}
+use Rattle.ig_notation_syntax.specs.Rules.{FollowsRules}
+use Rattle.ig_notation_syntax.specs.Lexing.{Lexes}
+use Rattle.ig_notation_syntax.specs.Stops.{Stops}
 use Rattle.ig_grammar.specs.declared.grammar.Grammar.{Grammar}
-use Rattle.ig_tokens.specs.View.{token_of, tokens_of}
-use Rattle.ig_tokens.specs.Faults.{IsFault}
-use Rattle.ig_tokens.specs.declared.token.Placed.{Placed}
-use Rattle.ig_tokens.specs.declared.token.TokenFault.{TokenFault}
-use Rattle.ig_tokens.specs.declared.token.TokenFault.TheVariants.{Broken, Memory as OutOfMemory}
-use Rattle.ig_rules.specs.Laws.{AreOfGrammar, RunStops}
-use Rattle.ig_rules.specs.Machine as want
-use Rattle.ig_readers.specs.declared.fault.RuleFault.{RuleFault}
-use Rattle.ig_readers.specs.declared.fault.RuleFault.TheVariants.{Unexpected, Memory}
+use Rattle.ig_notation_syntax.specs.View.{token_of, tokens_of}
+use Rattle.ig_notation_syntax.specs.Faults.{IsFault}
+use Rattle.ig_notation_syntax.specs.declared.token.Placed.{Placed}
+use Rattle.ig_notation_syntax.specs.declared.token.TokenFault.{TokenFault}
+use Rattle.ig_notation_syntax.specs.declared.token.TokenFault.TheVariants.{Broken, Memory as OutOfMemory}
+use Rattle.ig_notation_syntax.specs.RuleLaws.{AreOfGrammar, RunStops}
+use Rattle.ig_notation_syntax.specs.Machine as want
+use Rattle.ig_notation_terms.specs.declared.fault.RuleFault.{RuleFault}
+use Rattle.ig_notation_terms.specs.declared.fault.RuleFault.TheVariants.{Unexpected, Memory}
 use Rattle.ig_notation.specs.declared.fault.ReadFault.{ReadFault}
 use Rattle.ig_notation.specs.declared.fault.ReadFault.TheVariants as faults
 use Rattle.ig_notation.specs.declared.fault.Large.{Large}
 use Rattle.ig_notation.specs.declared.fault.Large.TheVariants as large
-use Rattle.ig_limits.specs.Limits.{NumbersFit, IsShallow, byte_of, meanings}
+use Rattle.ig_notation_terms.specs.Limits.{NumbersFit, IsShallow, byte_of, meanings}
 use Rattle.ig_notation.specs.Outcome.{unplaced, HasTokens, IsRead, fault_of, refusal_of, Passes, great_number, many_brackets, IsWithin, IsReadFault, no_token, large_number, deep, against_rules, no_memory}
 use Rattle.ig_notation.specs.Parts.{FailsAt}
 

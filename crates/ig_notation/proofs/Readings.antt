@@ -1,13 +1,13 @@
 -- A text has one list of tokens, so it reads as one grammar at most, and one that is read has no fault.
 use Rattle.std.proofs.Common.{◌≡◌, ℕ, ◌≤◌, List, refl, sym, subst, arith}
 use Rattle.std.specs.Prelude.{chars, length}
-use Rattle.ig_syntax.specs.Notation.{most_bytes}
-use Rattle.ig_syntax.specs.Token.{Token}
-use Rattle.ig_syntax.specs.Rules.{FollowsRules}
+use Rattle.ig_notation_syntax.specs.Notation.{most_bytes}
+use Rattle.ig_notation_syntax.specs.Token.{Token}
+use Rattle.ig_notation_syntax.specs.Rules.{FollowsRules}
 use Rattle.ig_grammar.specs.declared.grammar.Grammar.{Grammar}
-use Rattle.ig_tokens.specs.Laws.{TokensAreSingle, NeverBoth}
-use Rattle.ig_rules.specs.Laws as rules
-use Rattle.ig_limits.specs.Limits.{NumbersFit, IsShallow}
+use Rattle.ig_notation_syntax.specs.TokenLaws.{TokensAreSingle, NeverBoth}
+use Rattle.ig_notation_syntax.specs.RuleLaws as rules
+use Rattle.ig_notation_terms.specs.Limits.{NumbersFit, IsShallow}
 use Rattle.ig_notation.specs.Outcome.{HasTokens, IsRead, too_many_bytes, no_token, large_number, deep, against_rules, no_memory, OneReading, ReadOrRefused, unplaced}
 
 same_tokens : TokensAreSingle → (source : List ℕ) (g : Grammar) (read : IsRead source g) (tokens : List (Token × ℕ)) → HasTokens source tokens →

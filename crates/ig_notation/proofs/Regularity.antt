@@ -6,17 +6,17 @@ use Rattle.std.proofs.lemmas.List.Elements.{All-nil, All-cons}
 use Rattle.std.proofs.lemmas.Str.{encodes-chars, length-le-encodes}
 use Rattle.ig_text.proofs.Tables.{all_rows, found_row}
 use Rattle.ig_text.specs.Words.{is_word}
-use Rattle.ig_syntax.specs.Token as token
-use Rattle.ig_syntax.specs.Token.{Token}
-use Rattle.ig_syntax.specs.Spelling.{entry, signs, keywords, IsToken, name, head, number, literal, ranges, other_ranges, named_class, sign, keyword}
-use Rattle.ig_syntax.specs.Lexing.{Lexes}
-use Rattle.ig_syntax.specs.Texts.{nothing, a_separator, a_token}
+use Rattle.ig_notation_syntax.specs.Token as token
+use Rattle.ig_notation_syntax.specs.Token.{Token}
+use Rattle.ig_notation_syntax.specs.Spelling.{entry, signs, keywords, IsToken, name, head, number, literal, ranges, other_ranges, named_class, sign, keyword}
+use Rattle.ig_notation_syntax.specs.Lexing.{Lexes}
+use Rattle.ig_notation_syntax.specs.Texts.{nothing, a_separator, a_token}
 use Rattle.ig_grammar.specs.declared.grammar.Grammar.{Grammar}
-use Rattle.ig_syntax.specs.Notation.{most_bytes}
-use Rattle.ig_tokens.specs.Laws.{TokensAreFew}
-use Rattle.ig_rules.specs.Written.{HasText}
-use Rattle.ig_rules.specs.Names.{HasName}
-use Rattle.ig_rules.specs.Laws.{ReadsAreCounted, ReadsAreNamed, ReadsAreRegular}
+use Rattle.ig_notation_syntax.specs.Notation.{most_bytes}
+use Rattle.ig_notation_syntax.specs.TokenLaws.{TokensAreFew}
+use Rattle.ig_notation_syntax.specs.Written.{HasText}
+use Rattle.ig_notation_syntax.specs.Names.{HasName}
+use Rattle.ig_notation_syntax.specs.RuleLaws.{ReadsAreCounted, ReadsAreNamed, ReadsAreRegular}
 use Rattle.ig_notation.specs.Outcome.{IsRead, unplaced, ReadGrammarsAreRegular, ReadNamesAreNames}
 
 -- no sign and no keyword is a literal

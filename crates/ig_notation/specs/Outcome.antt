@@ -1,10 +1,10 @@
 -- Which texts are read, and why others aren't.
 use Rattle.std.specs.Prelude.{◌≡◌, ◌≢◌, ℕ, suc, ◌<◌, ◌≤◌, List, All, Contains, length, map, chars, IsUtf8}
-use Rattle.ig_syntax.specs.Token.{Token}
-use Rattle.ig_syntax.specs.Rules.{FollowsRules}
-use Rattle.ig_syntax.specs.Lexing.{Lexes, Breaks}
-use Rattle.ig_syntax.specs.Notation.{most_bytes}
-use Rattle.ig_syntax.specs.Stops.{Stops}
+use Rattle.ig_notation_syntax.specs.Token.{Token}
+use Rattle.ig_notation_syntax.specs.Rules.{FollowsRules}
+use Rattle.ig_notation_syntax.specs.Lexing.{Lexes, Breaks}
+use Rattle.ig_notation_syntax.specs.Notation.{most_bytes}
+use Rattle.ig_notation_syntax.specs.Stops.{Stops}
 use Rattle.ig_grammar.specs.Regular.{IsRegular, OfEachLevel}
 use Rattle.ig_grammar.specs.Counts.{HasFewerThan}
 use Rattle.ig_grammar.specs.Subterms.{subterms_of_alternatives}
@@ -12,13 +12,13 @@ use Rattle.ig_grammar.specs.Symbol.{Symbol, Seq, Entry}
 use Rattle.ig_grammar.specs.declared.declaration.Decl.{Decl}
 use Rattle.ig_grammar.specs.declared.declaration.DeclKind.TheVariants.{Plain}
 use Rattle.ig_grammar.specs.declared.grammar.Grammar.{Grammar}
-use Rattle.ig_rules.specs.Laws.{AreOfGrammar}
-use Rattle.ig_rules.specs.Names.{HasNames}
-use Rattle.ig_limits.specs.Limits.{NumbersFit, IsShallow, byte_of}
-use Rattle.ig_tokens.specs.declared.token.TokenFault.{TokenFault}
-use Rattle.ig_tokens.specs.declared.token.TokenFault.TheVariants.{Broken, Memory as OutOfMemory}
-use Rattle.ig_readers.specs.declared.fault.RuleFault.{RuleFault}
-use Rattle.ig_readers.specs.declared.fault.RuleFault.TheVariants.{Unexpected, Memory}
+use Rattle.ig_notation_syntax.specs.RuleLaws.{AreOfGrammar}
+use Rattle.ig_notation_syntax.specs.Names.{HasNames}
+use Rattle.ig_notation_terms.specs.Limits.{NumbersFit, IsShallow, byte_of}
+use Rattle.ig_notation_syntax.specs.declared.token.TokenFault.{TokenFault}
+use Rattle.ig_notation_syntax.specs.declared.token.TokenFault.TheVariants.{Broken, Memory as OutOfMemory}
+use Rattle.ig_notation_terms.specs.declared.fault.RuleFault.{RuleFault}
+use Rattle.ig_notation_terms.specs.declared.fault.RuleFault.TheVariants.{Unexpected, Memory}
 use Rattle.ig_notation.specs.declared.fault.ReadFault.{ReadFault}
 use Rattle.ig_notation.specs.declared.fault.ReadFault.TheVariants as faults
 use Rattle.ig_notation.specs.declared.fault.Large.{Large}

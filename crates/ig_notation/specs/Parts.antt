@@ -1,17 +1,17 @@
 -- What the readers of declarations promise.
 use Rattle.std.specs.Prelude.{◌≡◌, ℕ, List, [], ◌∷◌, ◌++◌, drop, Some}
-use Rattle.ig_syntax.specs.Token as token
-use Rattle.ig_syntax.specs.Token.{Token, Name, Equals, Semicolon}
-use Rattle.ig_syntax.specs.Rules.{IsDeclKind, IsKind, ReadsLevels, ReadsDeclaration, ReadsDeclarations, ReadsAssociativity}
+use Rattle.ig_notation_syntax.specs.Token as token
+use Rattle.ig_notation_syntax.specs.Token.{Token, Name, Equals, Semicolon}
+use Rattle.ig_notation_syntax.specs.Rules.{IsDeclKind, IsKind, ReadsLevels, ReadsDeclaration, ReadsDeclarations, ReadsAssociativity}
 use Rattle.ig_grammar.specs.declared.declaration.Assoc.{Assoc}
 use Rattle.ig_grammar.specs.declared.declaration.DeclKind.{DeclKind}
 use Rattle.ig_grammar.specs.declared.declaration.Param.{Param}
 use Rattle.ig_grammar.specs.declared.declaration.Level.{Level}
 use Rattle.ig_grammar.specs.declared.declaration.Decl.{Decl}
-use Rattle.ig_rules.specs.Machine as want
-use Rattle.ig_rules.specs.Machine.{Want, after, run}
-use Rattle.ig_readers.specs.declared.fault.RuleFault.{RuleFault}
-use Rattle.ig_readers.specs.declared.fault.RuleFault.TheVariants.{Unexpected, Memory}
+use Rattle.ig_notation_syntax.specs.Machine as want
+use Rattle.ig_notation_syntax.specs.Machine.{Want, after, run}
+use Rattle.ig_notation_terms.specs.declared.fault.RuleFault.{RuleFault}
+use Rattle.ig_notation_terms.specs.declared.fault.RuleFault.TheVariants.{Unexpected, Memory}
 
 -- a name, with parameters or without, behind the kind of a declaration
 abbrev pub ReadsHeading : List ℕ → List Token → List Token → List Param → Type 0

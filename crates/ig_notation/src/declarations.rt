@@ -3,30 +3,31 @@
 
 ghost use Rattle.std.specs.Prelude.{◌≡◌, ◌≤◌, ◌<◌, [], ◌∷◌, ◌++◌, List, length, true, false, None};
 ghost use Rattle.std.specs.Prelude.{drop, IfOk, IfErr, MatchOption};
-ghost use Rattle.ig_tokens.specs.View.{token_of};
-ghost use Rattle.ig_syntax.specs.Token as spec;
-ghost use Rattle.ig_syntax.specs.Rules.{IsKind, IsDeclKind, ReadsAssociativity, ReadsLevel};
-ghost use Rattle.ig_syntax.specs.Rules.{ReadsLevels, ReadsParameters, ReadsDeclaration};
-ghost use Rattle.ig_syntax.specs.Rules.{ReadsDeclarations, FollowsRules};
+ghost use Rattle.ig_notation_syntax.specs.View.{token_of};
+ghost use Rattle.ig_notation_syntax.specs.Token as spec;
+ghost use Rattle.ig_notation_syntax.specs.Rules.{IsKind, IsDeclKind, ReadsAssociativity};
+ghost use Rattle.ig_notation_syntax.specs.Rules.{ReadsLevel};
+ghost use Rattle.ig_notation_syntax.specs.Rules.{ReadsLevels, ReadsParameters, ReadsDeclaration};
+ghost use Rattle.ig_notation_syntax.specs.Rules.{ReadsDeclarations, FollowsRules};
 ghost use Rattle.ig_grammar.specs.declared.declaration.Assoc.{Assoc as SpecAssoc};
 ghost use Rattle.ig_grammar.specs.declared.declaration.Param.{Param as SpecParam};
 ghost use Rattle.ig_grammar.specs.declared.declaration.Level.{Level as SpecLevel};
 ghost use Rattle.ig_grammar.specs.declared.declaration.Decl.{Decl as SpecDecl};
-ghost use Rattle.ig_rules.specs.Machine as want;
-ghost use Rattle.ig_rules.specs.Machine.{after_grammar, after_declarations, level_wants};
-ghost use Rattle.ig_rules.specs.Machine.{levels_wants, parameters_wants, close_bracket};
-ghost use Rattle.ig_rules.specs.Reading.{Goes};
-ghost use Rattle.ig_readers.specs.Readers.{Stands, Misses, MissesAt, Finds, StopsAt};
-ghost use Rattle.ig_readers.specs.Readers.{Runs, Closed};
+ghost use Rattle.ig_notation_syntax.specs.Machine as want;
+ghost use Rattle.ig_notation_syntax.specs.Machine.{after_grammar, after_declarations, level_wants};
+ghost use Rattle.ig_notation_syntax.specs.Machine.{levels_wants, parameters_wants, close_bracket};
+ghost use Rattle.ig_notation_syntax.specs.Reading.{Goes};
+ghost use Rattle.ig_notation_terms.specs.Readers.{Stands, Misses, MissesAt, Finds, StopsAt};
+ghost use Rattle.ig_notation_terms.specs.Readers.{Runs, Closed};
 ghost use Rattle.ig_notation.specs.Parts.{FailsAt, ReadsHeading, ReadsParameter};
 ghost use Rattle.ig_notation.specs.Parts.{IsAssociativity};
 
+use crate::symbols::read_alternatives;
 use ig_expr::Kind;
 use ig_grammar::{Assoc, Decl, DeclKind, Decls, Grammar, Level, Levels, Param, Params};
-use ig_readers::{RuleFault, Sign, Tokens, add, read_name, read_sign, stands_at};
-use ig_symbols::read_alternatives;
+use ig_notation_syntax::Token;
+use ig_notation_terms::{RuleFault, Sign, Tokens, add, read_name, read_sign, stands_at};
 use ig_text::Word;
-use ig_tokens::Token;
 use std::alloc::Global;
 
 /// The grammar that the tokens read as. Refused exactly where they stop following the rules, at the

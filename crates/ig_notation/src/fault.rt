@@ -2,7 +2,7 @@
 
 ghost use Rattle.std.specs.Prelude.{◌≡◌};
 
-use ig_tokens::TokenFault;
+use ig_notation_syntax::TokenFault;
 use std::alloc::AllocError;
 use thiserror::Error;
 

@@ -8,8 +8,8 @@ ghost use Rattle.ig_notation.specs.Outcome.{ReadNamesAreNames, RulesHaveFormsOfT
 pub fn one_reading()
     ensures { OneReading }
 {
-    ig_tokens::tokens_are_single();
-    ig_rules::one_reading();
+    ig_notation_syntax::tokens_are_single();
+    ig_notation_syntax::one_reading();
 }
 
 /// A text that reads as a grammar has no fault but want of memory. This law, proved of all texts,
@@ -17,8 +17,8 @@ pub fn one_reading()
 pub fn texts_are_read_or_refused()
     ensures { ReadOrRefused }
 {
-    ig_tokens::tokens_are_single();
-    ig_tokens::texts_never_do_both();
+    ig_notation_syntax::tokens_are_single();
+    ig_notation_syntax::texts_never_do_both();
 }
 
 /// A grammar that is read is regular, and has at most as many declarations as a grammar text may
@@ -26,9 +26,9 @@ pub fn texts_are_read_or_refused()
 pub fn read_grammars_are_regular()
     ensures { ReadGrammarsAreRegular }
 {
-    ig_tokens::tokens_are_few();
-    ig_rules::reads_are_regular();
-    ig_rules::reads_are_counted();
+    ig_notation_syntax::tokens_are_few();
+    ig_notation_syntax::reads_are_regular();
+    ig_notation_syntax::reads_are_counted();
 }
 
 /// Each name in a grammar that is read is a name of the notation: those declared, those of
@@ -37,7 +37,7 @@ pub fn read_grammars_are_regular()
 pub fn read_names_are_names()
     ensures { ReadNamesAreNames }
 {
-    ig_rules::reads_are_named();
+    ig_notation_syntax::reads_are_named();
 }
 
 /// In a grammar that is read stands neither a sequence nor an entry, which come from passes alone,
@@ -53,5 +53,5 @@ pub fn read_grammars_are_written()
 pub fn rules_have_forms_of_text()
     ensures { RulesHaveFormsOfText }
 {
-    ig_rules::reads_are_written();
+    ig_notation_syntax::reads_are_written();
 }

@@ -1,17 +1,16 @@
 //! Reading a grammar text.
 
 ghost use Rattle.std.specs.Prelude.{◌≡◌, ◌≤◌, IfOk, IfErr, MatchOption, length};
-ghost use Rattle.ig_syntax.specs.Notation.{most_bytes};
-ghost use Rattle.ig_tokens.specs.View.{tokens_of};
-ghost use Rattle.ig_limits.specs.Limits.{meanings};
+ghost use Rattle.ig_notation_syntax.specs.Notation.{most_bytes};
+ghost use Rattle.ig_notation_syntax.specs.View.{tokens_of};
+ghost use Rattle.ig_notation_terms.specs.Limits.{meanings};
 ghost use Rattle.ig_notation.specs.Outcome.{IsRead, IsReadFault, refusal_of, IsWithin, Passes};
 
 use crate::declarations::read_grammar;
 use crate::fault::{Large, ReadFault};
 use ig_grammar::Grammar;
-use ig_limits::{byte_of, is_shallow, is_too_long, numbers_fit};
-use ig_readers::{RuleFault, Tokens};
-use ig_tokens::{Placed, tokenize};
+use ig_notation_syntax::{Placed, tokenize};
+use ig_notation_terms::{RuleFault, Tokens, byte_of, is_shallow, is_too_long, numbers_fit};
 use std::alloc::Global;
 
 /// The grammar that a text reads as. The first test that fails decides: more than 262,144 bytes are
@@ -45,7 +44,7 @@ pub fn read_short(alloc: Global, source: &str) -> Result<Grammar, ReadFault>
     if let Some(which) = limit_passed(tokens) {
         return Err(ReadFault::TooLarge { which });
     }
-    ig_rules::run_stops();
+    ig_notation_syntax::run_stops();
     match read_grammar(alloc, &Tokens::new(tokens)) {
         Ok(grammar) => Ok(grammar),
         Err(fault) => Err(refusal(tokens, fault, source)),

@@ -23,8 +23,8 @@ use Rattle.ig_item.specs.TagOrder.{TagsRise}
 use Rattle.ig_item.specs.declared.core_grammar.CoreAlt.{CoreAlt}
 use Rattle.ig_item.specs.declared.core_grammar.Nonterminal.{Nonterminal}
 use Rattle.ig_item.specs.declared.items.Instance.{Instance}
-use Rattle.ig_core_laws.specs.Laws.{TagsRiseInCores}
-use Rattle.ig_core_laws.specs.Lowered.{CoreOf}
+use Rattle.ig_core.specs.Laws.{TagsRiseInCores}
+use Rattle.ig_core.specs.Lowered.{CoreOf}
 use Rattle.ig_forest_tables.specs.Forest.{Forest, ItemNode}
 use Rattle.ig_forest_tables.specs.Orders.{choice_cmp, item_cmp}
 use Rattle.ig_forest.specs.Reduced.{IsChoice, IsItemNode, IsReduced}

@@ -7,9 +7,9 @@ use Rattle.ig_text.specs.declared.text.Span.{Span}
 use Rattle.ig_text.proofs.Pairwise.{key_at}
 use Rattle.ig_grammar.specs.declared.grammar.Grammar.{Grammar}
 use Rattle.ig_item.specs.WellKinded.{IsWellKinded}
-use Rattle.ig_core_laws.specs.Laws.{DeclarationsKeepNumbers}
-use Rattle.ig_core_laws.specs.Lowered.{CoreOf}
-use Rattle.ig_core_laws.specs.Notation.{unchanged}
+use Rattle.ig_core.specs.Laws.{DeclarationsKeepNumbers}
+use Rattle.ig_core.specs.Lowered.{CoreOf}
+use Rattle.ig_core.specs.Notation.{unchanged}
 use Rattle.ig_forest_tables.specs.Forest.{Forest}
 use Rattle.ig_forest.specs.Laws.{ReducedIsTrim}
 use Rattle.ig_query.specs.Laws.{NodesAreThoseOfTrees}

@@ -14,8 +14,8 @@ use Rattle.ig_item.specs.WellKinded.{IsWellKinded}
 use Rattle.ig_item.specs.declared.run_fault.RunFault.{RunFault}
 use Rattle.ig_item.specs.declared.run_fault.RunFault.TheVariants as run_fault
 use Rattle.ig_item.specs.declared.core_grammar.Nonterminal.{Nonterminal}
-use Rattle.ig_core_laws.specs.Lowered.{CoreOf, IsBuildable, IsNumbered}
-use Rattle.ig_core_laws.specs.Laws.{CoreTreesArePermitted, TagsRiseInCores, ValuesAreThoseOfCore}
+use Rattle.ig_core.specs.Lowered.{CoreOf, IsBuildable, IsNumbered}
+use Rattle.ig_core.specs.Laws.{CoreTreesArePermitted, TagsRiseInCores, ValuesAreThoseOfCore}
 use Rattle.ig_forest.specs.Cursors.{Less}
 use Rattle.ig_forest_tables.specs.Forest.{Forest}
 use Rattle.ig_forest.specs.Laws.{CursorsAreOrderedAsTrees, UnfoldsToCoreTrees, HasOneCursor, OnlyOne, RootIsThere}
@@ -24,7 +24,7 @@ use Rattle.ig_forest_tables.specs.Unfold.{Unfold}
 use Rattle.ig_engine.specs.Running.{IsRefused}
 use Rattle.ig_plain.specs.Run.{Refuses}
 use Rattle.ig_query.specs.Report.{IsReport}
-use Rattle.ig_print.specs.declared.report.Report.{Report}
+use Rattle.ig_show_trees.specs.declared.report.Report.{Report}
 use Rattle.ig_parse.specs.Faults.{fault_of}
 use Rattle.ig_parse.specs.Parses.{AreReachable, HasNone, IsForestOf, IsParsed, IsUnparsed, MayHaveForest, Finds}
 use Rattle.ig_parse.specs.declared.fault.ParseFault.{ParseFault}

@@ -13,8 +13,8 @@ use Rattle.ig_grammar.specs.declared.symbol.Alt.{Alt}
 use Rattle.ig_item.specs.Core.{numbered}
 use Rattle.ig_item.specs.declared.core_grammar.CoreAlt.{CoreAlt}
 use Rattle.ig_item.specs.declared.core_grammar.Nonterminal.{Nonterminal}
-use Rattle.ig_core_laws.specs.CoreOf.{Shaped, alternatives_of, nonterminals_of, number_of, numbered as shaped_numbered}
-use Rattle.ig_core_laws.specs.Lowered.{CoreOf, Lowered}
+use Rattle.ig_core.specs.CoreOf.{Shaped, alternatives_of, nonterminals_of, number_of, numbered as shaped_numbered}
+use Rattle.ig_core.specs.Lowered.{CoreOf, Lowered}
 use Rattle.ig_forest_tables.specs.Forest.{Forest}
 use Rattle.ig_query.specs.InTrees.{HasTwoTrees}
 use Rattle.ig_query.specs.Laws.{AmbiguityIsTwoTrees, AreUniform, SpansAreThoseOfTrees}

@@ -12,8 +12,8 @@ use Rattle.ig_grammar.specs.declared.declaration.Decl.{Decl}
 use Rattle.ig_grammar.specs.declared.grammar.Grammar.{Grammar}
 use Rattle.ig_meaning.specs.Permitted.{Permitted}
 use Rattle.ig_item.specs.WellKinded.{IsWellKinded}
-use Rattle.ig_core_laws.specs.Lowered.{CoreOf, IsBuildable, IsNumbered}
-use Rattle.ig_core_laws.specs.Notation.{unchanged}
+use Rattle.ig_core.specs.Lowered.{CoreOf, IsBuildable, IsNumbered}
+use Rattle.ig_core.specs.Notation.{unchanged}
 use Rattle.ig_forest_tables.specs.Forest.{Forest, ItemNode, Node}
 use Rattle.ig_forest.specs.Reduced.{IsNamed}
 use Rattle.ig_forest_tables.specs.Unfold.{IsTrim}

@@ -1,3 +1,4 @@
 pub mod Parses
 pub mod Faults
 pub mod Laws
+pub mod FactLaws

@@ -12,7 +12,7 @@ use Rattle.ig_item.specs.Tables.{Tables, items_of}
 use Rattle.ig_item.specs.WellKinded.{NoneTwice}
 use Rattle.ig_item.specs.declared.run_fault.RunFault.{RunFault}
 use Rattle.ig_item.specs.declared.run_fault.RunFault.TheVariants as run_fault
-use Rattle.ig_core_laws.specs.Lowered.{CoreOf}
+use Rattle.ig_core.specs.Lowered.{CoreOf}
 use Rattle.ig_forest.specs.Cursors.{Less}
 use Rattle.ig_forest_tables.specs.Forest.{Forest}
 use Rattle.ig_forest_tables.specs.Unfold.{Unfold, Unfolds}

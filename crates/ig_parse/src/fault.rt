@@ -1,6 +1,6 @@
 use ig_core::CoreFault;
 use ig_item::RunFault;
-use ig_print::Report;
+use ig_show_trees::Report;
 use std::alloc::AllocError;
 use thiserror::Error;
 

@@ -4,7 +4,7 @@ ghost use Rattle.ig_parse.specs.Laws.{AlternativesRiseByTags, AmbiguityIsTwoPerm
 ghost use Rattle.ig_parse.specs.Laws.{CyclicIsWithoutHighest, SpansAreOfDeclarations};
 ghost use Rattle.ig_parse.specs.Laws.{SpansArePermitted};
 
-use ig_core_laws::{declarations_keep_numbers, tags_rise_in_cores};
+use ig_core::{declarations_keep_numbers, tags_rise_in_cores};
 use ig_forest::reduced_forest_is_trim;
 use ig_query::{ambiguity_is_two_trees, nodes_are_those_of_trees, spans_are_those_of_trees};
 

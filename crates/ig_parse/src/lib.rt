@@ -5,16 +5,19 @@
 //! `specs/Parses.antt` says what is answered, and when. Where no tree is permitted, the fault has
 //! the report of how far the items came. A [`Parser`] keeps the core grammar of a grammar, so that
 //! many texts can be parsed with it; it gives the items, the forest and the report one by one, too.
-//! [`forest_of_items`] makes the forest of items that come from elsewhere.
-//! The items are taken in any [`Order`](ig_queue::Order), and are the same in each.
+//! [`forest_of_items`] makes the forest of items that come from elsewhere. The items are taken in
+//! any [`Order`](ig_queue::Order), and are the same in each. Which facts of a grammar keep its
+//! forests from being cyclic, [`forests_are_not_cyclic`] says.
 #![tactic(auto)]
 
+mod fact_laws;
 mod fault;
 mod items;
 mod laws;
 mod parser;
 mod run;
 
+pub use fact_laws::forests_are_not_cyclic;
 pub use fault::ParseFault;
 pub use items::forest_of_items;
 pub use laws::{

@@ -1,6 +1,6 @@
 //! Parsers of one grammar.
 ghost use Rattle.std.specs.Prelude.{◌≡◌, ◌≢◌, ◌<◌, ◌≤◌, IfErr, IfOk};
-ghost use Rattle.ig_core_laws.specs.Lowered.{CoreOf, IsBuildable, IsNumbered};
+ghost use Rattle.ig_core.specs.Lowered.{CoreOf, IsBuildable, IsNumbered};
 ghost use Rattle.ig_item.specs.Core.{dots};
 ghost use Rattle.ig_item.specs.Limits.{most_dots};
 ghost use Rattle.ig_core.specs.declared.fault.CoreFault.TheVariants as core_fault;
@@ -10,8 +10,9 @@ ghost use Rattle.ig_parse.specs.declared.fault.ParseFault.TheVariants.{NoParse, 
 
 use crate::fault::ParseFault;
 use crate::run::run_in;
-use ig_core::{CoreFault, build};
-use ig_core_laws::{core_trees_are_permitted_trees, tags_rise_in_cores, values_are_those_of_core};
+use ig_core::{
+    CoreFault, build, core_trees_are_permitted_trees, tags_rise_in_cores, values_are_those_of_core,
+};
 use ig_forest::{
     Forest, cursors_are_ordered_as_trees, reduced_forest_has_root, reduced_forest_is_unique,
     reduced_forest_unfolds_to_core_trees, tree_has_one_cursor,
@@ -19,9 +20,9 @@ use ig_forest::{
 use ig_grammar::Checked;
 use ig_item::{Core, Items, Recorded, RunFault, complete_root_items_are_trees};
 use ig_meaning::derivations_are_annotated;
-use ig_print::Report;
 use ig_query::report;
 use ig_queue::Order;
+use ig_show_trees::Report;
 use ig_text::Text;
 use std::alloc::{AllocError, Global};
 use std::marker::Model;
@@ -35,7 +36,7 @@ pub struct Parser<'g> {
 
 impl<'g> Model for Parser<'g> {
     ghost use Rattle.std.specs.Prelude.{◌≡◌};
-    ghost use Rattle.ig_core_laws.specs.Lowered.{CoreOf, IsBuildable, IsNumbered};
+    ghost use Rattle.ig_core.specs.Lowered.{CoreOf, IsBuildable, IsNumbered};
     ghost use Rattle.ig_grammar.specs.Checked.{CheckedGrammar};
     ghost use Rattle.ig_grammar.specs.CodingChecked.{checked_code};
 

@@ -1,5 +1,5 @@
 -- Functions that add items, one after the other.
-use Rattle.ig_tables.specs.Extends.{Extends}
+use Rattle.ig_run_tables.specs.Extends.{Extends}
 use Rattle.ig_item.specs.WellKinded.{NoneTwice}
 use Rattle.std.proofs.Common.{◌≡◌, ◌⊎◌, ⊎_elim, ℕ, ◌<◌, ◌≤◌, List, ◌++◌, Contains, refl, sym, ap, ◌∙◌, subst, arith}
 use Rattle.std.specs.Prelude.{Result, Ok, Err, OnOk, IfErr}
@@ -13,7 +13,7 @@ use Rattle.ig_item.specs.Items.{Item}
 use Rattle.ig_item.specs.declared.run_fault.RunFault.{RunFault}
 use Rattle.ig_item.specs.declared.run_fault.RunFault.TheVariants.{Budget, Memory}
 use Rattle.ig_item.specs.declared.items.InstanceKey.{InstanceKey}
-use Rattle.ig_moves.specs.Tables.{item_by}
+use Rattle.ig_run_moves.specs.Tables.{item_by}
 use Rattle.ig_plain.specs.declared.found.Found.{Found}
 use Rattle.ig_plain.specs.Found.{means, found_in, later_in, count, Grows, GrowsLater, Has, Adds, AddsLater, Named}
 use Rattle.ig_plain.proofs.Growth.{grows_not, grows_weaker, grows_then, all_kept}

@@ -14,11 +14,11 @@ use Rattle.ig_item.specs.declared.items.Item as stored
 use Rattle.ig_item.specs.declared.run_fault.RunFault.{RunFault}
 use Rattle.ig_item.specs.declared.run_fault.RunFault.TheVariants.{Budget, Memory}
 use Rattle.ig_plain.specs.declared.found.Found.{Found}
-use Rattle.ig_calls.specs.declared.waiting.Waiting.{Waiting}
+use Rattle.ig_run_moves.specs.declared.waiting.Waiting.{Waiting}
 use Rattle.ig_plain.specs.Found as found
 use Rattle.ig_plain.specs.Found.{means, found_in, later_in, taken_in, count, GrowsLater, Adds, AddsLater, AddsTerminal, instances_in, Named, Grows, Has}
-use Rattle.ig_moves.specs.Rules.{IsBehind, ReadsTo, Stands, step_at, Comes, NoItem, NoCall}
-use Rattle.ig_moves.specs.Laws.{StepsAreBehind}
+use Rattle.ig_run_moves.specs.Rules.{IsBehind, ReadsTo, Stands, step_at, Comes, NoItem, NoCall}
+use Rattle.ig_run_moves.specs.Laws.{StepsAreBehind}
 use Rattle.ig_run_laws.specs.Rules.{After, IsCaller}
 use Rattle.ig_plain.specs.Run.{IsWaiting, IsRun, IsTaken, Refuses}
 use Rattle.ig_plain.proofs.Coming.{follows_only, follows_passed, follows_read, calls_nothing, is_unfinished}

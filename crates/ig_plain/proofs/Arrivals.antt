@@ -7,7 +7,7 @@ use Rattle.std.proofs.lemmas.Bool.{cases_lt}
 use Rattle.std.proofs.lemmas.List.Elements.{Contains-append_left, Contains-append_right, Contains-append_cases}
 use Rattle.ig_text.proofs.Differing.{both_differ, pushed_differ}
 use Rattle.ig_text.proofs.Lists.{at_from_contains, left_at, right_at, contains_one, none_in_nil, mapped_in, unmapped_in, same_map}
-use Rattle.ig_moves.specs.Tables.{IsNamed, item_by}
+use Rattle.ig_run_moves.specs.Tables.{IsNamed, item_by}
 use Rattle.ig_run_laws.specs.Rules.{IsCaller}
 use Rattle.ig_item.specs.Items.{Item, Follows, first}
 use Rattle.ig_item.specs.Tables.{instance_by}
@@ -17,7 +17,7 @@ use Rattle.ig_item.specs.declared.items.Instance.{Instance}
 use Rattle.ig_item.specs.declared.items.InstanceKey.{InstanceKey}
 use Rattle.ig_item.specs.declared.items.Item as stored
 use Rattle.ig_plain.specs.declared.found.Found.{Found}
-use Rattle.ig_calls.specs.declared.waiting.Waiting.{Waiting}
+use Rattle.ig_run_moves.specs.declared.waiting.Waiting.{Waiting}
 use Rattle.ig_plain.specs.Found.{means, instances_in, found_in, later_in, taken_in, Named, IsStored}
 use Rattle.ig_plain.specs.Run.{IsWaiting, IsTaking, IsRun}
 use Rattle.ig_plain.specs.Arrival.{IsParted, ArrivesWith}

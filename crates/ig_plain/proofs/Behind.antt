@@ -10,8 +10,8 @@ use Rattle.ig_item.specs.declared.items.InstanceKey.{InstanceKey}
 use Rattle.ig_item.specs.declared.items.Item as stored
 use Rattle.ig_item.specs.declared.run_fault.RunFault.{RunFault}
 use Rattle.ig_item.specs.declared.ways.Way.{Way}
-use Rattle.ig_moves.specs.Tables.{IsNamed, item_by, Moves}
-use Rattle.ig_tables.specs.Extends.{Extends}
+use Rattle.ig_run_moves.specs.Tables.{IsNamed, item_by, Moves}
+use Rattle.ig_run_tables.specs.Extends.{Extends}
 use Rattle.ig_plain.specs.declared.found.Found.{Found}
 use Rattle.ig_plain.specs.declared.trail.Trail.{Trail}
 use Rattle.ig_plain.specs.Found.{means, count, Named, GrowsLater, Adds, AddsLater}

@@ -17,16 +17,16 @@ use Rattle.ig_item.specs.declared.items.InstanceKey.{InstanceKey}
 use Rattle.ig_item.specs.declared.items.Item as stored
 use Rattle.ig_item.specs.declared.run_fault.RunFault.{RunFault}
 use Rattle.ig_plain.specs.declared.found.Found.{Found}
-use Rattle.ig_calls.specs.declared.waiting.Waiting.{Waiting}
-use Rattle.ig_calls.specs.declared.waiting.Called.{Called}
-use Rattle.ig_tables.specs.Extends.{Extends}
+use Rattle.ig_run_moves.specs.declared.waiting.Waiting.{Waiting}
+use Rattle.ig_run_moves.specs.declared.waiting.Called.{Called}
+use Rattle.ig_run_tables.specs.Extends.{Extends}
 use Rattle.ig_plain.specs.Found.{means, instances_in, Named, Adds, taken_in}
 use Rattle.ig_run_laws.specs.Rules as rules
-use Rattle.ig_moves.specs.Laws.{BeforeCalls}
-use Rattle.ig_moves.specs.Rules.{IsPastCall, IsCallee, IsCallBy, Comes, NoItem, NoCall}
-use Rattle.ig_moves.specs.Tables.{GivesCallee}
+use Rattle.ig_run_moves.specs.Laws.{BeforeCalls}
+use Rattle.ig_run_moves.specs.Rules.{IsPastCall, IsCallee, IsCallBy, Comes, NoItem, NoCall}
+use Rattle.ig_run_moves.specs.Tables.{GivesCallee}
 use Rattle.ig_run_laws.specs.Rules.{IsFirstOf}
-use Rattle.ig_calls.specs.Waiting.{called_at, not_called, lengthened, with_caller}
+use Rattle.ig_run_moves.specs.Waiting.{called_at, not_called, lengthened, with_caller}
 use Rattle.ig_plain.specs.Run.{IsRun, IsTaken, IsEntered, EntersInstance, Refuses, IsWaiting}
 use Rattle.ig_plain.proofs.Extending.{extends_same}
 use Rattle.ig_plain.proofs.Additions.{adds_nothing}

@@ -15,14 +15,14 @@ use Rattle.ig_item.specs.declared.run_fault.RunFault.{RunFault}
 use Rattle.ig_item.specs.declared.ways.Way.TheVariants.{Node}
 use Rattle.ig_plain.specs.declared.found.Found.{Found}
 use Rattle.ig_plain.specs.declared.trail.Trail.{Trail}
-use Rattle.ig_calls.specs.declared.waiting.Waiting.{Waiting}
-use Rattle.ig_tables.specs.Extends.{Extends}
+use Rattle.ig_run_moves.specs.declared.waiting.Waiting.{Waiting}
+use Rattle.ig_run_tables.specs.Extends.{Extends}
 use Rattle.ig_plain.specs.Found.{means, Adds}
-use Rattle.ig_moves.specs.Laws.{BeforeCalls}
-use Rattle.ig_moves.specs.Rules.{IsPastCall, IsCallee}
-use Rattle.ig_moves.specs.Tables.{GivesCallee}
+use Rattle.ig_run_moves.specs.Laws.{BeforeCalls}
+use Rattle.ig_run_moves.specs.Rules.{IsPastCall, IsCallee}
+use Rattle.ig_run_moves.specs.Tables.{GivesCallee}
 use Rattle.ig_plain.specs.Rules.{StandsAtBareCall}
-use Rattle.ig_calls.specs.Waiting.{called_at, lengthened, with_caller}
+use Rattle.ig_run_moves.specs.Waiting.{called_at, lengthened, with_caller}
 use Rattle.ig_plain.specs.Run.{IsRun, EntersInstance}
 use Rattle.ig_plain.specs.Trail.{By, ComeByNodes, Records, HasTrail, EntersOn}
 use Rattle.ig_plain.proofs.Calling as calling

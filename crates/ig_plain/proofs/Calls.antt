@@ -19,14 +19,14 @@ use Rattle.ig_item.specs.declared.items.Instance.{Instance}
 use Rattle.ig_item.specs.declared.items.Item as stored
 use Rattle.ig_item.specs.declared.run_fault.RunFault.{RunFault}
 use Rattle.ig_plain.specs.declared.found.Found.{Found}
-use Rattle.ig_calls.specs.declared.waiting.Waiting.{Waiting}
-use Rattle.ig_calls.specs.declared.waiting.Called.{Called}
-use Rattle.ig_calls.specs.declared.waiting.Caller.{Caller}
+use Rattle.ig_run_moves.specs.declared.waiting.Waiting.{Waiting}
+use Rattle.ig_run_moves.specs.declared.waiting.Called.{Called}
+use Rattle.ig_run_moves.specs.declared.waiting.Caller.{Caller}
 use Rattle.ig_plain.specs.Found.{means, instances_in, found_in, later_in, taken_in, Named, Adds}
 use Rattle.ig_run_laws.specs.Rules as rules
-use Rattle.ig_moves.specs.Rules.{IsPastCall}
+use Rattle.ig_run_moves.specs.Rules.{IsPastCall}
 use Rattle.ig_run_laws.specs.Rules.{After, IsCaller}
-use Rattle.ig_calls.specs.Waiting.{called_at, not_called, lengthened, first_or, with_caller}
+use Rattle.ig_run_moves.specs.Waiting.{called_at, not_called, lengthened, first_or, with_caller}
 use Rattle.ig_plain.specs.Run.{Chains, ChainEnds, HasCallers, HasEnd, IsWaiting, IsRun, IsTaken}
 use Rattle.ig_plain.proofs.Extending.{extends_itself}
 use Rattle.ig_plain.proofs.Growth.{grows_not}

@@ -5,8 +5,8 @@ use Rattle.ig_item.specs.Gives.{Gives, Taken, nothing, leaf}
 use Rattle.ig_item.specs.Items.{Item, IsComplete}
 use Rattle.ig_item.specs.declared.core_grammar.Nonterminal.{Nonterminal}
 use Rattle.ig_item.specs.declared.items.Instance.{Instance}
-use Rattle.ig_moves.specs.Rules as moves
-use Rattle.ig_moves.specs.Rules.{Comes, NoItem, NoCall, PassesTo, ReadsTo}
+use Rattle.ig_run_moves.specs.Rules as moves
+use Rattle.ig_run_moves.specs.Rules.{Comes, NoItem, NoCall, PassesTo, ReadsTo}
 use Rattle.ig_run_laws.specs.Rules as rules
 use Rattle.ig_run_laws.specs.Rules.{After, IsCaller}
 

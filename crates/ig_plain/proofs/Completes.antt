@@ -17,14 +17,14 @@ use Rattle.ig_item.specs.declared.items.Instance.{Instance}
 use Rattle.ig_item.specs.declared.items.Item as stored
 use Rattle.ig_item.specs.declared.run_fault.RunFault.{RunFault}
 use Rattle.ig_plain.specs.declared.found.Found.{Found}
-use Rattle.ig_calls.specs.declared.waiting.Waiting.{Waiting}
-use Rattle.ig_calls.specs.declared.waiting.Called.{Called}
-use Rattle.ig_moves.specs.Tables.{no_key}
+use Rattle.ig_run_moves.specs.declared.waiting.Waiting.{Waiting}
+use Rattle.ig_run_moves.specs.declared.waiting.Called.{Called}
+use Rattle.ig_run_moves.specs.Tables.{no_key}
 use Rattle.ig_run_laws.specs.Rules.{After, IsCaller}
 use Rattle.ig_plain.specs.Found.{means, instances_in, found_in, later_in, taken_in, Named, Grows, Adds}
 use Rattle.ig_run_laws.specs.Rules as rules
 use Rattle.ig_plain.specs.Rules.{StandsAtCall, IsReturn}
-use Rattle.ig_calls.specs.Waiting.{called_at, not_called, with_end}
+use Rattle.ig_run_moves.specs.Waiting.{called_at, not_called, with_end}
 use Rattle.ig_plain.specs.Run.{HasCallers, IsWaiting, IsRun, IsTaken, Taking, IsChainOf, IsReturnToOne}
 use Rattle.ig_plain.proofs.Growth.{grows_not, means_grown, named_grown, all_kept, instance_kept}
 use Rattle.ig_plain.proofs.Extending.{extends_itself}

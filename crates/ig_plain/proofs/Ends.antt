@@ -18,8 +18,8 @@ use Rattle.ig_item.specs.declared.items.Instance.{Instance}
 use Rattle.ig_item.specs.declared.items.InstanceKey.{InstanceKey}
 use Rattle.ig_item.specs.declared.items.Item as stored
 use Rattle.ig_plain.specs.declared.found.Found.{Found}
-use Rattle.ig_calls.specs.declared.waiting.Waiting.{Waiting}
-use Rattle.ig_moves.specs.Tables.{IsNamed, no_key}
+use Rattle.ig_run_moves.specs.declared.waiting.Waiting.{Waiting}
+use Rattle.ig_run_moves.specs.Tables.{IsNamed, no_key}
 use Rattle.ig_plain.specs.Found.{means, found_in, later_in, taken_in, Named}
 use Rattle.ig_plain.specs.Run.{IsRun}
 use Rattle.ig_plain.proofs.Growth.{found_named}

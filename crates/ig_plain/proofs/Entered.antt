@@ -17,13 +17,13 @@ use Rattle.ig_item.specs.declared.ways.Way.{Way}
 use Rattle.ig_item.specs.declared.ways.Way.TheVariants.{Begin}
 use Rattle.ig_plain.specs.declared.found.Found.{Found}
 use Rattle.ig_plain.specs.declared.trail.Trail.{Trail}
-use Rattle.ig_calls.specs.declared.waiting.Waiting.{Waiting}
-use Rattle.ig_calls.specs.declared.waiting.Called.{Called}
-use Rattle.ig_tables.specs.Extends.{Extends, IsNew}
-use Rattle.ig_moves.specs.Tables.{no_key}
+use Rattle.ig_run_moves.specs.declared.waiting.Waiting.{Waiting}
+use Rattle.ig_run_moves.specs.declared.waiting.Called.{Called}
+use Rattle.ig_run_tables.specs.Extends.{Extends, IsNew}
+use Rattle.ig_run_moves.specs.Tables.{no_key}
 use Rattle.ig_run_laws.specs.Rules.{IsFirstOf}
 use Rattle.ig_plain.specs.Found.{means, found_in, taken_in, instances_in, Named, IsStored, Adds}
-use Rattle.ig_calls.specs.Waiting.{not_called}
+use Rattle.ig_run_moves.specs.Waiting.{not_called}
 use Rattle.ig_plain.specs.Run.{IsRun}
 use Rattle.ig_plain.specs.Trail.{By, Records, FollowTrail, HasTrail, AreKnown, Unfound}
 use Rattle.ig_plain.proofs.Extending.{extends_same}

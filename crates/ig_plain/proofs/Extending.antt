@@ -1,7 +1,7 @@
 -- Lists that grow at their end.
 use Rattle.std.proofs.Common.{◌≡◌, List, [], ◌++◌, sym, ◌∙◌}
 use Rattle.std.proofs.lemmas.List.{append-nil}
-use Rattle.ig_tables.specs.Extends.{Extends}
+use Rattle.ig_run_tables.specs.Extends.{Extends}
 
 module _ {X : Type 0} where
   abbrev pub extends_itself : (xs : List X) → Extends xs xs

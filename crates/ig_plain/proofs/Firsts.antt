@@ -16,7 +16,7 @@ use Rattle.ig_item.specs.declared.run_fault.RunFault.{RunFault}
 use Rattle.ig_item.specs.declared.ways.Way.TheVariants.{Begin}
 use Rattle.ig_plain.specs.declared.found.Found.{Found}
 use Rattle.ig_plain.specs.declared.trail.Trail.{Trail}
-use Rattle.ig_moves.specs.Tables.{no_key, first_stored}
+use Rattle.ig_run_moves.specs.Tables.{no_key, first_stored}
 use Rattle.ig_run_laws.specs.Rules.{IsFirstOf}
 use Rattle.ig_plain.specs.Found.{means, Named, Grows, Adds}
 use Rattle.ig_plain.specs.Rules.{IsFirst}

@@ -21,8 +21,8 @@ use Rattle.ig_item.specs.declared.ways.Way.{Way}
 use Rattle.ig_item.specs.declared.ways.Way.TheVariants.{Node}
 use Rattle.ig_plain.specs.declared.found.Found.{Found}
 use Rattle.ig_plain.specs.declared.trail.Trail.{Trail}
-use Rattle.ig_moves.specs.Laws.{BeforeTests, BeforeBinds, BeforeTerminals}
-use Rattle.ig_moves.specs.Rules.{IsBehind, IsBehindTest, IsBehindBind}
+use Rattle.ig_run_moves.specs.Laws.{BeforeTests, BeforeBinds, BeforeTerminals}
+use Rattle.ig_run_moves.specs.Rules.{IsBehind, IsBehindTest, IsBehindBind}
 use Rattle.ig_plain.specs.Found.{found_in}
 use Rattle.ig_plain.specs.Trail as trails
 use Rattle.ig_plain.specs.Trail.{FollowTrail, IsNodeAt, Unfound}

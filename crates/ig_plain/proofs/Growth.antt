@@ -13,8 +13,8 @@ use Rattle.ig_item.specs.declared.items.Instance.{Instance}
 use Rattle.ig_item.specs.declared.items.InstanceKey.{InstanceKey}
 use Rattle.ig_item.specs.declared.items.Item as stored
 use Rattle.ig_plain.specs.declared.found.Found.{Found}
-use Rattle.ig_tables.specs.Extends.{Extends}
-use Rattle.ig_moves.specs.Tables.{IsNamed, item_by, no_key}
+use Rattle.ig_run_tables.specs.Extends.{Extends}
+use Rattle.ig_run_moves.specs.Tables.{IsNamed, item_by, no_key}
 use Rattle.ig_plain.specs.Found.{means, found_in, later_in, Named, Grows}
 
 module _ {X : Type 0} where

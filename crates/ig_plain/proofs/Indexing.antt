@@ -7,7 +7,7 @@ use Rattle.ig_text.proofs.Lists.{left_at, right_at, sides, at_from_contains, con
 use Rattle.ig_item.specs.declared.items.Item as stored
 use Rattle.ig_item.specs.declared.ways.Way.{Way}
 use Rattle.ig_item.specs.declared.ways.Way.TheVariants.{Leaf, Node}
-use Rattle.ig_tables.specs.Returned.{Entry, entry}
+use Rattle.ig_run_tables.specs.Returned.{Entry, entry}
 use Rattle.ig_plain.specs.Trail.{ComesOnce, IsNodeAt, Indexes}
 
 -- of the same lists

@@ -16,11 +16,11 @@ use Rattle.ig_item.specs.declared.items.InstanceKey.{InstanceKey}
 use Rattle.ig_item.specs.declared.run_fault.RunFault.{RunFault}
 use Rattle.ig_item.specs.declared.run_fault.RunFault.TheVariants.{Budget, Memory}
 use Rattle.ig_plain.specs.declared.found.Found.{Found}
-use Rattle.ig_calls.specs.declared.waiting.Waiting.{Waiting}
-use Rattle.ig_tables.specs.Extends.{Extends, IsNew}
+use Rattle.ig_run_moves.specs.declared.waiting.Waiting.{Waiting}
+use Rattle.ig_run_tables.specs.Extends.{Extends, IsNew}
 use Rattle.ig_plain.specs.Found.{means, instances_in, taken_in, Named, Adds}
 use Rattle.ig_run_laws.specs.Rules.{IsFirstOf}
-use Rattle.ig_calls.specs.Waiting.{not_called}
+use Rattle.ig_run_moves.specs.Waiting.{not_called}
 use Rattle.ig_plain.specs.Run.{IsWaiting, IsRun, IsEntered, Refuses}
 use Rattle.ig_plain.proofs.Extending.{extends_same}
 use Rattle.ig_plain.proofs.Growth.{extends_then, extends_in, all_kept, instance_kept}

@@ -5,8 +5,8 @@ use Rattle.std.proofs.lemmas.Option.{same_Some, slice_get_within}
 use Rattle.std.proofs.lemmas.List.Elements.{Contains-append_cases, Contains-append_left, Contains-append_right}
 use Rattle.ig_text.proofs.Lists.{left_at, right_at, it_is_in, contains_one}
 use Rattle.ig_item.specs.declared.items.Item as stored
-use Rattle.ig_calls.specs.declared.waiting.Caller.{Caller}
-use Rattle.ig_calls.specs.Waiting.{linked_at, linked, lengthened, first_or}
+use Rattle.ig_run_moves.specs.declared.waiting.Caller.{Caller}
+use Rattle.ig_run_moves.specs.Waiting.{linked_at, linked, lengthened, first_or}
 use Rattle.ig_plain.specs.Run as run
 use Rattle.ig_plain.specs.Run.{Chains, ChainEnds}
 use Rattle.ig_plain.proofs.Returns.{Heads, heads, empties}

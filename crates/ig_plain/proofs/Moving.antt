@@ -9,13 +9,13 @@ use Rattle.ig_item.specs.declared.core_grammar.Nonterminal.{Nonterminal}
 use Rattle.ig_item.specs.declared.items.Instance.{Instance}
 use Rattle.ig_item.specs.declared.items.Item as stored
 use Rattle.ig_plain.specs.declared.found.Found.{Found}
-use Rattle.ig_calls.specs.declared.waiting.Waiting.{Waiting}
-use Rattle.ig_calls.specs.declared.waiting.Called.{Called}
-use Rattle.ig_calls.specs.declared.waiting.Caller.{Caller}
-use Rattle.ig_tables.specs.Extends.{Extends}
+use Rattle.ig_run_moves.specs.declared.waiting.Waiting.{Waiting}
+use Rattle.ig_run_moves.specs.declared.waiting.Called.{Called}
+use Rattle.ig_run_moves.specs.declared.waiting.Caller.{Caller}
+use Rattle.ig_run_tables.specs.Extends.{Extends}
 use Rattle.ig_plain.specs.Found.{means, instances_in, found_in, later_in, taken_in, count, Named, AreTables, IsStored, Grows}
 use Rattle.ig_run_laws.specs.Rules.{IsCaller}
-use Rattle.ig_calls.specs.Waiting.{not_called}
+use Rattle.ig_run_moves.specs.Waiting.{not_called}
 use Rattle.ig_plain.specs.Run as run
 use Rattle.ig_plain.specs.Run.{HasCallers, HasEnd, IsWaiting, IsTaking, IsRun}
 use Rattle.ig_plain.proofs.Growth.{means_kept, found_named, found_from, later_same, all_kept, longer}

@@ -7,9 +7,9 @@ use Rattle.ig_text.proofs.Lists.{contains_one, none_in_nil}
 use Rattle.ig_expr.specs.declared.value.Value.{Value}
 use Rattle.ig_item.specs.declared.items.InstanceKey.{InstanceKey}
 use Rattle.ig_item.specs.declared.items.Item as stored
-use Rattle.ig_tables.specs.Extends.{Extends, Enters}
+use Rattle.ig_run_tables.specs.Extends.{Extends, Enters}
 use Rattle.ig_plain.specs.Arrival.{WereThere}
-use Rattle.ig_moves.specs.Tables.{IsNamed}
+use Rattle.ig_run_moves.specs.Tables.{IsNamed}
 use Rattle.ig_plain.specs.Tables.{AreNamed}
 use Rattle.ig_plain.proofs.Growth.{named_more, values_more}
 

@@ -15,10 +15,10 @@ use Rattle.ig_item.specs.declared.run_fault.RunFault.{RunFault}
 use Rattle.ig_item.specs.declared.ways.Way.{Way}
 use Rattle.ig_plain.specs.declared.found.Found.{Found}
 use Rattle.ig_plain.specs.declared.trail.Trail.{Trail}
-use Rattle.ig_calls.specs.declared.waiting.Waiting.{Waiting}
-use Rattle.ig_calls.specs.declared.waiting.Called.{Called}
-use Rattle.ig_calls.specs.declared.waiting.Caller.{Caller}
-use Rattle.ig_tables.specs.Extends.{Extends}
+use Rattle.ig_run_moves.specs.declared.waiting.Waiting.{Waiting}
+use Rattle.ig_run_moves.specs.declared.waiting.Called.{Called}
+use Rattle.ig_run_moves.specs.declared.waiting.Caller.{Caller}
+use Rattle.ig_run_tables.specs.Extends.{Extends}
 use Rattle.ig_plain.specs.Found.{means, found_in, later_in, taken_in, instances_in, Named, IsStored, Grows}
 use Rattle.ig_plain.specs.Rules.{StandsAtBareCall}
 use Rattle.ig_plain.specs.Trail.{FollowTrail, HasTrail, AreKnown, IsNext}

@@ -16,10 +16,10 @@ use Rattle.ig_item.specs.declared.ways.Way.TheVariants.{Node}
 use Rattle.ig_item.specs.declared.ways.FurtherWay.{FurtherWay}
 use Rattle.ig_plain.specs.declared.found.Found.{Found}
 use Rattle.ig_plain.specs.declared.trail.Trail.{Trail}
-use Rattle.ig_tables.specs.Extends.{Extends}
-use Rattle.ig_moves.specs.Tables.{item_by}
+use Rattle.ig_run_tables.specs.Extends.{Extends}
+use Rattle.ig_run_moves.specs.Tables.{item_by}
 use Rattle.ig_plain.specs.Found.{means, found_in, later_in, Named}
-use Rattle.ig_tables.specs.Returned.{entry}
+use Rattle.ig_run_tables.specs.Returned.{entry}
 use Rattle.ig_plain.specs.Trail.{IsRecorded, here, later, By, ComeByNodes, ComesOnce, IsIndexed, IsNodeAt, Pushes, Unfound, Records, RecordsLater, RecordsTerminal}
 use Rattle.ig_plain.proofs.Growth.{means_kept, found_named, longer, extends_at, extends_in, extends_then, extends_cases}
 use Rattle.ig_plain.proofs.Extending.{extends_itself, extends_by, extends_same}

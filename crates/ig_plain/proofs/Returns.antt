@@ -21,9 +21,9 @@ use Rattle.ig_item.specs.declared.ways.Way.{Way}
 use Rattle.ig_item.specs.declared.ways.Way.TheVariants.{Node}
 use Rattle.ig_plain.specs.declared.found.Found.{Found}
 use Rattle.ig_plain.specs.declared.trail.Trail.{Trail}
-use Rattle.ig_calls.specs.declared.waiting.Caller.{Caller}
+use Rattle.ig_run_moves.specs.declared.waiting.Caller.{Caller}
 use Rattle.ig_plain.specs.Found.{means, Named, Adds}
-use Rattle.ig_moves.specs.Rules.{step_at, IsPastCall}
+use Rattle.ig_run_moves.specs.Rules.{step_at, IsPastCall}
 use Rattle.ig_plain.specs.Rules.{StandsAtBareCall, StandsAtCall, IsReturn}
 use Rattle.ig_plain.specs.Run as run
 use Rattle.ig_plain.specs.Run.{Chains, IsChainOf, IsReturnToOne}

@@ -14,9 +14,9 @@ use Rattle.ig_item.specs.declared.items.Item as stored
 use Rattle.ig_item.specs.declared.run_fault.RunFault.{RunFault}
 use Rattle.ig_item.specs.declared.run_fault.RunFault.TheVariants.{Budget, Memory}
 use Rattle.ig_plain.specs.declared.found.Found.{Found}
-use Rattle.ig_tables.specs.Extends.{Extends}
-use Rattle.ig_moves.specs.Rules.{ReadsTo}
-use Rattle.ig_moves.specs.Tables.{IsNamed}
+use Rattle.ig_run_tables.specs.Extends.{Extends}
+use Rattle.ig_run_moves.specs.Rules.{ReadsTo}
+use Rattle.ig_run_moves.specs.Tables.{IsNamed}
 use Rattle.ig_run_laws.specs.Rules.{After}
 use Rattle.ig_plain.specs.Found.{means, found_in, later_in, taken_in, count, Named, IsStored, Grows, GrowsLater, Has, Adds}
 use Rattle.ig_plain.specs.Run.{IsTaking, Refuses}

@@ -20,12 +20,12 @@ use Rattle.ig_item.specs.declared.items.Item as stored
 use Rattle.ig_item.specs.declared.run_fault.RunFault.{RunFault}
 use Rattle.ig_item.specs.declared.run_fault.RunFault.TheVariants.{Budget, Memory}
 use Rattle.ig_plain.specs.declared.found.Found.{Found}
-use Rattle.ig_calls.specs.declared.waiting.Waiting.{Waiting}
-use Rattle.ig_calls.specs.declared.waiting.Called.{Called}
-use Rattle.ig_tables.specs.Extends.{IsNew}
+use Rattle.ig_run_moves.specs.declared.waiting.Waiting.{Waiting}
+use Rattle.ig_run_moves.specs.declared.waiting.Called.{Called}
+use Rattle.ig_run_tables.specs.Extends.{IsNew}
 use Rattle.ig_plain.specs.Found.{means, instances_in, found_in, later_in, taken_in, count, IsStored, Grows, Adds}
 use Rattle.ig_run_laws.specs.Rules.{IsFirstOf}
-use Rattle.ig_calls.specs.Waiting.{not_called}
+use Rattle.ig_run_moves.specs.Waiting.{not_called}
 use Rattle.ig_plain.specs.Run as run
 use Rattle.ig_plain.specs.Run.{IsRun, Refuses}
 use Rattle.ig_plain.specs.Arrival.{IsNothing}

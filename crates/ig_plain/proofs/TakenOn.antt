@@ -22,15 +22,15 @@ use Rattle.ig_item.specs.declared.ways.Way.{Way}
 use Rattle.ig_item.specs.declared.ways.Way.TheVariants.{Pass, Leaf, Node}
 use Rattle.ig_plain.specs.declared.found.Found.{Found}
 use Rattle.ig_plain.specs.declared.trail.Trail.{Trail}
-use Rattle.ig_calls.specs.declared.waiting.Waiting.{Waiting}
-use Rattle.ig_calls.specs.declared.waiting.Called.{Called}
-use Rattle.ig_calls.specs.declared.waiting.Caller.{Caller}
+use Rattle.ig_run_moves.specs.declared.waiting.Waiting.{Waiting}
+use Rattle.ig_run_moves.specs.declared.waiting.Called.{Called}
+use Rattle.ig_run_moves.specs.declared.waiting.Caller.{Caller}
 use Rattle.ig_plain.specs.Found as found
 use Rattle.ig_plain.specs.Found.{means, found_in, later_in, taken_in, instances_in, Adds, AddsTerminal, GrowsLater}
 use Rattle.ig_run_laws.specs.Rules.{After}
-use Rattle.ig_moves.specs.Rules.{IsBehind, IsPastCall, Comes, NoItem, NoCall}
+use Rattle.ig_run_moves.specs.Rules.{IsBehind, IsPastCall, Comes, NoItem, NoCall}
 use Rattle.ig_plain.specs.Rules.{IsReturn, StandsAtBareCall, StandsAtCall}
-use Rattle.ig_calls.specs.Waiting.{called_at, lengthened, with_caller, with_end}
+use Rattle.ig_run_moves.specs.Waiting.{called_at, lengthened, with_caller, with_end}
 use Rattle.ig_plain.specs.Run as run
 use Rattle.ig_plain.specs.Run.{Chains, IsRun, IsReturnToOne}
 use Rattle.ig_plain.specs.Trail as trails

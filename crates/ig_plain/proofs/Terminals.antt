@@ -12,7 +12,7 @@ use Rattle.ig_item.specs.Visible.{names_at}
 use Rattle.ig_item.specs.Items.{Item, StandsBefore, past, span_of}
 use Rattle.ig_item.specs.declared.core_grammar.Nonterminal.{Nonterminal}
 use Rattle.ig_item.specs.declared.items.Instance.{Instance}
-use Rattle.ig_moves.specs.Rules.{ReadsTo, IsBehind}
+use Rattle.ig_run_moves.specs.Rules.{ReadsTo, IsBehind}
 use Rattle.ig_plain.proofs.Following.{one_step}
 use Rattle.std.specs.Prelude.{Result, OnOk}
 use Rattle.std.proofs.lemmas.Result.{on_ok_weaker}
@@ -20,8 +20,8 @@ use Rattle.ig_item.specs.WellKinded.{NoneTwice}
 use Rattle.ig_item.specs.declared.run_fault.RunFault.{RunFault}
 use Rattle.ig_plain.specs.declared.found.Found.{Found}
 use Rattle.ig_plain.specs.declared.trail.Trail.{Trail}
-use Rattle.ig_tables.specs.Extends.{Extends}
-use Rattle.ig_moves.specs.Tables.{Moves}
+use Rattle.ig_run_tables.specs.Extends.{Extends}
+use Rattle.ig_run_moves.specs.Tables.{Moves}
 use Rattle.ig_item.specs.declared.items.Item as stored
 use Rattle.ig_plain.specs.Found as found
 use Rattle.ig_plain.specs.Trail as trails

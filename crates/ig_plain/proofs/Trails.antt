@@ -18,7 +18,7 @@ use Rattle.ig_item.specs.declared.ways.FurtherEnd.{FurtherEnd}
 use Rattle.ig_item.specs.Induction.{gives_more}
 use Rattle.ig_plain.specs.declared.found.Found.{Found}
 use Rattle.ig_plain.specs.declared.trail.Trail.{Trail}
-use Rattle.ig_tables.specs.Extends.{Extends}
+use Rattle.ig_run_tables.specs.Extends.{Extends}
 use Rattle.ig_plain.specs.Found.{found_in, later_in}
 use Rattle.ig_plain.specs.Trail as trails
 use Rattle.ig_plain.specs.Trail.{IsRecorded, IsIndexed, Records, RecordsLater, FollowTrail, Pairs, By}

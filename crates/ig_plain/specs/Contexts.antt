@@ -2,8 +2,8 @@
 use Rattle.std.specs.Prelude.{ℕ, Result, MatchResult}
 use Rattle.ig_item.specs.declared.items.InstanceKey.{InstanceKey}
 use Rattle.ig_item.specs.declared.run_fault.RunFault.{RunFault}
-use Rattle.ig_calls.specs.declared.waiting.Taken.{Taken}
-use Rattle.ig_moves.specs.declared.context.Context.{Context}
+use Rattle.ig_run_moves.specs.declared.waiting.Taken.{Taken}
+use Rattle.ig_run_moves.specs.declared.context.Context.{Context}
 use Rattle.ig_plain.specs.declared.run.Run.{Run}
 use Rattle.ig_plain.specs.Run.{IsRun, Refuses, Taking, Takes, EntersInstance}
 use Rattle.ig_plain.specs.Trail.{HasTrail, IsNext, TakesOn, EntersOn}

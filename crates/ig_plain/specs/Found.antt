@@ -8,10 +8,10 @@ use Rattle.ig_item.specs.declared.items.Item as stored
 use Rattle.ig_item.specs.declared.run_fault.RunFault.{RunFault}
 use Rattle.ig_item.specs.declared.run_fault.RunFault.TheVariants.{Budget}
 use Rattle.ig_text.specs.declared.pattern.Pattern.{Pattern}
-use Rattle.ig_moves.specs.Rules.{IsBehind}
-use Rattle.ig_moves.specs.Tables.{IsNamed, item_by}
+use Rattle.ig_run_moves.specs.Rules.{IsBehind}
+use Rattle.ig_run_moves.specs.Tables.{IsNamed, item_by}
 use Rattle.ig_plain.specs.declared.found.Found.{Found}
-use Rattle.ig_tables.specs.Extends.{Extends}
+use Rattle.ig_run_tables.specs.Extends.{Extends}
 
 -- the item that a stored one stands for
 abbrev pub means : Found → stored.Item → Item

@@ -5,8 +5,8 @@ use Rattle.ig_item.specs.Items.{Item}
 use Rattle.ig_item.specs.Tables.{HaveValues}
 use Rattle.ig_item.specs.declared.items.InstanceKey.{InstanceKey}
 use Rattle.ig_item.specs.declared.items.Item as stored
-use Rattle.ig_moves.specs.Tables.{IsNamed}
-use Rattle.ig_tables.specs.Extends.{Extends}
+use Rattle.ig_run_moves.specs.Tables.{IsNamed}
+use Rattle.ig_run_tables.specs.Extends.{Extends}
 
 -- x was added at the end of the list, if at all
 pub record AddsOnly {X : Type 0} (before after : List X) (x : X) : Type 0 where

@@ -10,10 +10,9 @@ ghost use Rattle.ig_plain.specs.Trail.{Records, RecordsLater};
 
 use crate::found::{Found, number_of};
 use crate::trail::Trail;
-use ig_calls::add_further_way;
 use ig_item::{Item, RunFault, Way};
-use ig_moves::Context;
-use ig_tables::within_budget;
+use ig_run_moves::{Context, add_further_way};
+use ig_run_tables::within_budget;
 
 /// `Budget` exactly where there are more items than the budget.
 pub(crate) fn keep_within(found: &Found, budget: u32) -> Result<(), RunFault>

@@ -5,7 +5,7 @@ ghost use Rattle.ig_plain.specs.Tables.{AreNamed};
 
 use ig_expr::Values;
 use ig_item::{Item, number};
-use ig_tables::InstanceSet;
+use ig_run_tables::InstanceSet;
 use indexmap::IndexSet;
 use std::alloc::{AllocError, Global};
 

@@ -2,8 +2,8 @@
 ghost use Rattle.std.specs.Prelude.{◌≡◌, [], ◌∷◌, None, OnOk};
 ghost use Rattle.ig_expr.specs.View.{expression_of};
 ghost use Rattle.ig_item.specs.declared.ways.Way.TheVariants.{Node, Pass};
-ghost use Rattle.ig_steps.specs.Compiled.{form_of};
-ghost use Rattle.ig_moves.specs.Rules.{IsBehind, IsPastCall, IsBehindBind, IsBehindTest};
+ghost use Rattle.ig_run_tables.specs.Compiled.{form_of};
+ghost use Rattle.ig_run_moves.specs.Rules.{IsBehind, IsPastCall, IsBehindBind, IsBehindTest};
 ghost use Rattle.ig_plain.specs.Found.{Adds, AddsTerminal, Named, means};
 ghost use Rattle.ig_plain.specs.Trail.{By, ComeByNodes, IsIndexed};
 ghost use Rattle.ig_plain.specs.Trail.{Records, RecordsTerminal, Unfound};
@@ -11,11 +11,12 @@ ghost use Rattle.ig_plain.specs.Trail.{Records, RecordsTerminal, Unfound};
 use crate::adds::{add_later, add_new, add_returned};
 use crate::found::Found;
 use crate::trail::Trail;
-use ig_calls::Taken;
 use ig_expr::Expr;
 use ig_item::{Item, RunFault, Way};
-use ig_moves::{Context, behind_bind, behind_call, behind_terminal, behind_test, past_bare};
-use ig_steps::{Known, Qualifiers};
+use ig_run_moves::{
+    Context, Taken, behind_bind, behind_call, behind_terminal, behind_test, past_bare,
+};
+use ig_run_tables::{Known, Qualifiers};
 use ig_text::Pattern;
 
 /// Adds the item behind a test, where its condition is true. It comes from `from`.

@@ -12,11 +12,11 @@ ghost use Rattle.ig_item.specs.Step.{Call};
 ghost use Rattle.ig_item.specs.View.{step_of};
 ghost use Rattle.ig_item.specs.declared.ways.Way.TheVariants.{Begin, Node};
 ghost use Rattle.ig_plain.specs.Found.{Adds, Named, means};
-ghost use Rattle.ig_moves.specs.Rules.{step_at};
+ghost use Rattle.ig_run_moves.specs.Rules.{step_at};
 ghost use Rattle.ig_run_laws.specs.Rules.{IsFirstOf};
 ghost use Rattle.ig_plain.specs.Rules.{IsReturn, StandsAtBareCall};
 ghost use Rattle.ig_plain.specs.Rules.{StandsAtCall};
-ghost use Rattle.ig_steps.specs.Compiled.{form_of};
+ghost use Rattle.ig_run_tables.specs.Compiled.{form_of};
 ghost use Rattle.ig_plain.specs.Contexts.{EntersIn, EntersOnIn, HasTrailIn, IsNextIn, IsRunIn};
 ghost use Rattle.ig_plain.specs.Contexts.{RunsIn, TakesIn, TakesOnIn, TakingIn};
 ghost use Rattle.ig_plain.specs.Run.{IsChainOf, IsReturnToOne};
@@ -27,18 +27,17 @@ use crate::adds::add_new;
 use crate::found::{Found, number_of};
 use crate::moves::{go_behind, go_behind_bare, take_bind, take_terminal, take_test};
 use crate::trail::Trail;
-use ig_calls::{
-    Caller, Taken, Waiting, add_called, add_caller, add_end, add_further_end, end_at, first_caller,
-};
 use ig_expr::Expr;
 use ig_item::{
     Core, InstanceKey, Item, RunFault, Step, Way, items_are_in_text, reachable_is_closed,
 };
-use ig_moves::{
-    Context, before_binds, before_calls, before_terminals, before_tests, callee_of,
-    ends_are_complete, first_item, is_bare, known_before, step_behind, steps_are_behind,
+use ig_run_moves::{
+    Caller, Context, Taken, Waiting, add_called, add_caller, add_end, add_further_end,
+    before_binds, before_calls, before_terminals, before_tests, callee_of, end_at,
+    ends_are_complete, first_caller, first_item, is_bare, known_before, step_behind,
+    steps_are_behind,
 };
-use ig_steps::{Known, Qualifiers};
+use ig_run_tables::{Known, Qualifiers};
 
 /// What a run has come to.
 #[derive(Drop)]

@@ -13,16 +13,14 @@ ghost use Rattle.ig_plain.specs.Trail.{ArrivesOn, HasTrail, IsUntrodden, PartsTr
 use crate::found::Found;
 use crate::run::{Run, add_firsts, keep_well_kinded, take};
 use crate::trail::Trail;
-use ig_calls::{Waiting, add_called};
 use ig_expr::Values;
-use ig_finish::items_of;
 use ig_item::{
     Core, InstanceKey, Item, Items, Recorded, RunFault, Way, Ways, items_are_in_text,
     reachable_is_closed,
 };
-use ig_moves::Context;
-use ig_steps::dots_of_core;
-use ig_tables::enter_values;
+use ig_run_laws::items_of;
+use ig_run_moves::{Context, Waiting, add_called};
+use ig_run_tables::{dots_of_core, enter_values};
 use ig_text::Text;
 use std::alloc::{AllocError, Global};
 

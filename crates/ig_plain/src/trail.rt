@@ -2,7 +2,7 @@
 ghost use Rattle.std.specs.Prelude.{◌≡◌, [], IfOk};
 
 use ig_item::Ways;
-use ig_tables::Returned;
+use ig_run_tables::Returned;
 use std::alloc::{AllocError, Global};
 
 /// How the items of a run came about.

@@ -10,7 +10,7 @@ use Rattle.ig_item.specs.Items.{Item}
 use Rattle.ig_item.specs.Laws.{BehindIsLookedUp, ItemsAreInText}
 use Rattle.ig_item.specs.Report.{IsFurthest, IsExpected, EndIsExpected}
 use Rattle.ig_item.specs.declared.core_grammar.Nonterminal.{Nonterminal}
-use Rattle.ig_print.specs.declared.report.Report.{Report}
+use Rattle.ig_show_trees.specs.declared.report.Report.{Report}
 use Rattle.ig_query.specs.CodeReport.{AreDotsAt, AreReachable, EndsAt, IsFurthestAmong, pattern_at}
 use Rattle.ig_query.specs.Report.{IsReport}
 use Rattle.ig_query.specs.declared.dots.Dot.{Dot}

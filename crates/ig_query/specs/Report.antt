@@ -4,7 +4,7 @@ use Rattle.ig_text.specs.Lines.{line_of, column_of}
 use Rattle.ig_text.specs.declared.pattern.Pattern.{Pattern}
 use Rattle.ig_item.specs.Report.{IsFurthest, IsExpected, EndIsExpected}
 use Rattle.ig_item.specs.declared.core_grammar.Nonterminal.{Nonterminal}
-use Rattle.ig_print.specs.declared.report.Report.{Report}
+use Rattle.ig_show_trees.specs.declared.report.Report.{Report}
 
 -- the furthest position, with its line and its column; exactly the patterns that are expected there; and whether the end is
 pub record IsReport (core : List Nonterminal) (text : List ℕ) (report : Report) : Type 0 where

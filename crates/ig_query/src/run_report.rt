@@ -8,7 +8,7 @@ ghost use Rattle.ig_query.specs.Report.{IsReport};
 use crate::dots::{dots_at, patterns_of};
 use crate::furthest::{ends_at, furthest};
 use ig_item::{Core, Items, behind_is_looked_up, items_are_in_text};
-use ig_print::Report;
+use ig_show_trees::Report;
 use ig_text::Text;
 use std::alloc::{AllocError, Global};
 

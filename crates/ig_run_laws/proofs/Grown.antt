@@ -2,7 +2,7 @@
 use Rattle.std.proofs.Common.{◌≡◌, ◌⊎◌, ⊎_elim, inl, inr, ℕ, zero, suc, ◌+◌, ◌<◌, ◌≤◌, List, Some, length, Contains, refl, sym, ap, subst, arith, slice_get, length-append}
 use Rattle.std.proofs.lemmas.List.Elements.{Contains-append_left, Contains-append_cases}
 use Rattle.ig_text.proofs.Lists.{left_at, sides}
-use Rattle.ig_tables.specs.Extends.{Extends}
+use Rattle.ig_run_tables.specs.Extends.{Extends}
 
 -- two numbers are equal or not
 pub same_or : (a b : ℕ) → (a ≡ b) ⊎ (a ≡ b → ⊥)

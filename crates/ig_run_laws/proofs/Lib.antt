@@ -14,4 +14,6 @@ pub mod Fresh
 pub mod FirstCalls
 pub mod Budgets
 pub mod Beginning
-pub mod Renaming
+pub mod LeastNames
+mod Least
+mod Tabled

@@ -20,7 +20,7 @@ use Rattle.ig_item.specs.declared.ways.Way.{Way}
 use Rattle.ig_item.specs.declared.ways.Way.TheVariants.{Pass, Leaf, Node as Tree}
 use Rattle.ig_item.specs.declared.ways.FurtherEnd.{FurtherEnd}
 use Rattle.ig_queue.specs.declared.ticket.Ticket.{Ticket}
-use Rattle.ig_tables.specs.Extends.{Extends}
+use Rattle.ig_run_tables.specs.Extends.{Extends}
 use Rattle.ig_run_laws.specs.AfterBy as by
 use Rattle.ig_run_laws.specs.AfterBy.{AfterBy}
 use Rattle.ig_run_laws.specs.Finding.{Finding, Records, IsTaken, Takes, with_waiting}

@@ -6,7 +6,7 @@ use Rattle.ig_item.specs.WellKinded.{NoneTwice}
 use Rattle.ig_item.specs.declared.ways.Way.{Way}
 use Rattle.ig_item.specs.declared.ways.FurtherWay.{FurtherWay}
 use Rattle.ig_queue.specs.declared.ticket.Ticket.{Ticket}
-use Rattle.ig_tables.specs.Extends.{Extends}
+use Rattle.ig_run_tables.specs.Extends.{Extends}
 
 -- the items in order of finding, how they came about, and the tickets that wait
 pub record Finding : Type 0 where

@@ -7,3 +7,4 @@ pub mod Trail
 pub mod Renaming
 pub mod Run
 pub mod Laws
+pub mod Renamed

@@ -18,7 +18,7 @@ use Rattle.ig_grammar.specs.declared.declaration.Decl.{Decl}
 use Rattle.ig_grammar.specs.declared.grammar.Grammar.{Grammar}
 use Rattle.ig_grammar.specs.Laws.{CountsByForm}
 use Rattle.ig_scope.specs.Places.{AreNumbered}
-use Rattle.ig_alternatives.specs.Told.{from}
+use Rattle.ig_scope.specs.AlternativesTold.{from}
 
 -- as many occurrences as symbols
 mutual

@@ -11,17 +11,17 @@ use Rattle.ig_grammar.specs.declared.symbol.Alt.{Alt}
 use Rattle.ig_grammar.specs.declared.declaration.Decl.{Decl}
 use Rattle.ig_grammar.specs.declared.grammar.Grammar.{Grammar}
 use Rattle.ig_grammar.specs.declared.place.Place.{Place}
-use Rattle.ig_conditions.specs.Causes.{condition_of, NoneHolds}
+use Rattle.ig_scope.specs.Causes.{condition_of, NoneHolds}
 use Rattle.std.proofs.lemmas.Option.{slice_get-get_or, slice_get_within}
-use Rattle.ig_conditions.specs.Room.{HasFewParameters}
-use Rattle.ig_conditions.specs.Heads.{count_names, is_layout, have_layout}
-use Rattle.ig_alternatives.specs.Told.{FirstIn, AlternativeFree, AlternativeCaught, OfAlternatives}
+use Rattle.ig_scope.specs.Room.{HasFewParameters}
+use Rattle.ig_scope.specs.Heads.{count_names, is_layout, have_layout}
+use Rattle.ig_scope.specs.AlternativesTold.{FirstIn, AlternativeFree, AlternativeCaught, OfAlternatives}
 use Rattle.ig_scope.specs.Told.{FirstPair, TellsDeclaration, AreFree, TellsDeclarations, TellsGrammar}
-use Rattle.ig_alternatives.specs.declared.fault.ScopeFault.{ScopeFault}
-use Rattle.ig_alternatives.specs.declared.fault.ScopeFault.TheVariants.{Broken, Memory}
+use Rattle.ig_scope.specs.declared.fault.ScopeFault.{ScopeFault}
+use Rattle.ig_scope.specs.declared.fault.ScopeFault.TheVariants.{Broken, Memory}
 use Rattle.ig_text.proofs.Options.{one_value}
 use Rattle.ig_text.proofs.Orders.{below_or_at}
-use Rattle.ig_alternatives.specs.Firsts.{first_there, first_before, free_at}
+use Rattle.ig_scope.specs.Firsts.{first_there, first_before, free_at}
 use Rattle.std.proofs.lemmas.List.Folds.{list_any_more}
 use Rattle.std.proofs.lemmas.Result.{err_from_is_err_and}
 

@@ -1,2 +1,13 @@
+pub mod Unknown
+pub mod SymbolCauses
+pub mod Members
+pub mod HeadCauses
+pub mod Repeats
+pub mod StartCauses
+pub mod Walks
+pub mod Sequences
+pub mod Loops
+pub mod Rooms
+pub mod Levels
 pub mod Checks
 pub mod Bounds

@@ -1,2 +1,11 @@
+pub mod Causes
+pub mod Heads
+pub mod AtHeads
+pub mod Symbols
+pub mod Room
+pub mod AlternativePlaces
+pub mod AlternativesTold
+pub mod Firsts
+pub mod Binders
 pub mod Places
 pub mod Told

@@ -2,7 +2,7 @@
 use Rattle.std.specs.Prelude.{◌<◌, List, Contains, length}
 use Rattle.ig_text.specs.Limits.{numbers_end}
 use Rattle.ig_grammar.specs.declared.declaration.Decl.{Decl}
-use Rattle.ig_alternatives.specs.Places.{HaveNumberedAlternatives, HaveNumberedSymbols}
+use Rattle.ig_scope.specs.AlternativePlaces.{HaveNumberedAlternatives, HaveNumberedSymbols}
 
 -- the declarations have such numbers, and so has what is in each
 pub record AreNumbered (decls : List Decl) : Type 0 where

@@ -4,10 +4,10 @@ use Rattle.ig_grammar.specs.Condition.{Condition}
 use Rattle.ig_grammar.specs.WellScoped.{IsLeast, IsFirst, IsWellScoped, DeclarationHas}
 use Rattle.ig_grammar.specs.declared.declaration.Decl.{Decl}
 use Rattle.ig_grammar.specs.declared.grammar.Grammar.{Grammar}
-use Rattle.ig_conditions.specs.Causes.{condition_of, NoneHolds}
-use Rattle.ig_conditions.specs.declared.head.Head.{Head}
-use Rattle.ig_alternatives.specs.declared.fault.ScopeFault.{ScopeFault}
-use Rattle.ig_alternatives.specs.declared.fault.ScopeFault.TheVariants.{Broken, Memory}
+use Rattle.ig_scope.specs.Causes.{condition_of, NoneHolds}
+use Rattle.ig_scope.specs.declared.head.Head.{Head}
+use Rattle.ig_scope.specs.declared.fault.ScopeFault.{ScopeFault}
+use Rattle.ig_scope.specs.declared.fault.ScopeFault.TheVariants.{Broken, Memory}
 
 -- the condition is the first that holds at this pair of numbers, of which the first decides first
 pub record FirstPair (Has : ℕ → ℕ → Condition → Type 0) (a s : ℕ) (c : Condition) : Type 0 where

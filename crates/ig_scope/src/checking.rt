@@ -3,15 +3,19 @@ ghost use Rattle.ig_text.specs.Limits.{numbers_end};
 ghost use Rattle.ig_grammar.specs.Regular.{IsRegular};
 ghost use Rattle.ig_grammar.specs.WellScoped.{IsWellScoped};
 ghost use Rattle.ig_grammar.specs.Checked.{rules};
-ghost use Rattle.ig_conditions.specs.Heads.{is_layout};
-ghost use Rattle.ig_alternatives.specs.Places.{HaveNumberedAlternatives, HaveNumberedSymbols};
+ghost use Rattle.ig_scope.specs.Heads.{is_layout};
+ghost use Rattle.ig_scope.specs.AlternativePlaces.{HaveNumberedAlternatives, HaveNumberedSymbols};
 ghost use Rattle.ig_scope.specs.Places.{AreNumbered};
 ghost use Rattle.ig_scope.specs.Told.{TellsHead, TellsDeclarations, TellsFault, TellsGrammar};
 
-use ig_alternatives::{Numbered, ScopeFault, check_alternatives};
-use ig_conditions::{Head, head_cause, room_of, start_cause};
-use ig_declarations::Declarations;
-use ig_grammar::{Checked, DeclKind, Grammar, Place, is_name};
+use crate::alternatives::check_alternatives;
+use crate::fault::ScopeFault;
+use crate::head::Head;
+use crate::heads::head_cause;
+use crate::numbered::Numbered;
+use crate::room::room_of;
+use crate::starts::start_cause;
+use ig_grammar::{Checked, DeclKind, Declarations, Grammar, Place, is_name};
 use std::alloc::Global;
 
 /// The grammar, where it is well scoped: that is, no condition of

@@ -9,8 +9,8 @@ use Rattle.ig_expr.specs.declared.operator.Op.{Op}
 use Rattle.ig_expr.specs.declared.operator.Op.TheVariants as op
 use Rattle.ig_expr.specs.declared.kind.Kind.{Kind}
 use Rattle.ig_expr.specs.declared.kind.Kind.TheVariants as kind
-use Rattle.ig_syntax.specs.Token.{Token, Name, Head, Number, OneOf, Semicolon, Equals, Bar, Greater, Colon, Comma, Open, Close, CloseBrace, Question}
-use Rattle.ig_syntax.specs.Token as sign
+use Rattle.ig_notation_syntax.specs.Token.{Token, Name, Head, Number, OneOf, Semicolon, Equals, Bar, Greater, Colon, Comma, Open, Close, CloseBrace, Question}
+use Rattle.ig_notation_syntax.specs.Token as sign
 use Rattle.ig_grammar.specs.Symbol.{Symbol, Symbols, no_symbols, next_symbol, Alternatives, no_alternatives, next_alternative}
 use Rattle.ig_grammar.specs.Symbol as tree
 use Rattle.ig_grammar.specs.Alternative.{gathered_alternatives}
@@ -25,8 +25,8 @@ use Rattle.ig_grammar.specs.declared.declaration.DeclKind.TheVariants as decls
 use Rattle.ig_grammar.specs.declared.declaration.Level.{Level}
 use Rattle.ig_grammar.specs.declared.declaration.Decl.{Decl}
 use Rattle.ig_grammar.specs.declared.grammar.Grammar.{Grammar}
-use Rattle.ig_spelling.specs.Pieces.{Piece, blank, line_end, token}
-use Rattle.ig_spelling.specs.Signs.{associativity_pieces, integer_pieces, has_operator, operator_token, pattern_token}
+use Rattle.ig_show.specs.Pieces.{Piece, blank, line_end, token}
+use Rattle.ig_show.specs.Signs.{associativity_pieces, integer_pieces, has_operator, operator_token, pattern_token}
 use Rattle.ig_show.specs.CanonicalText.{expression_pieces, as_part, separated, joined, comma, call_pieces, filter_pieces, let_pieces, bindings_pieces, symbol_pieces, alternative_pieces, further_symbols, alternatives_pieces, further_alternatives, level_pieces, levels_pieces, parameter_pieces, kind_token, head_pieces, declaration_pieces, declaration_token, start_pieces, pieces_of}
 
 -- the token begins with a character that ends a word or a number

@@ -3,8 +3,8 @@ use Rattle.std.proofs.Common.{◌≡◌, ◌∙◌, ap, sym, ℕ, List, [], ◌+
 use Rattle.std.specs.Prelude.{chars, IsUtf8, encode_utf8_all}
 use Rattle.std.proofs.lemmas.Str.{encodes-append, encodes-chars}
 use Rattle.std.proofs.lemmas.List.{append-nil}
-use Rattle.ig_spelling.specs.Pieces.{Piece, text}
-use Rattle.ig_spelling.specs.Writing.{Adds}
+use Rattle.ig_show.specs.Pieces.{Piece, text}
+use Rattle.ig_show.specs.Appending.{Adds}
 
 pub added_bytes : {a b : List ℕ} (f : List Piece → List Piece) → IsUtf8 a → IsUtf8 b → Adds a b f → b ≡ a ++ encode_utf8_all (text (f []))
 added_bytes {a} {b} f was is p =

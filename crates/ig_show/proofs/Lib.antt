@@ -1,3 +1,6 @@
+pub mod Numerals
+pub mod NumberSteps
+pub mod CanonicalTokens
 pub mod Steps
 pub mod Falling
 pub mod ReadsBack

@@ -1,11 +1,11 @@
 -- A canonical text reads as its grammar, where some text does.
 use Rattle.std.proofs.Common.{sym, subst, ℕ, List, map}
-use Rattle.ig_syntax.specs.Token.{Token}
-use Rattle.ig_syntax.specs.Rules.{FollowsRules}
-use Rattle.ig_syntax.specs.Texts as lexing
-use Rattle.ig_syntax.specs.Lexing.{Lexes}
-use Rattle.ig_tokens.specs.Laws.{EndedTokensAreLongest}
-use Rattle.ig_spelling.specs.Laws.{FixedTokensAreSpelled, TokensAreSpelled}
+use Rattle.ig_notation_syntax.specs.Token.{Token}
+use Rattle.ig_notation_syntax.specs.Rules.{FollowsRules}
+use Rattle.ig_notation_syntax.specs.Texts as lexing
+use Rattle.ig_notation_syntax.specs.Lexing.{Lexes}
+use Rattle.ig_notation_syntax.specs.TokenLaws.{EndedTokensAreLongest}
+use Rattle.ig_show.specs.SpellingLaws.{FixedTokensAreSpelled, TokensAreSpelled}
 use Rattle.ig_show.specs.CanonicalText.{pieces_of}
 use Rattle.ig_show.specs.Laws.{CanonicalTextReadsBack}
 use Rattle.ig_show.proofs.Apart.{grammar_apart}

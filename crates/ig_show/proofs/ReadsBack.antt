@@ -10,8 +10,8 @@ use Rattle.ig_expr.specs.declared.operator.Function.{Function}
 use Rattle.ig_expr.specs.declared.operator.Function.TheVariants as functions
 use Rattle.ig_expr.specs.declared.kind.Kind.{Kind}
 use Rattle.ig_expr.specs.declared.kind.Kind.TheVariants as kind
-use Rattle.ig_syntax.specs.Token.{Token, Name, Head, Comma, Close, CloseBrace, Bar, Greater, Equals, Semicolon}
-use Rattle.ig_syntax.specs.Token as sign
+use Rattle.ig_notation_syntax.specs.Token.{Token, Name, Head, Comma, Close, CloseBrace, Bar, Greater, Equals, Semicolon}
+use Rattle.ig_notation_syntax.specs.Token as sign
 use Rattle.ig_grammar.specs.Regular.{pattern_of}
 use Rattle.ig_grammar.specs.Symbol.{Symbol, Symbols, no_symbols, next_symbol, Alternatives, no_alternatives, next_alternative}
 use Rattle.ig_grammar.specs.Symbol as tree
@@ -25,10 +25,10 @@ use Rattle.ig_grammar.specs.declared.declaration.DeclKind.{DeclKind}
 use Rattle.ig_grammar.specs.declared.declaration.Level.{Level}
 use Rattle.ig_grammar.specs.declared.declaration.Decl.{Decl}
 use Rattle.ig_grammar.specs.declared.grammar.Grammar.{Grammar}
-use Rattle.ig_syntax.specs.Rules as rules
-use Rattle.ig_syntax.specs.Rules.{IsOperator, IsFunction, ReadsTerm, ReadsExpression, ReadsArguments, IsPattern, IsFilter, ReadsFilters, ReadsSign, IsSeparated, filtered, ReadsSymbol, ReadsMarked, ReadsPost, ReadsAtom, ReadsAlternatives, ReadsAlternative, ReadsAssociativity, ReadsLevel, ReadsLevels, IsKind, ReadsParameters, IsDeclKind, ReadsDeclaration, ReadsDeclarations, FollowsRules}
-use Rattle.ig_spelling.specs.Pieces.{Piece, blank, line_end, token, tokens}
-use Rattle.ig_spelling.specs.Signs.{associativity_pieces, operator_token, function_name, pattern_token}
+use Rattle.ig_notation_syntax.specs.Rules as rules
+use Rattle.ig_notation_syntax.specs.Rules.{IsOperator, IsFunction, ReadsTerm, ReadsExpression, ReadsArguments, IsPattern, IsFilter, ReadsFilters, ReadsSign, IsSeparated, filtered, ReadsSymbol, ReadsMarked, ReadsPost, ReadsAtom, ReadsAlternatives, ReadsAlternative, ReadsAssociativity, ReadsLevel, ReadsLevels, IsKind, ReadsParameters, IsDeclKind, ReadsDeclaration, ReadsDeclarations, FollowsRules}
+use Rattle.ig_show.specs.Pieces.{Piece, blank, line_end, token, tokens}
+use Rattle.ig_show.specs.Signs.{associativity_pieces, operator_token, function_name, pattern_token}
 use Rattle.ig_show.specs.CanonicalText.{expression_pieces, part_pieces, separated, joined, comma, call_pieces, filter_sign, filter_pieces, symbol_pieces, alternative_pieces, further_symbols, alternatives_pieces, further_alternatives, level_pieces, levels_pieces, parameter_pieces, kind_token, head_pieces, declaration_pieces, declaration_token, tokens_of}
 
 is_operator : (o : Op) → IsOperator (operator_token o) o

@@ -3,17 +3,17 @@ use Rattle.std.proofs.Common.{◌≡◌, ap, refl, ℕ, ◌+◌, List, [], ◌�
 use Rattle.unicode_ident.specs.Ident.{is_xid_continue}
 use Rattle.unicode_ident.proofs.IdentLemmas.{is_xid_continue-ascii}
 use Rattle.ig_text.specs.declared.class.Class.TheVariants as class
-use Rattle.ig_syntax.specs.Token as token
-use Rattle.ig_syntax.specs.Token.{Token}
-use Rattle.ig_syntax.specs.Spelling.{begins}
-use Rattle.ig_syntax.specs.Spelling as table
-use Rattle.ig_syntax.specs.Texts as lexing
-use Rattle.ig_syntax.specs.Lexing.{Lexes}
-use Rattle.ig_syntax.specs.Texts.{bytes}
-use Rattle.ig_tokens.specs.Laws.{ends, EndedTokensAreLongest}
-use Rattle.ig_spelling.specs.Pieces as pieces
-use Rattle.ig_spelling.specs.Pieces.{Piece, blank, line_end, text, tokens}
-use Rattle.ig_spelling.specs.Spelling.{spelling}
+use Rattle.ig_notation_syntax.specs.Token as token
+use Rattle.ig_notation_syntax.specs.Token.{Token}
+use Rattle.ig_notation_syntax.specs.Spelling.{begins}
+use Rattle.ig_notation_syntax.specs.Spelling as table
+use Rattle.ig_notation_syntax.specs.Texts as lexing
+use Rattle.ig_notation_syntax.specs.Lexing.{Lexes}
+use Rattle.ig_notation_syntax.specs.Texts.{bytes}
+use Rattle.ig_notation_syntax.specs.TokenLaws.{ends, EndedTokensAreLongest}
+use Rattle.ig_show.specs.Pieces as pieces
+use Rattle.ig_show.specs.Pieces.{Piece, blank, line_end, text, tokens}
+use Rattle.ig_show.specs.Spelling.{spelling}
 use Rattle.ig_show.proofs.Apart.{parted, spaced, ends_word, need, has, Apart}
 use Rattle.ig_show.proofs.Written.{AllSpelled}
 

@@ -7,9 +7,9 @@ use Rattle.std.proofs.Math.ListN.{get_or}
 use Rattle.ig_expr.specs.declared.expression.Expr.{Expr}
 use Rattle.ig_expr.specs.View.{expression_of}
 use Rattle.ig_grammar.specs.declared.declaration.Param.{Param}
-use Rattle.ig_syntax.specs.Token.{Head, Close}
-use Rattle.ig_spelling.specs.Pieces.{Piece, text, token}
-use Rattle.ig_spelling.specs.Writing.{Appends, Adds}
+use Rattle.ig_notation_syntax.specs.Token.{Head, Close}
+use Rattle.ig_show.specs.Pieces.{Piece, text, token}
+use Rattle.ig_show.specs.Appending.{Appends, Adds}
 use Rattle.ig_show.specs.CanonicalText.{joined, comma, call_pieces, expression_pieces, parameter_pieces, head_pieces}
 use Rattle.ig_show.specs.Writing.{AddsBehind, AddsBefore, IsText}
 

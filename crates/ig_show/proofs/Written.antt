@@ -7,8 +7,8 @@ use Rattle.ig_expr.specs.declared.operator.Op.TheVariants as op
 use Rattle.ig_expr.specs.declared.operator.Function.{Function}
 use Rattle.ig_expr.specs.declared.kind.Kind.{Kind}
 use Rattle.ig_expr.specs.declared.kind.Kind.TheVariants as kind
-use Rattle.ig_syntax.specs.Token.{Token, Name, Head, Semicolon, Equals, Bar, Greater, Colon, Comma, Open, Close, CloseBrace, Question}
-use Rattle.ig_syntax.specs.Token as sign
+use Rattle.ig_notation_syntax.specs.Token.{Token, Name, Head, Semicolon, Equals, Bar, Greater, Colon, Comma, Open, Close, CloseBrace, Question}
+use Rattle.ig_notation_syntax.specs.Token as sign
 use Rattle.ig_grammar.specs.Regular.{pattern_of}
 use Rattle.ig_grammar.specs.Symbol.{Symbol, Symbols, Alternatives}
 use Rattle.ig_grammar.specs.Alternative.{gathered_alternatives}
@@ -20,12 +20,12 @@ use Rattle.ig_grammar.specs.declared.declaration.Level.{Level}
 use Rattle.ig_grammar.specs.declared.declaration.Decl.{Decl}
 use Rattle.ig_grammar.specs.declared.declaration.DeclKind.{DeclKind}
 use Rattle.ig_grammar.specs.declared.grammar.Grammar.{Grammar}
-use Rattle.ig_syntax.specs.Rules as rules
-use Rattle.ig_syntax.specs.Rules.{IsFunction, ReadsTerm, ReadsExpression, ReadsArguments, IsPattern, IsFilter, ReadsFilters, ReadsSign, IsSeparated, filtered, ReadsSymbol, ReadsMarked, ReadsPost, ReadsAtom, ReadsAlternatives, ReadsAlternative, ReadsAssociativity, ReadsLevel, ReadsLevels, ReadsParameters, IsDeclKind, ReadsDeclaration, ReadsDeclarations, FollowsRules}
-use Rattle.ig_spelling.specs.Pieces.{Piece, blank, line_end, token, tokens}
-use Rattle.ig_spelling.specs.Signs.{associativity_pieces, has_operator, operator_token, function_name, pattern_token}
+use Rattle.ig_notation_syntax.specs.Rules as rules
+use Rattle.ig_notation_syntax.specs.Rules.{IsFunction, ReadsTerm, ReadsExpression, ReadsArguments, IsPattern, IsFilter, ReadsFilters, ReadsSign, IsSeparated, filtered, ReadsSymbol, ReadsMarked, ReadsPost, ReadsAtom, ReadsAlternatives, ReadsAlternative, ReadsAssociativity, ReadsLevel, ReadsLevels, ReadsParameters, IsDeclKind, ReadsDeclaration, ReadsDeclarations, FollowsRules}
+use Rattle.ig_show.specs.Pieces.{Piece, blank, line_end, token, tokens}
+use Rattle.ig_show.specs.Signs.{associativity_pieces, has_operator, operator_token, function_name, pattern_token}
 use Rattle.ig_show.specs.CanonicalText.{expression_pieces, part_pieces, as_part, separated, joined, comma, call_pieces, filter_sign, filter_pieces, symbol_pieces, alternative_pieces, further_symbols, alternatives_pieces, further_alternatives, level_pieces, levels_pieces, parameter_pieces, kind_token, declaration_pieces, declaration_token, tokens_of}
-use Rattle.ig_spelling.specs.Laws.{IsSpelled, FixedTokensAreSpelled}
+use Rattle.ig_show.specs.SpellingLaws.{IsSpelled, FixedTokensAreSpelled}
 use Rattle.ig_show.proofs.ReadsBack.{arguments_behind, alternatives_behind, levels_behind, parameters_behind, head_to, same_tokens}
 
 -- each token has its spelling

@@ -5,8 +5,8 @@ use Rattle.ig_expr.specs.Expression.{Expression, Integer, Truth, Variable, Negat
 use Rattle.ig_expr.specs.Expression as expression
 use Rattle.ig_expr.specs.declared.kind.Kind.{Kind}
 use Rattle.ig_expr.specs.declared.kind.Kind.TheVariants as kind
-use Rattle.ig_syntax.specs.Token.{Token, Name, Head, Semicolon, Equals, Bar, Greater, Colon, Comma, Open, Close, OpenBrace, CloseBrace, Question, Minus, When}
-use Rattle.ig_syntax.specs.Token as sign
+use Rattle.ig_notation_syntax.specs.Token.{Token, Name, Head, Semicolon, Equals, Bar, Greater, Colon, Comma, Open, Close, OpenBrace, CloseBrace, Question, Minus, When}
+use Rattle.ig_notation_syntax.specs.Token as sign
 use Rattle.ig_grammar.specs.Symbol.{Symbol, Symbols, no_symbols, next_symbol, Alternatives, no_alternatives, next_alternative}
 use Rattle.ig_grammar.specs.Symbol as tree
 use Rattle.ig_grammar.specs.Alternative.{gathered_alternatives}
@@ -20,8 +20,8 @@ use Rattle.ig_grammar.specs.declared.declaration.DeclKind.TheVariants as decls
 use Rattle.ig_grammar.specs.declared.declaration.Level.{Level}
 use Rattle.ig_grammar.specs.declared.declaration.Decl.{Decl}
 use Rattle.ig_grammar.specs.declared.grammar.Grammar.{Grammar}
-use Rattle.ig_spelling.specs.Signs.{integer_pieces, operator_token, function_name, truth_token, pattern_token, associativity_pieces, has_operator}
-use Rattle.ig_spelling.specs.Pieces.{Piece, blank, line_end, token, text, tokens}
+use Rattle.ig_show.specs.Signs.{integer_pieces, operator_token, function_name, truth_token, pattern_token, associativity_pieces, has_operator}
+use Rattle.ig_show.specs.Pieces.{Piece, blank, line_end, token, text, tokens}
 
 -- each of a list, with the separator before it
 abbrev pub separated : {A : Type 0} → List Piece → (A → List Piece → List Piece) → List A → List Piece → List Piece

@@ -1,8 +1,8 @@
 -- What holds of canonical texts.
 use Rattle.std.specs.Prelude.{ℕ, List}
-use Rattle.ig_syntax.specs.Token.{Token}
-use Rattle.ig_syntax.specs.Rules.{FollowsRules}
-use Rattle.ig_syntax.specs.Notation.{Reads}
+use Rattle.ig_notation_syntax.specs.Token.{Token}
+use Rattle.ig_notation_syntax.specs.Rules.{FollowsRules}
+use Rattle.ig_notation_syntax.specs.Notation.{Reads}
 use Rattle.ig_grammar.specs.declared.grammar.Grammar.{Grammar}
 use Rattle.ig_show.specs.CanonicalText.{tokens_of, text_of}
 

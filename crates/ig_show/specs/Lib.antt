@@ -1,3 +1,9 @@
+pub mod Spelling
+pub mod Pieces
+pub mod Signs
+pub mod Appending
+pub mod Steps
+pub mod SpellingLaws
 pub mod CanonicalText
 pub mod Writing
 pub mod Laws

@@ -1,6 +1,6 @@
 -- What a function adds to the bytes that it writes to, beside a word; what a text is in bytes.
 use Rattle.std.specs.Prelude.{◌≡◌, ℕ, List, ◌++◌, chars, IsUtf8}
-use Rattle.ig_spelling.specs.Pieces.{Piece, text}
+use Rattle.ig_show.specs.Pieces.{Piece, text}
 
 -- the characters grew by the word, and by the pieces that `shown` puts before others
 pub record AddsBehind (before after word : List ℕ) (shown : List Piece → List Piece) : Type 0 where

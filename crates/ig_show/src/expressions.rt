@@ -1,20 +1,18 @@
 //! Expressions and their lists.
 
 ghost use Rattle.std.specs.Prelude.{◌∷◌, OnOk, map, chars, string_bytes};
-ghost use Rattle.ig_syntax.specs.Token.{Literal, Close};
+ghost use Rattle.ig_notation_syntax.specs.Token.{Literal, Close};
 ghost use Rattle.ig_expr.specs.View.{expression_of};
-ghost use Rattle.ig_spelling.specs.Pieces.{token};
-ghost use Rattle.ig_spelling.specs.Signs.{pattern_token};
-ghost use Rattle.ig_spelling.specs.Writing.{Adds};
+ghost use Rattle.ig_show.specs.Pieces.{token};
+ghost use Rattle.ig_show.specs.Signs.{pattern_token};
+ghost use Rattle.ig_show.specs.Appending.{Adds};
 ghost use Rattle.ig_show.specs.CanonicalText.{expression_pieces, part_pieces, joined, comma};
 ghost use Rattle.ig_show.specs.CanonicalText.{call_pieces};
 ghost use Rattle.ig_show.specs.Writing.{AddsBefore};
 
+use crate::signs::{has_operator, push_function, push_operator, push_truth};
+use crate::spelling::{push_head, push_integer, push_literal, push_name, push_pattern, push_text};
 use ig_expr::{Expr, Operand};
-use ig_spelling::{
-    has_operator, push_function, push_head, push_integer, push_literal, push_name, push_operator,
-    push_pattern, push_text, push_truth,
-};
 use ig_text::{Pattern, Word};
 use std::alloc::AllocError;
 

@@ -3,9 +3,9 @@
 ghost use Rattle.std.specs.Prelude.{◌≡◌, ◌++◌, ◌∷◌, [], OnOk, IfOk, Some};
 ghost use Rattle.std.specs.Prelude.{string_bytes};
 ghost use Rattle.ig_expr.specs.View.{expression_of};
-ghost use Rattle.ig_syntax.specs.Token.{Colon};
-ghost use Rattle.ig_spelling.specs.Pieces.{token, blank};
-ghost use Rattle.ig_spelling.specs.Writing.{Adds};
+ghost use Rattle.ig_notation_syntax.specs.Token.{Colon};
+ghost use Rattle.ig_show.specs.Pieces.{token, blank};
+ghost use Rattle.ig_show.specs.Appending.{Adds};
 ghost use Rattle.ig_show.specs.CanonicalText.{text_of, expression_text, pattern_text};
 ghost use Rattle.ig_show.specs.CanonicalText.{level_pieces, levels_pieces};
 ghost use Rattle.ig_show.specs.CanonicalText.{parameter_pieces, head_pieces, joined, comma};
@@ -15,12 +15,11 @@ ghost use Rattle.ig_show.specs.CanonicalText.{start_pieces, expression_bytes, pa
 ghost use Rattle.ig_show.specs.Writing.{IsText};
 
 use crate::expressions::push_expression;
+use crate::levels::{push_associativity, push_greater};
+use crate::spelling::{push_head, push_name, push_pattern, push_text};
 use crate::symbols::push_alternatives;
 use ig_expr::{Expr, Kind};
 use ig_grammar::{Decl, DeclKind, Grammar, Level, Param};
-use ig_spelling::{
-    push_associativity, push_greater, push_head, push_name, push_pattern, push_text,
-};
 use ig_text::{Pattern, Word};
 use std::alloc::{AllocError, Global};
 

@@ -11,7 +11,7 @@ pub fn canonical_tokens_follow()
 pub fn canonical_text_reads_back()
     ensures { CanonicalTextReadsBack }
 {
-    ig_tokens::ended_tokens_are_longest();
-    ig_spelling::fixed_tokens_are_spelled();
-    ig_spelling::tokens_are_spelled();
+    ig_notation_syntax::ended_tokens_are_longest();
+    crate::spelling_laws::fixed_tokens_are_spelled();
+    crate::spelling_laws::tokens_are_spelled();
 }

@@ -7,19 +7,19 @@ ghost use Rattle.ig_grammar.specs.Binding.{binding_of};
 ghost use Rattle.ig_grammar.specs.Regular.{pattern_of};
 ghost use Rattle.ig_grammar.specs.View.{symbol_of};
 ghost use Rattle.ig_expr.specs.View.{expression_of};
-ghost use Rattle.ig_spelling.specs.Pieces.{token, blank};
-ghost use Rattle.ig_spelling.specs.Writing.{Adds};
+ghost use Rattle.ig_show.specs.Pieces.{token, blank};
+ghost use Rattle.ig_show.specs.Appending.{Adds};
 ghost use Rattle.ig_show.specs.CanonicalText.{symbol_pieces, alternative_pieces};
 ghost use Rattle.ig_show.specs.CanonicalText.{alternatives_pieces, filter_pieces, separated};
 ghost use Rattle.ig_show.specs.CanonicalText.{guard_pieces, let_pieces, bindings_pieces};
 ghost use Rattle.ig_show.specs.CanonicalText.{filter_sign};
-ghost use Rattle.ig_syntax.specs.Token.{Colon, Name, OpenBrace};
+ghost use Rattle.ig_notation_syntax.specs.Token.{Colon, Name, OpenBrace};
 ghost use Rattle.ig_show.specs.Writing.{AddsBefore, AddsBehind};
 
 use crate::expressions::{push_call, push_expression};
+use crate::spelling::{push_class, push_literal, push_name, push_pattern, push_text};
 use ig_expr::Expr;
 use ig_grammar::{Alts, Filter, Inner, Symbol, Symbols};
-use ig_spelling::{push_class, push_literal, push_name, push_pattern, push_text};
 use ig_text::{Pattern, Word};
 use std::alloc::AllocError;
 

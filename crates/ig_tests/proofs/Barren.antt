@@ -12,7 +12,7 @@ use Rattle.ig_grammar.specs.declared.grammar.Grammar.{Grammar}
 use Rattle.ig_text.proofs.Characters.{ascii_chars}
 use Rattle.ig_text.proofs.Lists.{contains_one, none_in_nil}
 use Rattle.ig_text.proofs.Positions.{beside-cons}
-use Rattle.ig_rewrite.specs.Added.{IsFresh, root_name}
+use Rattle.ig_pass.specs.Added.{IsFresh, root_name}
 use Rattle.ig_tests.specs.Barren.{barren, barren_grammar}
 
 found : (name other : List ℕ) → name ≡ other → declaration_of (barren name ∷ []) other ≡ Some (barren name)

@@ -2,9 +2,8 @@
 ghost use Rattle.std.specs.Prelude.{◌≡◌, length};
 
 use crate::rewrite::barren;
-use ig_columns::{Pair, guide_of};
+use ig_blocks_parts::{Pair, entered_again, guide_of};
 use ig_expr::Expr;
-use ig_forms::entered_again;
 use ig_grammar::{Checked, Lets, Symbol};
 use std::alloc::{AllocError, Global};
 use std::test::Fail;

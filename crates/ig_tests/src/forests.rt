@@ -1,10 +1,10 @@
 //! The items and the forest of a core grammar that is made by hand.
 use crate::letters::letter_core;
 use ig_forest::Forest;
-use ig_forest_text::show_forest;
 use ig_item::{Core, RunFault};
 use ig_parse::forest_of_items;
 use ig_plain::saturate;
+use ig_show_texts::show_forest;
 use ig_text::Text;
 use std::alloc::Global;
 use std::test::Fail;

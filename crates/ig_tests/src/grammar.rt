@@ -4,8 +4,8 @@ use ig_expr::{Expr, Kind};
 use ig_grammar::{
     Alt, Alts, Filter, Filters, Inner, Lets, Param, Params, Shape, Shapes, Symbol, Symbols,
 };
+use ig_pass::{push_alternative, push_symbol};
 use ig_text::{Class, Copied, Pattern, Word};
-use ig_traversal::{push_alternative, push_symbol};
 use std::alloc::{AllocError, Global};
 use std::process::Abort;
 use std::test::Fail;

@@ -3,7 +3,7 @@
 //!
 //! `letters` makes a core grammar by hand, whose items, forest and report are known. Each function
 //! owns few values, since at each `?` all that is owned is dropped, and that is proved. What goes
-//! from the text of a grammar to a forest is tried in `ig_parse_tests`.
+//! from the text of a grammar to a forest is tried in `ig_tests_parse`.
 //!
 //! They stand in a crate of their own, since the program of a crate's tests is proved whole, with
 //! all of that crate; over libraries, which are proved already, only the tests are. Worked rows on

@@ -1,6 +1,5 @@
 //! A load, its input and its line.
-use ig_load::load;
-use ig_load_texts::{Summary, load_input, show_summary};
+use ig_load::{Summary, load, load_input, show_summary};
 use ig_queue::Order;
 use std::test::Fail;
 

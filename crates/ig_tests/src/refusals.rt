@@ -1,7 +1,7 @@
 //! The text of a cause with its place.
-use ig_conditions::ScopeCause;
+use ig_command_sources::push_cause;
 use ig_grammar::Place;
-use ig_refusals::push_cause;
+use ig_scope::ScopeCause;
 use std::test::Fail;
 
 #[test]

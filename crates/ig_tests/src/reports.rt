@@ -2,8 +2,8 @@
 use crate::letters::letter_core;
 use ig_item::Core;
 use ig_plain::saturate;
-use ig_print::Report;
 use ig_query::report;
+use ig_show_trees::Report;
 use ig_text::Text;
 use std::alloc::Global;
 use std::test::Fail;

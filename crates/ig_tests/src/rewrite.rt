@@ -7,9 +7,8 @@ use ig_expr::Exprs;
 use ig_grammar::{
     Assoc, Checked, Decl, DeclKind, Decls, Grammar, Inner, Level, Levels, Params, Symbol,
 };
-use ig_rooting::{copy_of_shapes, has_root, root};
+use ig_pass::{OwnRule, copy_of_shapes, has_root, rewrite_grammar, rewrite_levels, root};
 use ig_text::{Copied, Word};
-use ig_traversal::{OwnRule, rewrite_grammar, rewrite_levels};
 use std::alloc::{AllocError, Global};
 use std::process::Abort;
 use std::test::Fail;

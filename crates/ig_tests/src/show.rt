@@ -8,11 +8,11 @@ use crate::letters::letter_core;
 use ig_expr::{Expr, Function, Op, Operand};
 use ig_forest::{Part, Tree};
 use ig_grammar::{Decls, Grammar};
-use ig_print::{
+use ig_show::{push_expression_text, show_expression, show_grammar, show_pattern};
+use ig_show_trees::{
     CursorFault, Report, read_cursor, show_cursor, show_cyclic, show_furthest, show_report,
     show_spans, show_tree,
 };
-use ig_show::{push_expression_text, show_expression, show_grammar, show_pattern};
 use ig_text::{Class, Pattern, Patterns, Span, Tag, Word};
 use std::alloc::{AllocError, Global};
 use std::test::Fail;

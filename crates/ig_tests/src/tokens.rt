@@ -1,5 +1,5 @@
 //! Each call that takes memory, once. Tables of texts stand in the tests of the program.
-use ig_tokens::{class_of, literal_text, tokenize};
+use ig_notation_syntax::{class_of, literal_text, tokenize};
 use std::test::Fail;
 
 #[test]

@@ -1,12 +1,11 @@
 //! The notation of the XML recommendation: texts, what is printed of them, and bytes of faults,
 //! from what the notation says.
 ghost use Rattle.std.specs.Prelude.{IfOk};
-ghost use Rattle.ig_w3c_rules.specs.Notation.{HasReading};
+ghost use Rattle.ig_w3c_syntax.specs.Notation.{HasReading};
 
 use ig_grammar::Grammar;
 use ig_notation::ReadFault;
-use ig_w3c::{read_grammars_have_readings, read_w3c};
-use ig_w3c_show::show_w3c;
+use ig_w3c::{read_grammars_have_readings, read_w3c, show_w3c};
 use std::alloc::Global;
 use std::test::Fail;
 

@@ -15,24 +15,24 @@ use Rattle.ig_grammar.specs.declared.grammar.Grammar.{Grammar}
 use Rattle.ig_grammar.specs.WellScoped.{IsFirst}
 use Rattle.ig_notation.specs.Outcome as own
 use Rattle.ig_w3c.specs.Outcome as w3c
-use Rattle.ig_syntax.specs.Notation.{most_bytes as most_grammar_bytes}
+use Rattle.ig_notation_syntax.specs.Notation.{most_bytes as most_grammar_bytes}
 use Rattle.ig_command.specs.declared.command.Notation.{Notation}
 use Rattle.ig_command.specs.declared.command.Notation.TheVariants as notation
-use Rattle.ig_sources.specs.Laws.{OneReading, ReadOrRefused}
+use Rattle.ig_command_sources.specs.Laws.{OneReading, ReadOrRefused}
 use Rattle.ig_notation.specs.declared.fault.Large.TheVariants as large
 use Rattle.ig_notation.specs.declared.fault.ReadFault.TheVariants as read
 use Rattle.ig_item.specs.Core.{dots}
 use Rattle.ig_item.specs.Limits.{most_dots}
-use Rattle.ig_core_laws.specs.Lowered.{CoreOf}
-use Rattle.ig_core_laws.specs.Notation.{unchanged}
+use Rattle.ig_core.specs.Lowered.{CoreOf}
+use Rattle.ig_core.specs.Notation.{unchanged}
 use Rattle.ig_command.specs.Commands.{Request, Source, request_of, check, show, core, forest, trees, query, load, batch, verify, analyse, grammar_file, input_file, IsCommand}
-use Rattle.ig_jobs.specs.Jobs.{Job, print, list, ask, request_for, task_request}
-use Rattle.ig_jobs.specs.declared.job.Task.{Task}
-use Rattle.ig_jobs.specs.declared.job.Task.TheVariants as task
-use Rattle.ig_sources.specs.Accepted.{IsAccepted, IsReadFaultIn}
-use Rattle.ig_sources.specs.Refusals.{IsRefused, too_many, not_utf8, not_grammar, too_large, not_scoped, too_many_dots}
-use Rattle.ig_sources.specs.Sources.{MayGive}
-use Rattle.ig_endings.specs.Change.{Change, Got, Untouched}
+use Rattle.ig_command_jobs.specs.Jobs.{Job, print, list, ask, request_for, task_request}
+use Rattle.ig_command_jobs.specs.declared.job.Task.{Task}
+use Rattle.ig_command_jobs.specs.declared.job.Task.TheVariants as task
+use Rattle.ig_command_sources.specs.Accepted.{IsAccepted, IsReadFaultIn}
+use Rattle.ig_command_sources.specs.Refusals.{IsRefused, too_many, not_utf8, not_grammar, too_large, not_scoped, too_many_dots}
+use Rattle.ig_command_sources.specs.Sources.{MayGive}
+use Rattle.ig_command_endings.specs.Change.{Change, Got, Untouched}
 use Rattle.ig_tool.specs.Headline.{Asks}
 use Rattle.ig_tool.specs.Outcome.{HasFiles, HasGrammar}
 

@@ -4,20 +4,20 @@ use Rattle.std.specs.Prelude.{All}
 use Rattle.std.proofs.lemmas.List.Elements.{All-head, All-tail}
 use Rattle.ig_outside.specs.States.{ShelfState, SinkState}
 use Rattle.ig_outside.specs.Told.{Told, bytes}
-use Rattle.ig_batch_list.specs.Lists.{Job}
+use Rattle.ig_turns.specs.Lists.{Job}
 use Rattle.ig_grammar.specs.declared.grammar.Grammar.{Grammar}
-use Rattle.ig_endings.specs.Change.{Change, FetchFailed, Got}
-use Rattle.ig_endings.specs.declared.status.Status.{Status}
-use Rattle.ig_endings.specs.declared.status.Status.TheVariants as status
+use Rattle.ig_command_endings.specs.Change.{Change, FetchFailed, Got}
+use Rattle.ig_command_endings.specs.declared.status.Status.{Status}
+use Rattle.ig_command_endings.specs.declared.status.Status.TheVariants as status
 use Rattle.ig_command.specs.Commands.{Request, Source, load, batch, verify, grammar_file, IsCommand}
 use Rattle.ig_command.specs.declared.command.Notation.TheVariants.{Own}
-use Rattle.ig_jobs.specs.Jobs.{request_for, task_request}
-use Rattle.ig_sources.specs.Accepted.{IsAccepted}
-use Rattle.ig_sources.specs.Sources.{IsBadList, IsListOf, too_long, wrong}
-use Rattle.ig_batch.specs.Batch.{IsMissing}
-use Rattle.ig_batch.specs.Ends.{AllEnd}
-use Rattle.ig_batch.specs.Files.{IsHeld, StopsAtFile, at_grammar, at_input, behind}
-use Rattle.ig_batch.specs.Text.{End, batch_text}
+use Rattle.ig_command_jobs.specs.Jobs.{request_for, task_request}
+use Rattle.ig_command_sources.specs.Accepted.{IsAccepted}
+use Rattle.ig_command_sources.specs.Sources.{IsBadList, IsListOf, too_long, wrong}
+use Rattle.ig_tool.specs.Batch.{IsMissing}
+use Rattle.ig_tool.specs.Ends.{AllEnd}
+use Rattle.ig_tool.specs.Files.{IsHeld, StopsAtFile, at_grammar, at_input, behind}
+use Rattle.ig_tool.specs.Text.{End, batch_text}
 use Rattle.ig_tool.specs.Outcome as answer
 use Rattle.ig_tool.specs.Outcome.{Decided, HasJobs, Answers, written, noted, unwritten, unnoted, no_memory}
 use Rattle.ig_tool.specs.Headline.{BatchCommands}

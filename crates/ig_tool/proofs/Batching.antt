@@ -1,18 +1,18 @@
 -- What the top call decides of a batch.
 use Rattle.std.proofs.Common.{◌≡◌, ◌≢◌, ℕ, ◌+◌, List, [], sym, subst, Result, Ok, Err, Vec, Global}
 use Rattle.ig_outside.specs.States.{ShelfState}
-use Rattle.ig_batch_list.specs.Lists.{Job}
+use Rattle.ig_turns.specs.Lists.{Job}
 use Rattle.ig_command.specs.Commands.{batch, IsCommand}
-use Rattle.ig_endings.specs.Change.{Change}
-use Rattle.ig_endings.specs.Notes.{cannot_read_note}
-use Rattle.ig_endings.specs.declared.status.Status.{Status}
-use Rattle.ig_endings.specs.declared.status.Status.TheVariants as status
-use Rattle.ig_endings.specs.declared.stop.Stop.{Stop}
-use Rattle.ig_endings.specs.declared.stop.Stop.TheVariants as halt
-use Rattle.ig_sources.specs.Sources as sources
-use Rattle.ig_sources.specs.Sources.{IsNoList, StopsAt}
-use Rattle.ig_batch.specs.Batch as batches
-use Rattle.ig_batch.specs.Batch.{CannotLoad, GivesJobs, RunsBatch, StopsBatch}
+use Rattle.ig_command_endings.specs.Change.{Change}
+use Rattle.ig_command_endings.specs.Notes.{cannot_read_note}
+use Rattle.ig_command_endings.specs.declared.status.Status.{Status}
+use Rattle.ig_command_endings.specs.declared.status.Status.TheVariants as status
+use Rattle.ig_command_endings.specs.declared.stop.Stop.{Stop}
+use Rattle.ig_command_endings.specs.declared.stop.Stop.TheVariants as halt
+use Rattle.ig_command_sources.specs.Sources as sources
+use Rattle.ig_command_sources.specs.Sources.{IsNoList, StopsAt}
+use Rattle.ig_tool.specs.Batch as batches
+use Rattle.ig_tool.specs.Batch.{CannotLoad, GivesJobs, RunsBatch, StopsBatch}
 use Rattle.ig_tool.specs.Outcome.{Decided, HasJobs, batched, for_batch, job_missing, job_unread, list_missing, list_refused, list_unread}
 use Rattle.ig_tool.specs.Decisions.{Decides}
 

@@ -5,17 +5,17 @@ use Rattle.ig_text.specs.Tree.{Tree}
 use Rattle.ig_outside.specs.States.{ShelfState, SinkState}
 use Rattle.ig_grammar.specs.Checked.{CheckedGrammar}
 use Rattle.ig_grammar.specs.declared.grammar.Grammar.{Grammar}
-use Rattle.ig_core_laws.specs.Notation.{unchanged}
+use Rattle.ig_core.specs.Notation.{unchanged}
 use Rattle.ig_forest_tables.specs.Forest.{Forest}
 use Rattle.ig_parse.specs.Parses.{IsParsed, IsOver, IsForestOf}
-use Rattle.ig_endings.specs.declared.status.Status.{Status}
-use Rattle.ig_endings.specs.declared.status.Status.TheVariants as status
-use Rattle.ig_jobs.specs.Jobs.{Job}
-use Rattle.ig_endings.specs.Change.{Change, Got, Untouched}
-use Rattle.ig_jobs.specs.Listing.{IsBounded, IsNoCursor, Begins, at_first, at_cursor}
-use Rattle.ig_jobs.specs.Finishes.{Finishes, printed, depth_needed, bad_cursor, listed, told_ambiguous, told_cyclic, told_spans, told_report}
+use Rattle.ig_command_endings.specs.declared.status.Status.{Status}
+use Rattle.ig_command_endings.specs.declared.status.Status.TheVariants as status
+use Rattle.ig_command_jobs.specs.Jobs.{Job}
+use Rattle.ig_command_endings.specs.Change.{Change, Got, Untouched}
+use Rattle.ig_command_jobs.specs.Listing.{IsBounded, IsNoCursor, Begins, at_first, at_cursor}
+use Rattle.ig_command_jobs.specs.Finishes.{Finishes, printed, depth_needed, bad_cursor, listed, told_ambiguous, told_cyclic, told_spans, told_report}
 use Rattle.ig_tool.specs.Outcome.{Answers}
-use Rattle.ig_jobs.specs.Outcome.{Outcome, over_budget, no_parse, parsed}
+use Rattle.ig_command_jobs.specs.Outcome.{Outcome, over_budget, no_parse, parsed}
 use Rattle.ig_tool.specs.Headline.{Says, IsLawful, Completeness, GotText}
 use Rattle.ig_tool.proofs.Asked.{Laws}
 use Rattle.ig_tool.proofs.HeadlineLaw.{headline}

@@ -8,32 +8,32 @@ use Rattle.ig_outside.specs.States.{ShelfState, SinkState}
 use Rattle.ig_outside.specs.Told.{Told}
 use Rattle.ig_grammar.specs.Checked.{CheckedGrammar}
 use Rattle.ig_grammar.specs.declared.grammar.Grammar.{Grammar}
-use Rattle.ig_core_laws.specs.Lowered.{IsBuildable}
-use Rattle.ig_core_laws.specs.Notation.{unchanged}
-use Rattle.ig_endings.specs.Change.{Change, change, raised, Fetched, Stood, Untouched}
-use Rattle.ig_endings.specs.declared.stop.Stop.{Stop}
-use Rattle.ig_endings.specs.declared.stop.Stop.TheVariants as halt
-use Rattle.ig_endings.specs.declared.status.Status.{Status}
-use Rattle.ig_endings.specs.declared.status.Status.TheVariants as status
+use Rattle.ig_core.specs.Lowered.{IsBuildable}
+use Rattle.ig_core.specs.Notation.{unchanged}
+use Rattle.ig_command_endings.specs.Change.{Change, change, raised, Fetched, Stood, Untouched}
+use Rattle.ig_command_endings.specs.declared.stop.Stop.{Stop}
+use Rattle.ig_command_endings.specs.declared.stop.Stop.TheVariants as halt
+use Rattle.ig_command_endings.specs.declared.status.Status.{Status}
+use Rattle.ig_command_endings.specs.declared.status.Status.TheVariants as status
 use Rattle.ig_command.specs.Commands.{Request, Source, check, show, core, forest, trees, query, load, batch, verify, analyse, grammar_file, input_file, files_of, IsCommand}
-use Rattle.ig_jobs.specs.Jobs.{Job, print, list, ask, request_for, task_request}
-use Rattle.ig_jobs.specs.declared.job.Task.{Task}
-use Rattle.ig_jobs.specs.declared.job.Task.TheVariants as task
-use Rattle.ig_sources.specs.Accepted.{IsAccepted, IsTextOf}
-use Rattle.ig_sources.specs.Laws.{ReadGrammarsAreBuildable, ReadGrammarsHaveReadings}
+use Rattle.ig_command_jobs.specs.Jobs.{Job, print, list, ask, request_for, task_request}
+use Rattle.ig_command_jobs.specs.declared.job.Task.{Task}
+use Rattle.ig_command_jobs.specs.declared.job.Task.TheVariants as task
+use Rattle.ig_command_sources.specs.Accepted.{IsAccepted, IsTextOf}
+use Rattle.ig_command_sources.specs.Laws.{ReadGrammarsAreBuildable, ReadGrammarsHaveReadings}
 use Rattle.ig_command.specs.declared.command.Notation.{Notation}
 use Rattle.ig_command.specs.declared.command.Notation.TheVariants as notation
-use Rattle.ig_sources.specs.Refusals.{too_many_dots, dots_text}
+use Rattle.ig_command_sources.specs.Refusals.{too_many_dots, dots_text}
 use Rattle.ig_tool.specs.Outcome as decided
-use Rattle.ig_endings.specs.Notes.{usage_note}
-use Rattle.ig_endings.specs.Stops.{Ends, StopsWith, WritesText, WritesNote}
-use Rattle.ig_sources.specs.Sources as sources
-use Rattle.ig_sources.specs.Sources.{MayGive, StopsAt, IsNoGrammar, IsNoInput, IsWrittenIn, LoadsGrammar, LoadsInput, LoadsForest, most_forest_bytes}
-use Rattle.ig_jobs.specs.Tasks.{DoesTask, GrammarText, IsSayable}
-use Rattle.ig_jobs.specs.Verifying as verifying
-use Rattle.ig_jobs.specs.Verifying.{IsReducedText, IsTaken, Verifies, VerifiesText}
-use Rattle.ig_jobs.specs.Texts as texts
-use Rattle.ig_jobs.specs.Texts.{IsPrepared, Prepares, IsParse, StopsParse, LoadsText, ParsesText}
+use Rattle.ig_command_endings.specs.Notes.{usage_note}
+use Rattle.ig_command_endings.specs.Stops.{Ends, StopsWith, WritesText, WritesNote}
+use Rattle.ig_command_sources.specs.Sources as sources
+use Rattle.ig_command_sources.specs.Sources.{MayGive, StopsAt, IsNoGrammar, IsNoInput, IsWrittenIn, LoadsGrammar, LoadsInput, LoadsForest, most_forest_bytes}
+use Rattle.ig_command_jobs.specs.Tasks.{DoesTask, GrammarText, IsSayable}
+use Rattle.ig_command_jobs.specs.Verifying as verifying
+use Rattle.ig_command_jobs.specs.Verifying.{IsReducedText, IsTaken, Verifies, VerifiesText}
+use Rattle.ig_command_jobs.specs.Texts as texts
+use Rattle.ig_command_jobs.specs.Texts.{IsPrepared, Prepares, IsParse, StopsParse, LoadsText, ParsesText}
 use Rattle.ig_tool.specs.Outcome.{never, for_names, HasFiles, HasGrammar, Decided, usage, load_over_budget, load_summed, grammar_missing, grammar_unread, grammar_refused, told_grammar, input_missing, input_unread, input_refused, over_budget, no_parse, parsed, forest_missing, forest_unread, checked, Answers, noted, unwritten, unnoted, no_memory}
 use Rattle.ig_tool.specs.Decisions as decisions
 use Rattle.ig_tool.specs.Decisions.{StopsRun, GivesText, RunsJob, StopsCheck, RunsCheck, Decides}

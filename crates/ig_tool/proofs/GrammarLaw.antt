@@ -4,16 +4,16 @@ use Rattle.std.proofs.lemmas.Option.{same_Some}
 use Rattle.ig_outside.specs.States.{ShelfState, SinkState}
 use Rattle.ig_outside.specs.Told.{bytes}
 use Rattle.ig_grammar.specs.declared.grammar.Grammar.{Grammar}
-use Rattle.ig_endings.specs.Change.{Change, FetchFailed}
-use Rattle.ig_endings.specs.declared.status.Status.{Status}
-use Rattle.ig_endings.specs.declared.status.Status.TheVariants as status
+use Rattle.ig_command_endings.specs.Change.{Change, FetchFailed}
+use Rattle.ig_command_endings.specs.declared.status.Status.{Status}
+use Rattle.ig_command_endings.specs.declared.status.Status.TheVariants as status
 use Rattle.ig_command.specs.Commands as asks
 use Rattle.ig_command.specs.Commands.{Request, Source, load, batch, verify, grammar_file, input_file, IsCommand}
-use Rattle.ig_jobs.specs.Jobs.{request_for, task_request}
-use Rattle.ig_jobs.specs.Tasks.{GrammarText}
-use Rattle.ig_jobs.specs.declared.job.Task.{Task}
-use Rattle.ig_jobs.specs.declared.job.Task.TheVariants as task
-use Rattle.ig_sources.specs.Accepted.{IsAccepted}
+use Rattle.ig_command_jobs.specs.Jobs.{request_for, task_request}
+use Rattle.ig_command_jobs.specs.Tasks.{GrammarText}
+use Rattle.ig_command_jobs.specs.declared.job.Task.{Task}
+use Rattle.ig_command_jobs.specs.declared.job.Task.TheVariants as task
+use Rattle.ig_command_sources.specs.Accepted.{IsAccepted}
 use Rattle.ig_tool.specs.Outcome as answer
 use Rattle.ig_tool.specs.Outcome.{Decided, Answers, written, noted, unwritten, unnoted, no_memory}
 use Rattle.ig_tool.specs.Headline.{GrammarCommands}

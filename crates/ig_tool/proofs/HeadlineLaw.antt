@@ -2,14 +2,14 @@
 use Rattle.std.proofs.Common.{◌≡◌, ℕ, List, [], inl, inr, refl, ap, subst}
 use Rattle.ig_outside.specs.States.{ShelfState, SinkState}
 use Rattle.ig_grammar.specs.declared.grammar.Grammar.{Grammar}
-use Rattle.ig_endings.specs.Change.{Change, FetchFailed, PutFailed}
-use Rattle.ig_endings.specs.declared.status.Status.{Status}
-use Rattle.ig_endings.specs.declared.status.Status.TheVariants as status
+use Rattle.ig_command_endings.specs.Change.{Change, FetchFailed, PutFailed}
+use Rattle.ig_command_endings.specs.declared.status.Status.{Status}
+use Rattle.ig_command_endings.specs.declared.status.Status.TheVariants as status
 use Rattle.ig_command.specs.Commands.{Request, Source, load, batch, verify, IsCommand}
-use Rattle.ig_jobs.specs.Jobs.{Job, print, list, ask, request_for, task_request}
+use Rattle.ig_command_jobs.specs.Jobs.{Job, print, list, ask, request_for, task_request}
 use Rattle.ig_tool.specs.Outcome as answer
 use Rattle.ig_tool.specs.Outcome.{HasFiles, Decided, Answers, written, noted, unwritten, unnoted, no_memory}
-use Rattle.ig_jobs.specs.Outcome.{Outcome, over_budget, no_parse, parsed}
+use Rattle.ig_command_jobs.specs.Outcome.{Outcome, over_budget, no_parse, parsed}
 use Rattle.ig_tool.specs.Headline.{Asks, Says, Headline}
 use Rattle.ig_tool.proofs.Asked.{Laws, Sort, of_job, got_none, no_missing_grammar, no_missing_input, no_refused_grammar, no_refused_input, one_sort, same_grammar, same_input, same_request, sort_of, sort_of_job, sort_of_task}
 

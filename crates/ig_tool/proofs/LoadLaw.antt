@@ -1,11 +1,11 @@
 -- What the command `load` answers, from the answer by cases.
 use Rattle.std.proofs.Common.{◌≡◌, ℕ, List, [], inl, inr, refl, ap, subst, Some, None}
 use Rattle.ig_outside.specs.States.{ShelfState, SinkState}
-use Rattle.ig_endings.specs.declared.status.Status.{Status}
-use Rattle.ig_endings.specs.declared.status.Status.TheVariants as status
+use Rattle.ig_command_endings.specs.declared.status.Status.{Status}
+use Rattle.ig_command_endings.specs.declared.status.Status.TheVariants as status
 use Rattle.ig_command.specs.Commands.{Request, Source, load, batch, verify, grammar_file, IsCommand}
-use Rattle.ig_jobs.specs.Jobs.{request_for, task_request}
-use Rattle.ig_endings.specs.Change.{Change}
+use Rattle.ig_command_jobs.specs.Jobs.{request_for, task_request}
+use Rattle.ig_command_endings.specs.Change.{Change}
 use Rattle.ig_tool.specs.Outcome as answer
 use Rattle.ig_tool.specs.Outcome.{Decided, Answers, written, noted, unwritten, unnoted, no_memory}
 use Rattle.ig_tool.specs.Headline.{LoadOutcome, too_large, summed, LoadCommands}

@@ -3,14 +3,14 @@ use Rattle.std.proofs.Common.{◌≡◌, ℕ, List, [], inl, inr, refl, ◌∙�
 use Rattle.ig_outside.specs.States.{ShelfState, SinkState}
 use Rattle.ig_outside.specs.Told.{bytes}
 use Rattle.ig_grammar.specs.declared.grammar.Grammar.{Grammar}
-use Rattle.ig_core_laws.specs.Notation.{unchanged}
-use Rattle.ig_endings.specs.Change.{Change, FetchFailed, Got}
+use Rattle.ig_core.specs.Notation.{unchanged}
+use Rattle.ig_command_endings.specs.Change.{Change, FetchFailed, Got}
 use Rattle.ig_grammar.specs.Checked.{CheckedGrammar}
-use Rattle.ig_endings.specs.declared.status.Status.{Status}
-use Rattle.ig_endings.specs.declared.status.Status.TheVariants as status
+use Rattle.ig_command_endings.specs.declared.status.Status.{Status}
+use Rattle.ig_command_endings.specs.declared.status.Status.TheVariants as status
 use Rattle.ig_command.specs.Commands.{Request, Source, load, batch, verify, IsCommand}
-use Rattle.ig_jobs.specs.Jobs.{request_for, task_request}
-use Rattle.ig_jobs.specs.Verifying.{PassesReduced, Verifies, too_long, no_forest, not_sound, verified, verified_text}
+use Rattle.ig_command_jobs.specs.Jobs.{request_for, task_request}
+use Rattle.ig_command_jobs.specs.Verifying.{PassesReduced, Verifies, too_long, no_forest, not_sound, verified, verified_text}
 use Rattle.ig_tool.specs.Outcome as answer
 use Rattle.ig_tool.specs.Outcome.{Decided, Answers, written, noted, unwritten, unnoted, no_memory}
 use Rattle.ig_tool.specs.Headline.{Asks, Certification, Verification}

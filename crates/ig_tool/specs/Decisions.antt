@@ -5,15 +5,15 @@ use Rattle.ig_text.specs.Decoding.{IsDecoded}
 use Rattle.ig_outside.specs.States.{ShelfState}
 use Rattle.ig_outside.specs.Told.{Told}
 use Rattle.ig_grammar.specs.Checked.{CheckedGrammar}
-use Rattle.ig_endings.specs.Change.{Change, Fetched, Stood}
-use Rattle.ig_endings.specs.declared.stop.Stop.{Stop}
-use Rattle.ig_endings.specs.declared.stop.Stop.TheVariants as halt
-use Rattle.ig_endings.specs.declared.status.Status.{Status}
-use Rattle.ig_endings.specs.declared.status.Status.TheVariants as status
-use Rattle.ig_sources.specs.Sources.{MayGive, StopsAt, IsNoInput, IsLongForest}
-use Rattle.ig_jobs.specs.Jobs.{Job}
-use Rattle.ig_jobs.specs.Texts.{IsParse, StopsParse}
-use Rattle.ig_jobs.specs.Verifying.{IsReducedText, Verifies}
+use Rattle.ig_command_endings.specs.Change.{Change, Fetched, Stood}
+use Rattle.ig_command_endings.specs.declared.stop.Stop.{Stop}
+use Rattle.ig_command_endings.specs.declared.stop.Stop.TheVariants as halt
+use Rattle.ig_command_endings.specs.declared.status.Status.{Status}
+use Rattle.ig_command_endings.specs.declared.status.Status.TheVariants as status
+use Rattle.ig_command_sources.specs.Sources.{MayGive, StopsAt, IsNoInput, IsLongForest}
+use Rattle.ig_command_jobs.specs.Jobs.{Job}
+use Rattle.ig_command_jobs.specs.Texts.{IsParse, StopsParse}
+use Rattle.ig_command_jobs.specs.Verifying.{IsReducedText, Verifies}
 use Rattle.ig_tool.specs.Outcome.{Decided, MayFetch}
 
 -- why a parser and the input of this name give no text, by what the shelf tells of it and its counts of faults

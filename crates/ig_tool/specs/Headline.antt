@@ -5,31 +5,31 @@ use Rattle.ig_text.specs.Tree.{Tree}
 use Rattle.ig_outside.specs.States.{ShelfState, SinkState}
 use Rattle.ig_outside.specs.Told.{Told, bytes}
 use Rattle.ig_grammar.specs.declared.grammar.Grammar.{Grammar}
-use Rattle.ig_core_laws.specs.Notation.{unchanged}
+use Rattle.ig_core.specs.Notation.{unchanged}
 use Rattle.ig_forest_tables.specs.Forest.{Forest}
 use Rattle.ig_grammar.specs.Checked.{CheckedGrammar}
 use Rattle.ig_parse.specs.Parses.{IsParsed, IsOver, IsForestOf, HasForest}
-use Rattle.ig_endings.specs.declared.status.Status.{Status}
-use Rattle.ig_endings.specs.declared.status.Status.TheVariants as status
+use Rattle.ig_command_endings.specs.declared.status.Status.{Status}
+use Rattle.ig_command_endings.specs.declared.status.Status.TheVariants as status
 use Rattle.ig_load.specs.Summary.{IsLoadSummary, IsTooLarge}
-use Rattle.ig_load_texts.specs.Line.{summary_text}
-use Rattle.ig_load_texts.specs.declared.summary.Summary.{Summary}
+use Rattle.ig_load.specs.Line.{summary_text}
+use Rattle.ig_load.specs.declared.summary.Summary.{Summary}
 use Rattle.ig_command.specs.Commands.{Request, Source, load, batch, verify, grammar_file, input_file, IsCommand}
-use Rattle.ig_jobs.specs.Jobs.{Job, print, list, ask, request_for, task_request}
-use Rattle.ig_jobs.specs.declared.job.Task.{Task}
-use Rattle.ig_jobs.specs.Listing.{IsBounded, Begins}
-use Rattle.ig_sources.specs.Accepted.{IsAccepted}
-use Rattle.ig_endings.specs.Change.{Change, FetchFailed, PutFailed, Got, Untouched}
-use Rattle.ig_endings.specs.Notes.{budget_note}
-use Rattle.ig_jobs.specs.Tasks.{GrammarText}
-use Rattle.ig_jobs.specs.Verifying.{IsReducedText, Verifies, verified_text}
-use Rattle.ig_sources.specs.Sources.{IsListOf, most_forest_bytes}
-use Rattle.ig_jobs.specs.Finishes.{Finishes}
-use Rattle.ig_jobs.specs.Outcome.{Outcome}
-use Rattle.ig_batch_list.specs.Lists.{Job as ListedJob}
-use Rattle.ig_batch.specs.Ends.{AllEnd}
-use Rattle.ig_batch.specs.Files.{IsHeld}
-use Rattle.ig_batch.specs.Text.{End, batch_text}
+use Rattle.ig_command_jobs.specs.Jobs.{Job, print, list, ask, request_for, task_request}
+use Rattle.ig_command_jobs.specs.declared.job.Task.{Task}
+use Rattle.ig_command_jobs.specs.Listing.{IsBounded, Begins}
+use Rattle.ig_command_sources.specs.Accepted.{IsAccepted}
+use Rattle.ig_command_endings.specs.Change.{Change, FetchFailed, PutFailed, Got, Untouched}
+use Rattle.ig_command_endings.specs.Notes.{budget_note}
+use Rattle.ig_command_jobs.specs.Tasks.{GrammarText}
+use Rattle.ig_command_jobs.specs.Verifying.{IsReducedText, Verifies, verified_text}
+use Rattle.ig_command_sources.specs.Sources.{IsListOf, most_forest_bytes}
+use Rattle.ig_command_jobs.specs.Finishes.{Finishes}
+use Rattle.ig_command_jobs.specs.Outcome.{Outcome}
+use Rattle.ig_turns.specs.Lists.{Job as ListedJob}
+use Rattle.ig_tool.specs.Ends.{AllEnd}
+use Rattle.ig_tool.specs.Files.{IsHeld}
+use Rattle.ig_tool.specs.Text.{End, batch_text}
 
 -- the words are the request, and the shelf tells that it holds its grammar and its input: the first is a text of the
 -- grammar in the notation that they name, which is accepted, the second is the input

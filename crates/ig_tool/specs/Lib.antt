@@ -1,3 +1,10 @@
+pub mod Counted
+pub mod Files
+pub mod Ends
+pub mod Text
+pub mod Batch
+pub mod Loading
+pub mod Playing
 pub mod Outcome
 pub mod Decisions
 pub mod Headline

@@ -6,30 +6,30 @@ use Rattle.ig_text.specs.declared.text.TextFault.TheVariants as text_fault
 use Rattle.ig_outside.specs.Told.{nothing}
 use Rattle.ig_outside.specs.States.{ShelfState, SinkState}
 use Rattle.ig_grammar.specs.declared.grammar.Grammar.{Grammar}
-use Rattle.ig_core_laws.specs.Notation.{unchanged}
+use Rattle.ig_core.specs.Notation.{unchanged}
 use Rattle.ig_forest_tables.specs.Forest.{Forest}
 use Rattle.ig_parse.specs.Parses.{IsUnparsed, IsOver, HasForest}
 use Rattle.ig_load.specs.Summary.{IsLoadSummary, IsTooLarge}
-use Rattle.ig_load_texts.specs.Line.{summary_text}
-use Rattle.ig_load_texts.specs.declared.summary.Summary.{Summary}
+use Rattle.ig_load.specs.Line.{summary_text}
+use Rattle.ig_load.specs.declared.summary.Summary.{Summary}
 use Rattle.ig_command.specs.Commands.{Request, Source, load, batch, verify, grammar_file, input_file, files_of, IsCommand}
-use Rattle.ig_endings.specs.Change.{Change, Fetched, IsCalm, FetchFailed, Stood, Got, Failed, Untouched, Noted}
-use Rattle.ig_endings.specs.Notes.{budget_note, cannot_read_note, cannot_write_note, grammar_note, input_note, no_memory_note, usage_note}
-use Rattle.ig_endings.specs.declared.status.Status.{Status}
-use Rattle.ig_endings.specs.declared.status.Status.TheVariants as status
-use Rattle.ig_sources.specs.Accepted.{IsAccepted}
-use Rattle.ig_sources.specs.Refusals.{IsRefused}
-use Rattle.ig_sources.specs.Sources.{IsBadList, MayGive}
-use Rattle.ig_jobs.specs.Jobs.{Job, request_for, task_request}
-use Rattle.ig_jobs.specs.declared.job.Task.{Task}
-use Rattle.ig_jobs.specs.Tasks.{GrammarText}
-use Rattle.ig_jobs.specs.Verifying.{Verifies, PassesReduced}
-use Rattle.ig_jobs.specs.Finishes.{IsNoParseNote, Finishes}
-use Rattle.ig_batch_list.specs.Lists.{Job as ListedJob}
-use Rattle.ig_batch.specs.Batch.{GivesJobs, IsAny, IsMissing, MayFetchBatch}
-use Rattle.ig_batch.specs.Ends.{AllEnd}
-use Rattle.ig_batch.specs.Files.{StopsAtFile}
-use Rattle.ig_batch.specs.Text.{End, batch_text}
+use Rattle.ig_command_endings.specs.Change.{Change, Fetched, IsCalm, FetchFailed, Stood, Got, Failed, Untouched, Noted}
+use Rattle.ig_command_endings.specs.Notes.{budget_note, cannot_read_note, cannot_write_note, grammar_note, input_note, no_memory_note, usage_note}
+use Rattle.ig_command_endings.specs.declared.status.Status.{Status}
+use Rattle.ig_command_endings.specs.declared.status.Status.TheVariants as status
+use Rattle.ig_command_sources.specs.Accepted.{IsAccepted}
+use Rattle.ig_command_sources.specs.Refusals.{IsRefused}
+use Rattle.ig_command_sources.specs.Sources.{IsBadList, MayGive}
+use Rattle.ig_command_jobs.specs.Jobs.{Job, request_for, task_request}
+use Rattle.ig_command_jobs.specs.declared.job.Task.{Task}
+use Rattle.ig_command_jobs.specs.Tasks.{GrammarText}
+use Rattle.ig_command_jobs.specs.Verifying.{Verifies, PassesReduced}
+use Rattle.ig_command_jobs.specs.Finishes.{IsNoParseNote, Finishes}
+use Rattle.ig_turns.specs.Lists.{Job as ListedJob}
+use Rattle.ig_tool.specs.Batch.{GivesJobs, IsAny, IsMissing, MayFetchBatch}
+use Rattle.ig_tool.specs.Ends.{AllEnd}
+use Rattle.ig_tool.specs.Files.{StopsAtFile}
+use Rattle.ig_tool.specs.Text.{End, batch_text}
 
 -- the file of the request's grammar may give it in its notation, and it is accepted
 pub record HasGrammar (shelf : ShelfState) (request : Request) (g : Grammar) : Type 0 where

@@ -8,11 +8,26 @@
 //! forest that it verifies, that each of its trees is permitted. `specs/Headline.antt` has these
 //! theorems, `specs/Outcome.antt` all answers.
 //!
-//! What the words ask for, `ig_command` says. Files are fetched and read by `ig_sources`; what
-//! comes of a grammar, or of a grammar and an input, is `ig_jobs`; how a command ends, and what is
-//! then written, `ig_endings`.
+//! What the words ask for, `ig_command` says. Files are fetched and read by `ig_command_sources`;
+//! what comes of a grammar, or of a grammar and an input, is `ig_command_jobs`; how a command ends,
+//! and what is then written, `ig_command_endings`.
+//!
+//! The command `batch`: jobs that take turns in one run, and what each of them gives.
+//!
+//! [`batch`] fetches a list of jobs, and of each job its grammar and, where that is accepted, its
+//! input. Then the jobs take turns until all are finished. A job whose grammar or input is refused
+//! is finished from the beginning. `specs/Ends.antt` says how each job ends: as `forest` would with
+//! its files alone and the same budget, so that no job changes what another one gives.
+//! `specs/Text.antt` says what out gets of that, and `specs/Files.antt` which files are fetched.
+//! Grammar texts with the same bytes are read once.
 #![tactic(auto)]
 
+mod grammars;
+mod loading;
+mod playing;
+mod run;
+mod text;
 mod top_call;
 
+pub use run::batch;
 pub use top_call::iguana;

@@ -1,28 +1,28 @@
 //! The top call.
 ghost use Rattle.std.specs.Prelude.{◌≡◌, ℕ, List, map, string_bytes};
-ghost use Rattle.ig_core_laws.specs.Notation.{unchanged};
+ghost use Rattle.ig_core.specs.Notation.{unchanged};
 ghost use Rattle.ig_command.specs.Commands.{IsCommand, stored_source, verify};
-ghost use Rattle.ig_endings.specs.Change.{change, Fetched};
-ghost use Rattle.ig_jobs.specs.Jobs.{request_for, stored_job, task_request};
-ghost use Rattle.ig_jobs.specs.Verifying.{IsTaken};
+ghost use Rattle.ig_command_endings.specs.Change.{change, Fetched};
+ghost use Rattle.ig_command_jobs.specs.Jobs.{request_for, stored_job, task_request};
+ghost use Rattle.ig_command_jobs.specs.Verifying.{IsTaken};
 ghost use Rattle.ig_tool.specs.Outcome.{Answers};
 ghost use Rattle.ig_tool.specs.Decisions.{Decides, RunsCheck, RunsJob};
 ghost use Rattle.ig_tool.specs.Headline.{Completeness, GrammarCommands, Headline};
 ghost use Rattle.ig_tool.specs.Headline.{BatchCommands, Certification, LoadCommands, Verification};
 
-use ig_batch::batch;
+use crate::run::batch;
 use ig_command::{Source, batch_numbers_are_some, command_of, load_sizes_are_few};
-use ig_endings::{Status, Stop, end, usage};
-use ig_jobs::{
+use ig_command_endings::{Status, Stop, end, usage};
+use ig_command_jobs::{
     Files, Job, Task, Work, do_task, parse, parser_of, summary_line, verify_text, work_of,
+};
+use ig_command_sources::{
+    load_forest, load_grammar, load_input, one_reading, read_grammars_are_buildable,
+    read_grammars_have_readings, texts_are_read_or_refused,
 };
 use ig_outside::{Shelf, Sink};
 use ig_parse::Parser;
 use ig_queue::Order;
-use ig_sources::{
-    load_forest, load_grammar, load_input, one_reading, read_grammars_are_buildable,
-    read_grammars_have_readings, texts_are_read_or_refused,
-};
 use ig_text::Text;
 use std::alloc::Global;
 
@@ -46,7 +46,7 @@ use std::alloc::Global;
 /// the input, and what they expected there.
 ///
 /// `load SIZE NUMBER` fetches nothing: it puts the line of
-/// [`show_summary`](ig_load_texts::show_summary) for the load of that size and number.
+/// [`show_summary`](ig_load::show_summary) for the load of that size and number.
 ///
 /// `verify G I F` puts the line `verified` where F is the text of a forest that keeps to the rules
 /// of one of the grammar and the input, so that each of its trees is permitted; it need not have

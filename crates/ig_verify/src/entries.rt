@@ -5,8 +5,8 @@ ghost use Rattle.ig_item.specs.Gives.{leaf, nothing, tree};
 ghost use Rattle.ig_item.specs.Items.{StandsBefore};
 ghost use Rattle.ig_item.specs.Step as step;
 ghost use Rattle.ig_item.specs.View.{step_of};
-ghost use Rattle.ig_steps.specs.Compiled.{expressions_of, form_of};
-ghost use Rattle.ig_steps.specs.Names.{all_dots};
+ghost use Rattle.ig_run_tables.specs.Compiled.{expressions_of, form_of};
+ghost use Rattle.ig_run_tables.specs.Names.{all_dots};
 ghost use Rattle.ig_verify.specs.Code.{shown, shown_key};
 ghost use Rattle.ig_verify.specs.Flaws.{AllEntriesHold, BreaksAtEntries, EntriesBreak};
 ghost use Rattle.ig_verify.specs.Sound.{ComesFrom, EntriesFollow, EntriesHold, EntryFollows};
@@ -18,7 +18,7 @@ use crate::flaw::Flaw;
 use crate::steps::{are_same, bind_leads, call_leads, terminal_leads, test_leads};
 use ig_forest_tables::{Child, Entry, ItemNode, Node};
 use ig_item::{Behind, Core, Item, Step, behind_is_looked_up, stands_before_one};
-use ig_steps::{Dots, Known, Qualifiers, known_at};
+use ig_run_tables::{Dots, Known, Qualifiers, known_at};
 use ig_text::{Sequence, Span, Text};
 
 /// What entries are looked at with: the forest, the core grammar and the text, and what is known

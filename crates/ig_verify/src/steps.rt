@@ -6,13 +6,13 @@ ghost use Rattle.ig_expr.specs.View.{expression_of};
 ghost use Rattle.ig_item.specs.Gives.{leaf, nothing, tree};
 ghost use Rattle.ig_item.specs.Items.{HaveValues, past};
 ghost use Rattle.ig_item.specs.Step.{Bind, Call, Term, Test};
-ghost use Rattle.ig_steps.specs.Compiled.{form_of};
+ghost use Rattle.ig_run_tables.specs.Compiled.{form_of};
 ghost use Rattle.ig_verify.specs.Code.{IsNext, shown, shown_key};
 ghost use Rattle.ig_verify.specs.Takes.{StepTakes};
 
 use ig_expr::{Expr, Value, equal_values_are_one};
 use ig_forest_tables::{ItemNode, Node};
-use ig_steps::{Known, Qualifiers, is_true, matches_none, only, span_bound, value};
+use ig_run_tables::{Known, Qualifiers, is_true, matches_none, only, span_bound, value};
 use ig_text::{Pattern, Span, Text, Word};
 
 /// Whether both lists have the same values. Most have none.

@@ -14,7 +14,7 @@ use crate::kind_table::kinds_of_core;
 use crate::laws::sound_forests_unfold_to_core_trees;
 use crate::nodes::node_flaw;
 use ig_item::Core;
-use ig_steps::dots_of_core;
+use ig_run_tables::dots_of_core;
 use ig_text::Text;
 use std::alloc::{AllocError, Global};
 

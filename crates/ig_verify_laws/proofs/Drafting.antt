@@ -15,7 +15,7 @@ use Rattle.ig_item.specs.Laws.{AlternativesAreOne, EnvironmentsFit, Environments
 use Rattle.ig_item.specs.Limits.{most_dots}
 use Rattle.ig_item.specs.declared.core_grammar.Nonterminal.{Nonterminal}
 use Rattle.ig_item.specs.declared.items.Instance.{Instance}
-use Rattle.ig_live.specs.Live.{Gives, root_key}
+use Rattle.ig_forest_live.specs.Live.{Gives, root_key}
 use Rattle.ig_forest_tables.specs.Forest.{Forest, Node, ItemNode}
 use Rattle.ig_forest_tables.specs.declared.entry.Choice.{Choice}
 use Rattle.ig_forest_tables.specs.declared.entry.Entry.{Entry}
@@ -24,7 +24,7 @@ use Rattle.ig_forest.specs.Reduced as reduced
 use Rattle.ig_forest.specs.Reduced.{IsReduced, IsNode, IsItemNode, IsEntry, IsChoice}
 use Rattle.ig_forest_reader.specs.Written.{IsDraftOf, IsItemOf, IsNamed, IsNodeOf, IsSmall, IsSmallEntry, IsSmallSpan, IsSmallTag, IsTagOf, HasFirstRoot}
 use Rattle.ig_verify_laws.specs.Ranges.{IsWritable}
-use Rattle.ig_verify_laws.specs.Laws.{AlternativesAreFew, ItemsAreSmall, ReducedIsDraft}
+use Rattle.ig_verify_laws.specs.ReducedLaws.{AlternativesAreFew, ItemsAreSmall, ReducedIsDraft}
 use Rattle.ig_verify_laws.proofs.Few.{at_most}
 use Rattle.ig_verify_laws.proofs.Uncalled.{root_at_end, root_is_one}
 

@@ -5,7 +5,7 @@ use Rattle.std.proofs.lemmas.Option.{same_Some}
 use Rattle.ig_item.specs.Core.{numbered, dots, dots_of_alternative, dots_of_nonterminal}
 use Rattle.ig_item.specs.WellKinded.{NoneTwice}
 use Rattle.ig_item.specs.declared.core_grammar.CoreAlt.{CoreAlt}
-use Rattle.ig_verify_laws.specs.Laws.{AlternativesAreFew}
+use Rattle.ig_verify_laws.specs.ReducedLaws.{AlternativesAreFew}
 
 -- a member counts no more than all
 part_few : {X : Type 0} (f : X → ℕ) (xs : List X) (k : ℕ) (x : X) → slice_get xs k ≡ Some x → f x ≤ sum_by f xs

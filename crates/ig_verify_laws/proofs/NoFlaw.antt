@@ -6,7 +6,7 @@ use Rattle.ig_verify.specs.Flaws as flaws
 use Rattle.ig_verify.specs.Flaws.{IsFirstFlaw, NodeBreaks, EntriesBreak}
 use Rattle.ig_verify.specs.Sound.{IsSound, NodeHolds, EntriesHold}
 use Rattle.ig_verify.specs.declared.flaw.Flaw.{Flaw}
-use Rattle.ig_verify_laws.specs.Laws.{SoundHasNoFlaw}
+use Rattle.ig_verify_laws.specs.ReducedLaws.{SoundHasNoFlaw}
 
 module _ (core : List Nonterminal) (text : List ℕ) (f : Forest) where
   node_whole : (v : ℕ) (node : Node) (rule : ℕ) → NodeHolds core text f v node → NodeBreaks core text f v node rule → ⊥

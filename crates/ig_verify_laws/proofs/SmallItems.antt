@@ -17,7 +17,7 @@ use Rattle.ig_item.specs.Step.{Step}
 use Rattle.ig_item.specs.declared.core_grammar.Nonterminal.{Nonterminal}
 use Rattle.ig_forest_reader.specs.Written.{IsSmall}
 use Rattle.ig_verify_laws.specs.Ranges.{HasSmallIntegers, IntegersFit, StepHasSmallIntegers}
-use Rattle.ig_verify_laws.specs.Laws.{ItemIsSmall, ItemsAreSmall, ValuesAreSmall}
+use Rattle.ig_verify_laws.specs.ReducedLaws.{ItemIsSmall, ItemsAreSmall, ValuesAreSmall}
 use Rattle.ig_verify_laws.proofs.Values.{AreSmall}
 
 pub record Given : Type 0 where

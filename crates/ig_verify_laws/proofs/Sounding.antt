@@ -18,11 +18,11 @@ use Rattle.ig_forest_tables.specs.declared.entry.Choice.{Choice}
 use Rattle.ig_forest_tables.specs.declared.entry.Entry.{Entry}
 use Rattle.ig_verify.specs.Takes.{Takes}
 use Rattle.ig_verify.specs.Sound.{ChoiceFits, ItemFits, ComesFrom, EntryFollows, NodeHolds, EntriesHold, key_of}
-use Rattle.ig_live.specs.Live as live
-use Rattle.ig_live.specs.Live.{IsLive, root_key}
+use Rattle.ig_forest_live.specs.Live as live
+use Rattle.ig_forest_live.specs.Live.{IsLive, root_key}
 use Rattle.ig_forest.specs.Reduced as reduced
 use Rattle.ig_forest.specs.Reduced.{IsReduced, IsNode, IsItemNode, IsEntry, IsChoice}
-use Rattle.ig_verify_laws.specs.Laws.{ReducedIsSound}
+use Rattle.ig_verify_laws.specs.ReducedLaws.{ReducedIsSound}
 
 each_member : {X : Type 0} (P : X → Type 0) (xs : List X) → ((x : X) → Contains xs x → P x) → All P xs
 each_member P xs h k d lt = h (get_or xs k d) (contains_from_at xs k (get_or xs k d) (slice_get-get_or xs k d lt))

@@ -11,8 +11,8 @@ use Rattle.ig_item.specs.Items.{Item, Follows, IsComplete, Reachable, StandsBefo
 use Rattle.ig_item.specs.Laws.{AlternativesAreOne}
 use Rattle.ig_item.specs.Step.{Step}
 use Rattle.ig_item.specs.declared.core_grammar.Nonterminal.{Nonterminal}
-use Rattle.ig_live.specs.Live as live
-use Rattle.ig_live.specs.Live.{Gives, IsLive}
+use Rattle.ig_forest_live.specs.Live as live
+use Rattle.ig_forest_live.specs.Live.{Gives, IsLive}
 use Rattle.ig_verify_laws.specs.Ranges.{IsNoCallOfRoot, RootIsUncalled}
 
 module _ (core : List Nonterminal) (text : List ℕ) (uncalled : RootIsUncalled core) where

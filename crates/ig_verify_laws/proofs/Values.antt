@@ -29,7 +29,7 @@ use Rattle.ig_expr.specs.declared.value.Value.{Value}
 use Rattle.ig_expr.specs.declared.value.Value.TheVariants as value
 use Rattle.ig_forest_reader.specs.Written.{IsSmall, IsSmallSpan}
 use Rattle.ig_verify_laws.specs.Ranges.{HasSmallIntegers}
-use Rattle.ig_verify_laws.specs.Laws.{ValuesAreSmall}
+use Rattle.ig_verify_laws.specs.ReducedLaws.{ValuesAreSmall}
 
 -- each of the values is small
 abbrev pub AreSmall : List Value → Type 0

@@ -1,2 +1,5 @@
 pub mod Ranges
-pub mod Laws
+pub mod ReducedLaws
+pub mod NameLaws
+pub mod IntegerLaws
+pub mod CertificateLaws

@@ -6,7 +6,7 @@ use Rattle.std.proofs.lemmas.Bool.Decides.{nat_tests}
 use Rattle.std.proofs.lemmas.Str.{scalars-chars}
 use Rattle.std.proofs.Math.Utf8.{scalar, scalars, scalar_cases}
 use Rattle.ig_grammar.specs.declared.grammar.Grammar.{Grammar}
-use Rattle.ig_w3c_tokens.specs.Spelling.{is_character}
+use Rattle.ig_w3c_syntax.specs.Spelling.{is_character}
 use Rattle.ig_w3c.specs.Outcome.{IsRead}
 use Rattle.ig_w3c.specs.Laws.{ReadGrammarsHaveReadings}
 

@@ -3,3 +3,11 @@ pub mod Outcomes
 pub mod Readings
 pub mod Regularity
 pub mod Characters
+pub mod Steps
+pub mod Shown
+pub mod Canonical
+pub mod Digits
+pub mod Sets
+pub mod Printed
+pub mod Lexed
+pub mod ReadBack

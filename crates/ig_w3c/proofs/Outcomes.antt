@@ -3,33 +3,33 @@ use Rattle.std.proofs.Common.{◌≡◌, ◌↔◌, Bool, false, ℕ, zero, suc,
 use Rattle.std.specs.Prelude.{Result, Ok, Err, IfErr, IsTrue, chars, Some, None}
 use Rattle.std.specs.Result.{IsErrAnd}
 use Rattle.std.proofs.lemmas.Bool.Decides.{not_from_Decides}
-use Rattle.ig_syntax.specs.Notation.{most_bytes}
-use Rattle.ig_syntax.specs.Rules.{FollowsRules}
-use Rattle.ig_syntax.specs.Texts.{Lexes}
-use Rattle.ig_syntax.specs.Stops.{Stops}
+use Rattle.ig_notation_syntax.specs.Notation.{most_bytes}
+use Rattle.ig_notation_syntax.specs.Rules.{FollowsRules}
+use Rattle.ig_notation_syntax.specs.Texts.{Lexes}
+use Rattle.ig_notation_syntax.specs.Stops.{Stops}
 use Rattle.ig_grammar.specs.declared.grammar.Grammar.{Grammar}
-use Rattle.ig_tokens.specs.declared.token.TokenFault.{TokenFault}
-use Rattle.ig_tokens.specs.declared.token.TokenFault.TheVariants.{Broken, Memory as OutOfMemory}
-use Rattle.ig_rules.specs.Laws.{ReadRuns}
-use Rattle.ig_rules.specs.Machine as own_machine
-use Rattle.ig_readers.specs.declared.fault.RuleFault.{RuleFault}
-use Rattle.ig_readers.specs.declared.fault.RuleFault.TheVariants.{Unexpected, Memory}
-use Rattle.ig_tokens.specs.declared.token.Placed.{Placed as OwnPlaced}
-use Rattle.ig_limits.specs.Limits.{IsShallow, byte_of, meanings as own_meanings}
+use Rattle.ig_notation_syntax.specs.declared.token.TokenFault.{TokenFault}
+use Rattle.ig_notation_syntax.specs.declared.token.TokenFault.TheVariants.{Broken, Memory as OutOfMemory}
+use Rattle.ig_notation_syntax.specs.RuleLaws.{ReadRuns}
+use Rattle.ig_notation_syntax.specs.Machine as own_machine
+use Rattle.ig_notation_terms.specs.declared.fault.RuleFault.{RuleFault}
+use Rattle.ig_notation_terms.specs.declared.fault.RuleFault.TheVariants.{Unexpected, Memory}
+use Rattle.ig_notation_syntax.specs.declared.token.Placed.{Placed as OwnPlaced}
+use Rattle.ig_notation_terms.specs.Limits.{IsShallow, byte_of, meanings as own_meanings}
 use Rattle.ig_notation.specs.Outcome.{fault_of}
 use Rattle.ig_notation.specs.Parts.{FailsAt}
 use Rattle.ig_notation.specs.declared.fault.ReadFault.{ReadFault}
 use Rattle.ig_notation.specs.declared.fault.ReadFault.TheVariants as faults
 use Rattle.ig_notation.specs.declared.fault.Large.TheVariants as large
-use Rattle.ig_w3c_tokens.specs.Token.{Token}
-use Rattle.ig_w3c_tokens.specs.Spelling.{StandsFirst, IsSeparator}
-use Rattle.ig_w3c_tokens.specs.View.{token_of, tokens_of, meanings}
-use Rattle.ig_w3c_tokens.specs.Faults.{IsFault}
-use Rattle.ig_w3c_tokens.specs.declared.token.Placed.{Placed}
-use Rattle.ig_w3c_rules.specs.Rules.{KeepsRules}
-use Rattle.ig_w3c_rules.specs.Reading.{in_own_notation}
-use Rattle.ig_w3c_rules.specs.Laws.{AreOfGrammar, RunStops, RunKeeps, KeptRulesRead}
-use Rattle.ig_w3c_rules.specs.Machine.{stop_of}
+use Rattle.ig_w3c_syntax.specs.Token.{Token}
+use Rattle.ig_w3c_syntax.specs.Spelling.{StandsFirst, IsSeparator}
+use Rattle.ig_w3c_syntax.specs.View.{token_of, tokens_of, meanings}
+use Rattle.ig_w3c_syntax.specs.Faults.{IsFault}
+use Rattle.ig_w3c_syntax.specs.declared.token.Placed.{Placed}
+use Rattle.ig_w3c_syntax.specs.Rules.{KeepsRules}
+use Rattle.ig_w3c_syntax.specs.Reading.{in_own_notation}
+use Rattle.ig_w3c_syntax.specs.RuleLaws.{AreOfGrammar, RunStops, RunKeeps, KeptRulesRead}
+use Rattle.ig_w3c_syntax.specs.Machine.{stop_of}
 use Rattle.ig_w3c.specs.Steps.{IsMemory}
 use Rattle.ig_w3c.specs.Outcome.{unplaced, HasTokens, IsRead, IsReadFault, no_token, deep, against_rules, no_memory}
 

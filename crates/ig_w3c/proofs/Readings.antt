@@ -1,13 +1,13 @@
 -- A text has one list of tokens, so it reads as one grammar at most, and one that is read has no fault.
 use Rattle.std.proofs.Common.{◌≡◌, ℕ, ◌≤◌, List, refl, sym, subst, arith}
 use Rattle.std.specs.Prelude.{chars, length}
-use Rattle.ig_syntax.specs.Notation.{most_bytes}
+use Rattle.ig_notation_syntax.specs.Notation.{most_bytes}
 use Rattle.ig_grammar.specs.declared.grammar.Grammar.{Grammar}
-use Rattle.ig_limits.specs.Limits.{IsShallow}
-use Rattle.ig_w3c_tokens.specs.Token.{Token}
-use Rattle.ig_w3c_tokens.specs.Laws.{TokensAreSingle, NeverBoth}
-use Rattle.ig_w3c_rules.specs.Reading.{ReadsAs}
-use Rattle.ig_w3c_rules.specs.Laws as rules
+use Rattle.ig_notation_terms.specs.Limits.{IsShallow}
+use Rattle.ig_w3c_syntax.specs.Token.{Token}
+use Rattle.ig_w3c_syntax.specs.TokenLaws.{TokensAreSingle, NeverBoth}
+use Rattle.ig_w3c_syntax.specs.Reading.{ReadsAs}
+use Rattle.ig_w3c_syntax.specs.RuleLaws as rules
 use Rattle.ig_w3c.specs.Outcome.{unplaced, HasTokens, IsRead, IsShallowText, too_many_bytes, no_token, deep, against_rules, no_memory}
 use Rattle.ig_w3c.specs.Laws.{OneReading, ReadOrRefused}
 

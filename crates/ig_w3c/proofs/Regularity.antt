@@ -3,20 +3,20 @@ use Rattle.std.proofs.Common.{◌≡◌, ◌≢◌, ℕ, suc, ◌+◌, ◌<◌, 
 use Rattle.std.specs.Prelude.{chars, IsUtf8, All}
 use Rattle.std.proofs.lemmas.List.Elements.{All-nil, All-cons, All-head, All-tail}
 use Rattle.std.proofs.lemmas.Str.{encodes-chars, length-le-encodes}
-use Rattle.ig_syntax.specs.Token as own
-use Rattle.ig_syntax.specs.Notation.{most_bytes}
+use Rattle.ig_notation_syntax.specs.Token as own
+use Rattle.ig_notation_syntax.specs.Notation.{most_bytes}
 use Rattle.ig_grammar.specs.Counts.{HasFewerThan}
 use Rattle.ig_grammar.specs.declared.grammar.Grammar.{Grammar}
-use Rattle.ig_rules.specs.Written.{HasText}
-use Rattle.ig_rules.specs.Names.{HasName}
-use Rattle.ig_rules.specs.Laws.{ReadsAreCounted, ReadsAreNamed, ReadsAreRegular}
+use Rattle.ig_notation_syntax.specs.Written.{HasText}
+use Rattle.ig_notation_syntax.specs.Names.{HasName}
+use Rattle.ig_notation_syntax.specs.RuleLaws.{ReadsAreCounted, ReadsAreNamed, ReadsAreRegular}
 use Rattle.ig_notation.specs.Outcome.{RulesHaveFormsOfText}
-use Rattle.ig_w3c_tokens.specs.Token.{Token, Head, Name, Text, Code, OneOf, Bar, Open, Close, Question, Star, Plus, Minus}
-use Rattle.ig_w3c_tokens.specs.Forms.{least, least_of, HasForm}
-use Rattle.ig_w3c_tokens.specs.Laws.{TokensAreFew, TokensHaveForms}
-use Rattle.ig_w3c_rules.specs.Rules.{KeepsRules, rules}
-use Rattle.ig_w3c_rules.specs.Reading.{within, declared, in_own_notation}
-use Rattle.ig_w3c_rules.specs.Laws.{DeclarationsRead}
+use Rattle.ig_w3c_syntax.specs.Token.{Token, Head, Name, Text, Code, OneOf, Bar, Open, Close, Question, Star, Plus, Minus}
+use Rattle.ig_w3c_syntax.specs.TokenForms.{least, least_of, HasForm}
+use Rattle.ig_w3c_syntax.specs.TokenLaws.{TokensAreFew, TokensHaveForms}
+use Rattle.ig_w3c_syntax.specs.Rules.{KeepsRules, rules}
+use Rattle.ig_w3c_syntax.specs.Reading.{within, declared, in_own_notation}
+use Rattle.ig_w3c_syntax.specs.RuleLaws.{DeclarationsRead}
 use Rattle.ig_w3c.specs.Outcome.{unplaced, IsRead}
 use Rattle.ig_w3c.specs.Laws.{ReadGrammarsAreRegular, ReadNamesAreNames, ReadGrammarsAreWritten}
 use Rattle.ig_w3c.specs.Steps.{own_token}

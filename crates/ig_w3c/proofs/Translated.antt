@@ -4,12 +4,12 @@ use Rattle.std.specs.Prelude.{All}
 use Rattle.std.proofs.lemmas.List.{at_drop_more, drop_all}
 use Rattle.std.proofs.lemmas.List.Elements.{All-nil, All-cons, All-append, All-head, All-tail}
 use Rattle.std.proofs.Math.ListN.{get_or}
-use Rattle.ig_syntax.specs.Token as own
-use Rattle.ig_limits.specs.Limits.{NumberFits, NumbersFit}
-use Rattle.ig_w3c_tokens.specs.Token.{Token, Head, Name, Text, Code, OneOf, Bar, Open, Close, Question, Star, Plus, Minus}
-use Rattle.ig_w3c_tokens.specs.View.{token_of, meanings}
-use Rattle.ig_w3c_tokens.specs.declared.token.Placed.{Placed}
-use Rattle.ig_w3c_rules.specs.Reading.{within, in_own_notation}
+use Rattle.ig_notation_syntax.specs.Token as own
+use Rattle.ig_notation_terms.specs.Limits.{NumberFits, NumbersFit}
+use Rattle.ig_w3c_syntax.specs.Token.{Token, Head, Name, Text, Code, OneOf, Bar, Open, Close, Question, Star, Plus, Minus}
+use Rattle.ig_w3c_syntax.specs.View.{token_of, meanings}
+use Rattle.ig_w3c_syntax.specs.declared.token.Placed.{Placed}
+use Rattle.ig_w3c_syntax.specs.Reading.{within, in_own_notation}
 use Rattle.ig_w3c.specs.Steps.{own_token, put, started}
 
 within_put : (t : Token) (ts : List Token) → put t ++ within ts ≡ within (t ∷ ts)

@@ -1,14 +1,14 @@
 -- Laws of reading texts in the notation of the XML recommendation.
 use Rattle.std.specs.Prelude.{◌≡◌, ℕ, suc, List, IsUtf8}
-use Rattle.ig_syntax.specs.Notation.{most_bytes}
+use Rattle.ig_notation_syntax.specs.Notation.{most_bytes}
 use Rattle.ig_grammar.specs.Regular.{IsRegular}
 use Rattle.ig_grammar.specs.Counts.{HasFewerThan}
 use Rattle.ig_grammar.specs.declared.grammar.Grammar.{Grammar}
-use Rattle.ig_rules.specs.Names.{HasNames}
+use Rattle.ig_notation_syntax.specs.Names.{HasNames}
 use Rattle.ig_notation.specs.Outcome.{HasFormsOfText}
 use Rattle.ig_notation.specs.declared.fault.ReadFault.{ReadFault}
 use Rattle.ig_notation.specs.declared.fault.ReadFault.TheVariants as faults
-use Rattle.ig_w3c_rules.specs.Notation.{HasReading}
+use Rattle.ig_w3c_syntax.specs.Notation.{HasReading}
 use Rattle.ig_w3c.specs.Outcome.{IsRead, IsReadFault}
 
 -- a text reads as one grammar at most

@@ -1,18 +1,18 @@
 -- Which texts of the notation of the XML recommendation are read, and why others aren't. The faults are those of the own
 -- notation, by these tokens and rules; there are no numbers.
 use Rattle.std.specs.Prelude.{◌≡◌, ℕ, ◌<◌, ◌≤◌, List, map, length, chars}
-use Rattle.ig_syntax.specs.Texts.{Lexes, Breaks}
-use Rattle.ig_syntax.specs.Notation.{most_bytes}
-use Rattle.ig_syntax.specs.Stops.{Stops}
+use Rattle.ig_notation_syntax.specs.Texts.{Lexes, Breaks}
+use Rattle.ig_notation_syntax.specs.Notation.{most_bytes}
+use Rattle.ig_notation_syntax.specs.Stops.{Stops}
 use Rattle.ig_grammar.specs.declared.grammar.Grammar.{Grammar}
-use Rattle.ig_limits.specs.Limits.{IsShallow, byte_of}
+use Rattle.ig_notation_terms.specs.Limits.{IsShallow, byte_of}
 use Rattle.ig_notation.specs.declared.fault.ReadFault.{ReadFault}
 use Rattle.ig_notation.specs.declared.fault.ReadFault.TheVariants as faults
 use Rattle.ig_notation.specs.declared.fault.Large.TheVariants as large
-use Rattle.ig_w3c_tokens.specs.Token.{Token}
-use Rattle.ig_w3c_tokens.specs.Spelling.{StandsFirst, IsSeparator}
-use Rattle.ig_w3c_rules.specs.Reading.{ReadsAs, in_own_notation}
-use Rattle.ig_w3c_rules.specs.Laws.{AreOfGrammar}
+use Rattle.ig_w3c_syntax.specs.Token.{Token}
+use Rattle.ig_w3c_syntax.specs.Spelling.{StandsFirst, IsSeparator}
+use Rattle.ig_w3c_syntax.specs.Reading.{ReadsAs, in_own_notation}
+use Rattle.ig_w3c_syntax.specs.RuleLaws.{AreOfGrammar}
 
 -- the tokens without their places
 abbrev pub unplaced : List (Token × ℕ) → List Token

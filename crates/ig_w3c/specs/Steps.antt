@@ -1,9 +1,9 @@
 -- What each token becomes in the own notation, as the functions that put it there promise; which fault of its reader may come.
 use Rattle.std.specs.Prelude.{ℕ, List, [], ◌∷◌}
-use Rattle.ig_syntax.specs.Token as own
-use Rattle.ig_readers.specs.declared.fault.RuleFault.{RuleFault}
-use Rattle.ig_readers.specs.declared.fault.RuleFault.TheVariants.{Unexpected, Memory}
-use Rattle.ig_w3c_tokens.specs.Token.{Token, Head, Name, Text, Code, OneOf, Bar, Open, Close, Question, Star, Plus, Minus}
+use Rattle.ig_notation_syntax.specs.Token as own
+use Rattle.ig_notation_terms.specs.declared.fault.RuleFault.{RuleFault}
+use Rattle.ig_notation_terms.specs.declared.fault.RuleFault.TheVariants.{Unexpected, Memory}
+use Rattle.ig_w3c_syntax.specs.Token.{Token, Head, Name, Text, Code, OneOf, Bar, Open, Close, Question, Star, Plus, Minus}
 
 abbrev pub own_token : Token → own.Token
 own_token (Head x) = own.Name x

@@ -8,8 +8,8 @@ ghost use Rattle.ig_w3c.specs.Laws.{ReadGrammarsHaveReadings};
 pub fn one_reading()
     ensures { OneReading }
 {
-    ig_w3c_tokens::tokens_are_single();
-    ig_w3c_rules::one_reading();
+    ig_w3c_syntax::tokens_are_single();
+    ig_w3c_syntax::one_reading();
 }
 
 /// A text that reads as a grammar has no fault but want of memory. This law, proved of all texts,
@@ -17,8 +17,8 @@ pub fn one_reading()
 pub fn texts_are_read_or_refused()
     ensures { ReadOrRefused }
 {
-    ig_w3c_tokens::tokens_are_single();
-    ig_w3c_tokens::texts_never_do_both();
+    ig_w3c_syntax::tokens_are_single();
+    ig_w3c_syntax::texts_never_do_both();
 }
 
 /// A grammar that is read is regular, and has at most as many declarations as a grammar text may
@@ -26,11 +26,11 @@ pub fn texts_are_read_or_refused()
 pub fn read_grammars_are_regular()
     ensures { ReadGrammarsAreRegular }
 {
-    ig_w3c_tokens::tokens_are_few();
-    ig_w3c_tokens::tokens_have_forms();
-    ig_w3c_rules::declarations_read();
-    ig_rules::reads_are_regular();
-    ig_rules::reads_are_counted();
+    ig_w3c_syntax::tokens_are_few();
+    ig_w3c_syntax::tokens_have_forms();
+    ig_w3c_syntax::declarations_read();
+    ig_notation_syntax::reads_are_regular();
+    ig_notation_syntax::reads_are_counted();
 }
 
 /// Each name in a grammar that is read is a name of the notation. This law, proved of all texts,
@@ -38,8 +38,8 @@ pub fn read_grammars_are_regular()
 pub fn read_names_are_names()
     ensures { ReadNamesAreNames }
 {
-    ig_w3c_tokens::tokens_have_forms();
-    ig_rules::reads_are_named();
+    ig_w3c_syntax::tokens_have_forms();
+    ig_notation_syntax::reads_are_named();
 }
 
 /// In a grammar that is read stands neither a sequence nor an entry, which come from passes alone,

@@ -1,20 +1,18 @@
 //! Reading a grammar text.
 
 ghost use Rattle.std.specs.Prelude.{◌≡◌, ◌≤◌, IfOk, IfErr, length};
-ghost use Rattle.ig_syntax.specs.Notation.{most_bytes};
-ghost use Rattle.ig_w3c_tokens.specs.View.{tokens_of};
-ghost use Rattle.ig_limits.specs.Limits.{byte_of};
+ghost use Rattle.ig_notation_syntax.specs.Notation.{most_bytes};
+ghost use Rattle.ig_w3c_syntax.specs.View.{tokens_of};
+ghost use Rattle.ig_notation_terms.specs.Limits.{byte_of};
 ghost use Rattle.ig_notation.specs.declared.fault.ReadFault.TheVariants.{Memory};
 ghost use Rattle.ig_w3c.specs.Steps.{IsMemory};
 ghost use Rattle.ig_w3c.specs.Outcome.{IsRead, IsReadFault, HasTokens};
 
 use crate::translation::in_own_notation;
 use ig_grammar::Grammar;
-use ig_limits::{is_shallow, is_too_long};
 use ig_notation::{Large, ReadFault, read_grammar};
-use ig_readers::{RuleFault, Tokens};
-use ig_w3c_rules::stop;
-use ig_w3c_tokens::{Placed, tokenize};
+use ig_notation_terms::{RuleFault, Tokens, is_shallow, is_too_long};
+use ig_w3c_syntax::{Placed, stop, tokenize};
 use std::alloc::Global;
 
 /// The grammar that a text reads as, in the notation of section 6 of the XML recommendation. The
@@ -63,15 +61,15 @@ fn read_tokens<'a>(
             which: Large::Nesting,
         });
     }
-    ig_w3c_rules::run_stops();
+    ig_w3c_syntax::run_stops();
     if let Some(number) = stop(tokens) {
         return Err(ReadFault::Syntax {
             at: byte_of(tokens, number, source),
         });
     }
-    ig_w3c_rules::run_keeps();
-    ig_w3c_rules::kept_rules_read();
-    ig_rules::read_runs();
+    ig_w3c_syntax::run_keeps();
+    ig_w3c_syntax::kept_rules_read();
+    ig_notation_syntax::read_runs();
     match read_grammar(alloc, &Tokens::new(own.as_slice())) {
         Ok(grammar) => Ok(grammar),
         Err(fault) => Err(without_memory(fault)),

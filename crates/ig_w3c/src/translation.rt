@@ -1,16 +1,16 @@
 //! Tokens are put into those of the own notation.
 
 ghost use Rattle.std.specs.Prelude.{◌≡◌, ◌∷◌, [], ◌++◌, IfOk, OnOk, length};
-ghost use Rattle.ig_syntax.specs.Token as own;
-ghost use Rattle.ig_limits.specs.Limits.{meanings as own_meanings, NumbersFit};
-ghost use Rattle.ig_tokens.specs.View.{token_of as own_meaning};
-ghost use Rattle.ig_w3c_tokens.specs.View.{token_of, meanings};
-ghost use Rattle.ig_w3c_rules.specs.Reading.{in_own_notation};
+ghost use Rattle.ig_notation_syntax.specs.Token as own;
+ghost use Rattle.ig_notation_terms.specs.Limits.{meanings as own_meanings, NumbersFit};
+ghost use Rattle.ig_notation_syntax.specs.View.{token_of as own_meaning};
+ghost use Rattle.ig_w3c_syntax.specs.View.{token_of, meanings};
+ghost use Rattle.ig_w3c_syntax.specs.Reading.{in_own_notation};
 ghost use Rattle.ig_w3c.specs.Steps.{own_token, put, started};
 
+use ig_notation_syntax::{Placed as OwnPlaced, Token as Own};
 use ig_text::Class;
-use ig_tokens::{Placed as OwnPlaced, Token as Own};
-use ig_w3c_tokens::{Placed, Token};
+use ig_w3c_syntax::{Placed, Token};
 use std::alloc::{AllocError, Global};
 
 /// The tokens of the own notation that read as these do: a start line that names the first rule,

@@ -18,11 +18,10 @@
 //! first two, so that each of its trees is permitted.
 //!
 //! What the program does with its words is the top call of `ig_tool`, over the files and streams of
-//! the system as `ig_files` has them.
+//! the system as `ig_system` has them.
 #![tactic(auto)]
 
-use ig_files::{FileShelf, StreamSink, SystemFolder};
-use ig_program::{exit_code, words};
+use ig_system::{FileShelf, StreamSink, SystemFolder, exit_code, words};
 use ig_tool::iguana;
 use std::env;
 use std::process::ExitCode;

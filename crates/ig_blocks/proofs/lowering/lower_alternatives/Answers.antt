@@ -1,7 +1,7 @@
 use Rattle.std.proofs.Common.{◌≡◌, IfOk, map, subst, sym}
-use Rattle.ig_blocks_laws.specs.Setting.{pair_by}
-use Rattle.ig_blocks_laws.specs.Blocks.{alternative_by}
-use Rattle.ig_columns.specs.Code.{setting_by}
+use Rattle.ig_blocks_parts.specs.Setting.{pair_by}
+use Rattle.ig_blocks_parts.specs.Blocks.{alternative_by}
+use Rattle.ig_blocks_parts.specs.ColumnCode.{setting_by}
 use Rattle.ig_blocks.proofs.lowering.lower_alternatives.Goals as goal
 
 pub returns-then-paired : goal.returns-then-paired

@@ -1,4 +1,4 @@
-use Rattle.ig_columns.specs.Code.{setting_by}
+use Rattle.ig_blocks_parts.specs.ColumnCode.{setting_by}
 use Rattle.ig_blocks.proofs.Declaring.{declaration_is}
 use Rattle.ig_blocks.proofs.lowering.lower_declaration.Goals as goal
 

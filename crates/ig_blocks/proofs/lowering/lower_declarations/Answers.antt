@@ -1,5 +1,5 @@
 use Rattle.ig_grammar.specs.declared.place.Shape.TheVariants.{Rule}
-use Rattle.ig_columns.specs.Code.{setting_by}
+use Rattle.ig_blocks_parts.specs.ColumnCode.{setting_by}
 use Rattle.ig_blocks.proofs.Declaring.{declaration_more}
 use Rattle.ig_blocks.proofs.lowering.lower_declarations.Goals as goal
 

@@ -1,6 +1,6 @@
 use Rattle.std.proofs.Common.{◌≡◌, ◌++◌, drop}
-use Rattle.ig_blocks_laws.specs.Blocks.{lowered_declarations}
-use Rattle.ig_columns.specs.Code.{setting_by}
+use Rattle.ig_blocks_parts.specs.Blocks.{lowered_declarations}
+use Rattle.ig_blocks_parts.specs.ColumnCode.{setting_by}
 use Rattle.ig_blocks.proofs.lowering.lower_declarations.Given as goal
 
 abbrev pub invariant-loop-index : goal.invariant-loop-index

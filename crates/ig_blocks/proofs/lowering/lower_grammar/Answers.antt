@@ -1,5 +1,5 @@
 use Rattle.std.proofs.Common.{◌≡◌, IfOk, refl, subst}
-use Rattle.ig_columns.specs.Code.{setting_by}
+use Rattle.ig_blocks_parts.specs.ColumnCode.{setting_by}
 use Rattle.ig_blocks.proofs.Declaring.{grammar_is}
 use Rattle.ig_blocks.proofs.lowering.lower_grammar.Goals as goal
 

@@ -1,7 +1,7 @@
 use Rattle.std.proofs.Common.{◌≡◌, map, take}
-use Rattle.ig_blocks_laws.specs.Setting.{pair_by}
-use Rattle.ig_blocks_laws.specs.Blocks.{level_by}
-use Rattle.ig_columns.specs.Code.{setting_by}
+use Rattle.ig_blocks_parts.specs.Setting.{pair_by}
+use Rattle.ig_blocks_parts.specs.Blocks.{level_by}
+use Rattle.ig_blocks_parts.specs.ColumnCode.{setting_by}
 use Rattle.ig_blocks.proofs.lowering.lower_levels.Given as goal
 
 abbrev pub invariant-loop-level : goal.invariant-loop-level

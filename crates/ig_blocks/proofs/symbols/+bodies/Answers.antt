@@ -7,10 +7,10 @@ use Rattle.ig_grammar.specs.CodingAlternatives.{alternatives_nodes}
 use Rattle.ig_grammar.specs.CodingFalls.{most_alternatives, most_symbols}
 use Rattle.ig_grammar.specs.CodingSizes.{list_nodes}
 use Rattle.ig_grammar.specs.declared.symbol.Alts.TheDeep.{deep-Symbol, deep-Alt}
-use Rattle.ig_blocks_laws.specs.Setting.{pair_bindings}
-use Rattle.ig_blocks_laws.specs.Body.{body_of}
-use Rattle.ig_columns.specs.Code.{pair_of, setting_by}
-use Rattle.ig_forms.specs.Code.{item_by, list_by}
+use Rattle.ig_blocks_parts.specs.Setting.{pair_bindings}
+use Rattle.ig_blocks_parts.specs.Body.{body_of}
+use Rattle.ig_blocks_parts.specs.ColumnCode.{pair_of, setting_by}
+use Rattle.ig_blocks_parts.specs.FormCode.{item_by, list_by}
 use Rattle.ig_blocks.proofs.Bodies.{copied, formed, separated, grouped, told_inside, choices_told, one_more}
 use Rattle.ig_blocks.proofs.symbols.+bodies.Goals as goal
 

@@ -1,7 +1,7 @@
 use Rattle.std.proofs.Common.{◌≡◌, ◌++◌, drop, map}
 use Rattle.ig_grammar.specs.View.{symbol_of}
-use Rattle.ig_blocks_laws.specs.Blocks.{symbols_by, alternative_by}
-use Rattle.ig_columns.specs.Code.{pair_of, setting_by}
+use Rattle.ig_blocks_parts.specs.Blocks.{symbols_by, alternative_by}
+use Rattle.ig_blocks_parts.specs.ColumnCode.{pair_of, setting_by}
 use Rattle.ig_blocks.proofs.symbols.+bodies.Given as goal
 
 abbrev pub invariant-sequence-loop-symbol : goal.invariant-sequence-loop-symbol

@@ -2,7 +2,7 @@ use Rattle.std.proofs.Common.{◌≡◌, ◌+◌, ◌≤◌, drop}
 use Rattle.std.specs.Prelude.{sum_by}
 use Rattle.ig_item.specs.Limits.{most_dots}
 use Rattle.ig_core.specs.Dots.{row_dots}
-use Rattle.ig_core_laws.specs.CoreOf.{unrooted}
+use Rattle.ig_core.specs.CoreOf.{unrooted}
 use Rattle.ig_core.proofs.dots.add_rows.Given as goal
 
 abbrev pub invariant-loop-index : goal.invariant-loop-index

@@ -1,5 +1,5 @@
 use Rattle.std.proofs.Common.{refl}
-use Rattle.ig_lexical_laws.specs.Layout.{LayoutOf}
+use Rattle.ig_lexical.specs.Layout.{LayoutOf}
 use Rattle.ig_core.proofs.InTurn.{at_levels, at_blocks, at_filters, lowered_by, numbered_by}
 use Rattle.ig_core.proofs.lowering.lower.Goals as goal
 

@@ -2,8 +2,8 @@ use Rattle.std.proofs.Common.{◌≡◌, None, sym, subst}
 use Rattle.std.specs.Prelude.{IfOk}
 use Rattle.ig_grammar.specs.Checked.{CheckedGrammar}
 use Rattle.ig_grammar.specs.Numbering.{layout_among}
-use Rattle.ig_rewrite.specs.Sound.{IsSound, IsFree, IsUnmarked}
-use Rattle.ig_lexical_laws.specs.Filters.{FiltersOf}
+use Rattle.ig_pass.specs.Sound.{IsSound, IsFree, IsUnmarked}
+use Rattle.ig_lexical.specs.Filters.{FiltersOf}
 use Rattle.ig_core.proofs.lowering.open_layout.Goals as goal
 
 pub attach_filters-made-requires-clause-sound : goal.attach_filters-made-requires-clause-sound

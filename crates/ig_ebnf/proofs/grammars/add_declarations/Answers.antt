@@ -1,6 +1,6 @@
 use Rattle.std.proofs.Common.{◌+◌, ◌∙◌, ap, drop, sym, ◌++◌}
 use Rattle.std.proofs.lemmas.List.{drop_more}
-use Rattle.ig_ebnf_laws.specs.Lists.{all_added, added_by}
+use Rattle.ig_ebnf_variables.specs.Lists.{all_added, added_by}
 use Rattle.ig_ebnf.proofs.CodeOfGrowth.{leads_on}
 use Rattle.ig_ebnf.proofs.grammars.add_declarations.Goals as goal
 

@@ -1,5 +1,5 @@
 use Rattle.std.proofs.Common.{drop}
-use Rattle.ig_ebnf_laws.specs.Lists.{all_added}
+use Rattle.ig_ebnf_variables.specs.Lists.{all_added}
 use Rattle.ig_ebnf.proofs.CodeOfGrowth.{Leads}
 use Rattle.ig_ebnf.proofs.grammars.add_declarations.Given as goal
 

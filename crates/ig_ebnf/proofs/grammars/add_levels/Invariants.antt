@@ -1,6 +1,6 @@
 use Rattle.std.proofs.Common.{drop}
 use Rattle.ig_grammar.specs.Visible.{parameters}
-use Rattle.ig_ebnf_laws.specs.Lists.{added_levels}
+use Rattle.ig_ebnf_variables.specs.Lists.{added_levels}
 use Rattle.ig_ebnf.proofs.CodeOfGrowth.{Leads}
 use Rattle.ig_ebnf.proofs.grammars.add_levels.Given as goal
 

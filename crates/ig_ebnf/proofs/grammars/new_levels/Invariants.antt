@@ -1,7 +1,7 @@
 use Rattle.std.proofs.Common.{◌≡◌, ◌++◌, ◌+◌, ◌<◌, drop}
 use Rattle.ig_grammar.specs.Visible.{parameters}
-use Rattle.ig_rewrite.specs.Added.{numbers_bound}
-use Rattle.ig_ebnf_laws.specs.Lists.{new_levels, count_levels}
+use Rattle.ig_pass.specs.Added.{numbers_bound}
+use Rattle.ig_ebnf_variables.specs.Lists.{new_levels, count_levels}
 use Rattle.ig_ebnf.proofs.grammars.new_levels.Given as goal
 
 abbrev pub invariant-loop-level : goal.invariant-loop-level

@@ -3,7 +3,7 @@ use Rattle.ig_grammar.specs.View.{symbol_of}
 use Rattle.ig_grammar.specs.CodingSizes.{nodes, nodes_of_symbols, nodes_of_alternatives}
 use Rattle.ig_grammar.specs.Symbol.{gathered}
 use Rattle.ig_grammar.specs.Alternative.{gathered_alternatives}
-use Rattle.ig_ebnf_laws.specs.Lists.{added_symbols, added_alts}
+use Rattle.ig_ebnf_variables.specs.Lists.{added_symbols, added_alts}
 use Rattle.ig_ebnf.proofs.CodeOfGrowth.{Leads}
 use Rattle.ig_ebnf.proofs.growing.+growing.Given as goal
 

@@ -5,8 +5,8 @@ use Rattle.ig_item.specs.Items.{StandsBefore}
 use Rattle.ig_item.specs.Step.{Term}
 use Rattle.ig_item.specs.View.{step_of}
 use Rattle.ig_item.specs.declared.ways.Way.TheVariants.{Leaf, Pass}
-use Rattle.ig_moves.specs.Rules.{IsBehind, IsBehindBind, IsBehindTest}
-use Rattle.ig_moves.specs.Tables.{Moves}
+use Rattle.ig_run_moves.specs.Rules.{IsBehind, IsBehindBind, IsBehindTest}
+use Rattle.ig_run_moves.specs.Tables.{Moves}
 use Rattle.ig_engine.specs.Reached.{means, reached}
 use Rattle.ig_engine.proofs.Event.{event_exit, item_named, moves_event, stored_new, terminal_alike, terminal_never, terminal_running, test_alike, test_never, test_running, bind_alike, bind_never, bind_running}
 use Rattle.ig_engine.proofs.Steps.{stands_there}

@@ -1,7 +1,7 @@
 use Rattle.std.proofs.Common.{◌≡◌, List, length, refl, ap, ◌∙◌, subst}
 use Rattle.ig_item.specs.WellKinded.{NoneTwice}
 use Rattle.ig_item.specs.Tables.{Tables, items_of}
-use Rattle.ig_live.specs.declared.mark.Mark.{Mark}
+use Rattle.ig_forest_live.specs.declared.mark.Mark.{Mark}
 use Rattle.ig_forest.proofs.CodeLiveItems.{are_live_items, found_apart, found_there}
 use Rattle.ig_forest.proofs.builder.from_found.Goals as goal
 

@@ -1,7 +1,7 @@
 use Rattle.std.proofs.Common.{map, subst}
 use Rattle.ig_item.specs.Tables.{Tables}
 use Rattle.ig_forest.specs.CodeLiveItems.{AreFound}
-use Rattle.ig_live.specs.declared.found.Found.{Found}
+use Rattle.ig_forest_live.specs.declared.found.Found.{Found}
 use Rattle.ig_forest.proofs.CodeLiveItems.{are_found}
 use Rattle.ig_forest.proofs.builder.from_recorded.Goals as goal
 

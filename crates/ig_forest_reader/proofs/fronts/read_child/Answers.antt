@@ -1,7 +1,7 @@
 use Rattle.std.proofs.Common.{◌∷◌, ◌++◌, ◌∙◌, List, ℕ, sym, ap}
 use Rattle.std.specs.Prelude.{codes}
 use Rattle.ig_forest_tables.specs.declared.entry.Child.TheVariants as child
-use Rattle.ig_pieces.specs.ValueText.{span_text}
+use Rattle.ig_show_texts.specs.ValueText.{span_text}
 use Rattle.ig_forest_reader.proofs.Leading.{none_read, some_read, some_is}
 use Rattle.ig_forest_reader.proofs.Children.{node_child, leaf_child}
 use Rattle.ig_forest_reader.proofs.fronts.read_child.Goals as goal

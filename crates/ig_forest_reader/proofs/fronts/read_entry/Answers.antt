@@ -1,7 +1,7 @@
 use Rattle.std.proofs.Common.{◌≡◌, ◌∷◌, ◌++◌, ◌∙◌, MatchOption, sym, subst}
 use Rattle.std.specs.Prelude.{codes}
 use Rattle.std.specs.Fmt.{decimal}
-use Rattle.ig_forest_text.specs.ForestText.{child_text, entry_text}
+use Rattle.ig_show_texts.specs.ForestText.{child_text, entry_text}
 use Rattle.ig_forest_reader.proofs.Spelled.{from_behind}
 use Rattle.ig_forest_tables.specs.declared.entry.Entry.TheVariants.{Begin}
 use Rattle.ig_forest_reader.proofs.TellingLines.{entry_told}

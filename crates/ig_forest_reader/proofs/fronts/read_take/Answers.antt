@@ -1,5 +1,5 @@
 use Rattle.std.proofs.Common.{◌∷◌, ◌++◌, ap₂, arith}
-use Rattle.ig_forest_text.specs.ForestText.{child_text}
+use Rattle.ig_show_texts.specs.ForestText.{child_text}
 use Rattle.ig_forest_tables.specs.declared.entry.Entry.TheVariants.{Take}
 use Rattle.ig_forest_reader.proofs.Telling.{stops_at}
 use Rattle.ig_forest_reader.proofs.Leading.{some_is, none_read, some_read}

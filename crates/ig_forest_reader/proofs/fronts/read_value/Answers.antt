@@ -1,6 +1,6 @@
 use Rattle.std.proofs.Common.{◌∙◌, ◌++◌, List, ℕ, ap, sym}
 use Rattle.std.proofs.lemmas.Option.{same_Some}
-use Rattle.ig_pieces.specs.ValueText.{value_text}
+use Rattle.ig_show_texts.specs.ValueText.{value_text}
 use Rattle.ig_forest_reader.proofs.Telling.{value_inner}
 use Rattle.ig_forest_reader.proofs.Leading.{some_is}
 use Rattle.ig_forest_reader.proofs.fronts.read_value.Goals as goal

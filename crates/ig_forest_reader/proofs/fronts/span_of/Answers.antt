@@ -1,7 +1,7 @@
 use Rattle.std.proofs.Common.{◌∙◌, ◌++◌, List, ℕ, [], Some, ap, sym}
 use Rattle.std.proofs.lemmas.List.{append-nil}
 use Rattle.ig_text.proofs.Booleans.{refuted}
-use Rattle.ig_pieces.specs.ValueText.{span_text}
+use Rattle.ig_show_texts.specs.ValueText.{span_text}
 use Rattle.ig_expr.specs.declared.value.Value.TheVariants as value
 use Rattle.ig_forest_reader.specs.Runs.{at_end}
 use Rattle.ig_forest_reader.proofs.Leading.{some_is, none_read, some_read}

@@ -1,5 +1,5 @@
 use Rattle.std.proofs.Common.{arith}
-use Rattle.ig_forest_text.specs.ForestText.{item_text}
+use Rattle.ig_show_texts.specs.ForestText.{item_text}
 use Rattle.ig_forest_reader.specs.Runs.{NoItem}
 use Rattle.ig_forest_reader.specs.Shown.{IsBegunItem, ShowsItem}
 use Rattle.ig_forest_reader.proofs.Composing.{read_ok, failed_on, no_ok}

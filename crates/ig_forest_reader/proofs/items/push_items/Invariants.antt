@@ -1,6 +1,6 @@
 use Rattle.std.proofs.Common.{List}
 use Rattle.ig_item.specs.declared.core_grammar.Nonterminal.{Nonterminal}
-use Rattle.ig_forest_text.specs.ForestText.{item_text}
+use Rattle.ig_show_texts.specs.ForestText.{item_text}
 use Rattle.ig_forest_reader.specs.Runs.{NoItem}
 use Rattle.ig_forest_reader.specs.Shown.{IsBegunItem, IsIndex, Keeps, ShowsItem}
 use Rattle.ig_forest_reader.specs.Written.{TellsNames}

@@ -1,6 +1,6 @@
 use Rattle.std.proofs.Common.{◌∙◌, ◌++◌, List, ap, subst}
 use Rattle.std.specs.Prelude.{flat_map}
-use Rattle.ig_forest_text.specs.ForestText.{entry_text}
+use Rattle.ig_show_texts.specs.ForestText.{entry_text}
 use Rattle.ig_forest_tables.specs.declared.entry.Entry.{Entry}
 use Rattle.ig_forest_reader.specs.Shown.{Added}
 use Rattle.ig_forest_reader.specs.Written.{IsSmallEntry}

@@ -1,8 +1,8 @@
 use Rattle.std.proofs.Common.{◌∷◌, ◌++◌, ◌∙◌, List, ℕ, Some, ap, refl}
 use Rattle.std.specs.Fmt.{decimal}
 use Rattle.ig_text.specs.declared.text.Span.{Span}
-use Rattle.ig_pieces.specs.Listed.{comma_separated}
-use Rattle.ig_pieces.specs.ValueText.{places_text, value_text}
+use Rattle.ig_show_texts.specs.Listed.{comma_separated}
+use Rattle.ig_show_texts.specs.ValueText.{places_text, value_text}
 use Rattle.ig_forest_reader.specs.Written.{square}
 use Rattle.ig_forest_reader.proofs.Composing.{read_ok, failed_on, no_ok, not_ok}
 use Rattle.ig_forest_reader.proofs.Leading.{none_read, some_read, some_is}

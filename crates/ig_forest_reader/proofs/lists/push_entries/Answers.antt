@@ -1,5 +1,5 @@
 use Rattle.std.proofs.Common.{ℕ, List, ◌++◌, ◌+◌, length, sym, subst, arith}
-use Rattle.ig_forest_text.specs.ForestText.{entry_text}
+use Rattle.ig_show_texts.specs.ForestText.{entry_text}
 use Rattle.ig_forest_tables.specs.declared.entry.Entry.{Entry}
 use Rattle.ig_forest_reader.specs.Runs.{NoItem}
 use Rattle.ig_forest_reader.specs.Written.{IsSmallEntry}

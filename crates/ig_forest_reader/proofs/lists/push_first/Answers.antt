@@ -1,6 +1,6 @@
 use Rattle.std.proofs.Common.{◌∷◌, ◌++◌, ◌∙◌, [], ap}
 use Rattle.std.proofs.lemmas.List.{append_assoc}
-use Rattle.ig_pieces.specs.ValueText.{value_text}
+use Rattle.ig_show_texts.specs.ValueText.{value_text}
 use Rattle.ig_forest_reader.proofs.Leading.{none_read, some_read, some_is}
 use Rattle.ig_forest_reader.proofs.ValuesTold.{first_added}
 use Rattle.ig_forest_reader.proofs.ValuesLeft.{stops_others, others}

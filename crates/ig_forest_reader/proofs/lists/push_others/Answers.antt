@@ -1,6 +1,6 @@
 use Rattle.std.proofs.Common.{◌∙◌, ℕ, List, ◌++◌, ◌+◌, length, sym, ap, subst, arith}
 use Rattle.std.specs.Prelude.{codes}
-use Rattle.ig_pieces.specs.ValueText.{value_text}
+use Rattle.ig_show_texts.specs.ValueText.{value_text}
 use Rattle.ig_expr.specs.declared.value.Value.{Value}
 use Rattle.ig_forest_reader.specs.Written.{IsSmall}
 use Rattle.ig_forest_reader.proofs.Leading.{none_read, some_read, some_is}

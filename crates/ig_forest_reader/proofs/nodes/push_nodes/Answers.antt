@@ -1,5 +1,5 @@
 use Rattle.std.proofs.Common.{arith}
-use Rattle.ig_forest_text.specs.ForestText.{node_text}
+use Rattle.ig_show_texts.specs.ForestText.{node_text}
 use Rattle.ig_forest_reader.specs.Runs.{IsChoice}
 use Rattle.ig_forest_reader.specs.Shown.{ShowsNode}
 use Rattle.ig_forest_reader.specs.Written.{IsNodeOf}

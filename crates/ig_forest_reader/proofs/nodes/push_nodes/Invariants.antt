@@ -1,4 +1,4 @@
-use Rattle.ig_forest_text.specs.ForestText.{node_text}
+use Rattle.ig_show_texts.specs.ForestText.{node_text}
 use Rattle.ig_forest_reader.specs.Runs.{IsChoice}
 use Rattle.ig_forest_reader.specs.Shown.{ShowsNode}
 use Rattle.ig_forest_reader.specs.Written.{IsNodeOf}

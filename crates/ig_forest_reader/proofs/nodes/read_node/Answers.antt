@@ -1,7 +1,7 @@
 use Rattle.std.proofs.Common.{◌∙◌, ◌++◌, List, ap, subst}
 use Rattle.std.specs.Prelude.{flat_map}
 use Rattle.ig_forest_tables.specs.declared.entry.Choice.{Choice}
-use Rattle.ig_forest_text.specs.ForestText.{choice_text}
+use Rattle.ig_show_texts.specs.ForestText.{choice_text}
 use Rattle.ig_forest_reader.specs.Shown.{Added}
 use Rattle.ig_forest_reader.specs.Written.{IsTagOf}
 use Rattle.ig_forest_reader.proofs.Composing.{read_ok, failed_on, no_ok}

@@ -1,8 +1,8 @@
 use Rattle.std.proofs.Common.{◌∷◌, ◌++◌, ◌∙◌, List, ℕ, refl, sym, ap}
 use Rattle.std.specs.Prelude.{encode_utf8_all}
 use Rattle.std.specs.Fmt.{decimal}
-use Rattle.ig_pieces.specs.Listed.{comma_separated}
-use Rattle.ig_pieces.specs.ValueText.{value_text}
+use Rattle.ig_show_texts.specs.Listed.{comma_separated}
+use Rattle.ig_show_texts.specs.ValueText.{value_text}
 use Rattle.ig_forest_reader.specs.Written.{round}
 use Rattle.ig_forest_reader.proofs.Composing.{read_ok, failed_on}
 use Rattle.ig_forest_reader.proofs.Leading.{none_read, some_read, some_is}

@@ -1,7 +1,7 @@
 use Rattle.std.proofs.Common.{◌≡◌, sym, subst}
 use Rattle.ig_text.proofs.Booleans.{refuted}
 use Rattle.ig_forest_tables.specs.Forest.{Forest}
-use Rattle.ig_forest_text.specs.ForestText.{forest_text}
+use Rattle.ig_show_texts.specs.ForestText.{forest_text}
 use Rattle.ig_forest_reader.specs.Written.{IsDraftOf}
 use Rattle.ig_forest_reader.proofs.Composing.{read_ok, not_ok, refused_on}
 use Rattle.ig_forest_reader.proofs.Whole.{draft_read, draft_of_read, no_forest_read}

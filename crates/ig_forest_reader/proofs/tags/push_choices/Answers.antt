@@ -1,5 +1,5 @@
 use Rattle.std.proofs.Common.{ℕ, List, ◌++◌, ◌+◌, length, sym, subst, arith}
-use Rattle.ig_forest_text.specs.ForestText.{choice_text}
+use Rattle.ig_show_texts.specs.ForestText.{choice_text}
 use Rattle.ig_forest_tables.specs.declared.entry.Choice.{Choice}
 use Rattle.ig_forest_reader.specs.Runs.{IsChoice}
 use Rattle.ig_forest_reader.specs.Written.{IsTagOf}

@@ -1,7 +1,7 @@
 use Rattle.std.proofs.Common.{◌≡◌, ℕ, List, ◌++◌, length}
 use Rattle.std.specs.Prelude.{flat_map}
 use Rattle.std.specs.List.{AllByRecursion}
-use Rattle.ig_forest_text.specs.ForestText.{choice_text}
+use Rattle.ig_show_texts.specs.ForestText.{choice_text}
 use Rattle.ig_forest_tables.specs.declared.entry.Choice.{Choice}
 use Rattle.ig_forest_reader.specs.Runs.{Stops, IsChoice}
 use Rattle.ig_forest_reader.specs.Shown.{Added}

@@ -1,7 +1,7 @@
 use Rattle.std.proofs.Common.{◌∷◌, ◌++◌, ◌∙◌, sym}
 use Rattle.std.specs.Fmt.{decimal}
 use Rattle.std.proofs.lemmas.Option.{same_Some}
-use Rattle.ig_pieces.specs.TagText.{tag_text}
+use Rattle.ig_show_texts.specs.TagText.{tag_text}
 use Rattle.ig_forest_reader.proofs.Leading.{none_read, some_read, some_is}
 use Rattle.ig_forest_reader.proofs.Spelled.{choice_spelled}
 use Rattle.ig_forest_reader.proofs.TellingLines.{choice_joined, name_plain, same_choice, stops_plain, tag_plain}

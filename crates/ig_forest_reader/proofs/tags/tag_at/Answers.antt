@@ -1,7 +1,7 @@
 use Rattle.std.proofs.Common.{◌∙◌, Some, sym, ap}
 use Rattle.std.proofs.lemmas.Option.{none-some}
 use Rattle.ig_text.proofs.Booleans.{refuted}
-use Rattle.ig_pieces.specs.TagText.{tag_text}
+use Rattle.ig_show_texts.specs.TagText.{tag_text}
 use Rattle.ig_forest_reader.proofs.TagsTold.{tag_there, no_tag, same_tag}
 use Rattle.ig_forest_reader.proofs.tags.tag_at.Goals as goal
 

@@ -2,7 +2,7 @@ use Rattle.std.proofs.Common.{◌∙◌, sym, ap, arith}
 use Rattle.std.specs.Prelude.{option_map}
 use Rattle.std.proofs.lemmas.Option.{none-some}
 use Rattle.ig_item.specs.declared.core_grammar.Nonterminal.{Nonterminal}
-use Rattle.ig_pieces.specs.TagText.{tag_text}
+use Rattle.ig_show_texts.specs.TagText.{tag_text}
 use Rattle.ig_forest_reader.proofs.Leading.{some_is}
 use Rattle.ig_forest_reader.proofs.TagsTold.{name_is, tag_is, none_more, none_has}
 use Rattle.ig_forest_reader.proofs.tags.tag_of.Goals as goal

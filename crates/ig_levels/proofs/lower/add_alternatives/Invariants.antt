@@ -1,7 +1,7 @@
 use Rattle.std.proofs.Common.{◌≡◌, ◌++◌, map, take}
-use Rattle.ig_levels_laws.specs.Levels.{lowered_alternative}
+use Rattle.ig_levels.specs.Levels.{lowered_alternative}
 use Rattle.ig_levels.specs.Numbered.{numbered}
-use Rattle.ig_operands.specs.Tables.{levelled_by}
+use Rattle.ig_levels.specs.Tables.{levelled_by}
 use Rattle.ig_levels.proofs.lower.add_alternatives.Given as goal
 
 abbrev pub invariant-loop-alternative : goal.invariant-loop-alternative

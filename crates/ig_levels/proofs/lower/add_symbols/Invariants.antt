@@ -1,8 +1,8 @@
 use Rattle.std.proofs.Common.{◌≡◌, ◌++◌, map, true, length}
 use Rattle.ig_grammar.specs.View.{symbol_of}
-use Rattle.ig_levels_laws.specs.Levels.{lowered}
-use Rattle.ig_operands.specs.Roles.{place_of}
-use Rattle.ig_operands.specs.Tables.{levelled_by}
+use Rattle.ig_levels.specs.Levels.{lowered}
+use Rattle.ig_levels.specs.Roles.{place_of}
+use Rattle.ig_levels.specs.Tables.{levelled_by}
 use Rattle.ig_levels.proofs.lower.add_symbols.Given as goal
 
 abbrev pub invariant-loop-rest : goal.invariant-loop-rest

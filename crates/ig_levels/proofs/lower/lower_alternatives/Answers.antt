@@ -1,6 +1,6 @@
 use Rattle.std.proofs.Common.{◌∙◌}
-use Rattle.ig_levels_laws.specs.Levels.{lowered_alternative}
-use Rattle.ig_operands.specs.Tables.{levelled_by}
+use Rattle.ig_levels.specs.Levels.{lowered_alternative}
+use Rattle.ig_levels.specs.Tables.{levelled_by}
 use Rattle.ig_levels.proofs.Written.{level_added}
 use Rattle.ig_levels.proofs.lower.lower_alternatives.Goals as goal
 

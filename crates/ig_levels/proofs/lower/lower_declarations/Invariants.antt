@@ -1,6 +1,6 @@
 use Rattle.std.proofs.Common.{◌≡◌, map, take}
-use Rattle.ig_levels_laws.specs.Levels.{lowered_declaration}
-use Rattle.ig_operands.specs.Tables.{levelled_by}
+use Rattle.ig_levels.specs.Levels.{lowered_declaration}
+use Rattle.ig_levels.specs.Tables.{levelled_by}
 use Rattle.ig_levels.proofs.lower.lower_declarations.Given as goal
 
 abbrev pub invariant-loop-decl : goal.invariant-loop-decl

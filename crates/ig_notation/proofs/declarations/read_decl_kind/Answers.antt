@@ -1,7 +1,7 @@
 use Rattle.std.proofs.Common.{rules, refl}
-use Rattle.ig_syntax.specs.Rules as rule
-use Rattle.ig_readers.specs.Readers.{at_token}
-use Rattle.ig_readers.specs.Steps.{found_at}
+use Rattle.ig_notation_syntax.specs.Rules as rule
+use Rattle.ig_notation_terms.specs.Readers.{at_token}
+use Rattle.ig_notation_terms.specs.Steps.{found_at}
 use Rattle.ig_notation.proofs.declarations.read_decl_kind.Goals as goal
 
 pub returns-in-Syntax-clause-ok : goal.returns-in-Syntax-clause-ok

@@ -1,4 +1,4 @@
-use Rattle.ig_readers.specs.Steps.{exits}
+use Rattle.ig_notation_terms.specs.Steps.{exits}
 use Rattle.ig_notation.proofs.DeclarationParts.{heading_stops, behind_heading, equals_missed, levels_stop, semicolon_missed, declaration}
 use Rattle.ig_notation.proofs.declarations.read_declaration.Goals as goal
 

@@ -1,5 +1,5 @@
 use Rattle.std.proofs.Common.{arith}
-use Rattle.ig_readers.specs.Steps.{exits}
+use Rattle.ig_notation_terms.specs.Steps.{exits}
 use Rattle.ig_notation.proofs.DeclarationParts.{declaration_fails, one_declared, all_declared}
 use Rattle.ig_notation.proofs.declarations.read_declarations.Goals as goal
 

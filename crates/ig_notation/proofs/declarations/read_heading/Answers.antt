@@ -1,8 +1,8 @@
 use Rattle.std.proofs.Common.{rules, refl, ◌++◌, [], ◌∷◌}
-use Rattle.ig_rules.specs.Machine as want
-use Rattle.ig_rules.specs.Machine.{parameters_wants}
-use Rattle.ig_readers.specs.Readers.{at_token}
-use Rattle.ig_readers.specs.Steps.{stands_as, stops_here, stop_end, stop_token, exits}
+use Rattle.ig_notation_syntax.specs.Machine as want
+use Rattle.ig_notation_syntax.specs.Machine.{parameters_wants}
+use Rattle.ig_notation_terms.specs.Readers.{at_token}
+use Rattle.ig_notation_terms.specs.Steps.{stands_as, stops_here, stop_end, stop_token, exits}
 use Rattle.ig_notation.proofs.DeclarationParts.{bare_heading, heading}
 use Rattle.ig_notation.proofs.declarations.read_heading.Goals as goal
 

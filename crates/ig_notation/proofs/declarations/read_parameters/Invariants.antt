@@ -1,9 +1,9 @@
 use Rattle.std.proofs.Common.{◌-◌, List, length}
-use Rattle.ig_syntax.specs.Rules.{ReadsParameters}
+use Rattle.ig_notation_syntax.specs.Rules.{ReadsParameters}
 use Rattle.ig_grammar.specs.declared.declaration.Param.{Param}
-use Rattle.ig_rules.specs.Machine.{parameters_wants}
-use Rattle.ig_rules.specs.Reading.{Goes}
-use Rattle.ig_readers.specs.Readers.{Front}
+use Rattle.ig_notation_syntax.specs.Machine.{parameters_wants}
+use Rattle.ig_notation_syntax.specs.Reading.{Goes}
+use Rattle.ig_notation_terms.specs.Readers.{Front}
 use Rattle.ig_notation.proofs.declarations.read_parameters.Given as goal
 
 -- what is read so far is the front of the parameters

@@ -1,7 +1,7 @@
 use Rattle.std.proofs.Common.{◌≡◌, Contains, refl, sym, subst}
 use Rattle.std.proofs.lemmas.List.Elements.{Contains-append_left}
 use Rattle.ig_text.proofs.Lists.{contains_from_at}
-use Rattle.ig_tables.specs.Returned.{entry}
+use Rattle.ig_run_tables.specs.Returned.{entry}
 use Rattle.ig_plain.specs.Found.{means, found_in, later_in}
 use Rattle.ig_plain.proofs.Growth.{grows_not}
 use Rattle.ig_plain.proofs.Extending.{extends_itself}

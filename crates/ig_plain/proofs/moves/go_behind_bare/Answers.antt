@@ -2,7 +2,7 @@ use Rattle.std.proofs.Common.{[], refl, ap}
 use Rattle.std.specs.Prelude.{None}
 use Rattle.ig_item.specs.Items.{Item}
 use Rattle.ig_item.specs.declared.ways.Way.TheVariants.{Node}
-use Rattle.ig_moves.specs.Rules.{IsPastCall}
+use Rattle.ig_run_moves.specs.Rules.{IsPastCall}
 use Rattle.ig_plain.proofs.Additions.{adds_exit}
 use Rattle.ig_plain.proofs.Behind.{named_behind, node_behind, it_is_behind, adds_behind, records_behind}
 use Rattle.ig_plain.proofs.Extending.{extends_itself}

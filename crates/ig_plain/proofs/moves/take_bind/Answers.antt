@@ -2,7 +2,7 @@ use Rattle.std.proofs.Common.{refl, ap}
 use Rattle.ig_expr.specs.View.{expression_of}
 use Rattle.ig_item.specs.Items.{Item}
 use Rattle.ig_item.specs.declared.ways.Way.TheVariants.{Pass}
-use Rattle.ig_moves.specs.Rules.{IsBehindBind}
+use Rattle.ig_run_moves.specs.Rules.{IsBehindBind}
 use Rattle.ig_plain.proofs.Additions.{adds_exit}
 use Rattle.ig_plain.proofs.Behind.{named_behind, new_behind, it_is_behind, adds_none_behind, records_none_behind, adds_behind, records_behind}
 use Rattle.ig_plain.proofs.Growth.{grows_not}

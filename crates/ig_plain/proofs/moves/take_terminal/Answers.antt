@@ -3,7 +3,7 @@ use Rattle.std.proofs.lemmas.Result.{on_ok_weaker}
 use Rattle.ig_text.proofs.Matching.{match_goes}
 use Rattle.ig_item.specs.Items.{Item}
 use Rattle.ig_item.specs.declared.ways.Way.TheVariants.{Leaf}
-use Rattle.ig_moves.specs.Rules.{IsBehind}
+use Rattle.ig_run_moves.specs.Rules.{IsBehind}
 use Rattle.ig_plain.specs.Found as found
 use Rattle.ig_plain.specs.Trail as trails
 use Rattle.ig_plain.proofs.Additions.{adds_exit}

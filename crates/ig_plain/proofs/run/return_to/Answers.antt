@@ -6,7 +6,7 @@ use Rattle.ig_item.specs.View.{step_of}
 use Rattle.ig_item.specs.Items.{MatchesNone, StandsBefore}
 use Rattle.ig_item.specs.declared.ways.Way.TheVariants.{Node}
 use Rattle.ig_plain.specs.Found.{Adds, means}
-use Rattle.ig_moves.specs.Rules.{IsPastCall}
+use Rattle.ig_run_moves.specs.Rules.{IsPastCall}
 use Rattle.ig_plain.specs.Trail.{By, Records}
 use Rattle.ig_plain.proofs.Additions.{adds_stops}
 use Rattle.ig_plain.proofs.Returns.{into_return, return_alike, records_return, step_is}

@@ -1,6 +1,6 @@
 use Rattle.std.proofs.Common.{sym, subst, ap, ◌∙◌}
 use Rattle.ig_text.proofs.Lists.{contains_from_at}
-use Rattle.ig_moves.specs.Rules.{step_at}
+use Rattle.ig_run_moves.specs.Rules.{step_at}
 use Rattle.ig_plain.specs.Found.{means}
 use Rattle.ig_plain.specs.Run.{IsRun}
 use Rattle.ig_plain.specs.Trail.{HasTrail}

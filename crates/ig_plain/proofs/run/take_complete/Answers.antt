@@ -1,7 +1,7 @@
 use Rattle.std.proofs.Common.{refl, sym, ap, ◌∙◌, subst, length, arith}
 use Rattle.std.proofs.lemmas.List.{length-set}
 use Rattle.std.specs.Prelude.{OnOk}
-use Rattle.ig_calls.specs.Waiting.{called_at}
+use Rattle.ig_run_moves.specs.Waiting.{called_at}
 use Rattle.ig_plain.specs.Run.{IsChainOf, IsReturnToOne}
 use Rattle.ig_plain.specs.Found.{Adds, means}
 use Rattle.ig_plain.specs.Trail.{Records, AreKnown, IsReturnBy}

@@ -5,8 +5,8 @@ use Rattle.ig_expr.specs.View.{expression_of}
 use Rattle.ig_item.specs.View.{step_of}
 use Rattle.ig_item.specs.Step.{Term}
 use Rattle.ig_item.specs.Items.{StandsBefore}
-use Rattle.ig_steps.specs.Compiled.{form_of, expressions_of}
-use Rattle.ig_moves.specs.Rules.{IsBehind, IsBehindTest, IsBehindBind}
+use Rattle.ig_run_tables.specs.Compiled.{form_of, expressions_of}
+use Rattle.ig_run_moves.specs.Rules.{IsBehind, IsBehindTest, IsBehindBind}
 use Rattle.ig_plain.specs.Found.{means, AddsTerminal}
 use Rattle.ig_plain.specs.Trail.{RecordsTerminal, Unfound}
 use Rattle.ig_plain.proofs.Completes.{run_at}

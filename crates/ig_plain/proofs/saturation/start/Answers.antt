@@ -2,7 +2,7 @@ use Rattle.std.proofs.Common.{[], ◌∷◌, ◌++◌, refl, ap, ◌∙◌, Some
 use Rattle.std.proofs.lemmas.Option.{slice_get_within}
 use Rattle.std.proofs.lemmas.Result.{on_ok_weaker}
 use Rattle.ig_item.specs.Tables.{instance_by}
-use Rattle.ig_calls.specs.Waiting.{not_called}
+use Rattle.ig_run_moves.specs.Waiting.{not_called}
 use Rattle.ig_plain.proofs.Starts.{starts, alone}
 use Rattle.ig_plain.proofs.Starting.{none_unfound, starts_on}
 use Rattle.ig_plain.proofs.Naming.{entered, wider}

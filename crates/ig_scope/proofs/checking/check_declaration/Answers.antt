@@ -1,6 +1,6 @@
 use Rattle.std.proofs.Common.{◌≡◌, ℕ, ◌+◌, ◌-◌, Some, slice_get, subst, arith}
-use Rattle.ig_conditions.specs.Causes.{Tells}
-use Rattle.ig_conditions.specs.AtHeads.{HeadHas}
+use Rattle.ig_scope.specs.Causes.{Tells}
+use Rattle.ig_scope.specs.AtHeads.{HeadHas}
 use Rattle.ig_scope.proofs.Checks.{few_parameters, declaration_told}
 use Rattle.ig_scope.proofs.checking.check_declaration.Goals as goal
 

@@ -1,7 +1,7 @@
 use Rattle.std.proofs.Common.{◌≡◌, ◌+◌, ◌∙◌, ℕ, ap, sym, subst, cond, take, ◌||◌, Err}
 use Rattle.ig_grammar.specs.WellScoped.{DeclarationHas}
-use Rattle.ig_conditions.specs.Causes.{NoneHolds}
-use Rattle.ig_conditions.specs.Heads.{count_names, have_layout}
+use Rattle.ig_scope.specs.Causes.{NoneHolds}
+use Rattle.ig_scope.specs.Heads.{count_names, have_layout}
 use Rattle.ig_scope.specs.Told.{AreFree, TellsDeclaration, TellsDeclarations}
 use Rattle.ig_scope.proofs.Checks.{free_more, declarations_stopped, named_more, layout_more}
 use Rattle.ig_scope.proofs.checking.check_declarations.Goals as goal

@@ -1,5 +1,5 @@
 use Rattle.std.proofs.Common.{◌≡◌, take}
-use Rattle.ig_conditions.specs.Heads.{count_names, have_layout}
+use Rattle.ig_scope.specs.Heads.{count_names, have_layout}
 use Rattle.ig_scope.specs.Told.{AreFree}
 use Rattle.ig_scope.proofs.checking.check_declarations.Given as goal
 

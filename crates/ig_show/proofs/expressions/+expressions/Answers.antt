@@ -1,11 +1,11 @@
 use Rattle.std.proofs.Common.{◌∷◌, refl}
 use Rattle.std.specs.Prelude.{codes}
 use Rattle.std.specs.Str.{chars}
-use Rattle.ig_syntax.specs.Token as sign
-use Rattle.ig_syntax.specs.Token.{Name, Head, Comma, Open, Close}
-use Rattle.ig_spelling.specs.Pieces.{token, blank}
+use Rattle.ig_notation_syntax.specs.Token as sign
+use Rattle.ig_notation_syntax.specs.Token.{Name, Head, Comma, Open, Close}
+use Rattle.ig_show.specs.Pieces.{token, blank}
 use Rattle.ig_show.specs.CanonicalText.{expression_pieces}
-use Rattle.ig_spelling.specs.Steps.{if_ok, adds, says}
+use Rattle.ig_show.specs.Steps.{if_ok, adds, says}
 use Rattle.ig_show.proofs.Steps.{says_before, adds_before, shown_as}
 use Rattle.ig_show.proofs.expressions.+expressions.Goals as goal
 

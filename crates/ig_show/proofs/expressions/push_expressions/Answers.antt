@@ -3,9 +3,9 @@ use Rattle.ig_show.specs.CanonicalText.{expression_pieces, separated, joined, co
 use Rattle.std.proofs.Common.{◌∷◌, refl, map, sym, subst}
 use Rattle.std.specs.Prelude.{string_bytes}
 use Rattle.std.specs.Str.{chars}
-use Rattle.ig_syntax.specs.Token.{Comma}
-use Rattle.ig_spelling.specs.Pieces.{token, blank}
-use Rattle.ig_spelling.specs.Steps.{adds, says}
+use Rattle.ig_notation_syntax.specs.Token.{Comma}
+use Rattle.ig_show.specs.Pieces.{token, blank}
+use Rattle.ig_show.specs.Steps.{adds, says}
 use Rattle.ig_show.proofs.Steps.{Ahead, first_written, less_ahead, none_ahead}
 use Rattle.ig_show.proofs.expressions.push_expressions.Goals as goal
 

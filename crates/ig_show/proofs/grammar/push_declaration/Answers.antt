@@ -1,10 +1,10 @@
 use Rattle.ig_show.specs.CanonicalText.{head_pieces, levels_pieces}
 use Rattle.std.proofs.Common.{◌∷◌, refl}
 use Rattle.std.specs.Str.{chars}
-use Rattle.ig_syntax.specs.Token as sign
-use Rattle.ig_syntax.specs.Token.{Name, Head, Comma, Open, Close}
-use Rattle.ig_spelling.specs.Pieces.{token, blank, line_end}
-use Rattle.ig_spelling.specs.Steps.{if_ok, adds, says}
+use Rattle.ig_notation_syntax.specs.Token as sign
+use Rattle.ig_notation_syntax.specs.Token.{Name, Head, Comma, Open, Close}
+use Rattle.ig_show.specs.Pieces.{token, blank, line_end}
+use Rattle.ig_show.specs.Steps.{if_ok, adds, says}
 use Rattle.ig_show.proofs.Steps.{shown_as}
 use Rattle.ig_show.proofs.grammar.push_declaration.Goals as goal
 

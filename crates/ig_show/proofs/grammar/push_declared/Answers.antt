@@ -1,10 +1,10 @@
 use Rattle.std.proofs.Common.{◌∷◌, refl, sym, subst, ◌∙◌}
 use Rattle.std.specs.Prelude.{string_bytes}
 use Rattle.std.specs.Str.{chars}
-use Rattle.ig_syntax.specs.Token.{Close}
-use Rattle.ig_spelling.specs.Pieces.{token}
-use Rattle.ig_spelling.specs.Writing.{Adds}
-use Rattle.ig_spelling.specs.Steps.{if_ok, adds, says}
+use Rattle.ig_notation_syntax.specs.Token.{Close}
+use Rattle.ig_show.specs.Pieces.{token}
+use Rattle.ig_show.specs.Appending.{Adds}
+use Rattle.ig_show.specs.Steps.{if_ok, adds, says}
 use Rattle.ig_show.proofs.Steps.{head_shown}
 use Rattle.ig_show.proofs.grammar.push_declared.Goals as goal
 

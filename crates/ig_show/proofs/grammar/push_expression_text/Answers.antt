@@ -1,7 +1,7 @@
 use Rattle.std.proofs.lemmas.Str.{IsUtf8-string_bytes}
 use Rattle.ig_expr.specs.View.{expression_of}
 use Rattle.ig_show.specs.CanonicalText.{expression_pieces}
-use Rattle.ig_spelling.specs.Steps.{if_ok}
+use Rattle.ig_show.specs.Steps.{if_ok}
 use Rattle.ig_show.proofs.Bytes.{added_bytes}
 use Rattle.ig_show.proofs.grammar.push_expression_text.Goals as goal
 

@@ -1,5 +1,5 @@
 use Rattle.std.specs.Str.{chars}
-use Rattle.ig_spelling.specs.Steps.{if_ok, adds}
+use Rattle.ig_show.specs.Steps.{if_ok, adds}
 use Rattle.ig_show.proofs.grammar.push_level.Goals as goal
 
 pub returns : goal.returns

@@ -2,10 +2,10 @@ use Rattle.ig_show.specs.CanonicalText.{level_pieces, levels_pieces, separated}
 use Rattle.std.proofs.Common.{◌∷◌, [], refl, sym, subst}
 use Rattle.std.specs.Prelude.{string_bytes}
 use Rattle.std.specs.Str.{chars}
-use Rattle.ig_syntax.specs.Token as sign
-use Rattle.ig_syntax.specs.Token.{Name, Head, Comma, Open, Close}
-use Rattle.ig_spelling.specs.Pieces.{token, blank}
-use Rattle.ig_spelling.specs.Steps.{adds}
+use Rattle.ig_notation_syntax.specs.Token as sign
+use Rattle.ig_notation_syntax.specs.Token.{Name, Head, Comma, Open, Close}
+use Rattle.ig_show.specs.Pieces.{token, blank}
+use Rattle.ig_show.specs.Steps.{adds}
 use Rattle.ig_show.proofs.Steps.{Ahead, first_written, less_ahead, none_ahead}
 use Rattle.ig_show.proofs.grammar.push_levels.Goals as goal
 

@@ -1,5 +1,5 @@
-use Rattle.ig_syntax.specs.Token as sign
-use Rattle.ig_spelling.specs.Pieces.{token, blank}
+use Rattle.ig_notation_syntax.specs.Token as sign
+use Rattle.ig_show.specs.Pieces.{token, blank}
 use Rattle.ig_show.specs.CanonicalText.{level_pieces, levels_pieces, separated}
 use Rattle.std.proofs.Common.{drop, [], ◌∷◌}
 use Rattle.std.specs.Prelude.{string_bytes}

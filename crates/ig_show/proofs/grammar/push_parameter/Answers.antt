@@ -1,4 +1,4 @@
-use Rattle.ig_spelling.specs.Steps.{if_ok, adds}
+use Rattle.ig_show.specs.Steps.{if_ok, adds}
 use Rattle.ig_show.proofs.grammar.push_parameter.Goals as goal
 
 pub returns : goal.returns

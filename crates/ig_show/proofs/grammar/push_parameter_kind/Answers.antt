@@ -1,8 +1,8 @@
 use Rattle.std.proofs.Common.{◌∷◌, refl}
 use Rattle.std.specs.Str.{chars}
-use Rattle.ig_syntax.specs.Token as sign
-use Rattle.ig_spelling.specs.Pieces.{token, blank}
-use Rattle.ig_spelling.specs.Steps.{if_ok, says}
+use Rattle.ig_notation_syntax.specs.Token as sign
+use Rattle.ig_show.specs.Pieces.{token, blank}
+use Rattle.ig_show.specs.Steps.{if_ok, says}
 use Rattle.ig_show.proofs.grammar.push_parameter_kind.Goals as goal
 
 pub returns-in-Int : goal.returns-in-Int

@@ -2,9 +2,9 @@ use Rattle.ig_show.specs.CanonicalText.{parameter_pieces, separated, joined, com
 use Rattle.std.proofs.Common.{◌∷◌, refl, sym, subst}
 use Rattle.std.specs.Prelude.{string_bytes}
 use Rattle.std.specs.Str.{chars}
-use Rattle.ig_syntax.specs.Token.{Comma}
-use Rattle.ig_spelling.specs.Pieces.{token, blank}
-use Rattle.ig_spelling.specs.Steps.{adds, says}
+use Rattle.ig_notation_syntax.specs.Token.{Comma}
+use Rattle.ig_show.specs.Pieces.{token, blank}
+use Rattle.ig_show.specs.Steps.{adds, says}
 use Rattle.ig_show.proofs.Steps.{Ahead, first_written, less_ahead, none_ahead}
 use Rattle.ig_show.proofs.grammar.push_parameters.Goals as goal
 

@@ -1,8 +1,8 @@
 use Rattle.std.proofs.Common.{◌∷◌}
 use Rattle.std.proofs.lemmas.Str.{IsUtf8-string_bytes}
-use Rattle.ig_spelling.specs.Pieces.{token}
-use Rattle.ig_spelling.specs.Signs.{pattern_token}
-use Rattle.ig_spelling.specs.Steps.{if_ok}
+use Rattle.ig_show.specs.Pieces.{token}
+use Rattle.ig_show.specs.Signs.{pattern_token}
+use Rattle.ig_show.specs.Steps.{if_ok}
 use Rattle.ig_show.proofs.Bytes.{added_bytes}
 use Rattle.ig_show.proofs.grammar.push_pattern_text.Goals as goal
 

@@ -1,8 +1,8 @@
 use Rattle.std.proofs.Common.{◌∷◌, refl}
 use Rattle.std.specs.Str.{chars}
-use Rattle.ig_syntax.specs.Token.{Semicolon, Start}
-use Rattle.ig_spelling.specs.Pieces.{token, blank, line_end}
-use Rattle.ig_spelling.specs.Steps.{if_ok, adds, says}
+use Rattle.ig_notation_syntax.specs.Token.{Semicolon, Start}
+use Rattle.ig_show.specs.Pieces.{token, blank, line_end}
+use Rattle.ig_show.specs.Steps.{if_ok, adds, says}
 use Rattle.ig_show.proofs.grammar.push_start_line.Goals as goal
 
 pub returns : goal.returns

@@ -1,7 +1,7 @@
 use Rattle.std.proofs.Common.{[]}
 use Rattle.std.proofs.lemmas.Str.{IsUtf8-string_bytes}
 use Rattle.ig_show.specs.CanonicalText.{separated, declaration_pieces}
-use Rattle.ig_spelling.specs.Steps.{adds}
+use Rattle.ig_show.specs.Steps.{adds}
 use Rattle.ig_show.proofs.Steps.{written, shown_as}
 use Rattle.ig_show.proofs.grammar.show_grammar.Goals as goal
 

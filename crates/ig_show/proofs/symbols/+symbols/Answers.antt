@@ -1,16 +1,16 @@
 use Rattle.std.proofs.Common.{◌∷◌, [], refl, map, arith, sym, subst}
 use Rattle.std.specs.Prelude.{string_bytes}
 use Rattle.std.specs.Str.{chars}
-use Rattle.ig_syntax.specs.Token as sign
-use Rattle.ig_syntax.specs.Token.{Name, Head, Comma, Open, Close}
+use Rattle.ig_notation_syntax.specs.Token as sign
+use Rattle.ig_notation_syntax.specs.Token.{Name, Head, Comma, Open, Close}
 use Rattle.ig_grammar.specs.Symbol.{gathered}
 use Rattle.ig_grammar.specs.Alternative.{gathered_alternatives}
 use Rattle.ig_grammar.specs.CodingFalls.{symbol_falls, alternative_falls}
 use Rattle.ig_grammar.specs.View.{symbol_of}
-use Rattle.ig_spelling.specs.Pieces.{token, blank}
+use Rattle.ig_show.specs.Pieces.{token, blank}
 use Rattle.ig_show.specs.CanonicalText.{symbol_pieces, alternative_pieces, further_symbols, alternatives_pieces, further_alternatives, separated, filter_pieces, bindings_pieces}
 use Rattle.ig_show.proofs.Falling.{other_symbol, other_alternative}
-use Rattle.ig_spelling.specs.Steps.{if_ok, adds, says}
+use Rattle.ig_show.specs.Steps.{if_ok, adds, says}
 use Rattle.ig_show.proofs.Steps.{says_behind, says_before, adds_behind, adds_before, shown_as, Ahead, first_written, less_ahead, none_ahead}
 use Rattle.ig_show.proofs.symbols.+symbols.Goals as goal
 

@@ -2,8 +2,8 @@ use Rattle.ig_grammar.specs.Binding.{binding_of}
 use Rattle.ig_show.specs.CanonicalText.{bindings_pieces}
 use Rattle.std.proofs.Common.{◌∷◌, refl, map}
 use Rattle.std.specs.Str.{chars}
-use Rattle.ig_spelling.specs.Pieces.{blank}
-use Rattle.ig_spelling.specs.Steps.{adds, says}
+use Rattle.ig_show.specs.Pieces.{blank}
+use Rattle.ig_show.specs.Steps.{adds, says}
 use Rattle.ig_show.proofs.Steps.{all_ahead, less_ahead, none_ahead}
 use Rattle.ig_show.proofs.symbols.push_bindings.Goals as goal
 

@@ -1,7 +1,7 @@
 use Rattle.std.proofs.Common.{◌∷◌}
-use Rattle.ig_spelling.specs.Pieces.{token}
-use Rattle.ig_spelling.specs.Signs.{pattern_token}
-use Rattle.ig_spelling.specs.Steps.{if_ok, adds}
+use Rattle.ig_show.specs.Pieces.{token}
+use Rattle.ig_show.specs.Signs.{pattern_token}
+use Rattle.ig_show.specs.Steps.{if_ok, adds}
 use Rattle.ig_show.proofs.Steps.{shown_as}
 use Rattle.ig_show.proofs.symbols.push_filter.Goals as goal
 

@@ -1,8 +1,8 @@
 use Rattle.ig_show.specs.CanonicalText.{filter_pieces, separated}
 use Rattle.std.proofs.Common.{◌∷◌, [], refl}
 use Rattle.std.specs.Str.{chars}
-use Rattle.ig_spelling.specs.Pieces.{blank}
-use Rattle.ig_spelling.specs.Steps.{adds, says}
+use Rattle.ig_show.specs.Pieces.{blank}
+use Rattle.ig_show.specs.Steps.{adds, says}
 use Rattle.ig_show.proofs.Steps.{all_ahead, less_ahead, none_ahead}
 use Rattle.ig_show.proofs.symbols.push_filters.Goals as goal
 

@@ -1,5 +1,5 @@
 use Rattle.ig_show.specs.CanonicalText.{filter_pieces, separated}
-use Rattle.ig_spelling.specs.Pieces.{blank}
+use Rattle.ig_show.specs.Pieces.{blank}
 use Rattle.std.proofs.Common.{drop, [], ◌∷◌}
 use Rattle.std.specs.Prelude.{string_bytes}
 use Rattle.ig_show.proofs.Steps.{Ahead}

@@ -1,9 +1,9 @@
 use Rattle.std.proofs.Common.{◌∷◌, refl}
 use Rattle.std.specs.Str.{chars}
-use Rattle.ig_syntax.specs.Token as sign
-use Rattle.ig_syntax.specs.Token.{Name, Head, Comma, Open, Close}
-use Rattle.ig_spelling.specs.Pieces.{token, blank}
-use Rattle.ig_spelling.specs.Steps.{if_ok, adds, says}
+use Rattle.ig_notation_syntax.specs.Token as sign
+use Rattle.ig_notation_syntax.specs.Token.{Name, Head, Comma, Open, Close}
+use Rattle.ig_show.specs.Pieces.{token, blank}
+use Rattle.ig_show.specs.Steps.{if_ok, adds, says}
 use Rattle.ig_show.proofs.symbols.push_guard.Goals as goal
 
 pub returns : goal.returns

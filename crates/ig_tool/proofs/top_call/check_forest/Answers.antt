@@ -1,6 +1,6 @@
 use Rattle.std.proofs.Common.{subst, sym}
 use Rattle.ig_text.proofs.Options.{passed_on}
-use Rattle.ig_endings.specs.Change.{change}
+use Rattle.ig_command_endings.specs.Change.{change}
 use Rattle.ig_tool.specs.Decisions.{RunsCheck}
 use Rattle.ig_tool.proofs.top_call.check_forest.Goals as goal
 use Rattle.ig_tool.proofs.Deciding.{checks_at_file, checks_text}

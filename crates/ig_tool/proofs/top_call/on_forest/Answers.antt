@@ -1,6 +1,6 @@
 use Rattle.std.proofs.Common.{[], subst, sym, refl, ◌∙◌}
 use Rattle.ig_text.proofs.Options.{passed_on}
-use Rattle.ig_endings.specs.Change.{change}
+use Rattle.ig_command_endings.specs.Change.{change}
 use Rattle.ig_command.specs.Commands.{stored_source}
 use Rattle.ig_tool.specs.Decisions.{Decides}
 use Rattle.ig_tool.proofs.top_call.on_forest.Goals as goal

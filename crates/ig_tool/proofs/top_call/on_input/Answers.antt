@@ -1,7 +1,7 @@
 use Rattle.std.proofs.Common.{subst, sym, ◌∙◌}
 use Rattle.ig_text.proofs.Options.{passed_on}
-use Rattle.ig_endings.specs.Change.{change}
-use Rattle.ig_jobs.specs.Jobs.{stored_job}
+use Rattle.ig_command_endings.specs.Change.{change}
+use Rattle.ig_command_jobs.specs.Jobs.{stored_job}
 use Rattle.ig_command.specs.Commands.{stored_source}
 use Rattle.ig_tool.specs.Decisions.{Decides}
 use Rattle.ig_tool.proofs.top_call.on_input.Goals as goal

@@ -1,7 +1,7 @@
 use Rattle.std.proofs.Common.{subst, sym}
 use Rattle.ig_text.proofs.Options.{passed_on}
-use Rattle.ig_endings.specs.Change.{change}
-use Rattle.ig_jobs.specs.Jobs.{stored_job}
+use Rattle.ig_command_endings.specs.Change.{change}
+use Rattle.ig_command_jobs.specs.Jobs.{stored_job}
 use Rattle.ig_tool.specs.Decisions.{RunsJob}
 use Rattle.ig_tool.proofs.top_call.run.Goals as goal
 use Rattle.ig_tool.proofs.Deciding.{runs_at_input, runs_parse}

@@ -1,7 +1,7 @@
 use Rattle.std.proofs.Common.{refl}
 use Rattle.std.proofs.lemmas.Option.{slice_get_read}
 use Rattle.ig_expr.specs.View.{expression_of}
-use Rattle.ig_steps.specs.Compiled.{form_of}
+use Rattle.ig_run_tables.specs.Compiled.{form_of}
 use Rattle.ig_verify.proofs.Below.{made_at}
 use Rattle.ig_verify.proofs.steps.have_values.Goals as goal
 

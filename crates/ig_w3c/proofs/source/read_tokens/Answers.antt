@@ -1,10 +1,10 @@
 use Rattle.std.proofs.Common.{sym, subst, ap, ◌∙◌}
 use Rattle.std.proofs.lemmas.Bool.Decides.{not_from_Decides}
-use Rattle.ig_syntax.specs.Rules.{FollowsRules}
-use Rattle.ig_limits.specs.Limits.{IsShallow}
-use Rattle.ig_rules.specs.Machine as own_machine
+use Rattle.ig_notation_syntax.specs.Rules.{FollowsRules}
+use Rattle.ig_notation_terms.specs.Limits.{IsShallow}
+use Rattle.ig_notation_syntax.specs.Machine as own_machine
 use Rattle.ig_notation.specs.Parts.{FailsAt}
-use Rattle.ig_w3c_tokens.specs.View.{meanings}
+use Rattle.ig_w3c_syntax.specs.View.{meanings}
 use Rattle.ig_w3c.specs.Outcome.{IsReadFault, no_memory}
 use Rattle.ig_w3c.proofs.Outcomes.{lent, nesting_fault, rule_fault, is_read, memory_only, out_of_memory}
 use Rattle.ig_w3c.proofs.source.read_tokens.Goals as goal

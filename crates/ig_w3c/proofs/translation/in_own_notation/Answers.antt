@@ -1,6 +1,6 @@
 use Rattle.std.proofs.Common.{refl, ap, subst, sym, ◌∙◌}
-use Rattle.ig_limits.specs.Limits.{meanings as own_meanings, NumbersFit}
-use Rattle.ig_w3c_tokens.specs.View.{meanings}
+use Rattle.ig_notation_terms.specs.Limits.{meanings as own_meanings, NumbersFit}
+use Rattle.ig_w3c_syntax.specs.View.{meanings}
 use Rattle.ig_w3c.proofs.Translated.{put_none, put_more, put_all, own_fits}
 use Rattle.ig_w3c.proofs.translation.in_own_notation.Goals as goal
 

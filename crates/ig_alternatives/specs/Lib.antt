@@ -1,4 +1,0 @@
-pub mod Places
-pub mod Told
-pub mod Firsts
-pub mod Binders

@@ -1,8 +1,0 @@
-pub mod Counted
-pub mod Fetching
-pub mod Stopping
-pub mod Kept
-pub mod Finding
-pub mod Loads
-pub mod Played
-pub mod Running

@@ -1,5 +1,0 @@
-use Rattle.ig_blocks_laws.proofs.Choices.{all_are_gathered}
-use Rattle.ig_blocks_laws.proofs.laws.all_are_gathered.Goals as goal
-
-pub returns : goal.returns
-returns c = all_are_gathered

@@ -1,5 +1,0 @@
-pub mod Allowed
-pub mod Setting
-pub mod Body
-pub mod Blocks
-pub mod Laws

@@ -1,4 +1,0 @@
-use Rattle.ig_calls.proofs.ways.add_further_end.Goals as goal
-
-pub returns : goal.returns
-returns c = c.push_end.ensures.ok

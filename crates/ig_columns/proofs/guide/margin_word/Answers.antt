@@ -1,6 +1,0 @@
-use Rattle.std.proofs.Common.{◌≡◌, IfOk, codes, refl, subst}
-use Rattle.ig_text.proofs.Characters.{ascii_chars}
-use Rattle.ig_columns.proofs.guide.margin_word.Goals as goal
-
-pub returns : goal.returns
-returns c = subst (λ z. IfOk c.new.result (λ w. w ≡ z)) (ascii_chars (codes ".m") refl) c.new.ensures

@@ -1,0 +1,3 @@
+mod Telling
+pub mod Pages
+pub mod Starting

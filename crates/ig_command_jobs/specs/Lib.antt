@@ -1,0 +1,15 @@
+pub mod Jobs
+pub mod Listing
+pub mod Tasks
+pub mod Finishes
+pub mod Outcome
+pub mod Pages
+pub mod Texts
+pub mod Verifying
+pub mod Question
+pub mod Coding
+pub mod Asked
+pub mod ParseJobs
+pub mod Tickets
+pub mod Stages
+pub mod Underway

@@ -1,0 +1,6 @@
+mod Added
+pub mod Written
+pub mod GrammarTexts
+pub mod Loading
+pub mod OfNotation
+pub mod Either

@@ -1,5 +1,0 @@
-use Rattle.ig_core_integers.proofs.InCores.{cores_fit}
-use Rattle.ig_core_integers.proofs.laws.cores_have_small_integers.Goals as goal
-
-pub returns : goal.returns
-returns c = cores_fit c.read_grammars_are_regular.ensures

@@ -1,5 +1,0 @@
-use Rattle.ig_core_laws.proofs.Passes.{trees_permitted}
-use Rattle.ig_core_laws.proofs.laws.core_trees_are_permitted_trees.Goals as goal
-
-pub returns : goal.returns
-returns c = trees_permitted c.trees_without_operators_are_clean.ensures c.passes_keep.ensures

@@ -1,5 +1,0 @@
-use Rattle.ig_core_laws.proofs.Passes.{cores_named}
-use Rattle.ig_core_laws.proofs.laws.cores_are_named.Goals as goal
-
-pub returns : goal.returns
-returns c = cores_named c.passes_keep.ensures

@@ -1,5 +1,0 @@
-use Rattle.ig_core_laws.proofs.RegularCores.{cores_regular}
-use Rattle.ig_core_laws.proofs.laws.cores_are_regular.Goals as goal
-
-pub returns : goal.returns
-returns c = cores_regular c.passes_keep.ensures

@@ -1,5 +1,0 @@
-use Rattle.ig_core_laws.proofs.Noted.{notation_buildable}
-use Rattle.ig_core_laws.proofs.laws.notation_is_buildable.Goals as goal
-
-pub returns : goal.returns
-returns c = notation_buildable c.added_names_are_new.ensures

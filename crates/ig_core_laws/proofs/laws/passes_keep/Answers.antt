@@ -1,5 +1,0 @@
-use Rattle.ig_core_laws.proofs.Passes.{passes_keep}
-use Rattle.ig_core_laws.proofs.laws.passes_keep.Goals as goal
-
-pub returns : goal.returns
-returns c = passes_keep c.passes_in_turn.ensures c.same_trees_is_an_equivalence.ensures

@@ -1,5 +1,0 @@
-use Rattle.ig_core_laws.proofs.Passes.{core_tags}
-use Rattle.ig_core_laws.proofs.laws.tags_rise_in_cores.Goals as goal
-
-pub returns : goal.returns
-returns c = core_tags c.passes_keep.ensures

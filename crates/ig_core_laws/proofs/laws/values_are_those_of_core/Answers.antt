@@ -1,5 +1,0 @@
-use Rattle.ig_core_laws.proofs.Passes.{values_of_core}
-use Rattle.ig_core_laws.proofs.laws.values_are_those_of_core.Goals as goal
-
-pub returns : goal.returns
-returns c = values_of_core c.passes_keep.ensures

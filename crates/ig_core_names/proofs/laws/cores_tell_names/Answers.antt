@@ -1,5 +1,0 @@
-use Rattle.ig_core_names.proofs.Law.{told}
-use Rattle.ig_core_names.proofs.laws.cores_tell_names.Goals as goal
-
-pub returns : goal.returns
-returns c = told c.alternatives_are_few.ensures c.cores_are_named.ensures

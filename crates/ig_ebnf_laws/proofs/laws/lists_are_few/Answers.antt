@@ -1,5 +1,0 @@
-use Rattle.ig_ebnf_laws.proofs.Counting.{all_lists_are_few}
-use Rattle.ig_ebnf_laws.proofs.laws.lists_are_few.Goals as goal
-
-pub returns : goal.returns
-returns c = all_lists_are_few c.counts_by_form.ensures

@@ -1,5 +1,0 @@
-use Rattle.ig_examples.proofs.Rows.{aligned_lists_have_filters}
-use Rattle.ig_examples.proofs.aligned_lists_have_filters.Goals as goal
-
-pub returns : goal.returns
-returns c = aligned_lists_have_filters c.matches_are_known.ensures

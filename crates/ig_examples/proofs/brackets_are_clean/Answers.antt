@@ -1,5 +1,0 @@
-use Rattle.ig_examples.proofs.Rows.{brackets_are_clean}
-use Rattle.ig_examples.proofs.brackets_are_clean.Goals as goal
-
-pub returns : goal.returns
-returns c = brackets_are_clean c.matches_are_known.ensures

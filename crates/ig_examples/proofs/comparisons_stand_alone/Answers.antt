@@ -1,5 +1,0 @@
-use Rattle.ig_examples.proofs.Rows.{comparisons_stand_alone}
-use Rattle.ig_examples.proofs.comparisons_stand_alone.Goals as goal
-
-pub returns : goal.returns
-returns c = comparisons_stand_alone c.matches_are_known.ensures

@@ -1,5 +1,0 @@
-use Rattle.ig_examples.proofs.Rows.{declarations_are_blocks}
-use Rattle.ig_examples.proofs.declarations_are_blocks.Goals as goal
-
-pub returns : goal.returns
-returns c = declarations_are_blocks c.matches_are_known.ensures

@@ -1,5 +1,0 @@
-use Rattle.ig_examples.proofs.Rows.{empty_pairs_are_permitted}
-use Rattle.ig_examples.proofs.empty_pairs_are_permitted.Goals as goal
-
-pub returns : goal.returns
-returns c = empty_pairs_are_permitted c.matches_are_known.ensures

@@ -1,5 +1,0 @@
-use Rattle.ig_examples.proofs.Rows.{keywords_are_excluded}
-use Rattle.ig_examples.proofs.keywords_are_excluded.Goals as goal
-
-pub returns : goal.returns
-returns c = keywords_are_excluded c.matches_are_known.ensures

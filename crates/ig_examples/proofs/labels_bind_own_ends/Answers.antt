@@ -1,5 +1,0 @@
-use Rattle.ig_examples.proofs.Rows.{labels_bind_own_ends}
-use Rattle.ig_examples.proofs.labels_bind_own_ends.Goals as goal
-
-pub returns : goal.returns
-returns c = labels_bind_own_ends c.matches_are_known.ensures

@@ -1,5 +1,0 @@
-use Rattle.ig_examples.proofs.Rows.{levels_bind}
-use Rattle.ig_examples.proofs.levels_bind.Goals as goal
-
-pub returns : goal.returns
-returns c = levels_bind c.matches_are_known.ensures

@@ -1,5 +1,0 @@
-use Rattle.ig_examples.proofs.Rows.{lexical_starts_have_layout}
-use Rattle.ig_examples.proofs.lexical_starts_have_layout.Goals as goal
-
-pub returns : goal.returns
-returns c = lexical_starts_have_layout c.matches_are_known.ensures

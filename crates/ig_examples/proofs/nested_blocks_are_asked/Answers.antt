@@ -1,5 +1,0 @@
-use Rattle.ig_examples.proofs.Rows.{nested_blocks_are_asked}
-use Rattle.ig_examples.proofs.nested_blocks_are_asked.Goals as goal
-
-pub returns : goal.returns
-returns c = nested_blocks_are_asked c.matches_are_known.ensures

@@ -1,5 +1,0 @@
-use Rattle.ig_examples.proofs.Rows.{shapes_give_tags}
-use Rattle.ig_examples.proofs.shapes_give_tags.Goals as goal
-
-pub returns : goal.returns
-returns c = shapes_give_tags c.matches_are_known.ensures

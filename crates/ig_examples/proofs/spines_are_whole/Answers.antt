@@ -1,5 +1,0 @@
-use Rattle.ig_examples.proofs.Rows.{spines_are_whole}
-use Rattle.ig_examples.proofs.spines_are_whole.Goals as goal
-
-pub returns : goal.returns
-returns c = spines_are_whole c.matches_are_known.ensures

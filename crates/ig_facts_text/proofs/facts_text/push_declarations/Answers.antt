@@ -1,9 +1,0 @@
-use Rattle.std.specs.Prelude.{string_bytes}
-use Rattle.ig_facts_text.specs.FactsText.{declaration_text}
-use Rattle.ig_facts_text.proofs.Added.{next_numbered}
-use Rattle.ig_facts_text.proofs.facts_text.push_declarations.Goals as goal
-
-pub loop-before-preserved : goal.loop-before-preserved
-loop-before-preserved c =
-    next_numbered (declaration_text c.args.facts.now) c.args.decls.now c.loop-before.before c.index-decls-before.result
-    (string_bytes c.loop-before.out) c.loop-before-test.true c.index-decls-before.is c.loop-before.invariant c.in_ok-push_declaration.ensures

@@ -1,7 +1,0 @@
-use Rattle.std.proofs.Common.{◌≡◌, ◌++◌, drop, map}
-use Rattle.ig_grammar.specs.Symbol.{Guard}
-use Rattle.ig_lexical_laws.specs.Filters.{afters}
-use Rattle.ig_filters.proofs.filters.add_afters.Given as goal
-
-abbrev pub invariant-loop-filter : goal.invariant-loop-filter
-invariant-loop-filter l = l.symbols ++ map Guard (afters (drop l.filter-index l.filters)) ≡ l.initial.symbols ++ map Guard (afters l.filters)

@@ -1,8 +1,0 @@
-use Rattle.std.proofs.Common.{◌∙◌, ◌++◌, map, ap}
-use Rattle.ig_grammar.specs.Symbol.{Guard}
-use Rattle.ig_lexical_laws.specs.Filters.{befores}
-use Rattle.ig_filters.proofs.filters.guards_before.Goals as goal
-
-pub returns : goal.returns
-returns c =
-    c.in_ok-add_guards.ensures ∙ ap (λ z. z ++ map Guard (befores c.args.filters.now)) c.new-symbols.ensures

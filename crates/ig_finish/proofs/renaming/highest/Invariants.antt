@@ -1,6 +1,0 @@
-use Rattle.std.proofs.Common.{take, Contains, ◌≤◌}
-use Rattle.ig_item.specs.declared.ways.FurtherEnd.{FurtherEnd}
-use Rattle.ig_finish.proofs.renaming.highest.Given as goal
-
-abbrev pub invariant-loop-end : goal.invariant-loop-end
-invariant-loop-end l = (e : FurtherEnd) → Contains (take l.end-index l.ends) e → e.first ≤ l.highest

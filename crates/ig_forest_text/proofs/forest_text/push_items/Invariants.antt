@@ -1,9 +1,0 @@
-use Rattle.std.proofs.Common.{◌≡◌, ◌++◌, drop}
-use Rattle.ig_pieces.specs.Listed.{numbered_texts}
-use Rattle.ig_forest_text.specs.ForestText.{item_text}
-use Rattle.ig_forest_text.proofs.forest_text.push_items.Given as goal
-
-abbrev pub invariant-loop-number : goal.invariant-loop-number
-invariant-loop-number l =
-    l.out.items ++ numbered_texts item_text l.number (drop l.number l.forest.items) ≡
-    l.fn.out.items ++ numbered_texts item_text 0 l.forest.items

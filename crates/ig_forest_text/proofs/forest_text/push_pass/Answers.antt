@@ -1,5 +1,0 @@
-use Rattle.std.proofs.lemmas.Result.{on_ok_weaker}
-use Rattle.ig_forest_text.proofs.forest_text.push_pass.Goals as goal
-
-pub returns : goal.returns
-returns c = on_ok_weaker c.push_to.result (λ written. cc) c.push_to.ensures

@@ -1,3 +1,0 @@
-mod Shuffled
-mod Keeping
-mod Returning

@@ -1,5 +1,0 @@
-pub mod Answering
-pub mod Listings
-pub mod Parsed
-pub mod Tasked
-pub mod Verified

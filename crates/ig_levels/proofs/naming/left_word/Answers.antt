@@ -1,0 +1,6 @@
+use Rattle.std.specs.Str.{chars}
+use Rattle.ig_levels.proofs.naming.left_word.Goals as goal
+
+pub returns : goal.returns
+unfolding chars
+returns c = c.new.ensures

@@ -1,3 +1,0 @@
-pub mod Spines
-pub mod Levels
-pub mod Laws

@@ -1,5 +1,0 @@
-use Rattle.ig_load_grammar.proofs.Permitting.{chains_are_permitted}
-use Rattle.ig_load_grammar.proofs.laws.chains_are_permitted.Goals as goal
-
-pub returns : goal.returns
-returns c = chains_are_permitted

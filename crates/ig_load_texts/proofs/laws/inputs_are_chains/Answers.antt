@@ -1,5 +1,0 @@
-use Rattle.ig_load_texts.proofs.Inputs.{inputs_are_chains}
-use Rattle.ig_load_texts.proofs.laws.inputs_are_chains.Goals as goal
-
-pub returns : goal.returns
-returns c = inputs_are_chains

@@ -1,4 +1,0 @@
-pub mod Operators
-pub mod Input
-pub mod Line
-pub mod Laws

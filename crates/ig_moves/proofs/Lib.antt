@@ -1,5 +1,0 @@
-pub mod Growing
-pub mod Pasts
-pub mod Steps
-pub mod Coming
-pub mod Callees

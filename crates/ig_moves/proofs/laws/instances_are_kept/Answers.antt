@@ -1,5 +1,0 @@
-use Rattle.ig_moves.proofs.Growing.{instances_kept}
-use Rattle.ig_moves.proofs.laws.instances_are_kept.Goals as goal
-
-pub returns : goal.returns
-returns c = instances_kept

@@ -1,5 +1,0 @@
-use Rattle.ig_moves.proofs.Growing.{instances_one}
-use Rattle.ig_moves.proofs.laws.instances_are_one.Goals as goal
-
-pub returns : goal.returns
-returns c = instances_one

@@ -1,5 +1,0 @@
-use Rattle.ig_moves.proofs.Growing.{names_kept}
-use Rattle.ig_moves.proofs.laws.names_are_kept.Goals as goal
-
-pub returns : goal.returns
-returns c = names_kept

@@ -1,5 +1,0 @@
-use Rattle.ig_moves.proofs.Steps.{steps_behind}
-use Rattle.ig_moves.proofs.laws.steps_are_behind.Goals as goal
-
-pub returns : goal.returns
-returns c = steps_behind

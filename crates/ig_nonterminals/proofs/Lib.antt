@@ -1,3 +1,0 @@
-pub mod NameNumbers
-pub mod Building
-pub mod MadeRoot

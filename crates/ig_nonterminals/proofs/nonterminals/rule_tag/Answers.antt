@@ -1,5 +1,0 @@
-use Rattle.std.proofs.Common.{refl}
-use Rattle.ig_nonterminals.proofs.nonterminals.rule_tag.Goals as goal
-
-pub returns : goal.returns
-returns c = refl

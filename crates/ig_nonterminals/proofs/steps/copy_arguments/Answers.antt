@@ -1,4 +1,0 @@
-use Rattle.ig_nonterminals.proofs.steps.copy_arguments.Goals as goal
-
-pub returns : goal.returns
-returns c = c.copy.ensures

@@ -1,0 +1,6 @@
+pub mod Limits
+pub mod Readers
+pub mod Steps
+pub mod Lists
+pub mod Repetitions
+pub mod Parts

@@ -1,6 +1,0 @@
-use Rattle.std.specs.Str.{chars}
-use Rattle.ig_operands.proofs.naming.left_word.Goals as goal
-
-pub returns : goal.returns
-unfolding chars
-returns c = c.new.ensures

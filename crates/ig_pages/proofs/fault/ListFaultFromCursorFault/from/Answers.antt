@@ -1,9 +1,0 @@
-use Rattle.std.proofs.Common.{ap, sym}
-use Rattle.ig_pages.specs.Faults.{fault_of_cursor}
-use Rattle.ig_pages.proofs.fault.ListFaultFromCursorFault.from.Goals as goal
-
-pub returns-in-NotACursor : goal.returns-in-NotACursor
-returns-in-NotACursor c = ap fault_of_cursor (sym c.in-NotACursor.is)
-
-pub returns-in-Memory : goal.returns-in-Memory
-returns-in-Memory c = ap fault_of_cursor (sym c.in-Memory.is)

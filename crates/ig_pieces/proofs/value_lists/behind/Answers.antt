@@ -1,4 +1,0 @@
-use Rattle.ig_pieces.proofs.value_lists.behind.Goals as goal
-
-pub returns : goal.returns
-returns c = c.split_at.ensures.back

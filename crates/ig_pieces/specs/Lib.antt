@@ -1,4 +1,0 @@
-pub mod Listed
-pub mod Room
-pub mod ValueText
-pub mod TagText

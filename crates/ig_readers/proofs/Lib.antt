@@ -1,4 +1,0 @@
-pub mod Stored
-pub mod Names
-pub mod ExpressionParts
-pub mod FilterParts

@@ -1,5 +1,0 @@
-use Rattle.ig_readers.specs.Readers.{at_token}
-use Rattle.ig_readers.proofs.signs.stands_at.Goals as goal
-
-pub returns-in-Some-clause-no : goal.returns-in-Some-clause-no
-returns-in-Some-clause-no c = λ e. at_token _ c.in-Some.ensures (c.is_sign.ensures.no e)

@@ -1,4 +1,0 @@
-pub mod Readers
-pub mod Steps
-pub mod Lists
-pub mod Repetitions

@@ -1,8 +1,0 @@
-use Rattle.std.proofs.Common.{rules}
-use Rattle.ig_refusals.proofs.cause.many_text.Goals as goal
-
-pub returns-in-Nonterminals : goal.returns-in-Nonterminals
-returns-in-Nonterminals c = search rules
-
-pub returns-in-Parameters : goal.returns-in-Parameters
-returns-in-Parameters c = search rules

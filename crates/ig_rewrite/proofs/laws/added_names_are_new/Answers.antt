@@ -1,5 +1,0 @@
-use Rattle.ig_rewrite.proofs.AddedNames.{added_names}
-use Rattle.ig_rewrite.proofs.laws.added_names_are_new.Goals as goal
-
-pub returns : goal.returns
-returns c = added_names

@@ -1,5 +1,0 @@
-use Rattle.ig_rewrite.proofs.Multiplying.{counts_grow}
-use Rattle.ig_rewrite.proofs.laws.counts_grow.Goals as goal
-
-pub returns : goal.returns
-returns c = counts_grow c.counts_by_form.ensures

@@ -1,5 +1,0 @@
-use Rattle.ig_rewrite.proofs.Passing.{results_are_ready}
-use Rattle.ig_rewrite.proofs.laws.results_are_ready.Goals as goal
-
-pub returns : goal.returns
-returns c = results_are_ready

@@ -1,5 +1,0 @@
-use Rattle.ig_rewrite.proofs.RootKept.{root_keeps}
-use Rattle.ig_rewrite.proofs.laws.root_keeps.Goals as goal
-
-pub returns : goal.returns
-returns c = root_keeps c.added_names_are_new.ensures c.rooted_is_the_same.ensures c.same_trees_is_an_equivalence.ensures

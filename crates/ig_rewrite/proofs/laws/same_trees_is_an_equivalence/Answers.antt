@@ -1,5 +1,0 @@
-use Rattle.ig_rewrite.proofs.Chaining.{same_trees}
-use Rattle.ig_rewrite.proofs.laws.same_trees_is_an_equivalence.Goals as goal
-
-pub returns : goal.returns
-returns c = same_trees

@@ -1,5 +1,0 @@
-use Rattle.ig_rewrite.proofs.Asking.{symbols_ask}
-use Rattle.ig_rewrite.proofs.laws.symbols_ask.Goals as goal
-
-pub returns : goal.returns
-returns c = symbols_ask

@@ -1,5 +1,0 @@
-use Rattle.ig_rules.proofs.Naming.{grammar_named}
-use Rattle.ig_rules.proofs.reads_are_named.Goals as goal
-
-pub returns : goal.returns
-returns c = λ tokens g f h. grammar_named f h

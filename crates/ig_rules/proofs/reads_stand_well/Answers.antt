@@ -1,5 +1,0 @@
-use Rattle.ig_rules.proofs.Placing.{grammar_stands}
-use Rattle.ig_rules.proofs.reads_stand_well.Goals as goal
-
-pub returns : goal.returns
-returns c = λ tokens g f h. grammar_stands f h

@@ -1,0 +1,9 @@
+pub mod Forms
+pub mod DotNames
+pub mod Values
+pub mod Numbers
+pub mod Equality
+pub mod Sets
+pub mod Chains
+pub mod Items
+pub mod Instances

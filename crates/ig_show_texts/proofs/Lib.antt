@@ -1,0 +1,5 @@
+pub mod Pieces
+pub mod CoreAdded
+pub mod CoreListing
+pub mod ForestListing
+pub mod FactsAdded

@@ -1,0 +1,5 @@
+use Rattle.std.proofs.lemmas.Result.{on_ok_weaker}
+use Rattle.ig_show_texts.proofs.forest_text.push_plain_place.Goals as goal
+
+pub returns : goal.returns
+returns c = on_ok_weaker c.push_to.result (λ written. cc) c.push_to.ensures

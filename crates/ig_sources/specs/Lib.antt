@@ -1,4 +1,0 @@
-pub mod Accepted
-pub mod Refusals
-pub mod Sources
-pub mod Laws

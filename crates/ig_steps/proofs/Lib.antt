@@ -1,4 +1,0 @@
-pub mod Forms
-pub mod DotNames
-pub mod Values
-pub mod Numbers

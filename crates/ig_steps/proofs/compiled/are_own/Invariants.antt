@@ -1,7 +1,0 @@
-use Rattle.std.proofs.Common.{◌≡◌, ◌↔◌, Some, drop, map}
-use Rattle.ig_steps.specs.Compiled.{AreOwn, value_by}
-use Rattle.ig_steps.proofs.compiled.are_own.Given as goal
-
-abbrev pub invariant-loop-place : goal.invariant-loop-place
-invariant-loop-place l =
-    (map (value_by l.values l.here) (drop l.place l.forms) ≡ map Some (drop l.place l.values)) ↔ AreOwn l.values l.here l.forms

@@ -1,5 +1,0 @@
-use Rattle.std.proofs.Common.{ap, ◌∙◌, ◌++◌, ◌∷◌, []}
-use Rattle.ig_steps.proofs.steps.extended.Goals as goal
-
-pub returns : goal.returns
-returns c = c.in_ok-push_value.ensures ∙ ap (λ z. z ++ c.args.value ∷ []) c.in_ok-longer.ensures

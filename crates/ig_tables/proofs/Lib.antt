@@ -1,5 +1,0 @@
-pub mod Equality
-pub mod Sets
-pub mod Chains
-pub mod Items
-pub mod Instances

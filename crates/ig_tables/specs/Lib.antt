@@ -1,4 +1,0 @@
-pub mod Chained
-pub mod Extends
-pub mod InstanceSet
-pub mod Returned

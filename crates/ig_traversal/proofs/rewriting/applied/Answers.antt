@@ -1,5 +1,0 @@
-use Rattle.std.proofs.Common.{rules}
-use Rattle.ig_traversal.proofs.rewriting.applied.Goals as goal
-
-pub returns : goal.returns
-returns g c = search rules

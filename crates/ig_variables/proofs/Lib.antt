@@ -1,2 +1,0 @@
-pub mod CodeOfNames
-pub mod CodeOfKept

@@ -1,5 +1,0 @@
-use Rattle.ig_verify_laws.proofs.NoFlaw.{no_flaw}
-use Rattle.ig_verify_laws.proofs.laws.sound_forests_have_no_flaw.Goals as goal
-
-pub returns : goal.returns
-returns c = no_flaw

@@ -1,7 +1,0 @@
-use Rattle.std.specs.Str.{chars}
-use Rattle.ig_spelling.specs.Steps.{if_ok, appends}
-use Rattle.ig_w3c_show.proofs.spelling.push_excluded.Goals as goal
-
-pub returns : goal.returns
-unfolding chars
-returns c = if_ok c.push_quoted.result c.push_quoted.ensures (λ h. appends c.in_ok-push_text.ensures h)

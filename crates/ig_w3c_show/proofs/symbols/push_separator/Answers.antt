@@ -1,8 +1,0 @@
-use Rattle.ig_spelling.specs.Steps.{nothing_appended}
-use Rattle.ig_w3c_show.proofs.symbols.push_separator.Goals as goal
-
-pub returns-then-is_first : goal.returns-then-is_first
-returns-then-is_first c = rw c.if-is_first.true nothing_appended
-
-pub returns-else-is_first : goal.returns-else-is_first
-returns-else-is_first c = rw c.if-is_first.false c.push_text.ensures

@@ -1,3 +1,0 @@
-pub mod Text
-pub mod Writing
-pub mod Laws

@@ -1,0 +1,12 @@
+pub mod Reading
+pub mod Runs
+pub mod OneList
+pub mod Firsts
+pub mod Determined
+pub mod Fronts
+pub mod Read
+pub mod Found
+pub mod Longest
+pub mod Formed
+pub mod Kept
+pub mod Running

@@ -1,0 +1,13 @@
+pub mod Token
+pub mod Spelling
+pub mod View
+pub mod Steps
+pub mod Faults
+pub mod TokenForms
+pub mod TokenLaws
+pub mod Rules
+pub mod Reading
+pub mod Notation
+pub mod Machine
+pub mod RuleForms
+pub mod RuleLaws

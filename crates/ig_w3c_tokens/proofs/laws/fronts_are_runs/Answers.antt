@@ -1,5 +1,0 @@
-use Rattle.ig_w3c_tokens.proofs.Runs.{front_is}
-use Rattle.ig_w3c_tokens.proofs.laws.fronts_are_runs.Goals as goal
-
-pub returns : goal.returns
-returns c = front_is

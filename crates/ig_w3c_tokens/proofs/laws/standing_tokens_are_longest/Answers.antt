@@ -1,5 +1,0 @@
-use Rattle.ig_w3c_tokens.proofs.Longest.{standing_tokens_are_longest}
-use Rattle.ig_w3c_tokens.proofs.laws.standing_tokens_are_longest.Goals as goal
-
-pub returns : goal.returns
-returns c = standing_tokens_are_longest

@@ -1,5 +1,0 @@
-use Rattle.ig_w3c_tokens.proofs.Formed.{tokens_are_few}
-use Rattle.ig_w3c_tokens.proofs.laws.tokens_are_few.Goals as goal
-
-pub returns : goal.returns
-returns c = tokens_are_few

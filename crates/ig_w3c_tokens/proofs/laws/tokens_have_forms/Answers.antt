@@ -1,5 +1,0 @@
-use Rattle.ig_w3c_tokens.proofs.Formed.{tokens_have_forms}
-use Rattle.ig_w3c_tokens.proofs.laws.tokens_have_forms.Goals as goal
-
-pub returns : goal.returns
-returns c = tokens_have_forms
