@@ -2,8 +2,7 @@
 
 import re
 
-from forest_faults import NotAForest
-from forest_text import read_forest
+from forest_text import NotAForest, read_forest
 
 NOT_SOUND = re.compile(r"not sound: (node|item) (\d+) rule (\d)")
 RULES = {

@@ -1,7 +1,9 @@
 """Reads the lines of the text of a forest into columns of numbers.
 
-Such a text has millions of lines where the input is long. So it is read in pieces: one expression cuts each of them into
-columns of words, which are turned into numbers and compared whole. What isn't written as it should be raises `Unread`.
+Such a text has millions of lines where the input is long. So it stays bytes, and is read in pieces: one expression cuts
+each of them into columns of words, which are turned into numbers and compared whole. The expression looks for what ends a
+word, and asks no more of most of them, since `Numbers` and `Keys` look at each word once. What isn't written as it should
+be raises `Unread`.
 """
 
 import re
@@ -11,9 +13,9 @@ from operator import itemgetter, sub
 
 from side_by_side import side_by_side
 
-NUMBER = "((?!0[0-9])[0-9]+)"
+NUMBER = b"((?!0[0-9])[0-9]+)"
 PIECE = 1 << 14  # characters that are read at once: what is made of them is used up while it is near
-THOUSAND = [f"{number:03}" for number in range(1000)]
+THOUSAND = [b"%03d" % number for number in range(1000)]
 
 
 class Unread(Exception):
@@ -21,11 +23,14 @@ class Unread(Exception):
 
 
 class Numbers(dict):
-    """The numbers that words are, each of them made once."""
+    """The numbers that words are, each of them made once, together with its thousand. Words that aren't as numbers are
+    written are never among them."""
 
     def __missing__(self, word):
-        number = self[word] = int(word)
-        return number
+        first = int(word) // 1000 * 1000
+        self.update(zip(said_range(range(first, first + 1000)).split(b" "), count(first)))
+        demand(first >= 0, word in self)
+        return self[word]
 
 
 class Keys(dict):
@@ -36,7 +41,7 @@ class Keys(dict):
         self.form, self.names = form, defaultdict(count().__next__)
 
     def __missing__(self, words):
-        found = self.form.fullmatch(words)
+        found = self.form.fullmatch(words.decode("utf-8"))
         demand(found)
         return self.setdefault(words, self.names[found.groups()])
 
@@ -49,9 +54,9 @@ def demand(*facts):
 
 def read_parts(text, processes):
     """The columns of nodes and those of items, for each part of the text: there are as many parts as processes."""
-    end = text.find("\nitem ")
+    end = text.find(b"\nitem ")
     demand(end >= 0)
-    nodes = places_of(text, Nodes.head, text.find("\n"), end, processes)
+    nodes = places_of(text, Nodes.head, text.find(b"\n"), end, processes)
     items = places_of(text, Items.head, end, len(text) - 1, processes)
     found = side_by_side(lambda places: read_part(text, *places), list(zip(nodes, items)), processes)
     demand(all(found))
@@ -70,8 +75,8 @@ def places_of(text, head, at, end, shares):
 
 def read_part(text, node_lines, item_lines):
     """The columns of the nodes and of the items whose lines are from one place in the text to another."""
-    position = Numbers().__getitem__
-    nodes, items = Nodes(position), Items(position)
+    number = Numbers().__getitem__
+    nodes, items = Nodes(number), Items(number)
     nodes.read(text, *node_lines)
     items.read(text, *item_lines)
     return nodes.told(), items.told()
@@ -79,7 +84,7 @@ def read_part(text, node_lines, item_lines):
 
 def forms(head, below):
     """Expressions for a head with one line below it, and for one line with a head above it or without."""
-    return [re.compile(form + below + "$", re.M) for form in (head, f"(?:{head})?")]
+    return [re.compile(form + b"$", re.M) for form in (head + below, b"(?:%b)?%b" % (head, below))]
 
 
 class Heads:
@@ -88,8 +93,8 @@ class Heads:
     `several` has pairs for the heads with several lines below them: the place of the head, and how many lines these are.
     """
 
-    def __init__(self, position):
-        self.position, self.key_of = position, Keys(self.name)
+    def __init__(self, number):
+        self.number, self.key_of = number, Keys(self.name)
         self.first, self.several, self.keys, self.begins, self.ends = None, [], [], [], []
 
     def read(self, text, at, end):
@@ -100,10 +105,11 @@ class Heads:
             (ordinals, names, begins, ends), lines, starts = self.cut(text[at:stop])
             self.first = int(ordinals[0]) if self.first is None else self.first
             first = self.first + len(self.keys)
-            demand(" ".join(ordinals) == said_range(first, first + len(ordinals)))
+            numbers = range(first, first + len(ordinals))
+            demand(b" ".join(ordinals) == said_range(numbers))
             keys = list(map(self.key_of.__getitem__, names))
-            begins, ends = list(map(self.position, begins)), list(map(self.position, ends))
-            self.add(*(repeated(column, starts) for column in (ordinals, keys, begins, ends)), *lines)
+            begins, ends = list(map(self.number, begins)), list(map(self.number, ends))
+            self.add(*(repeated(column, starts) for column in (numbers, keys, begins, ends)), *lines)
             self.keys += keys
             self.begins += begins
             self.ends += ends
@@ -111,19 +117,21 @@ class Heads:
 
     def cut(self, piece):
         """The columns of words of the heads of a piece, those of the lines below, and where these begin for each head."""
-        heads = piece.count(self.head)
-        single = piece.count("\n") == 2 * heads  # mostly there is one line below each head
-        form = self.pair if single else self.line
-        words = form.split(piece)
-        width = form.groups + 1
-        columns = [words[k::width] for k in range(1, width)]
-        demand(not any(words[::width]), columns[0][0])
-        if single:
-            return columns[:4], columns[4:], range(heads + 1)
+        columns = self.words(self.pair, piece)  # mostly there is one line below each head
+        if columns:
+            return columns[:4], columns[4:], range(len(columns[0]) + 1)
+        columns = self.words(self.line, piece)
+        demand(columns, columns[0][0])
         starts = [*compress(count(), columns[0]), len(columns[0])]
         known = count(len(self.keys))
         self.several += ((head, stop - start) for head, start, stop in zip(known, starts, starts[1:]) if stop > start + 1)
         return [list(filter(None, column)) for column in columns[:4]], columns[4:], starts
+
+    def words(self, form, piece):
+        """The columns of words that the form finds in a piece; none where it doesn't find all of the piece."""
+        words = form.split(piece)
+        width = form.groups + 1
+        return [] if any(words[::width]) else [words[k::width] for k in range(1, width)]
 
     def told(self):
         """What was read, in plain things."""
@@ -133,16 +141,16 @@ class Heads:
 class Nodes(Heads):
     """Nodes with keys for names with values. Each line below has an item."""
 
-    head = "\nnode "
+    head = b"\nnode "
     name = re.compile(r"([^\s(]+) (\([^\s)]*\))")
-    pair, line = forms(rf"\nnode {NUMBER} ([^(]+\([^)]*\)) {NUMBER}\.\.{NUMBER}", rf"\nalt \S+ {NUMBER}")
+    pair, line = forms(rb"\nnode ([^ ]+) ([^)]+\)) ([^.]+)\.\.([^\n]+)", rb"\nalt \S+ %b" % NUMBER)
     columns = ("several", "keys", "begins", "ends", "complete")
 
-    def __init__(self, position):
-        super().__init__(position)
+    def __init__(self, number):
+        super().__init__(number)
         self.complete = []
 
-    def add(self, _ordinals, _keys, _begins, _ends, items):
+    def add(self, _numbers, _keys, _begins, _ends, items):
         self.complete += map(int, items)
 
 
@@ -150,26 +158,26 @@ class Items(Heads):
     """Items with keys for names, values, alternatives and dots. Lines below are ways: each has the item before, which is
     its own item where the way begins, and where begins what it took. Some took nodes: which ones, and which nodes."""
 
-    head = "\nitem "
+    head = b"\nitem "
     name = re.compile(r"([^\s(]+) (\([^\s)]*\)) (0|[1-9][0-9]*) (0|[1-9][0-9]*) \[[^\s\]]*\]")
     pair, line = forms(  # a leaf has the end that stands in the head above it; where none does, the end is compared later
-        rf"\nitem {NUMBER} ([^(]+\([^]]+\]) {NUMBER}\.\.{NUMBER}",
-        rf"\n(?:begin|pass {NUMBER}|take {NUMBER} (?:node {NUMBER}|leaf {NUMBER}\.\.(?(1)\4|{NUMBER})))")
+        rb"\nitem ([^ ]+) ([^]]+\]) ([^.]+)\.\.([^\n]+)",
+        rb"\n(?:begin|pass %b|take %b (?:node %b|leaf ([^.]+)\.\.(?(1)\4|([^\n]+))))" % (NUMBER, NUMBER, NUMBER))
     columns = ("several", "keys", "begins", "ends", "before", "middles", "takers", "taken")
 
-    def __init__(self, position):
-        super().__init__(position)
+    def __init__(self, number):
+        super().__init__(number)
         self.before, self.middles, self.takers, self.taken, self.going_on = [], [], [], [], set()
 
-    def add(self, ordinals, keys, begins, ends, passed, before, nodes, leaf_begins, leaf_ends):
-        demand(list(compress(ends, leaf_ends)) == list(map(int, filter(None, leaf_ends))))
-        position = self.position
-        middles = [position(one) if one else own for one, own in zip(leaf_begins, begins)]
+    def add(self, numbers, keys, begins, ends, passed, before, nodes, leaf_begins, leaf_ends):
+        number = self.number
+        demand(list(compress(ends, leaf_ends)) == list(map(number, filter(None, leaf_ends))))
+        middles = [number(one) if one else own for one, own in zip(leaf_begins, begins)]
         for way in compress(count(), passed):
             before[way], middles[way] = passed[way], ends[way]
         self.going_on.update(compress(keys, before))
         self.takers += compress(count(len(self.before)), nodes)
-        self.before += map(int, [one or own for one, own in zip(before, ordinals)])
+        self.before += [int(one) if one else own for one, own in zip(before, numbers)]
         self.middles += middles
         self.taken += map(int, filter(None, nodes))
 
@@ -179,18 +187,18 @@ class Items(Heads):
         return super().told()
 
 
-def said_range(first, end):
-    """The numbers from the first one to before the end, with blanks between; those of a thousand are written at once."""
-    said = []
-    while first < end:
+def said_range(numbers):
+    """The numbers of a range with blanks between; those of a thousand are written at once."""
+    said, first = [], numbers.start
+    while first < numbers.stop:
         thousands, rest = divmod(first, 1000)
-        some = min(end - first, 1000 - rest)
+        some = min(numbers.stop - first, 1000 - rest)
         if thousands:
-            said.append(f" {thousands}".join(["", *THOUSAND[rest : rest + some]])[1:])
+            said.append((b" %d" % thousands).join([b"", *THOUSAND[rest : rest + some]])[1:])
         else:
-            said += map(str, range(first, first + some))
+            said += [b"%d" % number for number in range(first, first + some)]
         first += some
-    return " ".join(said)
+    return b" ".join(said)
 
 
 def pick_at(places):

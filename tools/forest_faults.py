@@ -2,9 +2,7 @@
 
 import re
 
-
-class NotAForest(Exception):
-    """The text is no forest: the message says where and why."""
+from forest_text import NotAForest
 
 
 class Node:

@@ -8,16 +8,19 @@ from itertools import accumulate, chain, compress, count, repeat
 from operator import add
 
 from forest_columns import Unread, demand, pick_at, read_parts, repeated
-from forest_faults import NotAForest, find_fault
 from side_by_side import side_by_side
 
 Node = namedtuple("Node", "name values begin end")
 Item = namedtuple("Item", "name values alternative dot begin end")
 
-NUMBER = r"(0|[1-9][0-9]{0,18})"
-FIRST = re.compile(rf"forest {NUMBER} {NUMBER}")
+NUMBER = rb"(0|[1-9][0-9]{0,18})"
+FIRST = re.compile(rb"forest %b %b" % (NUMBER, NUMBER))
 NO_NODE = -1
-LEAST_SHARE = 1 << 20  # characters for which a process is worth while
+LEAST_SHARE = 1 << 23  # characters for which a process is worth while
+
+
+class NotAForest(Exception):
+    """The text is no forest: the message says where and why."""
 
 
 class Forest:
@@ -51,18 +54,23 @@ class Forest:
         keys = {names: key for key, names in enumerate(self.item_names)}
         return [key if dot == "0" else keys.get((*names, str(int(dot) - 1)), NO_NODE) for (*names, dot), key in keys.items()]
 
+    @cached_property
+    def of_before(self):
+        """What gives of a column of items that of the item before, for each way."""
+        return pick_at(self.before)
+
     def keys_fit(self):
         """Whether each item is that before it, a step on, where it doesn't begin."""
         wanted = list(map(self.keys_before.__getitem__, self.item_keys))
-        return pick_at(self.before)(self.item_keys) == tuple(self.for_ways(wanted))
+        return self.of_before(self.item_keys) == tuple(self.for_ways(wanted))
 
     def begins_fit(self):
         """Whether each item begins where that before it does."""
-        return pick_at(self.before)(self.item_begins) == tuple(self.for_ways(self.item_begins))
+        return self.of_before(self.item_begins) == tuple(self.for_ways(self.item_begins))
 
     def ends_fit(self):
         """Whether what each way took lies between the end of the item before and that of its own."""
-        return (pick_at(self.before)(self.item_ends) == tuple(self.middles)
+        return (self.of_before(self.item_ends) == tuple(self.middles)
                 and pick_at(self.takers)(self.for_ways(self.item_ends)) == pick_at(self.taken)(self.node_ends))
 
     def lines_fit(self):
@@ -93,7 +101,7 @@ class Forest:
     @cached_property
     def tags(self):
         """For each line its tag."""
-        return re.findall(r"^alt (\S+)", self.text[: self.text.find("\nitem ")], re.M)
+        return [tag.decode("utf-8") for tag in re.findall(rb"^alt (\S+)", self.text[: self.text.find(b"\nitem ")], re.M)]
 
     def begun(self):
         """The ways that begin."""
@@ -102,7 +110,8 @@ class Forest:
 
     def words_of_ways(self):
         """For each way the word that says what it took, `node` or `leaf`; else nothing."""
-        return re.findall(r"^(?:begin|pass|take \d+ (\w+))", self.text[self.text.find("\nitem ") :], re.M)
+        words = re.findall(rb"^(?:begin|pass|take \d+ (\w+))", self.text[self.text.find(b"\nitem ") :], re.M)
+        return [word.decode("utf-8") for word in words]
 
     @cached_property
     def child(self):
@@ -146,27 +155,30 @@ class Forest:
 def read_forest(data, processes=1):
     """The forest whose text the bytes are, read by so many processes at most; `NotAForest` where they are none."""
     try:
-        text = data.decode("utf-8")
+        if not data.isascii():
+            data.decode("utf-8")
     except UnicodeDecodeError as fault:
         raise NotAForest(f"not UTF-8 at byte {fault.start}") from None
-    if not text:
+    if not data:
         raise NotAForest("nothing to read")
-    if not text.endswith("\n"):
+    if not data.endswith(b"\n"):
         raise NotAForest("the last line has no end")
     try:
-        first = FIRST.fullmatch(text, 0, text.find("\n"))
+        first = FIRST.fullmatch(data, 0, data.find(b"\n"))
         demand(first)
-        forest = Forest(text, max(1, min(processes, len(text) // LEAST_SHARE)))
+        forest = Forest(data, max(1, min(processes, len(data) // LEAST_SHARE)))
         demand((forest.node_count, forest.item_count) == (int(first[1]), int(first[2])))
         return forest
     except (Unread, IndexError, ValueError):
-        find_fault(text[:-1].split("\n"))
+        from forest_faults import find_fault  # it is seldom needed, and takes its time to begin
+
+        find_fault(data[:-1].decode("utf-8").split("\n"))
         raise NotAForest("not as a forest is written") from None
 
 
 def told_size(data):
     """How many nodes and items together the first line of a forest tells; 0 where there is no such line."""
-    first = FIRST.fullmatch(data[:64].partition(b"\n")[0].decode("utf-8", "replace"))
+    first = FIRST.fullmatch(data[:64].partition(b"\n")[0])
     return int(first[1]) + int(first[2]) if first else 0
 
 
